@@ -1,0 +1,4 @@
+pub mod ConfigLemmas
+pub mod WorldLemmas
+pub mod EventLemmas
+pub mod ScriptLemmas

@@ -1,0 +1,70 @@
+-- Moments of a run: the machine beside the world of the same commands, and the snapshot of its cycle.
+use Rattle.std.specs.Prelude.{ℕ, ◌≤◌, ◌<◌, ◌==◌, ◌⊎◌, Bool, true, false, if◌then◌else◌, List, [], ◌∷◌}
+use Rattle.mh_model.specs.declared.command.Control.TheVariants as control
+use Rattle.mh_model.specs.declared.command.Event.{Event}
+use Rattle.mh_model.specs.declared.command.Event.TheVariants as event
+use Rattle.mh_model.specs.declared.config.Config.{Config}
+use Rattle.mh_model.specs.declared.reply.Reply.{Reply}
+use Rattle.mh_model.specs.declared.reply.Reply.TheVariants as reply
+use Rattle.mh_model.specs.declared.reply.Refusal.TheVariants.{HeapFull}
+use Rattle.mh_model.specs.World.{World, first_world, births, world_step}
+use Rattle.mh_model.specs.Paths.{Reachable}
+use Rattle.mh_model.specs.Collector.{is_start_due}
+use Rattle.mh_model.specs.Machine.{Machine, first_machine, is_quantum_due, half_step, event_step}
+
+-- The world beside a machine ---------------------------------------------------------------------
+
+abbrev pub is_heap_full : Reply → Bool
+is_heap_full (reply.Refused HeapFull) = true
+is_heap_full _ = false
+
+-- the world takes the step of each command but one that was answered by a full heap
+abbrev pub world_beside_event : World → Event → Reply → World
+world_beside_event world (event.Session who command) answer = if is_heap_full answer then world else (world_step world who command).state
+world_beside_event world (event.Control control) answer = world
+
+-- The world of a list of events that were given these replies
+abbrev pub world_beside : World → List Event → List Reply → World
+world_beside world [] answers = world
+world_beside world (event ∷ events) [] = world
+world_beside world (event ∷ events) (answer ∷ answers) = world_beside (world_beside_event world event answer) events answers
+
+-- Moments ----------------------------------------------------------------------------------------
+
+-- A moment of a run: the machine, the world beside it, and the world as the last cycle started, which is the first world before any did
+pub record Moment : Type 0 where
+  pub machine : Machine
+  pub world : World
+  pub snapshot : World
+
+abbrev pub first_moment : Config → Moment
+first_moment config = record { machine = first_machine config; world = first_world config; snapshot = first_world config }
+
+-- an event has a quantum run after its half step
+abbrev pub has_quantum : Machine → Event → Bool
+has_quantum machine (event.Session who command) = is_quantum_due (half_step machine (event.Session who command))
+has_quantum machine (event.Control control.Quantum) = machine.heap.config.every == 0
+has_quantum machine (event.Control _) = false
+
+-- the moment between a command and the quantum that it makes due
+unfoldable pub half_moment : Moment → Event → Moment
+half_moment moment event = record moment { machine = half_step moment.machine event; world = world_beside_event moment.world event (event_step moment.machine event).reply }
+
+-- The snapshot of a cycle is the world at the moment before the quantum that starts it (Yuasa 1990)
+abbrev pub snapshot_at : Moment → World
+snapshot_at moment = if is_start_due moment.machine.heap.config moment.machine.heap.collector then moment.world else moment.snapshot
+
+-- the moment after an event
+unfoldable pub next_moment : Moment → Event → Moment
+next_moment moment event =
+    let half = half_moment moment event in
+    record half { machine = (event_step moment.machine event).state; snapshot = if has_quantum moment.machine event then snapshot_at half else moment.snapshot }
+
+-- The moment after a list of events
+unfoldable pub moment_after : Moment → List Event → Moment
+moment_after moment [] = moment
+moment_after moment (event ∷ events) = moment_after (next_moment moment event) events
+
+-- What a cycle keeps: the births that its snapshot reached, and those born since
+abbrev pub IsKept : World → ℕ → ℕ → Type 0
+IsKept snapshot next_birth birth = Reachable snapshot birth ⊎ ((births snapshot ≤ birth) × (birth < next_birth))

@@ -1,0 +1,53 @@
+ghost use Rattle.std.specs.Prelude.{◌≡◌};
+
+use std::marker::Model;
+
+/// One item of a dump: a page in use, or a block or forwarder of the page before it.
+#[derive(Clone, Copy, Debug, PartialEq, Eq)]
+pub enum DumpItem {
+    Page {
+        page: u64,
+        class_size: u64,
+        is_flagged: bool,
+    },
+    Block {
+        slot: u64,
+        birth: u64,
+        part: u64,
+    },
+    /// Where a block was that moved.
+    Forwarder {
+        slot: u64,
+        to_page: u64,
+        to_slot: u64,
+    },
+}
+
+/// What the table of blocks holds: each page in use, followed by its blocks.
+#[derive(Clone, Debug, Drop)]
+pub struct Dump {
+    items: Vec<DumpItem>,
+}
+
+impl Model for Dump {
+    ghost use Rattle.std.specs.Prelude.{List};
+    ghost use Rattle.mh_model.specs.declared.dump.DumpItem.{DumpItem};
+
+    ghost Value = { List DumpItem };
+
+    ghost view = { λ dump. dump.items.items };
+}
+
+impl Dump {
+    pub fn new(items: Vec<DumpItem>) -> Dump
+        ensures { result ≡ items.items }
+    {
+        Dump { items }
+    }
+
+    pub fn items(&self) -> &[DumpItem]
+        ensures { result.now ≡ self.now }
+    {
+        self.items.as_slice()
+    }
+}

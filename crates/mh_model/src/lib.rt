@@ -1,0 +1,15 @@
+//! The words that every crate of metroheap shares: configurations, commands, events and replies.
+//! `specs/` holds the book, the definitions that all contracts cite.
+#![tactic(auto)]
+
+pub mod birth;
+pub mod command;
+pub mod config;
+pub mod cycle;
+pub mod dump;
+pub mod history;
+pub mod memory;
+pub mod reply;
+pub mod shape;
+#[cfg(test)]
+mod tests;

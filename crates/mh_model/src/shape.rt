@@ -1,0 +1,6 @@
+/// How many references and numbers an object has.
+#[derive(Clone, Copy, Debug, PartialEq, Eq)]
+pub struct Shape {
+    pub references: u32,
+    pub numbers: u32,
+}
