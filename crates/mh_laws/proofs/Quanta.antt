@@ -1,0 +1,167 @@
+-- Quanta: what they spend, what their steps cost, and that the count of steps never runs out.
+use Rattle.std.proofs.Common.{◌≡◌, ℕ, zero, suc, ◌+◌, ◌-◌, ◌<◌, ◌≤◌, ◌⊎◌, IsTrue, Bool, true, false, ◌||◌, nat_lt, inl, inr, Option, Some, None, List, [], ◌∷◌, refl, sym, ap, ◌∙◌, arith, option_and_then, option_map, if◌then◌else◌}
+use Rattle.std.proofs.lemmas.Bool.{cases_Bool, ltb-false, ltb-true, or_parts, true≢false, true_from_ne_false}
+use Rattle.std.proofs.lemmas.Option.{none-some, same_Some}
+use Rattle.mh_model.specs.declared.config.Config.{Config}
+use Rattle.mh_model.specs.declared.cycle.Phase.{Phase}
+use Rattle.mh_model.specs.declared.cycle.Phase.TheVariants.{Idle, Roots, Mark, Sweep, Defrag}
+use Rattle.mh_model.specs.Pages.{Page, Table, page_number, slot_number, page_at, block_in, least_dense_place}
+use Rattle.mh_model.specs.Table.{Block, is_forwarder}
+use Rattle.mh_laws.specs.Costs.{IsSized}
+use Rattle.mh_model.specs.Collector.{Collector, Move, first_mark_cost, if_flagged, move_of, next_move, move_cost, cost_in, step_cost, is_moving, collector_step, is_idle, with_units, quantum_start, Spending, steps, quantum}
+
+-- steps stop, or one is taken
+pub steps-stop : (more left : ℕ) (has_moved : Bool) (collector : Collector) → (is_idle collector.phase || nat_lt left (step_cost collector has_moved)) ≡ true → steps (suc more) left has_moved collector ≡ record { units = 0; collector = collector }
+unfolding steps
+steps-stop more left has_moved collector stops = rw (stops, steps)
+
+pub steps-go : (more left : ℕ) (has_moved : Bool) (collector : Collector) → (is_idle collector.phase || nat_lt left (step_cost collector has_moved)) ≡ false
+    → steps (suc more) left has_moved collector ≡ with_units (step_cost collector has_moved) (steps more (left - step_cost collector has_moved) (has_moved || is_moving collector) (collector_step collector))
+unfolding steps
+steps-go more left has_moved collector goes = rw (goes, steps)
+
+-- steps spend no more than what is left
+units-steps : (more left : ℕ) (has_moved : Bool) (collector : Collector) → (steps more left has_moved collector).units ≤ left
+unfolding steps
+units-steps zero left has_moved collector = omega arith
+units-steps (suc more) left has_moved collector = elim (cases_Bool (is_idle collector.phase || nat_lt left (step_cost collector has_moved))) [
+  | inl stops ↦ rw (steps-stop more left has_moved collector stops) (omega arith)
+  | inr goes ↦
+      let fits : step_cost collector has_moved ≤ left = ltb-false left (step_cost collector has_moved) (or_parts (is_idle collector.phase) (nat_lt left (step_cost collector has_moved)) goes).1 in
+      let rest = units-steps more (left - step_cost collector has_moved) (has_moved || is_moving collector) (collector_step collector) in
+      rw (steps-go more left has_moved collector goes) (omega arith)
+]
+
+-- No quantum spends more than is configured
+pub units-quantum : (config : Config) (collector : Collector) → (quantum config collector).units ≤ config.quantum
+unfolding quantum
+units-quantum config collector = units-steps config.quantum config.quantum false (quantum_start config collector)
+
+-- Costs ------------------------------------------------------------------------------------------
+
+first_mark_cost-positive : (table : Table Block) (grey : List ℕ) → 0 < first_mark_cost table grey
+first_mark_cost-positive table [] = omega arith
+first_mark_cost-positive table (place ∷ grey) = omega arith
+
+move_cost-positive : (has_moved : Bool) (move : Option Move) → 0 < move_cost has_moved move
+move_cost-positive has_moved None = omega arith
+move_cost-positive true (Some move) = omega arith
+move_cost-positive false (Some move) = omega arith
+
+cost_in-positive : (phase : Phase) (collector : Collector) (has_moved : Bool) → is_idle phase ≡ false → 0 < cost_in phase collector has_moved
+cost_in-positive Idle collector has_moved runs = absurd (true≢false runs)
+cost_in-positive Roots collector has_moved runs = omega arith
+cost_in-positive Mark collector has_moved runs = first_mark_cost-positive collector.table collector.grey
+cost_in-positive Sweep collector has_moved runs = omega arith
+cost_in-positive Defrag collector has_moved runs = move_cost-positive has_moved (next_move collector.table collector.cursor)
+
+-- While a cycle runs the next step costs at least 1
+pub step_cost-positive : (collector : Collector) (has_moved : Bool) → is_idle collector.phase ≡ false → 0 < step_cost collector has_moved
+unfolding step_cost
+step_cost-positive collector has_moved runs = cost_in-positive collector.phase collector has_moved runs
+
+first_mark_cost-bounded : (table : Table Block) → IsSized table → (grey : List ℕ) → first_mark_cost table grey ≤ 61
+first_mark_cost-bounded table sized [] = omega arith
+first_mark_cost-bounded table sized (place ∷ grey) = omega (arith, sized.references place)
+
+move_cost-bounded : (has_moved : Bool) (move : Option Move) → ((m : Move) → move ≡ Some m → m.class_size ≤ 64) → move_cost has_moved move ≤ 209
+move_cost-bounded has_moved None small = omega arith
+move_cost-bounded true (Some move) small = omega (arith, small move refl)
+move_cost-bounded false (Some move) small = omega (arith, small move refl)
+
+-- a move is of a block of a page in use, and of its class
+pub record IsOfPage (table : Table Block) (place : ℕ) (move : Move) : Type 0 where
+  pub page : Page Block
+  pub in_use : page_at table (page_number place) ≡ Some page
+  pub same : page.class_size ≡ move.class_size
+
+pub next_move-class : (table : Table Block) (place : ℕ) (move : Move) → next_move table place ≡ Some move → IsOfPage table place move
+next_move-class table place move is = by_page (page_at table (page_number place)) refl is
+  where
+    by_target : (page : Page Block) (block : Block) → (forwards : Bool) (target : Option ℕ)
+        → (if forwards then None else option_map (λ t. record { block = block; class_size = page.class_size; target = t }) target) ≡ Some move → page.class_size ≡ move.class_size
+    by_target page block true target e = absurd (none-some move e)
+    by_target page block false None e = absurd (none-some move e)
+    by_target page block false (Some t) e = ap (λ m. m.class_size) (same_Some (record { block = block; class_size = page.class_size; target = t }) move e)
+
+    by_block : (page : Page Block) (block : Option Block) → option_and_then (move_of table page) block ≡ Some move → page.class_size ≡ move.class_size
+    by_block page None e = absurd (none-some move e)
+    by_block page (Some block) e = by_target page block (is_forwarder block) (least_dense_place table page.class_size) e
+
+    by_flag : (page : Page Block) (flag : Bool) → option_and_then (λ p. option_and_then (move_of table p) (block_in (slot_number place) p)) (if flag then Some page else None) ≡ Some move → page.class_size ≡ move.class_size
+    by_flag page true e = by_block page (block_in (slot_number place) page) e
+    by_flag page false e = absurd (none-some move e)
+
+    by_page : (page : Option (Page Block)) → page_at table (page_number place) ≡ page → option_and_then (λ p. option_and_then (move_of table p) (block_in (slot_number place) p)) (option_and_then if_flagged page) ≡ Some move → IsOfPage table place move
+    by_page None at e = absurd (none-some move e)
+    by_page (Some page) at e = record { page = page; in_use = at; same = by_flag page page.is_flagged e }
+
+next_move-small : (table : Table Block) (place : ℕ) → IsSized table → (move : Move) → next_move table place ≡ Some move → move.class_size ≤ 64
+next_move-small table place sized move is = let of_page = next_move-class table place move is in rw (← of_page.same) (sized.classes (page_number place) of_page.page of_page.in_use)
+
+cost_in-bounded : (phase : Phase) (collector : Collector) (has_moved : Bool) → IsSized collector.table → cost_in phase collector has_moved ≤ 209
+cost_in-bounded Idle collector has_moved sized = omega arith
+cost_in-bounded Roots collector has_moved sized = omega arith
+cost_in-bounded Mark collector has_moved sized = omega (arith, first_mark_cost-bounded collector.table sized collector.grey)
+cost_in-bounded Sweep collector has_moved sized = omega arith
+cost_in-bounded Defrag collector has_moved sized = move_cost-bounded has_moved (next_move collector.table collector.cursor) (next_move-small collector.table collector.cursor sized)
+
+-- The dearest step costs 209
+pub step_cost-bounded : (collector : Collector) (has_moved : Bool) → IsSized collector.table → step_cost collector has_moved ≤ 209
+unfolding step_cost
+step_cost-bounded collector has_moved sized = cost_in-bounded collector.phase collector has_moved sized
+
+-- The count of steps -----------------------------------------------------------------------------
+
+stops_at_nothing : (collector : Collector) (has_moved : Bool) (left : ℕ) → left ≡ 0 → (is_idle collector.phase || nat_lt left (step_cost collector has_moved)) ≡ false → ⊥
+stops_at_nothing collector has_moved left nothing goes =
+    let (runs, fits) = or_parts (is_idle collector.phase) (nat_lt left (step_cost collector has_moved)) goes in
+    omega (arith, ltb-false left (step_cost collector has_moved) fits, step_cost-positive collector has_moved runs)
+
+-- Any two counts that are no less than what is left give the same steps, so the count bounds nothing
+pub steps-enough : (more more' left : ℕ) (has_moved : Bool) (collector : Collector) → left ≤ more → left ≤ more' → steps more left has_moved collector ≡ steps more' left has_moved collector
+unfolding steps
+steps-enough zero zero left has_moved collector h h' = refl
+steps-enough zero (suc more') left has_moved collector h h' = sym (steps-stop more' left has_moved collector (true_from_ne_false (is_idle collector.phase || nat_lt left (step_cost collector has_moved)) (stops_at_nothing collector has_moved left (omega arith))))
+steps-enough (suc more) zero left has_moved collector h h' = steps-stop more left has_moved collector (true_from_ne_false (is_idle collector.phase || nat_lt left (step_cost collector has_moved)) (stops_at_nothing collector has_moved left (omega arith)))
+steps-enough (suc more) (suc more') left has_moved collector h h' = elim (cases_Bool (is_idle collector.phase || nat_lt left (step_cost collector has_moved))) [
+  | inl stops ↦ steps-stop more left has_moved collector stops ∙ sym (steps-stop more' left has_moved collector stops)
+  | inr goes ↦
+      let (runs, fits) = or_parts (is_idle collector.phase) (nat_lt left (step_cost collector has_moved)) goes in
+      let positive : 0 < step_cost collector has_moved = step_cost-positive collector has_moved runs in
+      let rest = steps-enough more more' (left - step_cost collector has_moved) (has_moved || is_moving collector) (collector_step collector) (omega arith) (omega arith) in
+      steps-go more left has_moved collector goes ∙ ap (with_units (step_cost collector has_moved)) rest ∙ sym (steps-go more' left has_moved collector goes)
+]
+
+-- Steps stop where no cycle runs or the next step doesn't fit, if their count is no less than what is left
+steps-go_on : (more left : ℕ) (has_moved : Bool) (collector : Collector) → left ≤ more
+    → IsTrue (is_idle (steps more left has_moved collector).collector.phase) ⊎ ((moved : Bool) × (left < (steps more left has_moved collector).units + step_cost (steps more left has_moved collector).collector moved))
+unfolding steps
+steps-go_on zero left has_moved collector enough = elim (cases_Bool (is_idle collector.phase)) [
+  | inl idle ↦ inl idle
+  | inr runs ↦ let positive = step_cost-positive collector has_moved runs in inr (has_moved, omega arith)
+]
+steps-go_on (suc more) left has_moved collector enough = elim (cases_Bool (is_idle collector.phase || nat_lt left (step_cost collector has_moved))) [
+  | inl stops ↦ rw (steps-stop more left has_moved collector stops) (stopped (is_idle collector.phase) refl stops)
+  | inr goes ↦
+      let (runs, fits) = or_parts (is_idle collector.phase) (nat_lt left (step_cost collector has_moved)) goes in
+      let positive : 0 < step_cost collector has_moved = step_cost-positive collector has_moved runs in
+      rw (steps-go more left has_moved collector goes) (more_units (ltb-false left (step_cost collector has_moved) fits) (steps-go_on more (left - step_cost collector has_moved) (has_moved || is_moving collector) (collector_step collector) (omega arith)))
+]
+  where
+    stopped : (idle : Bool) → is_idle collector.phase ≡ idle → (idle || nat_lt left (step_cost collector has_moved)) ≡ true → IsTrue (is_idle collector.phase) ⊎ ((moved : Bool) × (left < 0 + step_cost collector moved))
+    stopped true is stops = inl is
+    stopped false is stops = let dear : left < step_cost collector has_moved = ltb-true left (step_cost collector has_moved) stops in inr (has_moved, omega arith)
+
+    rest : Spending
+    rest = steps more (left - step_cost collector has_moved) (has_moved || is_moving collector) (collector_step collector)
+
+    more_units : step_cost collector has_moved ≤ left → IsTrue (is_idle rest.collector.phase) ⊎ ((moved : Bool) × (left - step_cost collector has_moved < rest.units + step_cost rest.collector moved))
+        → IsTrue (is_idle rest.collector.phase) ⊎ ((moved : Bool) × (left < step_cost collector has_moved + rest.units + step_cost rest.collector moved))
+    more_units fits (inl idle) = inl idle
+    more_units fits (inr (moved, dear)) = inr (moved, omega arith)
+
+-- A quantum goes on until no cycle runs or the next step doesn't fit
+pub quantum-goes_on : (config : Config) (collector : Collector) → IsTrue (is_idle (quantum config collector).collector.phase) ⊎ ((moved : Bool) × (config.quantum < (quantum config collector).units + step_cost (quantum config collector).collector moved))
+unfolding quantum
+quantum-goes_on config collector = steps-go_on config.quantum config.quantum false (quantum_start config collector) (omega arith)

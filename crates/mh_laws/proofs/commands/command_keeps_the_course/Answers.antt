@@ -1,0 +1,5 @@
+use Rattle.mh_laws.proofs.Courses.{mutator_step-course}
+use Rattle.mh_laws.proofs.commands.command_keeps_the_course.Goals as goal
+
+pub returns : goal.returns
+returns c = mutator_step-course

@@ -1,0 +1,5 @@
+use Rattle.mh_laws.proofs.Courses.{new-done}
+use Rattle.mh_laws.proofs.commands.done_is_born.Goals as goal
+
+pub returns : goal.returns
+returns c = new-done

@@ -1,0 +1,5 @@
+use Rattle.mh_laws.proofs.Quanta.{units-quantum}
+use Rattle.mh_laws.proofs.costs.quantum_keeps_its_limit.Goals as goal
+
+pub returns : goal.returns
+returns c = units-quantum

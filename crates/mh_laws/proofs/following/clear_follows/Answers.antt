@@ -1,0 +1,5 @@
+use Rattle.mh_laws.proofs.Followed.{clear-follows}
+use Rattle.mh_laws.proofs.following.clear_follows.Goals as goal
+
+pub returns : goal.returns
+returns c = clear-follows

@@ -1,0 +1,5 @@
+use Rattle.mh_laws.proofs.Followed.{copy-follows}
+use Rattle.mh_laws.proofs.following.copy_follows.Goals as goal
+
+pub returns : goal.returns
+returns c = copy-follows

@@ -1,0 +1,5 @@
+use Rattle.mh_laws.proofs.FollowedBirth.{new-follows}
+use Rattle.mh_laws.proofs.following.new_follows.Goals as goal
+
+pub returns : goal.returns
+returns c = new-follows

@@ -1,0 +1,5 @@
+use Rattle.mh_laws.proofs.Followed.{refused-follows}
+use Rattle.mh_laws.proofs.following.refused_follows.Goals as goal
+
+pub returns : goal.returns
+returns c = refused-follows

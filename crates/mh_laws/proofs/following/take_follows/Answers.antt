@@ -1,0 +1,5 @@
+use Rattle.mh_laws.proofs.Followed.{take-follows}
+use Rattle.mh_laws.proofs.following.take_follows.Goals as goal
+
+pub returns : goal.returns
+returns c = take-follows

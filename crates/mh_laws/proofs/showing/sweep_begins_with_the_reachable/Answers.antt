@@ -1,0 +1,5 @@
+use Rattle.mh_laws.proofs.ShownSteps.{agrees-sweeping}
+use Rattle.mh_laws.proofs.showing.sweep_begins_with_the_reachable.Goals as goal
+
+pub returns : goal.returns
+returns c = agrees-sweeping

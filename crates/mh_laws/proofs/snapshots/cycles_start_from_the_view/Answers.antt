@@ -1,0 +1,5 @@
+use Rattle.mh_laws.proofs.Running.{continues-start}
+use Rattle.mh_laws.proofs.snapshots.cycles_start_from_the_view.Goals as goal
+
+pub returns : goal.returns
+returns c = continues-start

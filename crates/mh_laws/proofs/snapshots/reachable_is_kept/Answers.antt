@@ -1,0 +1,5 @@
+use Rattle.mh_laws.proofs.Reaching.{reachable_is_kept}
+use Rattle.mh_laws.proofs.snapshots.reachable_is_kept.Goals as goal
+
+pub returns : goal.returns
+returns c = reachable_is_kept

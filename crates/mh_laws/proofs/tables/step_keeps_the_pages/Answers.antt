@@ -1,0 +1,5 @@
+use Rattle.mh_laws.proofs.Courses.{collector_step-keeps}
+use Rattle.mh_laws.proofs.tables.step_keeps_the_pages.Goals as goal
+
+pub returns : goal.returns
+returns c = collector_step-keeps

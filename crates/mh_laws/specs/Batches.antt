@@ -1,0 +1,64 @@
+-- Marking by batches: what a front of the grey list refers to is found at once, and then written back and shaded block by block.
+use Rattle.std.specs.Prelude.{◌≡◌, ◌⊎◌, ℕ, zero, suc, ◌+◌, ◌-◌, ◌<◌, ◌≤◌, nat_le, if◌then◌else◌, Bool, Option, List, [], ◌∷◌, ◌++◌, length}
+use Rattle.std.specs.List.{sum_by}
+use Rattle.mh_model.specs.declared.cycle.Phase.TheVariants.{Mark}
+use Rattle.mh_model.specs.Pages.{Table}
+use Rattle.mh_model.specs.Table.{Block, with_reference_at, found_in}
+use Rattle.mh_model.specs.Collector.{Collector, Marking, shade, mark_step, mark_cost, first_mark_cost, marking_of, with_marking, after_mark, with_units, steps}
+use Rattle.mh_laws.specs.GreyRoom.{NoneTwice}
+
+-- what was found of a block written back and shaded, in order from this reference on
+abbrev pub written_back : Marking → ℕ → ℕ → List (Option ℕ) → Marking
+written_back marking place index [] = marking
+written_back marking place index (target ∷ found) = written_back (shade (record marking { table = with_reference_at marking.table place index target }) target) place (suc index) found
+
+-- the same for each block of a batch, in order
+abbrev pub batch_written : Marking → List ℕ → List (List (Option ℕ)) → Marking
+batch_written marking [] all = marking
+batch_written marking (place ∷ batch) [] = marking
+batch_written marking (place ∷ batch) (found ∷ all) = batch_written (written_back marking place 0 found) batch all
+
+-- A batch taken off the grey list, of which this is left: found at once, and then written back and shaded
+abbrev pub batch_marked : Marking → List ℕ → List ℕ → Marking
+batch_marked marking batch rest = batch_written (record marking { grey = rest }) batch (found_in marking.table batch)
+
+-- so many mark steps
+abbrev pub mark_steps : ℕ → Marking → Marking
+mark_steps zero marking = marking
+mark_steps (suc count) marking = mark_steps count (mark_step marking)
+
+-- the collector after a batch, and the phase that follows at once
+abbrev pub after_batch : Collector → List ℕ → List ℕ → Collector
+after_batch collector batch rest = let marking = batch_marked (marking_of collector) batch rest in after_mark (with_marking collector marking) marking.grey
+
+-- what marking through a batch costs
+abbrev pub batch_cost : Table Block → List ℕ → ℕ
+batch_cost table batch = sum_by (mark_cost table) batch
+
+-- the longest front of a grey list that has at most so many places and whose marking fits in what is left
+unfoldable pub longest_front : ℕ → Table Block → ℕ → List ℕ → List ℕ
+longest_front zero table left grey = []
+longest_front (suc most) table left [] = []
+longest_front (suc most) table left (place ∷ grey) = if nat_le (mark_cost table place) left then place ∷ longest_front most table (left - mark_cost table place) grey else []
+
+-- a front that has so few places and fits, and no longer one has and does: the batch is full, or no place is after it, or the next doesn't fit
+pub record IsLongestFront (most : ℕ) (table : Table Block) (left : ℕ) (grey batch : List ℕ) : Type 0 where
+  pub rest : List ℕ
+  pub is_front : grey ≡ batch ++ rest
+  pub few : length batch ≤ most
+  pub fits : batch_cost table batch ≤ left
+  pub longest : (other after : List ℕ) → grey ≡ other ++ after → length other ≤ most → batch_cost table other ≤ left → length other ≤ length batch
+  pub ended : (length batch ≡ most) ⊎ ((rest ≡ []) ⊎ (left < batch_cost table batch + first_mark_cost table rest))
+
+-- A cut into batches gives the machine of one block at a time; the steps of a quantum begin with a batch that fits, and end with it where the next block doesn't fit; and the longest front ends there, or where it is full
+pub record AnyCutIntoBatchesIsTheSame : Type 0 where
+  pub same : (marking : Marking) (batch rest : List ℕ) → marking.grey ≡ batch ++ rest → NoneTwice marking.grey → mark_steps (length batch) marking ≡ batch_marked marking batch rest
+  pub begins : (collector : Collector) (batch rest : List ℕ) (left : ℕ) (has_moved : Bool) → collector.phase ≡ Mark → collector.grey ≡ batch ++ rest → NoneTwice collector.grey → 0 < length batch → batch_cost collector.table batch ≤ left →
+      let left_after = left - batch_cost collector.table batch in
+      steps left left has_moved collector ≡ with_units (batch_cost collector.table batch) (steps left_after left_after has_moved (after_batch collector batch rest))
+  pub ends : (collector : Collector) (batch rest : List ℕ) (left : ℕ) (has_moved : Bool) → collector.phase ≡ Mark → collector.grey ≡ batch ++ rest → NoneTwice collector.grey → 0 < length batch → 0 < length rest →
+      left < batch_cost collector.table batch + first_mark_cost collector.table rest →
+      let left_after = left - batch_cost collector.table batch in
+      steps left_after left_after has_moved (after_batch collector batch rest) ≡ record { units = 0; collector = after_batch collector batch rest }
+  pub stops : (collector : Collector) (left : ℕ) (has_moved : Bool) → collector.phase ≡ Mark → left < first_mark_cost collector.table collector.grey → steps left left has_moved collector ≡ record { units = 0; collector = collector }
+  pub longest : (most : ℕ) (table : Table Block) (left : ℕ) (grey : List ℕ) → IsLongestFront most table left grey (longest_front most table left grey)

@@ -1,0 +1,49 @@
+-- What commands of sessions leave as it was.
+use Rattle.std.specs.Prelude.{◌≡◌, ℕ, Some, None, length}
+use Rattle.mh_model.specs.declared.command.Command.{Command}
+use Rattle.mh_model.specs.declared.command.Command.TheVariants as command
+use Rattle.mh_model.specs.declared.reply.Refusal.{Refusal}
+use Rattle.mh_model.specs.declared.reply.Refusal.TheVariants.{HeapFull}
+use Rattle.mh_model.specs.declared.reply.Reply.TheVariants as reply
+use Rattle.mh_model.specs.World.{own_slot, refusal, never_full}
+use Rattle.mh_model.specs.Table.{Made}
+use Rattle.mh_model.specs.Collector.{Collector}
+use Rattle.mh_model.specs.Mutator.{HeapState, new_group, with_born, heap_sight, mutator_step}
+use Rattle.mh_laws.specs.Tables.{HaveTheirSlots}
+
+-- a collector on the same course: only blocks, slots and the grey list may differ
+pub record IsOnCourse (old new : Collector) : Type 0 where
+  pub pages : length new.table ≡ length old.table
+  pub slots : HaveTheirSlots old.table → HaveTheirSlots new.table
+  pub phase : new.phase ≡ old.phase
+  pub cursor : new.cursor ≡ old.cursor
+  pub cycle : new.cycle ≡ old.cycle
+  pub is_asked : new.is_asked ≡ old.is_asked
+  pub quanta : new.quanta ≡ old.quanta
+
+-- a new object whose parts are made, and which its slot names
+pub record IsBorn (heap : HeapState) (who slot references numbers : ℕ) : Type 0 where
+  pub made : Made
+  pub group : new_group heap references numbers ≡ Some made
+  pub state : (mutator_step heap who (command.New slot references numbers)).state ≡ with_born heap (own_slot who slot) made
+
+-- A command leaves the collector's phase, cursor, cycle number, asking and quanta, and keeps the pages
+abbrev pub CommandKeepsTheCourse : Type 0
+CommandKeepsTheCourse = (heap : HeapState) (who : ℕ) (command : Command) → IsOnCourse heap.collector (mutator_step heap who command).state.collector
+
+-- A refused command leaves the heap as it was, also where the heap is full
+abbrev pub RefusalLeavesTheHeap : Type 0
+RefusalLeavesTheHeap = (heap : HeapState) (who : ℕ) (command : Command) (refusal : Refusal) → (mutator_step heap who command).reply ≡ reply.Refused refusal → (mutator_step heap who command).state ≡ heap
+
+-- A new object is refused by a full heap only where its parts aren't made
+abbrev pub FullHeapHasNoPlace : Type 0
+FullHeapHasNoPlace = (heap : HeapState) (who slot references numbers : ℕ) → (mutator_step heap who (command.New slot references numbers)).reply ≡ reply.Refused HeapFull → new_group heap references numbers ≡ None
+
+-- and each one that no other test refuses is, where they aren't made
+abbrev pub NoPlaceIsAFullHeap : Type 0
+NoPlaceIsAFullHeap = (heap : HeapState) (who slot references numbers : ℕ) → refusal (record (heap_sight heap) { is_full = never_full }) who (command.New slot references numbers) ≡ None → new_group heap references numbers ≡ None
+    → (mutator_step heap who (command.New slot references numbers)).reply ≡ reply.Refused HeapFull
+
+-- A new object that is answered as done is born with all its parts
+abbrev pub DoneIsBorn : Type 0
+DoneIsBorn = (heap : HeapState) (who slot references numbers : ℕ) → (mutator_step heap who (command.New slot references numbers)).reply ≡ reply.Done → IsBorn heap who slot references numbers

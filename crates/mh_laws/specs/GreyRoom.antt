@@ -1,0 +1,33 @@
+-- The grey list has room: no place stands twice in it, and each holds a marked block.
+use Rattle.std.specs.Prelude.{◌≡◌, ◌≢◌, ℕ, ◌*◌, ◌==◌, ◌≤◌, Some, option_map, List, length}
+use Rattle.std.specs.List.{AllByRecursion, IsDistinct}
+use Rattle.mh_model.specs.declared.command.Event.{Event}
+use Rattle.mh_model.specs.declared.config.Config.{Config}
+use Rattle.mh_model.specs.Pages.{Table, block_at}
+use Rattle.mh_model.specs.Table.{Block}
+use Rattle.mh_model.specs.Collector.{Collector, Marking}
+use Rattle.mh_model.specs.Machine.{first_machine, half_step, machine_after}
+
+-- the block at a place is marked in a cycle
+abbrev pub IsMarkedIn : Table Block → ℕ → ℕ → Type 0
+IsMarkedIn table cycle place = option_map (λ block. block.stamp) (block_at table place) ≡ Some cycle
+
+-- no place stands twice
+abbrev pub NoneTwice : List ℕ → Type 0
+NoneTwice grey = IsDistinct (λ place other. place == other) grey
+
+-- a place holds a marked block, and isn't in the grey list
+pub record IsSettled (marking : Marking) (place : ℕ) : Type 0 where
+  pub marked : IsMarkedIn marking.table marking.cycle place
+  pub apart : AllByRecursion (λ other. other ≢ place) marking.grey
+
+-- no place stands twice in the grey list, each holds a marked block, and they are no more than the places of the table
+pub record HasGreyRoom (config : Config) (collector : Collector) : Type 0 where
+  pub once : NoneTwice collector.grey
+  pub marked : AllByRecursion (IsMarkedIn collector.table collector.cycle) collector.grey
+  pub few : length collector.grey ≤ 64 * config.pages
+
+-- The grey list has room at every moment of every run, half steps included
+pub record GreyListHasRoom : Type 0 where
+  pub after_events : (config : Config) (events : List Event) → HasGreyRoom config (machine_after (first_machine config) events).heap.collector
+  pub after_commands : (config : Config) (events : List Event) (event : Event) → HasGreyRoom config (half_step (machine_after (first_machine config) events) event).heap.collector

@@ -1,0 +1,71 @@
+-- Where a block of a class finds a place.
+use Rattle.std.specs.Prelude.{◌≡◌, ◌⊎◌, ◌↔◌, ◌<◌, ◌+◌, ℕ, false, IsTrue, IsSome, is_none, Option, Some, None, List, length, get_or}
+use Rattle.mh_model.specs.Pages.{Page, Table, page_number, slot_number, page_at, block_in, block_at, live_in, is_dense, is_sparse, open_slot, fresh_slot, least_dense_place, least_place, page_with, page_for, with_taken, with_released}
+use Rattle.mh_model.specs.Table.{Block}
+use Rattle.mh_laws.specs.Tables.{is_class_size, HaveTheirSlots}
+
+module _ {X : Type 0} where
+  -- a slot without a block, after slots that each have one
+  pub record IsFirstEmpty (slots : List (Option X)) (slot : ℕ) : Type 0 where
+    pub within : slot < length slots
+    pub empty : get_or slots slot None ≡ None
+    pub first : (other : ℕ) → other < slot → IsSome (get_or slots other None)
+
+  -- the place of the slot that is given of a page, of which none below it gives any
+  pub record IsFound (slot_of : Option (Page X) → Option ℕ) (table : Table X) (place : ℕ) : Type 0 where
+    pub inside : page_number place < length table
+    pub gives : slot_of (page_at table (page_number place)) ≡ Some (slot_number place)
+    pub first : (number : ℕ) → number < page_number place → slot_of (page_at table number) ≡ None
+
+  -- no page gives a slot
+  abbrev pub GivesNone : (Option (Page X) → Option ℕ) → Table X → Type 0
+  GivesNone slot_of table = (number : ℕ) → number < length table → slot_of (page_at table number) ≡ None
+
+  -- a place is free for a class: slot 0 of a free page, or a slot without a block in a page of the class
+  pub record IsFreeFor (table : Table X) (size place : ℕ) : Type 0 where
+    pub inside : page_number place < length table
+    pub empty : block_at table place ≡ None
+    pub within : slot_number place < length (page_for size (page_at table (page_number place))).slots
+    pub of_class : (page_for size (page_at table (page_number place))).class_size ≡ size
+
+  -- there is a free page, or a slot without a block in a page of the class
+  abbrev pub HasRoom : Table X → ℕ → Type 0
+  HasRoom table size =
+      ((number : ℕ) × (number < length table) × (page_at table number ≡ None))
+      ⊎ ((number : ℕ) × (slot : ℕ) × (page : Page X) × (page_at table number ≡ Some page) × (page.class_size ≡ size) × (slot < length page.slots) × (get_or page.slots slot None ≡ None))
+
+  -- the least of the first tier, or of the second where the first gives none, or of the third where neither does
+  abbrev pub IsLeastOfItsTier : Table X → ℕ → ℕ → Type 0
+  IsLeastOfItsTier table size place =
+      IsFound (open_slot (is_dense size)) table place
+      ⊎ ((GivesNone (open_slot (is_dense size)) table × IsFound fresh_slot table place)
+      ⊎ (GivesNone (open_slot (is_dense size)) table × GivesNone fresh_slot table × IsFound (open_slot (is_sparse size)) table place))
+
+  -- the first slot without a block in an unflagged page of the class, the least such page
+  pub record IsDensePlace (table : Table X) (size place : ℕ) : Type 0 where
+    pub found : IsFound (open_slot (is_dense size)) table place
+    pub page : Page X
+    pub in_use : page_at table (page_number place) ≡ Some page
+    pub of_class : page.class_size ≡ size
+    pub unflagged : page.is_flagged ≡ false
+    pub empty : IsFirstEmpty page.slots (slot_number place)
+
+-- There is a least place for a class exactly where the table has room for it
+abbrev pub PlaceIsThereWhereRoomIs : Type 0
+PlaceIsThereWhereRoomIs = (table : Table Block) (size : ℕ) → HaveTheirSlots table → IsTrue (is_class_size size) → IsSome (least_place table size) ↔ HasRoom table size
+
+-- The least place is free for its class and the least of its tier
+abbrev pub LeastPlaceIsLeast : Type 0
+LeastPlaceIsLeast = (table : Table Block) (size place : ℕ) → HaveTheirSlots table → IsTrue (is_class_size size) → least_place table size ≡ Some place → IsFreeFor table size place × IsLeastOfItsTier table size place
+
+-- The place that the first tier gives is in an unflagged page of the class
+abbrev pub FirstTierIsDense : Type 0
+FirstTierIsDense = (table : Table Block) (size place : ℕ) → HaveTheirSlots table → least_dense_place table size ≡ Some place → IsDensePlace table size place
+
+-- A place taken and given back leaves the table, its page freed where it was free
+abbrev pub GivenBackIsAsBefore : Type 0
+GivenBackIsAsBefore = (table : Table Block) (size place : ℕ) (block : Block) → IsFreeFor table size place → with_released (with_taken table size place block) place (is_none (page_at table (page_number place))) ≡ table
+
+-- A page has one block less after one that is taken away
+abbrev pub OneBlockLess : Type 0
+OneBlockLess = (page : Page Block) (slot : ℕ) → IsSome (block_in slot page) → live_in (page_with slot None page) + 1 ≡ live_in page

@@ -1,0 +1,26 @@
+-- Quanta within their bound, and the mutator's share of each stretch of a trace.
+use Rattle.std.specs.Prelude.{◌≡◌, ℕ, ◌+◌, ◌<◌, ◌≤◌, false, Some, List}
+use Rattle.mh_model.specs.declared.command.Event.{Event}
+use Rattle.mh_model.specs.declared.config.Config.{Config}
+use Rattle.mh_model.specs.Collector.{Collector, is_idle, quantum}
+use Rattle.mh_model.specs.Trace.{TraceState, least_mutator, floor}
+use Rattle.mh_model.specs.Machine.{first_machine, half_step, machine_after}
+
+-- a quantum of this collector that leaves its cycle running leaves at most 208 units
+abbrev pub LeavesLittle : Config → Collector → Type 0
+LeavesLittle config collector = is_idle (quantum config collector).collector.phase ≡ false → config.quantum ≤ (quantum config collector).units + 208
+
+-- No quantum of a run spends more than is configured, and at every moment one that leaves its cycle running would leave at most 208 units
+pub record QuantaStayWithinTheirBound : Type 0 where
+  pub greatest : (config : Config) (events : List Event) → (machine_after (first_machine config) events).trace.greatest ≤ config.quantum
+  pub after_events : (config : Config) (events : List Event) → LeavesLittle config (machine_after (first_machine config) events).heap.collector
+  pub after_commands : (config : Config) (events : List Event) (event : Event) → LeavesLittle config (half_step (machine_after (first_machine config) events) event).heap.collector
+
+-- each stretch of a trace has at least the floor of its length in units of the mutator
+abbrev pub HasShare : Config → TraceState → Type 0
+HasShare config trace = (window count : ℕ) → least_mutator window trace.letters ≡ Some count → floor config.every config.quantum window ≤ count
+
+-- The mutator has its share of each stretch of the trace, where the scheduler runs quanta (Cheng and Blelloch 2001)
+pub record MutatorHasItsShare : Type 0 where
+  pub after_events : (config : Config) (events : List Event) → 0 < config.every → HasShare config (machine_after (first_machine config) events).trace
+  pub after_commands : (config : Config) (events : List Event) (event : Event) → 0 < config.every → HasShare config (half_step (machine_after (first_machine config) events) event).trace
