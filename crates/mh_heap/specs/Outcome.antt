@@ -1,0 +1,23 @@
+-- The reply that the outcome of a call stands for.
+use Rattle.std.specs.Prelude.{ℕ, Bool, Result, Ok, Err}
+use Rattle.mh_model.specs.World.{yes_or_no}
+use Rattle.mh_model.specs.declared.shape.Shape.{Shape}
+use Rattle.mh_model.specs.declared.reply.Refusal.{Refusal}
+use Rattle.mh_model.specs.declared.reply.Reply.{Reply}
+use Rattle.mh_model.specs.declared.reply.Reply.TheVariants as reply
+
+abbrev pub done_or : Result Unit Refusal → Reply
+done_or (Ok nothing) = reply.Done
+done_or (Err refusal) = reply.Refused refusal
+
+abbrev pub number_or : Result ℕ Refusal → Reply
+number_or (Ok number) = reply.Number number
+number_or (Err refusal) = reply.Refused refusal
+
+abbrev pub same_or : Result Bool Refusal → Reply
+same_or (Ok answer) = yes_or_no answer
+same_or (Err refusal) = reply.Refused refusal
+
+abbrev pub shape_or : Result Shape Refusal → Reply
+shape_or (Ok shape) = reply.Shape shape
+shape_or (Err refusal) = reply.Refused refusal

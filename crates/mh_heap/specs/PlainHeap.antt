@@ -1,0 +1,7 @@
+-- The world that a heap which never collects shows.
+use Rattle.mh_model.specs.World.{World}
+use Rattle.mh_heap.specs.PlainWorld.{plain_world}
+use Rattle.mh_heap.specs.declared.plain.PlainHeap.{PlainHeap}
+
+abbrev pub world_of : PlainHeap → World
+world_of heap = plain_world heap.config heap.objects.items heap.slots heap.ended

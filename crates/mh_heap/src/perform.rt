@@ -1,0 +1,75 @@
+ghost use Rattle.std.specs.Prelude.{◌≡◌, ◌<◌, IfOk, OnErr};
+ghost use Rattle.mh_model.specs.declared.birth.TheConstants.{LIFE};
+ghost use Rattle.mh_model.specs.World.{births, IsClosed, Performs};
+ghost use Rattle.mh_heap.specs.Memory.{IsNew};
+ghost use Rattle.mh_heap.specs.Outcome.{done_or, number_or, same_or, shape_or};
+
+use crate::heap::Heap;
+use mh_model::command::Command;
+use mh_model::memory::NoMemory;
+use mh_model::reply::{Refusal, Reply};
+use mh_model::shape::Shape;
+
+fn done(outcome: Result<(), Refusal>) -> Reply
+    ensures { result ≡ done_or outcome }
+{
+    outcome.map_or_else(Reply::Refused, |()| Reply::Done)
+}
+
+fn number(outcome: Result<u64, Refusal>) -> Reply
+    ensures { result ≡ number_or outcome }
+{
+    outcome.map_or_else(Reply::Refused, Reply::Number)
+}
+
+fn same(outcome: Result<bool, Refusal>) -> Reply
+    ensures { result ≡ same_or outcome }
+{
+    outcome.map_or_else(
+        Reply::Refused,
+        |same| if same { Reply::Yes } else { Reply::No },
+    )
+}
+
+fn shape(outcome: Result<Shape, Refusal>) -> Reply
+    ensures { result ≡ shape_or outcome }
+{
+    outcome.map_or_else(Reply::Refused, Reply::Shape)
+}
+
+/// Performs a command of the session `who`, and answers it.
+pub fn perform<H: Heap>(heap: &mut H, who: u8, command: &Command) -> Result<Reply, NoMemory>
+    requires { births (H.view heap.old) < LIFE }
+    ensures step { IfOk result (λ reply. Performs (H.is_full heap.old) (H.view heap.old) who command.now reply (H.view heap.new)) }
+    ensures err { OnErr result (H.view heap.new ≡ H.view heap.old) }
+    ensures only_new { OnErr result (IsNew command.now) }
+    ensures closed { IsClosed (H.view heap.new) }
+{
+    let reply = match *command {
+        Command::New {
+            slot,
+            references,
+            numbers,
+        } => done(heap.make(who, slot, references, numbers)?),
+        Command::Get {
+            slot,
+            source,
+            field,
+        } => done(heap.get(who, slot, source, field)),
+        Command::Put { slot, field, value } => done(heap.put(who, slot, field, value)),
+        Command::Copy { slot, source } => done(heap.copy(who, slot, source)),
+        Command::Clear { slot } => done(heap.clear(who, slot)),
+        Command::Read { slot, index } => number(heap.read(who, slot, index)),
+        Command::Write {
+            slot,
+            index,
+            number,
+        } => done(heap.write(who, slot, index, number)),
+        Command::Same { left, right } => same(heap.same(who, left, right)),
+        Command::Shape { slot } => shape(heap.shape(who, slot)),
+        Command::Post { board, slot } => done(heap.post(who, board, slot)),
+        Command::Take { slot, board } => done(heap.take(who, slot, board)),
+        Command::End => done(heap.end(who)),
+    };
+    Ok(reply)
+}
