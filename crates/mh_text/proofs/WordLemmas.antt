@@ -1,0 +1,62 @@
+-- What the bytes of a word say of it.
+use Rattle.std.proofs.Common.{◌≡◌, ℕ, suc, ◌+◌, ◌*◌, ◌-◌, ◌<◌, ◌≤◌, ◌==◌, nat_lt, nat_le, ◌&&◌, ◌||◌, Bool, true, false, Option, Some, None, option_map, List, [], ◌∷◌, ◌++◌, length, get_or, drop, ap, sym, refl, append_assoc, add-one, drop-cons, arith}
+use Rattle.std.specs.List.{list_all}
+use Rattle.std.proofs.lemmas.List.{append-nil}
+use Rattle.std.proofs.lemmas.Bool.Decides.{nat_tests}
+use Rattle.std.proofs.lemmas.Grind.{common_steps}
+use Rattle.mh_model.specs.Bytes.{Text, is_digit, is_letter, is_numeral, is_name, value_after, number, numbers}
+
+and_true : (b : Bool) → (b && true) ≡ b
+and_true true = refl
+and_true false = refl
+
+and_false : (b : Bool) → (b && false) ≡ false
+and_false true = refl
+and_false false = refl
+
+-- a numeral of several digits begins with none that is 0
+pub numeral_digits : (word : Text) → 0 < length word → (get_or word 0 0 == 48) ≡ false → is_numeral word ≡ list_all is_digit word
+numeral_digits [] full other = absurd (omega arith)
+numeral_digits (byte ∷ []) full other = sym (and_true (is_digit byte))
+numeral_digits (byte ∷ next ∷ bytes) full other = rw other refl
+
+pub numeral_zero : (word : Text) → 1 < length word → (get_or word 0 0 == 48) ≡ true → is_numeral word ≡ false
+numeral_zero [] full zero = absurd (omega arith)
+numeral_zero (byte ∷ []) full zero = absurd (omega arith)
+numeral_zero (byte ∷ next ∷ bytes) full zero = rw zero (and_false (is_digit byte))
+
+sixteen : (n : ℕ) → nat_lt n 16 ≡ nat_le (suc n) 16
+sixteen n = grind (arith, nat_tests)
+
+pub name_letter : (word : Text) → 0 < length word → is_letter (get_or word 0 0) ≡ true → is_name word ≡ (list_all (λ c. is_letter c || is_digit c) word && nat_le (length word) 16)
+name_letter [] full letter = absurd (omega arith)
+name_letter (byte ∷ bytes) full letter = rw (letter, sixteen (length bytes)) refl
+
+pub name_other : (word : Text) → is_letter (get_or word 0 0) ≡ false → is_name word ≡ false
+name_other [] other = refl
+name_other (byte ∷ bytes) other = rw other refl
+
+-- digits that follow others make no smaller number
+pub value_after_grows : (n : ℕ) (word : Text) → n ≤ value_after n word
+value_after_grows n [] = omega arith
+value_after_grows n (byte ∷ bytes) = omega (arith, value_after_grows (10 * n + (byte - 48)) bytes)
+
+pub value_next : (n place : ℕ) (word : Text) → place < length word → value_after n (drop place word) ≡ value_after (10 * n + (get_or word place 0 - 48)) (drop (place + 1) word)
+value_next n place word below = rw (add-one, drop-cons word place 0) refl
+
+pub value_end : (n place : ℕ) (word : Text) → length word ≤ place → value_after n (drop place word) ≡ n
+value_end n place word past = let none : drop place word ≡ [] = grind (arith, common_steps) in rw none refl
+
+append_twice : (found : List ℕ) (n : ℕ) (more : Option (List ℕ)) → option_map (λ ns. found ++ ns) (option_map (λ ns. n ∷ ns) more) ≡ option_map (λ ns. (found ++ n ∷ []) ++ ns) more
+append_twice found n None = refl
+append_twice found n (Some more) = ap Some (sym (append_assoc found (n ∷ []) more))
+
+pub numbers_next : (found : List ℕ) (word : Text) (n : ℕ) (words : List Text) → number word ≡ Some n
+    → option_map (λ more. found ++ more) (numbers (word ∷ words)) ≡ option_map (λ more. (found ++ n ∷ []) ++ more) (numbers words)
+numbers_next found word n words is = rw is (append_twice found n (numbers words))
+
+pub numbers_stop : (found : List ℕ) (word : Text) (words : List Text) → number word ≡ None → option_map (λ more. found ++ more) (numbers (word ∷ words)) ≡ None
+numbers_stop found word words is = rw is refl
+
+pub numbers_end : (found : List ℕ) → option_map (λ more. found ++ more) (numbers []) ≡ Some found
+numbers_end found = ap Some (append-nil found)

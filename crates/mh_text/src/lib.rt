@@ -1,0 +1,16 @@
+//! Texts: devices that bytes come from and go to, scripts, and the texts of replies.
+#![tactic(auto)]
+
+pub mod device;
+mod line;
+mod pieces;
+pub mod reply_text;
+pub mod script;
+#[cfg(test)]
+mod script_tests;
+pub mod sink;
+pub mod source;
+pub mod stream;
+#[cfg(test)]
+mod stream_tests;
+mod word;

@@ -1,0 +1,121 @@
+ghost use Rattle.std.specs.Prelude.{◌≡◌, ◌==◌, ◌<◌, ◌^◌, ◌+◌, ◌↔◌, [], ◌∷◌, length, position, IfSome, IfNone, IsTrue};
+ghost use Rattle.mh_model.specs.Bytes.{cut_after, words};
+ghost use Rattle.mh_text.specs.Pieces.{with_piece, lines_from, TakesLine};
+
+use std::marker::Model;
+
+/// The place of the first such byte.
+fn place_of(text: &[u8], byte: u8) -> Option<usize>
+    ensures { result ≡ position (λ b. b == byte) text.now }
+{
+    text.iter().position(|b| *b == byte)
+}
+
+/// The bytes before the first `end`, and those after it.
+#[tactic(auto, using(crate::proofs::PieceLemmas::place_found, crate::proofs::PieceLemmas::split_some, crate::proofs::PieceLemmas::split_none))]
+fn split_at_byte(text: &[u8], end: u8) -> Option<(&[u8], &[u8])>
+    ensures some { IfSome result
+        (λ parts. cut_after end text.now ≡ with_piece parts.0.now (cut_after end parts.1.now)) }
+    ensures none { IfNone result
+        (cut_after end text.now ≡ record { pieces = []; rest = text.now }) }
+    ensures shorter { IfSome result (λ parts. length parts.1.now < length text.now) }
+{
+    let place = place_of(text, end)?;
+    Some((&text[..place], &text[place + 1..]))
+}
+
+/// The words of a line that are left.
+#[derive(Debug, Drop)]
+pub struct Words<'a> {
+    left: Option<&'a [u8]>,
+}
+
+impl<'a> Model for Words<'a> {
+    ghost use Rattle.std.specs.Prelude.{List, ℕ, option_map};
+    ghost use Rattle.mh_text.specs.Pieces.{words_left};
+
+    ghost Value = { List (List ℕ) };
+
+    ghost view = { λ words. words_left (option_map (λ text. text.now) words.left) };
+}
+
+impl<'a> Words<'a> {
+    pub fn new(line: &'a [u8]) -> Words<'a>
+        ensures { result ≡ words line.now }
+    {
+        Words { left: Some(line) }
+    }
+
+    /// Takes the next word, none after the last.
+    pub fn next_word(&mut self) -> Option<&'a [u8]>
+        ensures next { IfSome result (λ word. self.old ≡ word.now ∷ self.new) }
+        ensures end { IfNone result (self.old ≡ []) }
+        ensures ended { IfNone result (self.new ≡ []) }
+    {
+        let line = self.left?;
+        match split_at_byte(line, b' ') {
+            Some((word, rest)) => {
+                self.left = Some(rest);
+                Some(word)
+            }
+            None => {
+                self.left = None;
+                Some(line)
+            }
+        }
+    }
+}
+
+/// The lines of a text that are left, with their numbers from 1.
+#[derive(Debug, Drop)]
+pub struct Lines<'a> {
+    text: &'a [u8],
+    number: u64,
+}
+
+impl<'a> Model for Lines<'a> {
+    ghost use Rattle.std.specs.Prelude.{◌+◌, ◌<◌, ◌^◌, length};
+    ghost use Rattle.mh_text.specs.Pieces.{Lines, lines_from};
+
+    ghost Value = { Lines };
+
+    ghost view = { λ lines. lines_from lines.number lines.text.now };
+
+    ghost invariant = { λ lines. lines.number + length lines.text.now < 2 ^ 64 };
+}
+
+impl<'a> Lines<'a> {
+    pub fn new(text: &'a [u8]) -> Lines<'a>
+        requires { length text.now + 1 < 2 ^ 64 }
+        ensures { result ≡ lines_from 1 text.now }
+    {
+        Lines { text, number: 1 }
+    }
+
+    /// The number of the next line.
+    pub fn number(&self) -> u64
+        ensures { result ≡ self.now.number }
+    {
+        self.number
+    }
+
+    /// Takes the next line, with its number and without its end.
+    pub fn next_line(&mut self) -> Option<(u64, &'a [u8])>
+        ensures next { IfSome result (λ line. TakesLine self.old self.new line.0 line.1.now) }
+        ensures end { IfNone result (self.old.lines ≡ []) }
+        ensures same { IfNone result (self.new ≡ self.old) }
+    {
+        let (line, rest) = split_at_byte(self.text, b'\n')?;
+        let number = self.number;
+        self.text = rest;
+        self.number += 1;
+        Some((number, line))
+    }
+
+    /// Whether no byte is left, also none after the last line.
+    pub fn is_empty(&self) -> bool
+        ensures { IsTrue result ↔ ((self.now.rest ≡ []) × (self.now.lines ≡ [])) }
+    {
+        self.text.is_empty()
+    }
+}

@@ -1,0 +1,60 @@
+ghost use Rattle.std.specs.Prelude.{◌≡◌, ◌≤◌, ◌<◌, ◌+◌, ◌^◌, ℕ, List, Option, length, take, IfOk, OnOk, OnErr};
+ghost use Rattle.std.specs.Io.KnownBytes.{Consumes, Keeps, IsAtEnd};
+
+use crate::device::DeviceFailed;
+use std::io::Read;
+
+/// Where bytes come from.
+pub trait Source {
+    // The bytes that are left, where they are known.
+    ghost rest: { Self → Option (List ℕ) };
+
+    // How often the device failed.
+    ghost failures: { Self → ℕ };
+
+    /// Puts the next bytes at the start of `buffer`, and returns their number, which is 0 only at the end.
+    fn read(&mut self, buffer: &mut [u8]) -> Result<usize, DeviceFailed>
+        requires room { 0 < length buffer.old }
+        requires count { failures self.old < 2 ^ 62 }
+        ensures within { IfOk result (λ count. count ≤ length buffer.new) }
+        ensures read { IfOk result (λ count. Consumes (rest self.old) (rest self.new) (take count buffer.new)) }
+        ensures end { IfOk result (λ count. count ≡ 0 → IsAtEnd (rest self.new)) }
+        ensures kept { OnErr result (Keeps (rest self.old) (rest self.new)) }
+        ensures no_failure { OnOk result (failures self.new ≡ failures self.old) }
+        ensures failed { OnErr result (failures self.new ≡ failures self.old + 1) };
+}
+
+/// A reader of std as a source.
+#[derive(Drop)]
+pub struct StdSource<R> {
+    pub reader: R,
+    pub failures: u64,
+}
+
+impl<R: Read> StdSource<R> {
+    pub fn new(reader: R) -> StdSource<R>
+        ensures reader { result.reader ≡ reader }
+        ensures fresh { result.failures ≡ 0 }
+    {
+        StdSource {
+            reader,
+            failures: 0,
+        }
+    }
+}
+
+impl<R: Read> Source for StdSource<R> {
+    ghost rest = { λ source. R.remaining source.reader };
+
+    ghost failures = { λ source. source.failures };
+
+    fn read(&mut self, buffer: &mut [u8]) -> Result<usize, DeviceFailed> {
+        match self.reader.read(buffer) {
+            Ok(count) => Ok(count),
+            Err(_) => {
+                self.failures += 1;
+                Err(DeviceFailed)
+            }
+        }
+    }
+}
