@@ -1,0 +1,4 @@
+pub mod BufferLemmas
+pub mod RunLemmas
+pub mod SourceLemmas
+pub mod OrderLemmas

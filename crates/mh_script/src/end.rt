@@ -1,0 +1,7 @@
+/// How a run of a script ended.
+#[derive(Clone, Copy, Debug, PartialEq, Eq)]
+pub enum End {
+    Done,
+    /// The script's least bad line, counted from 1; 0 where the script is too long.
+    Refused(u64),
+}

@@ -1,0 +1,26 @@
+ghost use Rattle.std.specs.Prelude.{◌≡◌};
+ghost use Rattle.mh_script.specs.Status.{line_status_of, status_of};
+
+use crate::end::End;
+use crate::fault::{LineFault, ScriptFault};
+
+/// The exit status that a run of a script gives the program.
+pub fn status(ended: &Result<End, ScriptFault>) -> u8
+    ensures { result ≡ status_of ended.now }
+{
+    match ended {
+        Ok(End::Done) => 0,
+        Ok(End::Refused(_)) => 1,
+        Err(_) => 3,
+    }
+}
+
+/// The exit status that a command line without an order gives the program.
+pub fn line_status(fault: &LineFault) -> u8
+    ensures { result ≡ line_status_of fault.now }
+{
+    match fault {
+        LineFault::Words(_) | LineFault::Subcommand => 2,
+        LineFault::NoMemory => 3,
+    }
+}
