@@ -76,16 +76,6 @@ steps_left-positive collector under runs = go collector.phase under.stage runs
     go Sweep stage runs = omega (arith, stage.1)
     go Defrag stage runs = omega (arith, stage.1)
 
-pub units_left-positive : (collector : Collector) → IsUnderway collector → is_idle collector.phase ≡ false → 0 < units_left collector.phase collector
-units_left-positive collector under runs = go collector.phase under.stage runs
-  where
-    go : (phase : Phase) → StageOf phase collector → is_idle phase ≡ false → 0 < units_left phase collector
-    go Idle stage runs = absurd (true≢false runs)
-    go Roots stage runs = omega arith
-    go Mark stage runs = omega (arith, under.some_page)
-    go Sweep stage runs = omega (arith, stage.1)
-    go Defrag stage runs = omega (arith, stage.1)
-
 -- a collector with no grey place is sound where its pages are roomy
 pub none_grey : (collector : Collector) → collector.grey ≡ [] → IsRoomy collector.table → IsGreySound (marking_of collector)
 unfolding IsDistinct
@@ -280,11 +270,6 @@ moved-class : (table : Table Block) (place : ℕ) (move : Move) (number size : �
 moved-class table place move number size e = class-with_block (with_taken table move.class_size move.target move.block) place _ number size (class-with_taken table move.class_size move.target move.block number size e)
 
 -- Defragmentation --------------------------------------------------------------------------------
-
--- the words of a move, and none where there is none
-abbrev move_words : Option Move → ℕ
-move_words None = 0
-move_words (Some move) = move.class_size
 
 -- a move takes its class of the words of its page, and fits in them
 abbrev FitsPage : ℕ → ℕ → ℕ → Type 0

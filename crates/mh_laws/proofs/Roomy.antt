@@ -87,10 +87,6 @@ rewritten-roomy table place old new roomy at same = with_block-roomy table place
         let there = (roomy.pages (page_number place) page in_use).blocks (slot_number place) old (block_at-page table place page old in_use at) in
         rw (← same_Some new block e, same) there
 
--- and a place emptied
-pub emptied-roomy : (table : Table Block) (place : ℕ) → IsRoomy table → IsRoomy (with_block table place None)
-emptied-roomy table place roomy = with_block-roomy table place None roomy (λ page block in_use e. absurd (none-some block e))
-
 -- Classes ----------------------------------------------------------------------------------------
 
 -- what a class is: 4 to 64 words, and its slots lie in 256 words
