@@ -1,13 +1,32 @@
--- What a run of a script writes.
-use Rattle.mh_model.specs.Bytes.{Text}
-use Rattle.mh_model.specs.Replies.{line_text, bad_line_text, replies_text}
-use Rattle.mh_model.specs.Script.{Reading, BadLine, Means, reading}
-use Rattle.mh_model.specs.World.{first_world, world_replies}
+-- What a run of a script writes, and how it ends.
+use Rattle.std.specs.Prelude.{ℕ, nat_lt, if◌then◌else◌, length, take}
+use Rattle.mh_model.specs.Bytes.{Text, line_text}
+use Rattle.mh_model.specs.Machine.{first_machine, machine_replies}
+use Rattle.mh_model.specs.Replies.{bad_line_text, replies_text}
+use Rattle.mh_model.specs.Script.{Meaning, Reading, BadLine, Means, reading}
 
-abbrev pub output_of : Reading → Text
+-- the most events that are answered, and the most entries of a history
+abbrev pub most_entries : ℕ
+most_entries = 1000000
+
+abbrev pub output_of : Reading Meaning → Text
 output_of (BadLine line) = line_text (bad_line_text line)
-output_of (Means script) = replies_text (world_replies (first_world script.config) script.events)
+output_of (Means script) = replies_text (machine_replies (first_machine script.config) (take most_entries script.events))
 
--- The output of a script: its least bad line, or the replies to its events
+-- The output of a script: its least bad line, or the replies to its first 1,000,000 events
 unfoldable pub output : Text → Text
 output text = output_of (reading text)
+
+-- how a run ends that memory and devices don't cut short: all is answered, the history is full and events are left, or the script is refused with its least bad line
+pub data Ending : Type 0 where
+  Done : Ending
+  HistoryFull : Ending
+  Refused : ℕ → Ending
+
+abbrev pub ending_of : Reading Meaning → Ending
+ending_of (BadLine line) = Refused line
+ending_of (Means script) = if nat_lt most_entries (length script.events) then HistoryFull else Done
+
+-- The end of a run of a script, after all of its output
+unfoldable pub ending : Text → Ending
+ending text = ending_of (reading text)

@@ -1,5 +1,6 @@
--- The texts of replies.
-use Rattle.std.specs.Prelude.{ℕ, Bool, true, false, Option, Some, None, List, [], ◌∷◌, ◌++◌, flat_map, codes, decimal}
+-- The texts of replies, written and read.
+use Rattle.std.specs.Prelude.{ℕ, nat_lt, Bool, true, false, not, ◌&&◌, if◌then◌else◌, Option, Some, None, option_map, option_and_then, option_to_list, List, [], ◌∷◌, ◌++◌, map, flat_map, codes, decimal}
+use Rattle.std.specs.Option.{option_or}
 use Rattle.mh_model.specs.declared.reply.Reply.{Reply}
 use Rattle.mh_model.specs.declared.reply.Reply.TheVariants as reply
 use Rattle.mh_model.specs.declared.reply.Refusal.{Refusal}
@@ -8,61 +9,63 @@ use Rattle.mh_model.specs.declared.cycle.Phase.{Phase}
 use Rattle.mh_model.specs.declared.cycle.Phase.TheVariants.{Idle, Roots, Mark, Sweep, Defrag}
 use Rattle.mh_model.specs.declared.dump.DumpItem.{DumpItem}
 use Rattle.mh_model.specs.declared.dump.DumpItem.TheVariants as item
-use Rattle.mh_model.specs.Bytes.{Text}
+use Rattle.mh_model.specs.Bytes.{Text, parts_at, joined, line_text, is_text, number, numbers, tagged}
+use Rattle.mh_model.specs.Forms.{within, Form, formed, numbered, with_numbers, are_below, at, u32, u64, Version, One, Two, where_known}
 
-abbrev pub refusal_text : Refusal → Text
-refusal_text BadSlot = codes "1 bad slot"
-refusal_text Null = codes "2 null"
-refusal_text NoField = codes "3 no field"
-refusal_text TooLarge = codes "4 too large"
-refusal_text HeapFull = codes "5 heap full"
-refusal_text Ended = codes "6 ended"
-refusal_text TooManySessions = codes "7 too many sessions"
+-- Written ----------------------------------------------------------------------------------------
 
-abbrev pub phase_text : Phase → Text
-phase_text Idle = codes "idle"
-phase_text Roots = codes "roots"
-phase_text Mark = codes "mark"
-phase_text Sweep = codes "sweep"
-phase_text Defrag = codes "defrag"
+abbrev pub refusal_words : Refusal → List Text
+refusal_words BadSlot = codes "1" ∷ codes "bad" ∷ codes "slot" ∷ []
+refusal_words Null = codes "2" ∷ codes "null" ∷ []
+refusal_words NoField = codes "3" ∷ codes "no" ∷ codes "field" ∷ []
+refusal_words TooLarge = codes "4" ∷ codes "too" ∷ codes "large" ∷ []
+refusal_words HeapFull = codes "5" ∷ codes "heap" ∷ codes "full" ∷ []
+refusal_words Ended = codes "6" ∷ codes "ended" ∷ []
+refusal_words TooManySessions = codes "7" ∷ codes "too" ∷ codes "many" ∷ codes "sessions" ∷ []
 
-abbrev pub flag_text : Bool → Text
-flag_text true = codes "+"
-flag_text false = codes "-"
+abbrev pub phase_word : Phase → Text
+phase_word Idle = codes "idle"
+phase_word Roots = codes "roots"
+phase_word Mark = codes "mark"
+phase_word Sweep = codes "sweep"
+phase_word Defrag = codes "defrag"
 
-abbrev pub item_text : DumpItem → Text
-item_text (item.Page page class_size is_flagged) = codes " P" ++ decimal page ++ codes " C" ++ decimal class_size ++ codes " " ++ flag_text is_flagged
-item_text (item.Block slot birth part) = codes " " ++ decimal slot ++ codes "=" ++ decimal birth ++ codes "." ++ decimal part
-item_text (item.Forwarder slot to_page to_slot) = codes " " ++ decimal slot ++ codes ">" ++ decimal to_page ++ codes "." ++ decimal to_slot
+abbrev pub flag_word : Bool → Text
+flag_word true = codes "+"
+flag_word false = codes "-"
+
+-- a slot, a mark, and two numbers with a point between them
+abbrev pub placed_word : ℕ → ℕ → ℕ → ℕ → Text
+placed_word mark slot a b = decimal slot ++ mark ∷ (decimal a ++ 46 ∷ decimal b)
+
+abbrev pub item_words : DumpItem → List Text
+item_words (item.Page page class_size is_flagged) = (80 ∷ decimal page) ∷ (67 ∷ decimal class_size) ∷ flag_word is_flagged ∷ []
+item_words (item.Block slot birth part) = placed_word 61 slot birth part ∷ []
+item_words (item.Forwarder slot to_page to_slot) = placed_word 62 slot to_page to_slot ∷ []
 
 -- a number, where there is one
-abbrev pub optional_text : Option ℕ → Text
-optional_text None = codes "none"
-optional_text (Some n) = decimal n
+abbrev pub optional_word : Option ℕ → Text
+optional_word None = codes "none"
+optional_word (Some n) = decimal n
 
--- what a trace counts
-abbrev pub counts_text : ℕ → ℕ → ℕ → ℕ → Text
-counts_text mutator collector quanta greatest = codes "mutator " ++ decimal mutator ++ codes " collector " ++ decimal collector ++ codes " quanta " ++ decimal quanta ++ codes " greatest " ++ decimal greatest
-
--- a window of a trace, its least number of mutator units, and the floor of that
-abbrev pub window_text : ℕ → Option ℕ → Option ℕ → Text
-window_text window least floor = codes "window " ++ decimal window ++ codes " least " ++ optional_text least ++ codes " floor " ++ optional_text floor
+abbrev pub reply_words : Reply → List Text
+reply_words reply.Done = codes "ok" ∷ []
+reply_words (reply.Number number) = codes "number" ∷ decimal number ∷ []
+reply_words reply.Yes = codes "yes" ∷ []
+reply_words reply.No = codes "no" ∷ []
+reply_words (reply.Shape shape) = codes "shape" ∷ decimal shape.references ∷ decimal shape.numbers ∷ []
+reply_words (reply.Refused refusal) = codes "refused" ∷ refusal_words refusal
+reply_words (reply.Spent units phase) = codes "spent" ∷ decimal units ∷ codes "phase" ∷ phase_word phase ∷ []
+reply_words (reply.Stat free live old phase cycle) =
+    codes "free" ∷ decimal free ∷ codes "live" ∷ decimal live ∷ codes "old" ∷ decimal old ∷ codes "phase" ∷ phase_word phase ∷ codes "cycle" ∷ decimal cycle ∷ []
+reply_words (reply.Dump items) = codes "dump" ∷ flat_map item_words items
+reply_words (reply.Report mutator collector quanta greatest window least floor) =
+    codes "mutator" ∷ decimal mutator ∷ codes "collector" ∷ decimal collector ∷ codes "quanta" ∷ decimal quanta ∷ codes "greatest" ∷ decimal greatest ∷ codes "window" ∷ decimal window
+    ∷ codes "least" ∷ optional_word least ∷ codes "floor" ∷ optional_word floor ∷ []
+reply_words (reply.Left quanta) = codes "left" ∷ decimal quanta ∷ []
 
 abbrev pub reply_text : Reply → Text
-reply_text reply.Done = codes "ok"
-reply_text (reply.Number number) = codes "number " ++ decimal number
-reply_text reply.Yes = codes "yes"
-reply_text reply.No = codes "no"
-reply_text (reply.Shape shape) = codes "shape " ++ decimal shape.references ++ codes " " ++ decimal shape.numbers
-reply_text (reply.Refused refusal) = codes "refused " ++ refusal_text refusal
-reply_text (reply.Spent units phase) = codes "spent " ++ decimal units ++ codes " phase " ++ phase_text phase
-reply_text (reply.Stat free live old phase cycle) = codes "free " ++ decimal free ++ codes " live " ++ decimal live ++ codes " old " ++ decimal old ++ codes " phase " ++ phase_text phase ++ codes " cycle " ++ decimal cycle
-reply_text (reply.Dump items) = codes "dump" ++ flat_map item_text items
-reply_text (reply.Report mutator collector quanta greatest window least floor) = counts_text mutator collector quanta greatest ++ codes " " ++ window_text window least floor
-
--- a text as a line
-abbrev pub line_text : Text → Text
-line_text text = text ++ 10 ∷ []
+reply_text reply = joined (reply_words reply)
 
 abbrev pub bad_line_text : ℕ → Text
 bad_line_text line = codes "refused 10 line " ++ decimal line
@@ -70,3 +73,163 @@ bad_line_text line = codes "refused 10 line " ++ decimal line
 -- replies, one a line
 abbrev pub replies_text : List Reply → Text
 replies_text = flat_map (λ reply. line_text (reply_text reply))
+
+-- In range ---------------------------------------------------------------------------------------
+
+-- a number is past the one before, where there is one
+abbrev pub is_past : Option ℕ → ℕ → Bool
+is_past None n = true
+is_past (Some before) n = nat_lt before n
+
+-- Pages ascend, and slots ascend within a page: what comes after this page and this slot
+abbrev pub ascends : Option ℕ → Option ℕ → List DumpItem → Bool
+ascends page slot [] = true
+ascends page slot (item.Page next class_size is_flagged ∷ items) = is_past page next && ascends (Some next) None items
+ascends None slot (item.Block next birth part ∷ items) = false
+ascends (Some page) slot (item.Block next birth part ∷ items) = is_past slot next && ascends (Some page) (Some next) items
+ascends None slot (item.Forwarder next to_page to_slot ∷ items) = false
+ascends (Some page) slot (item.Forwarder next to_page to_slot ∷ items) = is_past slot next && ascends (Some page) (Some next) items
+
+abbrev pub item_numbers : DumpItem → List ℕ
+item_numbers (item.Page page class_size is_flagged) = page ∷ class_size ∷ []
+item_numbers (item.Block slot birth part) = slot ∷ birth ∷ part ∷ []
+item_numbers (item.Forwarder slot to_page to_slot) = slot ∷ to_page ∷ to_slot ∷ []
+
+-- numbers of 64 bits
+abbrev pub are_u64 : List ℕ → Bool
+are_u64 [] = true
+are_u64 (n ∷ ns) = nat_lt n u64 && are_u64 ns
+
+abbrev pub items_in_range : List DumpItem → Bool
+items_in_range [] = true
+items_in_range (item ∷ items) = are_u64 (item_numbers item) && items_in_range items
+
+-- A reply is well formed in a version: its numbers are in the range of their types, a dump ascends, and the version knows it
+abbrev pub is_reply : Version → Reply → Bool
+is_reply version (reply.Number number) = are_u64 (number ∷ [])
+is_reply version (reply.Shape shape) = are_below (u32 ∷ u32 ∷ []) (shape.references ∷ shape.numbers ∷ [])
+is_reply version (reply.Spent units phase) = are_u64 (units ∷ [])
+is_reply version (reply.Stat free live old phase cycle) = are_u64 (free ∷ live ∷ old ∷ cycle ∷ [])
+is_reply version (reply.Dump items) = items_in_range items && ascends None None items
+is_reply version (reply.Report mutator collector quanta greatest window least floor) =
+    are_u64 (mutator ∷ collector ∷ quanta ∷ greatest ∷ window ∷ []) && (are_u64 (option_to_list least) && are_u64 (option_to_list floor))
+is_reply One (reply.Left quanta) = false
+is_reply Two (reply.Left quanta) = are_u64 (quanta ∷ [])
+is_reply version _ = true
+
+-- Read -------------------------------------------------------------------------------------------
+
+abbrev pub are_texts : List Text → List Text → Bool
+are_texts [] [] = true
+are_texts [] (y ∷ ys) = false
+are_texts (x ∷ xs) [] = false
+are_texts (x ∷ xs) (y ∷ ys) = is_text x y && are_texts xs ys
+
+-- a form of these words alone
+abbrev pub with_words : {X : Type 0} → Text → List Text → X → Form X
+with_words verb more x = record { verb = verb; meaning = λ words. within (are_texts words more) x }
+
+abbrev pub refusal_forms : List (Form Refusal)
+refusal_forms =
+    with_words (codes "1") (codes "bad" ∷ codes "slot" ∷ []) BadSlot
+    ∷ with_words (codes "2") (codes "null" ∷ []) Null
+    ∷ with_words (codes "3") (codes "no" ∷ codes "field" ∷ []) NoField
+    ∷ with_words (codes "4") (codes "too" ∷ codes "large" ∷ []) TooLarge
+    ∷ with_words (codes "5") (codes "heap" ∷ codes "full" ∷ []) HeapFull
+    ∷ with_words (codes "6") (codes "ended" ∷ []) Ended
+    ∷ with_words (codes "7") (codes "too" ∷ codes "many" ∷ codes "sessions" ∷ []) TooManySessions
+    ∷ []
+
+abbrev pub phase_forms : List (Form Phase)
+phase_forms =
+    with_words (codes "idle") [] Idle ∷ with_words (codes "roots") [] Roots ∷ with_words (codes "mark") [] Mark ∷ with_words (codes "sweep") [] Sweep ∷ with_words (codes "defrag") [] Defrag ∷ []
+
+abbrev pub phase_of : Text → Option Phase
+phase_of word = formed phase_forms (word ∷ [])
+
+abbrev pub flag_forms : List (Form Bool)
+flag_forms = with_words (codes "+") [] true ∷ with_words (codes "-") [] false ∷ []
+
+abbrev pub flag_of : Text → Option Bool
+flag_of word = formed flag_forms (word ∷ [])
+
+-- the words between which these keys stand, each followed by a word
+abbrev pub values : List Text → List Text → Option (List Text)
+values [] (value ∷ []) = Some (value ∷ [])
+values (key ∷ keys) (value ∷ word ∷ words) = if is_text word key then option_map (λ found. value ∷ found) (values keys words) else None
+values _ _ = None
+
+abbrev pub spent_of : List Text → Option Reply
+spent_of (units ∷ phase ∷ []) = option_and_then (λ n. option_map (λ p. reply.Spent n p) (phase_of phase)) (number units)
+spent_of _ = None
+
+abbrev pub stat_of : List Text → Option Reply
+stat_of (free ∷ live ∷ old ∷ phase ∷ cycle ∷ []) =
+    option_and_then (λ ns. option_map (λ p. reply.Stat (at ns 0) (at ns 1) (at ns 2) p (at ns 3)) (phase_of phase)) (numbers (free ∷ live ∷ old ∷ cycle ∷ []))
+stat_of _ = None
+
+-- a number, or a word for none, with the answer to the test of that word
+abbrev pub optional_by : Option ℕ → Bool → Option (Option ℕ)
+optional_by (Some n) none = Some (Some n)
+optional_by None true = Some None
+optional_by None false = None
+
+abbrev pub optional_of : Text → Option (Option ℕ)
+optional_of word = optional_by (number word) (is_text word (codes "none"))
+
+abbrev pub report_of : List Text → Option Reply
+report_of (mutator ∷ collector ∷ quanta ∷ greatest ∷ window ∷ least ∷ floor ∷ []) =
+    option_and_then (λ ns. option_and_then (λ x. option_map (λ y. reply.Report (at ns 0) (at ns 1) (at ns 2) (at ns 3) (at ns 4) x y) (optional_of floor)) (optional_of least))
+    (numbers (mutator ∷ collector ∷ quanta ∷ greatest ∷ window ∷ []))
+report_of _ = None
+
+-- a slot, and what stands after its mark, as three words
+abbrev pub placed_from : List Text → List Text
+placed_from (slot ∷ place ∷ []) = slot ∷ parts_at 46 place
+placed_from _ = []
+
+abbrev pub placed_by : ℕ → (List ℕ → DumpItem) → Text → Option DumpItem
+placed_by mark made word = numbered (u64 ∷ u64 ∷ u64 ∷ []) made (placed_from (parts_at mark word))
+
+-- `SLOT=BIRTH.PART`, or `SLOT>PAGE.SLOT`
+abbrev pub placed_of : Text → Option DumpItem
+placed_of word = option_or (placed_by 61 (λ ns. item.Block (at ns 0) (at ns 1) (at ns 2)) word) (placed_by 62 (λ ns. item.Forwarder (at ns 0) (at ns 1) (at ns 2)) word)
+
+-- how much of ` PP CC F` was read
+pub data Pending : Type 0 where
+  Ready : Pending
+  HasPage : ℕ → Pending
+  HasClass : ℕ → ℕ → Pending
+
+abbrev pub with_item : Option DumpItem → Option (List DumpItem) → Option (List DumpItem)
+with_item None items = None
+with_item (Some item) items = option_map (λ items. item ∷ items) items
+
+abbrev pub items_from : Pending → List Text → Option (List DumpItem)
+items_from Ready [] = Some []
+items_from (HasPage page) [] = None
+items_from (HasClass page class_size) [] = None
+items_from Ready (word ∷ words) = elim (tagged 80 word) [ Some page ↦ items_from (HasPage page) words | None ↦ with_item (placed_of word) (items_from Ready words) ]
+items_from (HasPage page) (word ∷ words) = elim (tagged 67 word) [ Some class_size ↦ items_from (HasClass page class_size) words | None ↦ None ]
+items_from (HasClass page class_size) (word ∷ words) = with_item (option_map (λ flag. item.Page page class_size flag) (flag_of word)) (items_from Ready words)
+
+abbrev pub dump_of : List Text → Option Reply
+dump_of words = option_and_then (λ items. within (ascends None None items) (reply.Dump items)) (items_from Ready words)
+
+abbrev pub reply_forms : Version → List (Form Reply)
+reply_forms version =
+    with_words (codes "ok") [] reply.Done
+    ∷ with_words (codes "yes") [] reply.Yes
+    ∷ with_words (codes "no") [] reply.No
+    ∷ with_numbers (codes "number") (u64 ∷ []) (λ ns. reply.Number (at ns 0))
+    ∷ with_numbers (codes "shape") (u32 ∷ u32 ∷ []) (λ ns. reply.Shape (record { references = at ns 0; numbers = at ns 1 }))
+    ∷ (record { verb = codes "refused"; meaning = λ words. option_map (λ refusal. reply.Refused refusal) (formed refusal_forms words) })
+    ∷ (record { verb = codes "spent"; meaning = λ words. option_and_then spent_of (values (codes "phase" ∷ []) words) })
+    ∷ (record { verb = codes "free"; meaning = λ words. option_and_then stat_of (values (codes "live" ∷ codes "old" ∷ codes "phase" ∷ codes "cycle" ∷ []) words) })
+    ∷ (record { verb = codes "dump"; meaning = dump_of })
+    ∷ (record { verb = codes "mutator"; meaning = λ words. option_and_then report_of (values (codes "collector" ∷ codes "quanta" ∷ codes "greatest" ∷ codes "window" ∷ codes "least" ∷ codes "floor" ∷ []) words) })
+    ∷ where_known version (with_numbers (codes "left") (u64 ∷ []) (λ ns. reply.Left (at ns 0)))
+
+-- The well-formed reply that words are
+abbrev pub reply_of : Version → List Text → Option Reply
+reply_of version words = formed (reply_forms version) words

@@ -1,0 +1,141 @@
+-- The forms of commands and controls: a word and the numbers after it. Scripts and histories share them.
+use Rattle.std.specs.Prelude.{ℕ, ◌^◌, nat_lt, Bool, true, false, ◌&&◌, if◌then◌else◌, Option, Some, None, option_and_then, List, [], ◌∷◌, ◌++◌, map, get_or, codes, decimal}
+use Rattle.mh_model.specs.declared.command.Command.{Command}
+use Rattle.mh_model.specs.declared.command.Command.TheVariants as command
+use Rattle.mh_model.specs.declared.command.Control.{Control}
+use Rattle.mh_model.specs.declared.command.Control.TheVariants as control
+use Rattle.mh_model.specs.Bytes.{Text, is_text, numbers}
+
+-- Forms ------------------------------------------------------------------------------------------
+
+-- a value where a test holds
+abbrev pub within : {X : Type 0} → Bool → X → Option X
+within true x = Some x
+within false x = None
+
+-- A first word, and what the words after it mean
+pub record Form (X : Type 0) : Type 0 where
+  pub verb : Text
+  pub meaning : List Text → Option X
+
+-- the first form with this word
+abbrev pub form_of : {X : Type 0} → Text → List (Form X) → Option (Form X)
+form_of verb [] = None
+form_of verb (form ∷ forms) = if is_text verb form.verb then Some form else form_of verb forms
+
+-- What words mean by the forms of a table
+abbrev pub formed : {X : Type 0} → List (Form X) → List Text → Option X
+formed forms [] = None
+formed forms (verb ∷ words) = option_and_then (λ form. form.meaning words) (form_of verb forms)
+
+-- as many numbers as bounds, each below its own
+abbrev pub are_below : List ℕ → List ℕ → Bool
+are_below [] [] = true
+are_below [] (n ∷ ns) = false
+are_below (bound ∷ bounds) [] = false
+are_below (bound ∷ bounds) (n ∷ ns) = nat_lt n bound && are_below bounds ns
+
+-- words that are numbers below these bounds
+abbrev pub numbered : {X : Type 0} → List ℕ → (List ℕ → X) → List Text → Option X
+numbered bounds made words = option_and_then (λ ns. within (are_below bounds ns) (made ns)) (numbers words)
+
+abbrev pub with_numbers : {X : Type 0} → Text → List ℕ → (List ℕ → X) → Form X
+with_numbers verb bounds made = record { verb = verb; meaning = numbered bounds made }
+
+-- past the greatest u32 and the greatest u64
+abbrev pub u32 : ℕ
+u32 = 2 ^ 32
+
+abbrev pub u64 : ℕ
+u64 = 2 ^ 64
+
+-- number i of a list
+abbrev pub at : List ℕ → ℕ → ℕ
+at ns i = get_or ns i 0
+
+-- how something is written: a word, and numbers each below a bound
+pub record Phrase : Type 0 where
+  pub verb : Text
+  pub bounds : List ℕ
+  pub numbers : List ℕ
+
+abbrev pub phrase : Text → List ℕ → List ℕ → Phrase
+phrase verb bounds ns = record { verb = verb; bounds = bounds; numbers = ns }
+
+abbrev pub phrase_words : Phrase → List Text
+phrase_words said = said.verb ∷ map decimal said.numbers
+
+-- its numbers are in the range of their types
+abbrev pub is_sayable : Phrase → Bool
+is_sayable said = are_below said.bounds said.numbers
+
+-- Commands ---------------------------------------------------------------------------------------
+
+abbrev pub command_forms : List (Form Command)
+command_forms =
+    with_numbers (codes "new") (u32 ∷ u32 ∷ u32 ∷ []) (λ ns. command.New (at ns 0) (at ns 1) (at ns 2))
+    ∷ with_numbers (codes "get") (u32 ∷ u32 ∷ u32 ∷ []) (λ ns. command.Get (at ns 0) (at ns 1) (at ns 2))
+    ∷ with_numbers (codes "put") (u32 ∷ u32 ∷ u32 ∷ []) (λ ns. command.Put (at ns 0) (at ns 1) (at ns 2))
+    ∷ with_numbers (codes "copy") (u32 ∷ u32 ∷ []) (λ ns. command.Copy (at ns 0) (at ns 1))
+    ∷ with_numbers (codes "clear") (u32 ∷ []) (λ ns. command.Clear (at ns 0))
+    ∷ with_numbers (codes "read") (u32 ∷ u32 ∷ []) (λ ns. command.Read (at ns 0) (at ns 1))
+    ∷ with_numbers (codes "write") (u32 ∷ u32 ∷ u64 ∷ []) (λ ns. command.Write (at ns 0) (at ns 1) (at ns 2))
+    ∷ with_numbers (codes "same") (u32 ∷ u32 ∷ []) (λ ns. command.Same (at ns 0) (at ns 1))
+    ∷ with_numbers (codes "shape") (u32 ∷ []) (λ ns. command.Shape (at ns 0))
+    ∷ with_numbers (codes "post") (u32 ∷ u32 ∷ []) (λ ns. command.Post (at ns 0) (at ns 1))
+    ∷ with_numbers (codes "take") (u32 ∷ u32 ∷ []) (λ ns. command.Take (at ns 0) (at ns 1))
+    ∷ with_numbers (codes "end") [] (λ ns. command.End)
+    ∷ []
+
+abbrev pub command_phrase : Command → Phrase
+command_phrase (command.New slot references numbers) = phrase (codes "new") (u32 ∷ u32 ∷ u32 ∷ []) (slot ∷ references ∷ numbers ∷ [])
+command_phrase (command.Get slot source field) = phrase (codes "get") (u32 ∷ u32 ∷ u32 ∷ []) (slot ∷ source ∷ field ∷ [])
+command_phrase (command.Put slot field value) = phrase (codes "put") (u32 ∷ u32 ∷ u32 ∷ []) (slot ∷ field ∷ value ∷ [])
+command_phrase (command.Copy slot source) = phrase (codes "copy") (u32 ∷ u32 ∷ []) (slot ∷ source ∷ [])
+command_phrase (command.Clear slot) = phrase (codes "clear") (u32 ∷ []) (slot ∷ [])
+command_phrase (command.Read slot index) = phrase (codes "read") (u32 ∷ u32 ∷ []) (slot ∷ index ∷ [])
+command_phrase (command.Write slot index number) = phrase (codes "write") (u32 ∷ u32 ∷ u64 ∷ []) (slot ∷ index ∷ number ∷ [])
+command_phrase (command.Same left right) = phrase (codes "same") (u32 ∷ u32 ∷ []) (left ∷ right ∷ [])
+command_phrase (command.Shape slot) = phrase (codes "shape") (u32 ∷ []) (slot ∷ [])
+command_phrase (command.Post board slot) = phrase (codes "post") (u32 ∷ u32 ∷ []) (board ∷ slot ∷ [])
+command_phrase (command.Take slot board) = phrase (codes "take") (u32 ∷ u32 ∷ []) (slot ∷ board ∷ [])
+command_phrase command.End = phrase (codes "end") [] []
+
+-- The command that words are the form of
+abbrev pub command_of : List Text → Option Command
+command_of words = formed command_forms words
+
+-- Controls ---------------------------------------------------------------------------------------
+
+-- what a text knows: the second version of histories, as scripts, has one control and its reply more
+pub data Version : Type 0 where
+  One Two : Version
+
+abbrev pub where_known : {X : Type 0} → Version → X → List X
+where_known One x = []
+where_known Two x = x ∷ []
+
+abbrev pub control_forms : Version → List (Form Control)
+control_forms version =
+    with_numbers (codes "quantum") [] (λ ns. control.Quantum)
+    ∷ with_numbers (codes "start") [] (λ ns. control.Start)
+    ∷ with_numbers (codes "stat") [] (λ ns. control.Stat)
+    ∷ with_numbers (codes "dump") [] (λ ns. control.Dump)
+    ∷ with_numbers (codes "report") (u64 ∷ []) (λ ns. control.Report (at ns 0))
+    ∷ where_known version (with_numbers (codes "left") [] (λ ns. control.Left))
+
+abbrev pub control_phrase : Control → Phrase
+control_phrase control.Quantum = phrase (codes "quantum") [] []
+control_phrase control.Start = phrase (codes "start") [] []
+control_phrase control.Stat = phrase (codes "stat") [] []
+control_phrase control.Dump = phrase (codes "dump") [] []
+control_phrase control.Left = phrase (codes "left") [] []
+control_phrase (control.Report window) = phrase (codes "report") (u64 ∷ []) (window ∷ [])
+
+abbrev pub control_of : Version → List Text → Option Control
+control_of version words = formed (control_forms version) words
+
+-- a version knows a control
+abbrev pub knows_control : Version → Control → Bool
+knows_control One control.Left = false
+knows_control _ _ = true

@@ -1,0 +1,5 @@
+use Rattle.mh_text_laws.proofs.Said.{control_of-words}
+use Rattle.mh_text_laws.proofs.round_trips.controls_are_read_back.Goals as goal
+
+pub returns : goal.returns
+returns c = control_of-words

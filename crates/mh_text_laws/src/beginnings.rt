@@ -1,0 +1,22 @@
+//! Laws of the line with which a text is refused.
+ghost use Rattle.mh_text_laws.specs.Beginnings.{TextsAreTheirLines, ScriptsAreRefusedByTheirLeastBadLine, HistoriesAreRefusedByTheirLeastBadLine, RecordsAreRefusedByTheirLeastBadLine};
+
+/// A text is its whole lines and what follows them.
+pub fn texts_are_their_lines()
+    ensures { TextsAreTheirLines }
+{}
+
+/// The lines before the one with which a script is refused begin a script, and no script begins with the lines up to it.
+pub fn scripts_are_refused_by_their_least_bad_line()
+    ensures { ScriptsAreRefusedByTheirLeastBadLine }
+{}
+
+/// The same of histories of version 1.
+pub fn histories_are_refused_by_their_least_bad_line()
+    ensures { HistoriesAreRefusedByTheirLeastBadLine }
+{}
+
+/// The same of histories of version 2.
+pub fn records_are_refused_by_their_least_bad_line()
+    ensures { RecordsAreRefusedByTheirLeastBadLine }
+{}

@@ -1,0 +1,12 @@
+//! Laws of the verdict on a history.
+ghost use Rattle.mh_text_laws.specs.Verdicts.{TextsAreCheckedToOneVerdict, TextsAreAuditedToOneVerdict};
+
+/// A text of version 1 has one verdict at most.
+pub fn texts_are_checked_to_one_verdict()
+    ensures { TextsAreCheckedToOneVerdict }
+{}
+
+/// A text of version 2 has one verdict at most.
+pub fn texts_are_audited_to_one_verdict()
+    ensures { TextsAreAuditedToOneVerdict }
+{}
