@@ -24,8 +24,8 @@ use Rattle.mh_model.specs.Forms.{One, Two, u64}
 use Rattle.mh_model.specs.Replies.{is_reply, are_u64}
 use Rattle.mh_model.specs.HistoryTexts.{is_event, is_entry, is_measured, recorded_text, measured_step, machine_record, history_text, migrated}
 use Rattle.mh_text_laws.specs.RoundTrips.{IsMigrated, MigrationKeepsHistories}
-use Rattle.mh_laws.proofs.Quanta.{units-quantum}
-use Rattle.mh_laws.proofs.Runs.{config-mutator_step}
+use Rattle.mh_laws.proofs.costs.Quanta.{units-quantum}
+use Rattle.mh_laws.proofs.runs.EveryMoment.{config-mutator_step}
 use Rattle.mh_text_laws.proofs.Words.{and_left, and_right, and_both}
 use Rattle.mh_text_laws.proofs.Sizes.{recorded_length}
 use Rattle.mh_text_laws.proofs.Recorded.{are_entries, are_measured, recorded_reading-text}

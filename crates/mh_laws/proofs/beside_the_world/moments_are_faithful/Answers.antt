@@ -1,5 +1,5 @@
-use Rattle.mh_laws.proofs.FollowedAll.{commands-follow}
-use Rattle.mh_laws.proofs.Faithful.{moments-faithful}
+use Rattle.mh_laws.proofs.following.AllCommands.{commands-follow}
+use Rattle.mh_laws.proofs.runs.FaithfulMoments.{moments-faithful}
 use Rattle.mh_laws.proofs.beside_the_world.moments_are_faithful.Goals as goal
 
 pub returns : goal.returns

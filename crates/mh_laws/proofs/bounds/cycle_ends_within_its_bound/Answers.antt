@@ -1,4 +1,4 @@
-use Rattle.mh_laws.proofs.InTime.{cycle_ends}
+use Rattle.mh_laws.proofs.bounds.CyclesInTime.{cycle_ends}
 use Rattle.mh_laws.proofs.bounds.cycle_ends_within_its_bound.Goals as goal
 
 pub returns : goal.returns

@@ -1,4 +1,4 @@
-use Rattle.mh_laws.proofs.Courses.{mutator_step-course}
+use Rattle.mh_laws.proofs.commands.LeftUnchanged.{mutator_step-course}
 use Rattle.mh_laws.proofs.commands.command_keeps_the_course.Goals as goal
 
 pub returns : goal.returns

@@ -1,4 +1,4 @@
-use Rattle.mh_laws.proofs.Quanta.{steps-enough}
+use Rattle.mh_laws.proofs.costs.Quanta.{steps-enough}
 use Rattle.mh_laws.proofs.costs.count_of_steps_never_runs_out.Goals as goal
 
 pub returns : goal.returns

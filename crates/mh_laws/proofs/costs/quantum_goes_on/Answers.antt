@@ -1,4 +1,4 @@
-use Rattle.mh_laws.proofs.Quanta.{quantum-goes_on}
+use Rattle.mh_laws.proofs.costs.Quanta.{quantum-goes_on}
 use Rattle.mh_laws.proofs.costs.quantum_goes_on.Goals as goal
 
 pub returns : goal.returns

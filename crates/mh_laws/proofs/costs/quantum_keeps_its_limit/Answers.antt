@@ -1,4 +1,4 @@
-use Rattle.mh_laws.proofs.Quanta.{units-quantum}
+use Rattle.mh_laws.proofs.costs.Quanta.{units-quantum}
 use Rattle.mh_laws.proofs.costs.quantum_keeps_its_limit.Goals as goal
 
 pub returns : goal.returns

@@ -1,4 +1,4 @@
-use Rattle.mh_laws.proofs.Quanta.{step_cost-positive}
+use Rattle.mh_laws.proofs.costs.Quanta.{step_cost-positive}
 use Rattle.mh_laws.proofs.costs.running_step_costs.Goals as goal
 
 pub returns : goal.returns

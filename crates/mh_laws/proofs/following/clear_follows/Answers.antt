@@ -1,4 +1,4 @@
-use Rattle.mh_laws.proofs.Followed.{clear-follows}
+use Rattle.mh_laws.proofs.following.SlotCommands.{clear-follows}
 use Rattle.mh_laws.proofs.following.clear_follows.Goals as goal
 
 pub returns : goal.returns

@@ -1,4 +1,4 @@
-use Rattle.mh_laws.proofs.FollowedAll.{commands-follow}
+use Rattle.mh_laws.proofs.following.AllCommands.{commands-follow}
 use Rattle.mh_laws.proofs.following.commands_follow.Goals as goal
 
 pub returns : goal.returns

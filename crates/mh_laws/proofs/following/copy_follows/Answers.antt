@@ -1,4 +1,4 @@
-use Rattle.mh_laws.proofs.Followed.{copy-follows}
+use Rattle.mh_laws.proofs.following.SlotCommands.{copy-follows}
 use Rattle.mh_laws.proofs.following.copy_follows.Goals as goal
 
 pub returns : goal.returns

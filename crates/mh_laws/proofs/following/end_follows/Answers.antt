@@ -1,4 +1,4 @@
-use Rattle.mh_laws.proofs.Followed.{end-follows}
+use Rattle.mh_laws.proofs.following.SlotCommands.{end-follows}
 use Rattle.mh_laws.proofs.following.end_follows.Goals as goal
 
 pub returns : goal.returns

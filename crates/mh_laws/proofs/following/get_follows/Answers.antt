@@ -1,4 +1,4 @@
-use Rattle.mh_laws.proofs.Followed.{get-follows}
+use Rattle.mh_laws.proofs.following.SlotCommands.{get-follows}
 use Rattle.mh_laws.proofs.following.get_follows.Goals as goal
 
 pub returns : goal.returns

@@ -1,4 +1,4 @@
-use Rattle.mh_laws.proofs.FollowedBirth.{new-follows}
+use Rattle.mh_laws.proofs.following.NewObject.{new-follows}
 use Rattle.mh_laws.proofs.following.new_follows.Goals as goal
 
 pub returns : goal.returns

@@ -1,4 +1,4 @@
-use Rattle.mh_laws.proofs.Followed.{post-follows}
+use Rattle.mh_laws.proofs.following.SlotCommands.{post-follows}
 use Rattle.mh_laws.proofs.following.post_follows.Goals as goal
 
 pub returns : goal.returns

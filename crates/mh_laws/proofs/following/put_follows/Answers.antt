@@ -1,4 +1,4 @@
-use Rattle.mh_laws.proofs.FollowedChange.{put-follows}
+use Rattle.mh_laws.proofs.following.WrittenFields.{put-follows}
 use Rattle.mh_laws.proofs.following.put_follows.Goals as goal
 
 pub returns : goal.returns

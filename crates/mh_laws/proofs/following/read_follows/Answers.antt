@@ -1,4 +1,4 @@
-use Rattle.mh_laws.proofs.Followed.{read-follows}
+use Rattle.mh_laws.proofs.following.SlotCommands.{read-follows}
 use Rattle.mh_laws.proofs.following.read_follows.Goals as goal
 
 pub returns : goal.returns

@@ -1,4 +1,4 @@
-use Rattle.mh_laws.proofs.Followed.{refused_alike}
+use Rattle.mh_laws.proofs.following.SlotCommands.{refused_alike}
 use Rattle.mh_laws.proofs.following.refusals_are_the_views.Goals as goal
 
 pub returns : goal.returns

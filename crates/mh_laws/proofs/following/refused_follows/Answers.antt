@@ -1,4 +1,4 @@
-use Rattle.mh_laws.proofs.Followed.{refused-follows}
+use Rattle.mh_laws.proofs.following.SlotCommands.{refused-follows}
 use Rattle.mh_laws.proofs.following.refused_follows.Goals as goal
 
 pub returns : goal.returns

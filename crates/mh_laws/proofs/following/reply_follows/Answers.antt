@@ -1,4 +1,4 @@
-use Rattle.mh_laws.proofs.Followed.{reply-follows}
+use Rattle.mh_laws.proofs.following.SlotCommands.{reply-follows}
 use Rattle.mh_laws.proofs.following.reply_follows.Goals as goal
 
 pub returns : goal.returns

@@ -1,4 +1,4 @@
-use Rattle.mh_laws.proofs.Followed.{same-follows}
+use Rattle.mh_laws.proofs.following.SlotCommands.{same-follows}
 use Rattle.mh_laws.proofs.following.same_follows.Goals as goal
 
 pub returns : goal.returns

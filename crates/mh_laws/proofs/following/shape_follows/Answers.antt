@@ -1,4 +1,4 @@
-use Rattle.mh_laws.proofs.Followed.{shape-follows}
+use Rattle.mh_laws.proofs.following.SlotCommands.{shape-follows}
 use Rattle.mh_laws.proofs.following.shape_follows.Goals as goal
 
 pub returns : goal.returns

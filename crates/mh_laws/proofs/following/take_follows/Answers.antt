@@ -1,4 +1,4 @@
-use Rattle.mh_laws.proofs.Followed.{take-follows}
+use Rattle.mh_laws.proofs.following.SlotCommands.{take-follows}
 use Rattle.mh_laws.proofs.following.take_follows.Goals as goal
 
 pub returns : goal.returns

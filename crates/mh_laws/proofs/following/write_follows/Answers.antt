@@ -1,4 +1,4 @@
-use Rattle.mh_laws.proofs.FollowedChange.{write-follows}
+use Rattle.mh_laws.proofs.following.WrittenFields.{write-follows}
 use Rattle.mh_laws.proofs.following.write_follows.Goals as goal
 
 pub returns : goal.returns

@@ -1,4 +1,4 @@
-use Rattle.mh_laws.proofs.GreyRoom.{grey_has_room}
+use Rattle.mh_laws.proofs.marking.GreyRoom.{grey_has_room}
 use Rattle.mh_laws.proofs.grey_room.grey_list_has_room.Goals as goal
 
 pub returns : goal.returns

@@ -1,5 +1,5 @@
-use Rattle.mh_laws.proofs.Places.{shaped-slots}
-use Rattle.mh_laws.proofs.Groups.{made_group-is}
+use Rattle.mh_laws.proofs.placing.Places.{shaped-slots}
+use Rattle.mh_laws.proofs.objects.MadeGroups.{made_group-is}
 use Rattle.mh_laws.proofs.new_objects.object_is_made.Goals as goal
 
 pub returns : goal.returns

@@ -1,5 +1,5 @@
-use Rattle.mh_laws.proofs.Places.{shaped-slots}
-use Rattle.mh_laws.proofs.Groups.{made_part-is}
+use Rattle.mh_laws.proofs.placing.Places.{shaped-slots}
+use Rattle.mh_laws.proofs.objects.MadeGroups.{made_part-is}
 use Rattle.mh_laws.proofs.new_objects.part_is_made.Goals as goal
 
 pub returns : goal.returns

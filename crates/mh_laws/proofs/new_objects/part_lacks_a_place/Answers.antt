@@ -1,4 +1,4 @@
-use Rattle.mh_laws.proofs.Groups.{made_parts-none}
+use Rattle.mh_laws.proofs.objects.MadeGroups.{made_parts-none}
 use Rattle.mh_laws.proofs.new_objects.part_lacks_a_place.Goals as goal
 
 pub returns : goal.returns

@@ -1,5 +1,5 @@
-use Rattle.mh_laws.proofs.Places.{shaped-slots}
-use Rattle.mh_laws.proofs.Groups.{made_parts-are}
+use Rattle.mh_laws.proofs.placing.Places.{shaped-slots}
+use Rattle.mh_laws.proofs.objects.MadeGroups.{made_parts-are}
 use Rattle.mh_laws.proofs.new_objects.parts_are_made.Goals as goal
 
 pub returns : goal.returns

@@ -1,4 +1,4 @@
-use Rattle.mh_laws.proofs.Places.{shaped-slots, least_dense_place-dense}
+use Rattle.mh_laws.proofs.placing.Places.{shaped-slots, least_dense_place-dense}
 use Rattle.mh_laws.proofs.placing.first_tier_is_dense.Goals as goal
 
 pub returns : goal.returns

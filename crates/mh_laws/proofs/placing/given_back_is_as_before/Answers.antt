@@ -1,4 +1,4 @@
-use Rattle.mh_laws.proofs.Places.{with_released-with_taken}
+use Rattle.mh_laws.proofs.placing.Places.{with_released-with_taken}
 use Rattle.mh_laws.proofs.placing.given_back_is_as_before.Goals as goal
 
 pub returns : goal.returns

@@ -1,5 +1,5 @@
-use Rattle.mh_laws.proofs.Places.{shaped-slots, least_place-free, least_place-least}
-use Rattle.mh_laws.proofs.PageSlots.{slots_in-class_size}
+use Rattle.mh_laws.proofs.placing.Places.{shaped-slots, least_place-free, least_place-least}
+use Rattle.mh_laws.proofs.tables.PageSlots.{slots_in-class_size}
 use Rattle.mh_laws.proofs.placing.least_place_is_least.Goals as goal
 
 pub returns : goal.returns

@@ -1,4 +1,4 @@
-use Rattle.mh_laws.proofs.Places.{block_count-removed}
+use Rattle.mh_laws.proofs.placing.Places.{block_count-removed}
 use Rattle.mh_laws.proofs.placing.one_block_less.Goals as goal
 
 pub returns : goal.returns

@@ -1,5 +1,5 @@
-use Rattle.mh_laws.proofs.Places.{shaped-slots, has_room-least_place, least_place-has_room}
-use Rattle.mh_laws.proofs.PageSlots.{slots_in-class_size}
+use Rattle.mh_laws.proofs.placing.Places.{shaped-slots, has_room-least_place, least_place-has_room}
+use Rattle.mh_laws.proofs.tables.PageSlots.{slots_in-class_size}
 use Rattle.mh_laws.proofs.placing.place_is_there_where_room_is.Goals as goal
 
 pub returns : goal.returns

@@ -1,4 +1,4 @@
-use Rattle.mh_laws.proofs.Drawing.{with_draw-kept}
+use Rattle.mh_laws.proofs.seats.DrawRule.{with_draw-kept}
 use Rattle.mh_laws.proofs.seats.draw_keeps_its_rule.Goals as goal
 
 pub returns : goal.returns

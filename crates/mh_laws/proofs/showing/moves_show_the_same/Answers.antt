@@ -1,4 +1,4 @@
-use Rattle.mh_laws.proofs.ShownMoved.{view-defrag_step}
+use Rattle.mh_laws.proofs.showing.MovesShow.{view-defrag_step}
 use Rattle.mh_laws.proofs.showing.moves_show_the_same.Goals as goal
 
 pub returns : goal.returns

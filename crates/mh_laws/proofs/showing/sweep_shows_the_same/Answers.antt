@@ -1,4 +1,4 @@
-use Rattle.mh_laws.proofs.ShownSwept.{view-sweep_step}
+use Rattle.mh_laws.proofs.showing.SweepShows.{view-sweep_step}
 use Rattle.mh_laws.proofs.showing.sweep_shows_the_same.Goals as goal
 
 pub returns : goal.returns

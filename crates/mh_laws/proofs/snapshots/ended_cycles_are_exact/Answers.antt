@@ -1,4 +1,4 @@
-use Rattle.mh_laws.proofs.Cycles.{continues-quantum}
+use Rattle.mh_laws.proofs.snapshots.CycleSteps.{continues-quantum}
 use Rattle.mh_laws.proofs.snapshots.ended_cycles_are_exact.Goals as goal
 
 pub returns : goal.returns

@@ -1,4 +1,4 @@
-use Rattle.mh_laws.proofs.Marking.{snapshot-mark_step}
+use Rattle.mh_laws.proofs.marking.MarkSteps.{snapshot-mark_step}
 use Rattle.mh_laws.proofs.snapshots.marking_keeps_the_snapshot.Goals as goal
 
 pub returns : goal.returns

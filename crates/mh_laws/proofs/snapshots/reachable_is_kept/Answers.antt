@@ -1,4 +1,4 @@
-use Rattle.mh_laws.proofs.Reaching.{reachable_is_kept}
+use Rattle.mh_laws.proofs.marking.ReachableNow.{reachable_is_kept}
 use Rattle.mh_laws.proofs.snapshots.reachable_is_kept.Goals as goal
 
 pub returns : goal.returns

@@ -1,4 +1,4 @@
-use Rattle.mh_laws.proofs.Cycles.{continues-collector_step}
+use Rattle.mh_laws.proofs.snapshots.CycleSteps.{continues-collector_step}
 use Rattle.mh_laws.proofs.snapshots.steps_keep_the_snapshot.Goals as goal
 
 pub returns : goal.returns

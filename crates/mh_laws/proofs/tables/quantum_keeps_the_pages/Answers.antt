@@ -1,4 +1,4 @@
-use Rattle.mh_laws.proofs.Courses.{quantum-keeps}
+use Rattle.mh_laws.proofs.commands.LeftUnchanged.{quantum-keeps}
 use Rattle.mh_laws.proofs.tables.quantum_keeps_the_pages.Goals as goal
 
 pub returns : goal.returns

@@ -1,4 +1,4 @@
-use Rattle.mh_laws.proofs.Courses.{collector_step-keeps}
+use Rattle.mh_laws.proofs.commands.LeftUnchanged.{collector_step-keeps}
 use Rattle.mh_laws.proofs.tables.step_keeps_the_pages.Goals as goal
 
 pub returns : goal.returns

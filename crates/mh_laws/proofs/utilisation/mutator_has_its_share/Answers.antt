@@ -1,4 +1,4 @@
-use Rattle.mh_laws.proofs.Traces.{mutator_share}
+use Rattle.mh_laws.proofs.trace.RunTraces.{mutator_share}
 use Rattle.mh_laws.proofs.utilisation.mutator_has_its_share.Goals as goal
 
 pub returns : goal.returns

@@ -1,4 +1,4 @@
-use Rattle.mh_laws.proofs.Agreement.{heap_step-agrees, heap_step-reply}
+use Rattle.mh_laws.proofs.worlds.Agreement.{heap_step-agrees, heap_step-reply}
 use Rattle.mh_laws.proofs.worlds.command_keeps_agreement.Goals as goal
 
 pub returns : goal.returns

@@ -1,4 +1,4 @@
-use Rattle.mh_laws.proofs.Beside.{heap_step-answers, heap_step-beside}
+use Rattle.mh_laws.proofs.worlds.FullHeaps.{heap_step-answers, heap_step-beside}
 use Rattle.mh_laws.proofs.worlds.full_heap_keeps_agreement.Goals as goal
 
 pub returns : goal.returns

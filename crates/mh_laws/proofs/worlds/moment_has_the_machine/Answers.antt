@@ -1,4 +1,4 @@
-use Rattle.mh_laws.proofs.Moments.{machine-moment_after}
+use Rattle.mh_laws.proofs.worlds.Moments.{machine-moment_after}
 use Rattle.mh_laws.proofs.worlds.moment_has_the_machine.Goals as goal
 
 pub returns : goal.returns

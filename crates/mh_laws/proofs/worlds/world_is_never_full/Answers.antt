@@ -1,4 +1,4 @@
-use Rattle.mh_laws.proofs.Beside.{world_step-never_full}
+use Rattle.mh_laws.proofs.worlds.FullHeaps.{world_step-never_full}
 use Rattle.mh_laws.proofs.worlds.world_is_never_full.Goals as goal
 
 pub returns : goal.returns

@@ -1,0 +1,5 @@
+pub mod CommandsKeepBounds
+pub mod WorkLeft
+pub mod CycleBounds
+pub mod CyclesInTime
+pub mod StepsOfACycle

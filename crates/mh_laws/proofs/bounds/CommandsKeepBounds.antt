@@ -1,0 +1,263 @@
+-- What each command of a session carries on: roomy pages, the grey list's soundness, what marking still costs, and the classes of pages in use.
+use Rattle.std.proofs.Common.{◌≡◌, ℕ, zero, suc, ◌+◌, ◌≤◌, Bool, true, false, if◌then◌else◌, inl, inr, List, [], ◌∷◌, length, get_or, slice_get, Option, Some, None, option_map, option_and_then, unwrap_or, refl, sym, ap, ◌∙◌, subst, arith}
+use Rattle.std.proofs.lemmas.Bool.{cases_eq, false≢true}
+use Rattle.std.proofs.lemmas.List.{length-replicate}
+use Rattle.std.proofs.lemmas.Option.{none-some, same_Some}
+use Rattle.mh_model.specs.declared.command.Command.{Command}
+use Rattle.mh_model.specs.declared.command.Command.TheVariants as command
+use Rattle.mh_model.specs.declared.cycle.Phase.{Phase}
+use Rattle.mh_model.specs.declared.cycle.Phase.TheVariants.{Idle, Roots, Mark, Sweep, Defrag}
+use Rattle.mh_model.specs.declared.reply.Refusal.{Refusal}
+use Rattle.mh_model.specs.World.{own_slot, board_slot, refusal, unless_refused}
+use Rattle.mh_model.specs.Classes.{Part, class_of, part_words, parts}
+use Rattle.mh_model.specs.Pages.{Table, block_at, least_place, with_taken}
+use Rattle.mh_model.specs.Table.{Block, Made, MadeParts, Position, new_block, made_in_class, made_part, made_parts, with_block_change, words_of, linked_block, linked_parts, group_of, made_group, reference_in}
+use Rattle.mh_model.specs.Collector.{Collector, Marking, shade, marking_of, with_shade}
+use Rattle.mh_model.specs.Mutator.{HeapState, in_roots, in_roots_or_mark, before_field, with_root, with_roots_cleared, with_session_cleared, with_reference_stored, with_number_stored, field_of, number_field, new_group, with_born, heap_sight, heap_effect, mutator_step}
+use Rattle.mh_laws.specs.GreyRoom.{IsMarkedIn}
+use Rattle.mh_laws.specs.Placing.{IsFreeFor}
+use Rattle.mh_laws.specs.NewObjects.{AreMade}
+use Rattle.mh_laws.proofs.placing.Places.{block_at-with_block_same, block_at-with_block_other, least_place-free, block_at-with_taken_other}
+use Rattle.mh_laws.proofs.objects.Parts.{children_inside}
+use Rattle.mh_laws.proofs.objects.MadeGroups.{block_at-slot, length-words_of, made_parts-are, slots_in-class_of}
+use Rattle.mh_laws.proofs.tables.BlockRoom.{IsClass, roomy-shaped, with_taken-roomy, class_of-is, class_of-fits}
+use Rattle.mh_laws.proofs.marking.GreyList.{IsGreySound, Carries, carries_nothing, then_carries, grey_weight, grey_weight-same, all-map, count_at, class-with_taken, weight-with_taken, weight-marked, shade-carries, cycle-shade, change-carries, reference-carries}
+
+-- New objects ------------------------------------------------------------------------------------
+
+-- a block that is placed with the cycle's number as its stamp
+module _ (table : Table Block) (grey : List ℕ) (cycle : ℕ) (size place : ℕ) (block : Block) (free : IsFreeFor table size place) (stamped : block.stamp ≡ cycle) where
+  abbrev old : Marking
+  old = record { table = table; grey = grey; cycle = cycle }
+
+  abbrev new : Marking
+  new = record { table = with_taken table size place block; grey = grey; cycle = cycle }
+
+  kept : (other : ℕ) → IsMarkedIn table cycle other → block_at new.table other ≡ block_at table other
+  kept other marked = block_at-with_taken_other table size place other block (λ same. none-some cycle (sym (ap (option_map (λ b. b.stamp)) free.empty) ∙ subst (IsMarkedIn table cycle) same marked))
+
+  taken-carries : IsClass size → length block.references + 4 ≤ size → IsGreySound old → Carries old new
+  taken-carries class fits sound = record {
+    sound = record {
+      roomy = with_taken-roomy table size place block sound.roomy class free.of_class fits;
+      once = sound.once;
+      marked = all-map (IsMarkedIn table cycle) (IsMarkedIn new.table cycle) (λ other marked. ap (option_map (λ b. b.stamp)) (kept other marked) ∙ marked) grey sound.marked;
+    };
+    longer = omega arith;
+    settled = λ other s. record { marked = ap (option_map (λ b. b.stamp)) (kept other s.marked) ∙ s.marked; apart = s.apart };
+    lighter = λ price.
+        let counts : grey_weight price new.table grey ≡ grey_weight price table grey = grey_weight-same price table new.table grey (all-map (IsMarkedIn table cycle) (λ other. count_at new.table other ≡ count_at table other) (λ other marked. ap (λ b. length (unwrap_or (option_map (λ x. x.references) b) [])) (kept other marked)) grey sound.marked) in
+        omega (arith, counts, weight-with_taken price cycle table size place block free, weight-marked price cycle block stamped);
+    classes = λ number class e. class-with_taken table size place block number class e;
+  }
+
+made_part-carries : (table : Table Block) (grey : List ℕ) (birth cycle index : ℕ) (part : Part) → IsGreySound (record { table = table; grey = grey; cycle = cycle }) → (made : Made) → made_part table birth cycle index part ≡ Some made
+    → Carries (record { table = table; grey = grey; cycle = cycle }) (record { table = made.table; grey = grey; cycle = cycle })
+made_part-carries table grey birth cycle index part sound made e = by_class (class_of (part_words part)) refl e
+  where
+    block : Block
+    block = new_block birth cycle index part
+
+    by_place : (size : ℕ) → class_of (part_words part) ≡ Some size → (place : Option ℕ) → least_place table size ≡ place → option_map (λ p. record { place = p; table = with_taken table size p block }) place ≡ Some made
+        → Carries (record { table = table; grey = grey; cycle = cycle }) (record { table = made.table; grey = grey; cycle = cycle })
+    by_place size is None found h = absurd (none-some made h)
+    by_place size is (Some p) found h =
+        let (some, few) = slots_in-class_of (part_words part) size is in
+        let free : IsFreeFor table size p = least_place-free table size (roomy-shaped table sound.roomy) some p found in
+        let count : length block.references ≡ part.references = length-replicate part.references None in
+        let fits : length block.references + 4 ≤ size = omega (arith, count, class_of-fits (part_words part) size is) in
+        subst (λ (m : Made). Carries (record { table = table; grey = grey; cycle = cycle }) (record { table = m.table; grey = grey; cycle = cycle })) (same_Some (record { place = p; table = with_taken table size p block }) made h)
+        (taken-carries table grey cycle size p block free refl (class_of-is (part_words part) size is) fits sound)
+
+    by_class : (size : Option ℕ) → class_of (part_words part) ≡ size → option_and_then (made_in_class table block) size ≡ Some made → Carries (record { table = table; grey = grey; cycle = cycle }) (record { table = made.table; grey = grey; cycle = cycle })
+    by_class None is h = absurd (none-some made h)
+    by_class (Some size) is h = by_place size is (least_place table size) refl h
+
+made_parts-carries : (list : List Part) (table : Table Block) (grey : List ℕ) (birth cycle index : ℕ) → IsGreySound (record { table = table; grey = grey; cycle = cycle }) → (made : MadeParts) → made_parts table birth cycle index list ≡ Some made
+    → Carries (record { table = table; grey = grey; cycle = cycle }) (record { table = made.table; grey = grey; cycle = cycle })
+made_parts-carries [] table grey birth cycle index sound made e =
+    subst (λ (m : MadeParts). Carries (record { table = table; grey = grey; cycle = cycle }) (record { table = m.table; grey = grey; cycle = cycle })) (same_Some (record { places = []; table = table }) made e) (carries_nothing (record { table = table; grey = grey; cycle = cycle }) sound)
+made_parts-carries (part ∷ list) table grey birth cycle index sound made e =
+    by_first (made_part table birth cycle index part) refl e (λ t s m h. made_parts-carries list t grey birth cycle (suc index) s m h)
+  where
+    by_rest : (first : Made) → Carries (record { table = table; grey = grey; cycle = cycle }) (record { table = first.table; grey = grey; cycle = cycle }) → (rest : Option MadeParts) → made_parts first.table birth cycle (suc index) list ≡ rest
+        → option_map (λ (r : MadeParts). record { places = first.place ∷ r.places; table = r.table }) rest ≡ Some made
+        → ((m : MadeParts) → made_parts first.table birth cycle (suc index) list ≡ Some m → Carries (record { table = first.table; grey = grey; cycle = cycle }) (record { table = m.table; grey = grey; cycle = cycle }))
+        → Carries (record { table = table; grey = grey; cycle = cycle }) (record { table = made.table; grey = grey; cycle = cycle })
+    by_rest first one None is h more = absurd (none-some made h)
+    by_rest first one (Some rest) is h more =
+        subst (λ (m : MadeParts). Carries (record { table = table; grey = grey; cycle = cycle }) (record { table = m.table; grey = grey; cycle = cycle })) (same_Some (record { places = first.place ∷ rest.places; table = rest.table }) made h)
+        (then_carries (record { table = table; grey = grey; cycle = cycle }) (record { table = first.table; grey = grey; cycle = cycle }) (record { table = rest.table; grey = grey; cycle = cycle }) one (more rest is))
+
+    by_first : (first : Option Made) → made_part table birth cycle index part ≡ first
+        → option_and_then (λ (f : Made). option_map (λ (r : MadeParts). record { places = f.place ∷ r.places; table = r.table }) (made_parts f.table birth cycle (suc index) list)) first ≡ Some made
+        → ((t : Table Block) → IsGreySound (record { table = t; grey = grey; cycle = cycle }) → (m : MadeParts) → made_parts t birth cycle (suc index) list ≡ Some m → Carries (record { table = t; grey = grey; cycle = cycle }) (record { table = m.table; grey = grey; cycle = cycle }))
+        → Carries (record { table = table; grey = grey; cycle = cycle }) (record { table = made.table; grey = grey; cycle = cycle })
+    by_first None is h more = absurd (none-some made h)
+    by_first (Some first) is h more =
+        let one = made_part-carries table grey birth cycle index part sound first is in
+        by_rest first one (made_parts first.table birth cycle (suc index) list) refl h (more first.table one.sound)
+
+-- the children of each part are among the parts
+abbrev HaveChildren : List Part → ℕ → Type 0
+HaveChildren list count = (i child : ℕ) (part : Part) → slice_get list i ≡ Some part → part.children ≡ Some child → child + part.references ≤ count
+
+-- at these places are blocks that have as many references as their parts
+abbrev AreSized : Table Block → List ℕ → List Part → Type 0
+AreSized table places list = (i q : ℕ) (part : Part) → slice_get places i ≡ Some q → slice_get list i ≡ Some part → (block : Block) × (block_at table q ≡ Some block) × (length block.references ≡ part.references)
+
+module _ (grey : List ℕ) (cycle : ℕ) (all : List ℕ) where
+  linked_parts-carries : (places : List ℕ) (list : List Part) (table : Table Block) → HaveChildren list (length all) → AreSized table places list → IsGreySound (record { table = table; grey = grey; cycle = cycle })
+      → Carries (record { table = table; grey = grey; cycle = cycle }) (record { table = linked_parts all table places list; grey = grey; cycle = cycle })
+  linked_parts-carries [] list table inside sized sound = carries_nothing (record { table = table; grey = grey; cycle = cycle }) sound
+  linked_parts-carries (place ∷ places) [] table inside sized sound = carries_nothing (record { table = table; grey = grey; cycle = cycle }) sound
+  linked_parts-carries (place ∷ places) (part ∷ list) table inside sized sound =
+      then_carries (record { table = table; grey = grey; cycle = cycle }) (record { table = linked; grey = grey; cycle = cycle }) (record { table = linked_parts all linked places list; grey = grey; cycle = cycle }) one
+      (linked_parts-carries places list linked (λ i. inside (suc i)) sized_after one.sound)
+    where
+      linked : Table Block
+      linked = with_block_change table place (linked_block all part)
+
+      words : length (words_of all part.references part.children) ≡ part.references
+      words = length-words_of all part.references part.children (λ child e. inside 0 child part refl e)
+
+      first : (block : Block) × (block_at table place ≡ Some block) × (length block.references ≡ part.references)
+      first = sized 0 place part refl refl
+
+      kept : (block : Block) → block_at table place ≡ Some block → length block.references ≡ part.references
+      kept block at = ap (λ (b : Block). length b.references) (same_Some block first.0 (sym at ∙ first.1)) ∙ first.2
+
+      one : Carries (record { table = table; grey = grey; cycle = cycle }) (record { table = linked; grey = grey; cycle = cycle })
+      one = change-carries (record { table = table; grey = grey; cycle = cycle }) place _ (λ block at. (refl, words ∙ sym (kept block at))) sound
+
+      sized_after : AreSized linked places list
+      sized_after i q other at at' =
+          let (block, is, size) = sized (suc i) q other at at' in
+          elim (cases_eq q place) [
+            | inr apart ↦ (block, block_at-with_block_other table place q _ apart ∙ is, size)
+            | inl same ↦
+                let here : block_at table place ≡ Some block = ap (block_at table) (sym same) ∙ is in (
+                  linked_block all part block,
+                  ap (block_at linked) same ∙ block_at-with_block_same table place (option_map (linked_block all part) (block_at table place)) (block_at-slot table place block here) ∙ ap (option_map (linked_block all part)) here,
+                  words ∙ sym (kept block here) ∙ size,
+                )
+          ]
+
+group_of-carries : (table first : Table Block) (grey : List ℕ) (birth cycle : ℕ) (list : List Part) (places : List ℕ) → AreMade first birth cycle 0 list (record { places = places; table = table }) → HaveChildren list (length list)
+    → IsGreySound (record { table = table; grey = grey; cycle = cycle }) → (made : Made) → group_of table places list ≡ Some made → Carries (record { table = table; grey = grey; cycle = cycle }) (record { table = made.table; grey = grey; cycle = cycle })
+group_of-carries table first grey birth cycle list [] are children sound made e = absurd (none-some made e)
+group_of-carries table first grey birth cycle list (place ∷ places) are children sound made e =
+    subst (λ (m : Made). Carries (record { table = table; grey = grey; cycle = cycle }) (record { table = m.table; grey = grey; cycle = cycle })) (same_Some (record { place = place; table = linked_parts (place ∷ places) table (place ∷ places) list }) made e)
+    (linked_parts-carries grey cycle (place ∷ places) (place ∷ places) list table (λ i child part at is. omega (arith, children i child part at is, are.count))
+    (λ i q part at at'. (new_block birth cycle (0 + i) part, are.there i q part at at', length-replicate part.references None)) sound)
+
+-- A new object carries on what marking keeps
+pub made_group-carries : (table : Table Block) (grey : List ℕ) (birth cycle : ℕ) (list : List Part) → HaveChildren list (length list) → IsGreySound (record { table = table; grey = grey; cycle = cycle }) → (made : Made) → made_group table birth cycle list ≡ Some made
+    → Carries (record { table = table; grey = grey; cycle = cycle }) (record { table = made.table; grey = grey; cycle = cycle })
+made_group-carries table grey birth cycle list children sound made e = go (made_parts table birth cycle 0 list) refl e
+  where
+    go : (all : Option MadeParts) → made_parts table birth cycle 0 list ≡ all → option_and_then (λ m. group_of m.table m.places list) all ≡ Some made → Carries (record { table = table; grey = grey; cycle = cycle }) (record { table = made.table; grey = grey; cycle = cycle })
+    go None is h = absurd (none-some made h)
+    go (Some all) is h =
+        let one = made_parts-carries list table grey birth cycle 0 sound all is in
+        then_carries (record { table = table; grey = grey; cycle = cycle }) (record { table = all.table; grey = grey; cycle = cycle }) (record { table = made.table; grey = grey; cycle = cycle }) one
+        (group_of-carries all.table table grey birth cycle list all.places (made_parts-are list table birth cycle 0 (roomy-shaped table sound.roomy) all is) children one.sound made h)
+
+-- Commands ---------------------------------------------------------------------------------------
+
+-- a collector carries on what marking keeps, and shades nothing outside the roots and marking
+pub record Carried (old new : Collector) : Type 0 where
+  pub carries : Carries (marking_of old) (marking_of new)
+  pub grey : in_roots_or_mark old.phase ≡ false → new.grey ≡ old.grey
+
+carried_nothing : (collector : Collector) → IsGreySound (marking_of collector) → Carried collector collector
+carried_nothing collector sound = record { carries = carries_nothing (marking_of collector) sound; grey = λ outside. refl }
+
+roots_or_mark : (phase : Phase) → in_roots phase ≡ true → in_roots_or_mark phase ≡ true
+roots_or_mark Roots e = refl
+roots_or_mark Mark e = refl
+roots_or_mark Idle e = e
+roots_or_mark Sweep e = e
+roots_or_mark Defrag e = e
+
+-- shading by a collector
+pub with_shade-carries : (collector : Collector) (reference : Option ℕ) → IsGreySound (marking_of collector) → Carries (marking_of collector) (marking_of (with_shade collector reference))
+with_shade-carries collector reference sound =
+    let shaded : Marking = shade (marking_of collector) reference in
+    subst (λ n. Carries (marking_of collector) (record { table = shaded.table; grey = shaded.grey; cycle = n })) (cycle-shade (marking_of collector) reference) (shade-carries (marking_of collector) reference sound)
+
+-- shading after a test that holds only in the roots and in marking
+shaded_if-carried : (test : Bool) (collector : Collector) (reference : Option ℕ) → (test ≡ true → in_roots_or_mark collector.phase ≡ true) → IsGreySound (marking_of collector) → Carried collector (if test then with_shade collector reference else collector)
+shaded_if-carried true collector reference inside sound = record { carries = with_shade-carries collector reference sound; grey = λ outside. absurd (false≢true (sym outside ∙ inside refl)) }
+shaded_if-carried false collector reference inside sound = carried_nothing collector sound
+
+with_root-carried : (collector : Collector) (slot : ℕ) (reference : Option ℕ) → IsGreySound (marking_of collector) → Carried collector (with_root collector slot reference)
+with_root-carried collector slot reference sound =
+    let shaded = shaded_if-carried (in_roots collector.phase) collector (get_or collector.slots slot None) (roots_or_mark collector.phase) sound in
+    let carries = shaded.carries in
+    record { carries = record { sound = record { roomy = carries.sound.roomy; once = carries.sound.once; marked = carries.sound.marked }; longer = carries.longer; settled = λ place s. let t = carries.settled place s in record { marked = t.marked; apart = t.apart }; lighter = carries.lighter; classes = carries.classes }; grey = shaded.grey }
+
+then_carried : (first second third : Collector) → second.phase ≡ first.phase → Carried first second → Carried second third → Carried first third
+then_carried first second third phase one two = record {
+  carries = then_carries (marking_of first) (marking_of second) (marking_of third) one.carries two.carries;
+  grey = λ outside. two.grey (ap in_roots_or_mark phase ∙ outside) ∙ one.grey outside;
+}
+
+phase-with_root : (collector : Collector) (slot : ℕ) (reference : Option ℕ) → (with_root collector slot reference).phase ≡ collector.phase
+phase-with_root collector slot reference = go (in_roots collector.phase)
+  where
+    go : (test : Bool) → (if test then with_shade collector (get_or collector.slots slot None) else collector).phase ≡ collector.phase
+    go true = refl
+    go false = refl
+
+with_roots_cleared-carried : (count : ℕ) (collector : Collector) (slot : ℕ) → IsGreySound (marking_of collector) → Carried collector (with_roots_cleared collector slot count)
+with_roots_cleared-carried zero collector slot sound = carried_nothing collector sound
+with_roots_cleared-carried (suc count) collector slot sound =
+    let one = with_root-carried collector slot None sound in
+    then_carried collector (with_root collector slot None) (with_roots_cleared collector slot (suc count)) (phase-with_root collector slot None) one (with_roots_cleared-carried count (with_root collector slot None) (suc slot) one.carries.sound)
+
+with_session_cleared-carried : (collector : Collector) (who : ℕ) → IsGreySound (marking_of collector) → Carried collector (with_session_cleared collector who)
+unfolding with_session_cleared
+with_session_cleared-carried collector who sound = with_roots_cleared-carried 16 collector (own_slot who 0) sound
+
+with_reference_stored-carried : (collector : Collector) (position : Position) (reference : Option ℕ) → IsGreySound (marking_of collector) → Carried collector (with_reference_stored collector position reference)
+with_reference_stored-carried collector position reference sound =
+    let shaded = shaded_if-carried (in_roots_or_mark collector.phase) collector (reference_in collector.table position) (λ e. e) sound in
+    record { carries = then_carries (marking_of collector) (marking_of (before_field collector position)) _ shaded.carries (reference-carries (marking_of (before_field collector position)) position.place position.index reference shaded.carries.sound); grey = shaded.grey }
+
+with_number_stored-carried : (collector : Collector) (position : Position) (number : ℕ) → IsGreySound (marking_of collector) → Carried collector (with_number_stored collector position number)
+with_number_stored-carried collector position number sound = record { carries = change-carries (marking_of collector) position.place _ (λ block at. (refl, refl)) sound; grey = λ outside. refl }
+
+new-carried : (heap : HeapState) (slot : ℕ) (group : Option Made) → IsGreySound (marking_of heap.collector)
+    → ((made : Made) → group ≡ Some made → Carries (marking_of heap.collector) (marking_of (record (heap.collector) { table = made.table }))) → Carried heap.collector (unwrap_or (option_map (with_born heap slot) group) heap).collector
+new-carried heap slot None sound placed = carried_nothing heap.collector sound
+new-carried heap slot (Some made) sound placed =
+    let one = placed made refl in
+    then_carried heap.collector (record (heap.collector) { table = made.table }) (with_root (record (heap.collector) { table = made.table }) slot (Some made.place)) refl (record { carries = one; grey = λ outside. refl })
+    (with_root-carried (record (heap.collector) { table = made.table }) slot (Some made.place) one.sound)
+
+heap_effect-carried : (heap : HeapState) (who : ℕ) (command : Command) → IsGreySound (marking_of heap.collector) → Carried heap.collector (heap_effect heap who command).state.collector
+unfolding heap_effect
+heap_effect-carried heap who (command.New slot references numbers) sound =
+    new-carried heap (own_slot who slot) (new_group heap references numbers) sound
+    (λ made e. made_group-carries heap.collector.table heap.collector.grey heap.next_birth heap.collector.cycle (parts references numbers) (λ i child part at is. (children_inside references numbers i part child at is).1) sound made e)
+heap_effect-carried heap who (command.Get slot source field) sound = with_root-carried heap.collector (own_slot who slot) _ sound
+heap_effect-carried heap who (command.Put slot field value) sound = with_reference_stored-carried heap.collector (field_of heap (own_slot who slot) field) _ sound
+heap_effect-carried heap who (command.Copy slot source) sound = with_root-carried heap.collector (own_slot who slot) _ sound
+heap_effect-carried heap who (command.Clear slot) sound = with_root-carried heap.collector (own_slot who slot) None sound
+heap_effect-carried heap who (command.Read slot index) sound = carried_nothing heap.collector sound
+heap_effect-carried heap who (command.Write slot index number) sound = with_number_stored-carried heap.collector (number_field heap (own_slot who slot) index) number sound
+heap_effect-carried heap who (command.Same left right) sound = carried_nothing heap.collector sound
+heap_effect-carried heap who (command.Shape slot) sound = carried_nothing heap.collector sound
+heap_effect-carried heap who (command.Post board slot) sound = with_root-carried heap.collector (board_slot board) _ sound
+heap_effect-carried heap who (command.Take slot board) sound = with_root-carried heap.collector (own_slot who slot) _ sound
+heap_effect-carried heap who command.End sound = with_session_cleared-carried heap.collector who sound
+
+-- A command of a session carries on what marking keeps
+pub mutator_step-carried : (heap : HeapState) (who : ℕ) (command : Command) → IsGreySound (marking_of heap.collector) → Carried heap.collector (mutator_step heap who command).state.collector
+unfolding mutator_step
+mutator_step-carried heap who command sound = go (refusal (heap_sight heap) who command)
+  where
+    go : (refused : Option Refusal) → Carried heap.collector (unless_refused refused heap (heap_effect heap who command)).state.collector
+    go None = heap_effect-carried heap who command sound
+    go (Some refused) = carried_nothing heap.collector sound

@@ -1,0 +1,364 @@
+-- What is left of a cycle, in steps and in units: each step of a running cycle uses it up.
+use Rattle.std.proofs.Common.{length-set, ◌≡◌, ◌≢◌, ◌⊎◌, ℕ, suc, ◌+◌, ◌-◌, ◌*◌, ◌/◌, ◌%◌, ◌<◌, ◌≤◌, ◌==◌, Bool, true, false, nat_lt, if◌then◌else◌, inl, inr, List, [], ◌∷◌, length, get_or, Option, Some, None, option_map, option_and_then, unwrap_or, refl, sym, ap, ◌∙◌, subst, arith}
+use Rattle.std.specs.List.{AllByRecursion, IsDistinct}
+use Rattle.std.proofs.Math.Nat.{mul-div-le, mul-le-mul_left, mul-suc}
+use Rattle.std.proofs.lemmas.Bool.{leb-false, ltb-true, ltb-false, true≢false, eq-eqb}
+use Rattle.std.proofs.lemmas.Option.{none-some, same_Some}
+use Rattle.mh_model.specs.declared.cycle.Phase.{Phase}
+use Rattle.mh_model.specs.declared.cycle.Phase.TheVariants.{Idle, Roots, Mark, Sweep, Defrag}
+use Rattle.mh_model.specs.Pages.{Page, Table, page_number, slot_number, page_at, block_in, block_at, least_dense_place, page_for, with_taken}
+use Rattle.mh_model.specs.Table.{Block, is_forwarder}
+use Rattle.mh_model.specs.Collector.{Collector, Marking, Move, marking_of, with_marking, with_phase, with_shade, mark_first, first_mark_cost, next_page, next_place, is_last_slot, if_flagged, flagged_page, move_of, next_move, moved_table, move_cost, with_move, after_mark, is_past, cycle_end, step_in, phase_after, collector_step, cost_in, is_idle}
+use Rattle.mh_laws.proofs.commands.LeftUnchanged.{shade-keeps, mark_first-keeps, step_in-keeps}
+use Rattle.mh_laws.proofs.placing.Places.{least_dense_place-page, block_at-with_taken_other}
+use Rattle.mh_laws.proofs.tables.BlockRoom.{IsRoomy, IsClass, roomy-shaped, swept-roomy, with_taken-roomy, rewritten-roomy, get_or-below}
+use Rattle.mh_laws.proofs.marking.GreyList.{IsGreySound, Carries, MarksThrough, weight, class_at, count_at, class-with_block, class-with_taken, mark_first-pays, cycle-mark_first}
+use Rattle.mh_laws.proofs.bounds.CommandsKeepBounds.{with_shade-carries}
+
+-- What is left -----------------------------------------------------------------------------------
+
+-- marking a block is one step, and as many units as it has references and one more
+abbrev pub in_steps : ℕ → ℕ
+in_steps references = 1
+
+abbrev pub in_units : ℕ → ℕ
+in_units references = 1 + references
+
+-- the class of a page, and 0 where it is free
+abbrev pub words_at : Table Block → ℕ → ℕ
+words_at table number = unwrap_or (class_at table number) 0
+
+-- how many words may still be moved: 256 of each page after this one, and those of the slots from the cursor on
+abbrev pub movable : ℕ → ℕ → ℕ → ℕ → ℕ
+movable pages page slot words = 256 * (pages - suc page) + (256 - words * slot)
+
+abbrev pub movable_words : Collector → ℕ
+movable_words collector = movable (length collector.table) (page_number collector.cursor) (slot_number collector.cursor) (words_at collector.table (page_number collector.cursor))
+
+-- how many steps the cycle may still take
+abbrev pub steps_left : Phase → Collector → ℕ
+steps_left Idle collector = 0
+steps_left Roots collector = (144 - collector.cursor) + weight in_steps (marking_of collector) + 128 * length collector.table
+steps_left Mark collector = weight in_steps (marking_of collector) + 128 * length collector.table
+steps_left Sweep collector = (64 * length collector.table - collector.cursor) + 64 * length collector.table
+steps_left Defrag collector = 64 * length collector.table - collector.cursor
+
+-- how many units it may still spend, without the charge for slots
+abbrev pub units_left : Phase → Collector → ℕ
+units_left Idle collector = 0
+units_left Roots collector = 2 * (144 - collector.cursor) + weight in_units (marking_of collector) + 384 * length collector.table
+units_left Mark collector = weight in_units (marking_of collector) + 384 * length collector.table
+units_left Sweep collector = (64 * length collector.table - collector.cursor) + 320 * length collector.table
+units_left Defrag collector = (64 * length collector.table - collector.cursor) + movable_words collector
+
+-- where a phase stands: its cursor in range, and the grey list empty outside the roots and marking
+abbrev pub StageOf : Phase → Collector → Type 0
+StageOf Idle collector = collector.grey ≡ []
+StageOf Roots collector = collector.cursor < 144
+StageOf Mark collector = 0 < length collector.grey
+StageOf Sweep collector = (collector.grey ≡ []) × (collector.cursor < 64 * length collector.table)
+StageOf Defrag collector = (collector.grey ≡ []) × (collector.cursor < 64 * length collector.table)
+
+-- a collector on its way through a cycle, or between two
+pub record IsUnderway (collector : Collector) : Type 0 where
+  pub some_page : 0 < length collector.table
+  pub sound : IsGreySound (marking_of collector)
+  pub stage : StageOf collector.phase collector
+
+-- A running cycle has a step left
+pub steps_left-positive : (collector : Collector) → IsUnderway collector → is_idle collector.phase ≡ false → 0 < steps_left collector.phase collector
+steps_left-positive collector under runs = go collector.phase under.stage runs
+  where
+    go : (phase : Phase) → StageOf phase collector → is_idle phase ≡ false → 0 < steps_left phase collector
+    go Idle stage runs = absurd (true≢false runs)
+    go Roots stage runs = omega arith
+    go Mark stage runs = omega (arith, under.some_page)
+    go Sweep stage runs = omega (arith, stage.1)
+    go Defrag stage runs = omega (arith, stage.1)
+
+-- a collector with no grey place is sound where its pages are roomy
+pub none_grey : (collector : Collector) → collector.grey ≡ [] → IsRoomy collector.table → IsGreySound (marking_of collector)
+unfolding IsDistinct
+none_grey collector none roomy = record {
+  roomy = roomy;
+  once = subst (IsDistinct (λ a b. a == b)) (sym none) tt;
+  marked = subst (AllByRecursion _) (sym none) tt;
+}
+
+-- Cursors ----------------------------------------------------------------------------------------
+
+-- the next place is the next slot of the page, or slot 0 of the next page
+pub record IsNext (place next : ℕ) : Type 0 where
+  pub further : place < next
+  pub position : ((page_number next ≡ page_number place) × (slot_number next ≡ suc (slot_number place))) ⊎ ((page_number next ≡ suc (page_number place)) × (slot_number next ≡ 0))
+
+next_page-next : (place : ℕ) → IsNext place (next_page place)
+next_page-next place = record { further = omega arith; position = inr (omega arith, omega arith) }
+
+slot-next : (place : ℕ) → IsNext place (place + 1)
+slot-next place = record { further = omega arith; position = go (nat_lt (place % 64) 63) refl }
+  where
+    go : (b : Bool) → nat_lt (place % 64) 63 ≡ b → (((place + 1) / 64 ≡ place / 64) × ((place + 1) % 64 ≡ suc (place % 64))) ⊎ (((place + 1) / 64 ≡ suc (place / 64)) × ((place + 1) % 64 ≡ 0))
+    go true e = let l : place % 64 < 63 = ltb-true (place % 64) 63 e in inl (omega arith, omega arith)
+    go false e = let l : 63 ≤ place % 64 = ltb-false (place % 64) 63 e in inr (omega arith, omega arith)
+
+next_place-next : (place : ℕ) (content : Option (Page Block)) → IsNext place (next_place place content)
+next_place-next place None = next_page-next place
+next_place-next place (Some page) = go (is_last_slot place page)
+  where
+    go : (last : Bool) → IsNext place (if last then next_page place else place + 1)
+    go true = next_page-next place
+    go false = slot-next place
+
+not_past : (table : Table Block) (place : ℕ) → is_past table place ≡ false → place < 64 * length table
+not_past table place e = omega (arith, leb-false (length table) (page_number place) e)
+
+-- Steps ------------------------------------------------------------------------------------------
+
+-- what is left after so many steps and units
+pub record IsPaid (taken spent steps units : ℕ) (new : Collector) : Type 0 where
+  pub under : IsUnderway new
+  pub steps_paid : steps_left new.phase new + taken ≤ steps
+  pub units_paid : units_left new.phase new + spent ≤ units
+
+after_mark-paid : (collector : Collector) → 0 < length collector.table → IsGreySound (marking_of collector) → (grey : List ℕ) → collector.grey ≡ grey
+    → IsPaid 0 0 (weight in_steps (marking_of collector) + 128 * length collector.table) (weight in_units (marking_of collector) + 384 * length collector.table) (after_mark collector grey)
+after_mark-paid collector some sound [] e = record {
+  under = record { some_page = some; sound = record { roomy = sound.roomy; once = sound.once; marked = sound.marked }; stage = (e, omega arith) };
+  steps_paid = omega arith;
+  units_paid = omega arith;
+}
+after_mark-paid collector some sound (place ∷ grey) e = record {
+  under = record { some_page = some; sound = record { roomy = sound.roomy; once = sound.once; marked = sound.marked }; stage = rw e (omega arith) };
+  steps_paid = omega arith;
+  units_paid = omega arith;
+}
+
+paid_more : (taken spent steps units steps' units' : ℕ) (new : Collector) → steps + taken ≤ steps' → units + spent ≤ units' → IsPaid 0 0 steps units new → IsPaid taken spent steps' units' new
+paid_more taken spent steps units steps' units' new s u paid = record { under = paid.under; steps_paid = omega (arith, paid.steps_paid); units_paid = omega (arith, paid.units_paid) }
+
+roots-paid : (collector : Collector) → 0 < length collector.table → IsGreySound (marking_of collector) → collector.cursor < 144
+    → IsPaid 1 2 (steps_left Roots collector) (units_left Roots collector) (phase_after Roots (step_in Roots collector))
+roots-paid collector some sound inside = go (new.cursor == 144) refl
+  where
+    reference : Option ℕ
+    reference = get_or collector.slots collector.cursor None
+
+    new : Collector
+    new = with_phase (with_shade collector reference) Roots (collector.cursor + 1)
+
+    carries : Carries (marking_of collector) (marking_of (with_shade collector reference))
+    carries = with_shade-carries collector reference sound
+
+    pages : length new.table ≡ length collector.table
+    pages = (shade-keeps (marking_of collector) reference).pages
+
+    some' : 0 < length new.table
+    some' = omega (arith, pages)
+
+    sound' : IsGreySound (marking_of new)
+    sound' = let s = carries.sound in record { roomy = s.roomy; once = s.once; marked = s.marked }
+
+    lighter_steps : weight in_steps (marking_of new) ≤ weight in_steps (marking_of collector)
+    lighter_steps = carries.lighter in_steps
+
+    lighter_units : weight in_units (marking_of new) ≤ weight in_units (marking_of collector)
+    lighter_units = carries.lighter in_units
+
+    go : (last : Bool) → (new.cursor == 144) ≡ last → IsPaid 1 2 (steps_left Roots collector) (units_left Roots collector) (if last then after_mark new new.grey else new)
+    go true e = paid_more _ _ _ _ _ _ (after_mark new new.grey) (omega (arith, lighter_steps, pages)) (omega (arith, lighter_units, pages)) (after_mark-paid new some' sound' new.grey refl)
+    go false e = record {
+      under = record { some_page = some'; sound = sound'; stage = omega (arith, λ (k : collector.cursor + 1 ≡ 144). true≢false (sym (eq-eqb (collector.cursor + 1) 144 k) ∙ e)) };
+      steps_paid = omega (arith, lighter_steps, pages);
+      units_paid = omega (arith, lighter_units, pages);
+    }
+
+mark-paid : (collector : Collector) → 0 < length collector.table → IsGreySound (marking_of collector) → 0 < length collector.grey
+    → IsPaid 1 (first_mark_cost collector.table collector.grey) (steps_left Mark collector) (units_left Mark collector) (phase_after Mark (step_in Mark collector))
+mark-paid collector some sound stage = go collector.grey refl stage
+  where
+    go : (grey : List ℕ) → collector.grey ≡ grey → 0 < length grey
+        → IsPaid 1 (first_mark_cost collector.table grey) (steps_left Mark collector) (units_left Mark collector) (after_mark (with_marking collector (mark_first (marking_of collector) grey)) (mark_first (marking_of collector) grey).grey)
+    go [] e more = absurd (omega arith)
+    go (place ∷ grey) e more =
+        let marked : Marking = mark_first (marking_of collector) (place ∷ grey) in
+        let new : Collector = with_marking collector marked in
+        let pays : MarksThrough (marking_of collector) (marking_of new) (count_at collector.table place) =
+        subst (λ n. MarksThrough (marking_of collector) (record { table = marked.table; grey = marked.grey; cycle = n }) (count_at collector.table place)) (cycle-mark_first (marking_of collector) (place ∷ grey)) (mark_first-pays (marking_of collector) place grey e sound) in
+        let pages : length marked.table ≡ length collector.table = (mark_first-keeps (marking_of collector) (place ∷ grey)).pages in
+        let steps : weight in_steps (marking_of new) + 1 ≤ weight in_steps (marking_of collector) = pays.paid in_steps in
+        let units : weight in_units (marking_of new) + (1 + count_at collector.table place) ≤ weight in_units (marking_of collector) = pays.paid in_units in
+        paid_more _ _ _ _ _ _ (after_mark new marked.grey) (omega (arith, steps, pages)) (omega (arith, units, pages)) (after_mark-paid new (omega (arith, pages)) pays.sound marked.grey refl)
+
+sweep-paid : (collector : Collector) → collector.phase ≡ Sweep → 0 < length collector.table → IsGreySound (marking_of collector) → StageOf Sweep collector
+    → IsPaid 1 1 (steps_left Sweep collector) (units_left Sweep collector) (phase_after Sweep (step_in Sweep collector))
+sweep-paid collector phase some sound (none, inside) = go (is_past new.table new.cursor) refl
+  where
+    new : Collector
+    new = step_in Sweep collector
+
+    pages : length new.table ≡ length collector.table
+    pages = (step_in-keeps Sweep collector).pages
+
+    next : IsNext collector.cursor new.cursor
+    next = next_place-next collector.cursor (page_at collector.table (page_number collector.cursor))
+
+    roomy : IsRoomy new.table
+    roomy = swept-roomy collector.cycle collector.table collector.cursor sound.roomy
+
+    go : (past : Bool) → is_past new.table new.cursor ≡ past → IsPaid 1 1 (steps_left Sweep collector) (units_left Sweep collector) (if past then with_phase new Defrag 0 else new)
+    go true e = record {
+      under = record { some_page = omega (arith, pages); sound = none_grey (with_phase new Defrag 0) none roomy; stage = (none, omega (arith, pages)) };
+      steps_paid = omega (arith, pages);
+      units_paid = omega (arith, pages);
+    }
+    go false e =
+        let inside' : new.cursor < 64 * length new.table = not_past new.table new.cursor e in
+        record {
+          under = record { some_page = omega (arith, pages); sound = none_grey new none roomy; stage = subst (λ p. StageOf p new) (sym phase) (none, inside') };
+          steps_paid = subst (λ p. steps_left p new + 1 ≤ steps_left Sweep collector) (sym phase) (omega (arith, pages, next.further, inside'));
+          units_paid = subst (λ p. units_left p new + 1 ≤ units_left Sweep collector) (sym phase) (omega (arith, pages, next.further, inside'));
+        }
+
+-- Moves ------------------------------------------------------------------------------------------
+
+-- a move is of a block of a page in use, to a place that the first tier gives for its class
+pub record IsMoveInClass (table : Table Block) (place : ℕ) (move : Move) : Type 0 where
+  pub page : Page Block
+  pub in_use : page_at table (page_number place) ≡ Some page
+  pub there : block_in (slot_number place) page ≡ Some move.block
+  pub class : page.class_size ≡ move.class_size
+  pub target : least_dense_place table move.class_size ≡ Some move.target
+
+next_move-is : (table : Table Block) (place : ℕ) (move : Move) → next_move table place ≡ Some move → IsMoveInClass table place move
+next_move-is table place move is = by_page (page_at table (page_number place)) refl is
+  where
+    by_target : (page : Page Block) (block : Block) → page_at table (page_number place) ≡ Some page → block_in (slot_number place) page ≡ Some block → (forwards : Bool) (target : Option ℕ) → least_dense_place table page.class_size ≡ target
+        → (if forwards then None else option_map (λ t. record { block = block; class_size = page.class_size; target = t }) target) ≡ Some move → IsMoveInClass table place move
+    by_target page block at in_slot true target found e = absurd (none-some move e)
+    by_target page block at in_slot false None found e = absurd (none-some move e)
+    by_target page block at in_slot false (Some t) found e = subst (IsMoveInClass table place) (same_Some (record { block = block; class_size = page.class_size; target = t }) move e) (record { page = page; in_use = at; there = in_slot; class = refl; target = found })
+
+    by_block : (page : Page Block) → page_at table (page_number place) ≡ Some page → (block : Option Block) → block_in (slot_number place) page ≡ block → option_and_then (move_of table page) block ≡ Some move → IsMoveInClass table place move
+    by_block page at None in_slot e = absurd (none-some move e)
+    by_block page at (Some block) in_slot e = by_target page block at in_slot (is_forwarder block) (least_dense_place table page.class_size) refl e
+
+    by_flag : (page : Page Block) → page_at table (page_number place) ≡ Some page → (flag : Bool) → option_and_then (λ p. option_and_then (move_of table p) (block_in (slot_number place) p)) (if flag then Some page else None) ≡ Some move → IsMoveInClass table place move
+    by_flag page at true e = by_block page at (block_in (slot_number place) page) refl e
+    by_flag page at false e = absurd (none-some move e)
+
+    by_page : (page : Option (Page Block)) → page_at table (page_number place) ≡ page → option_and_then (λ p. option_and_then (move_of table p) (block_in (slot_number place) p)) (option_and_then if_flagged page) ≡ Some move → IsMoveInClass table place move
+    by_page None at e = absurd (none-some move e)
+    by_page (Some page) at e = by_flag page at page.is_flagged e
+
+-- a move leaves pages roomy, and their classes
+pub moved-roomy : (table : Table Block) (place : ℕ) (move : Move) → IsRoomy table → IsMoveInClass table place move → IsRoomy (moved_table table place move)
+moved-roomy table place move roomy is =
+    let (page, in_use, of_class, unflagged, empty) = least_dense_place-page table move.class_size (roomy-shaped table roomy) move.target is.target in
+    let own = roomy.pages (page_number place) is.page is.in_use in
+    let class : IsClass move.class_size = subst IsClass is.class (record { least = own.least; most = own.most; words = mul-div-le 256 (is.page).class_size }) in
+    let fits : length (move.block).references + 4 ≤ move.class_size = rw (← is.class) (own.blocks (slot_number place) move.block is.there) in
+    let taken : Table Block = with_taken table move.class_size move.target move.block in
+    let at : block_at table place ≡ Some move.block = ap (option_and_then (block_in (slot_number place))) is.in_use ∙ is.there in
+    let none : block_at table move.target ≡ None = ap (option_and_then (block_in (slot_number move.target))) in_use ∙ empty.empty in
+    let apart : place ≢ move.target = λ same. none-some move.block (sym none ∙ ap (block_at table) (sym same) ∙ at) in
+    let there : block_at taken place ≡ Some move.block = block_at-with_taken_other table move.class_size move.target place move.block apart ∙ at in
+    rewritten-roomy taken place move.block (record (move.block) { forward = Some move.target })
+    (with_taken-roomy table move.class_size move.target move.block roomy class (ap (λ p. (page_for move.class_size p).class_size) in_use ∙ of_class) fits) there refl
+
+moved-class : (table : Table Block) (place : ℕ) (move : Move) (number size : ℕ) → class_at table number ≡ Some size → class_at (moved_table table place move) number ≡ Some size
+moved-class table place move number size e = class-with_block (with_taken table move.class_size move.target move.block) place _ number size (class-with_taken table move.class_size move.target move.block number size e)
+
+-- Defragmentation --------------------------------------------------------------------------------
+
+-- a move takes its class of the words of its page, and fits in them
+abbrev FitsPage : ℕ → ℕ → ℕ → Type 0
+FitsPage slot words used = (used ≡ 0) ⊎ ((used ≡ words) × (words * slot + words ≤ 256))
+
+-- what a move takes of the words that may still be moved
+movable-used : (pages page slot words page' slot' words' used : ℕ) → ((page' ≡ page) × (slot' ≡ suc slot)) ⊎ ((page' ≡ suc page) × (slot' ≡ 0)) → page' < pages → (page' ≡ page → words' ≡ words) → FitsPage slot words used
+    → movable pages page' slot' words' + used ≤ movable pages page slot words
+movable-used pages page slot words page' slot' words' used (inl (same, next)) inside class fits = rw (same, next, class same, mul-suc) (by_fit fits)
+  where
+    by_fit : FitsPage slot words used → 256 * (pages - suc page) + (256 - (words * slot + words)) + used ≤ 256 * (pages - suc page) + (256 - words * slot)
+    by_fit (inl none) = omega arith
+    by_fit (inr (one, room)) = omega arith
+movable-used pages page slot words page' slot' words' used (inr (next, start)) inside class fits = rw (next, start) (by_fit fits)
+  where
+    by_fit : FitsPage slot words used → 256 * (pages - suc (suc page)) + (256 - words' * 0) + used ≤ 256 * (pages - suc page) + (256 - words * slot)
+    by_fit (inl none) = omega (arith, inside)
+    by_fit (inr (one, room)) = omega (arith, inside)
+
+movable-fits : (pages page slot words used : ℕ) → FitsPage slot words used → used ≤ movable pages page slot words
+movable-fits pages page slot words used (inl none) = omega arith
+movable-fits pages page slot words used (inr (one, room)) = omega arith
+
+defrag_after-paid : (collector new : Collector) (used : ℕ) → new.phase ≡ Defrag → 0 < length collector.table → length new.table ≡ length collector.table → new.grey ≡ [] → IsRoomy new.table
+    → words_at new.table (page_number collector.cursor) ≡ words_at collector.table (page_number collector.cursor) → FitsPage (slot_number collector.cursor) (words_at collector.table (page_number collector.cursor)) used
+    → IsNext collector.cursor new.cursor → collector.cursor < 64 * length collector.table
+    → IsPaid 1 (1 + used) (steps_left Defrag collector) (units_left Defrag collector) (if is_past new.table new.cursor then cycle_end new else new)
+defrag_after-paid collector new used phase some pages none roomy class fits next inside = go (is_past new.table new.cursor) refl
+  where
+    place : ℕ
+    place = collector.cursor
+
+    words : ℕ
+    words = words_at collector.table (page_number place)
+
+    go : (past : Bool) → is_past new.table new.cursor ≡ past → IsPaid 1 (1 + used) (steps_left Defrag collector) (units_left Defrag collector) (if past then cycle_end new else new)
+    go true e = record {
+      under = record { some_page = omega (arith, pages); sound = none_grey (cycle_end new) none roomy; stage = none };
+      steps_paid = omega arith;
+      units_paid = omega (arith, movable-fits (length collector.table) (page_number place) (slot_number place) words used fits);
+    }
+    go false e =
+        let inside' : new.cursor < 64 * length new.table = not_past new.table new.cursor e in
+        let page_inside : page_number new.cursor < length collector.table = omega (arith, pages, leb-false (length new.table) (page_number new.cursor) e) in
+        let less = movable-used (length collector.table) (page_number place) (slot_number place) words (page_number new.cursor) (slot_number new.cursor) (words_at new.table (page_number new.cursor)) used next.position page_inside (λ same. ap (words_at new.table) same ∙ class) fits in
+        let less' : movable_words new + used ≤ movable_words collector = subst (λ n. movable n (page_number new.cursor) (slot_number new.cursor) (words_at new.table (page_number new.cursor)) + used ≤ movable_words collector) (sym pages) less in
+        record {
+          under = record { some_page = omega (arith, pages); sound = none_grey new none roomy; stage = subst (λ p. StageOf p new) (sym phase) (none, inside') };
+          steps_paid = subst (λ p. steps_left p new + 1 ≤ steps_left Defrag collector) (sym phase) (omega (arith, pages, next.further, inside'));
+          units_paid = subst (λ p. units_left p new + (1 + used) ≤ units_left Defrag collector) (sym phase) (omega (arith, pages, next.further, inside', less'));
+        }
+
+move_fits : (table : Table Block) (place : ℕ) (move : Move) → IsRoomy table → IsMoveInClass table place move → FitsPage (slot_number place) (words_at table (page_number place)) move.class_size
+move_fits table place move roomy is =
+    let page = is.page in
+    let own = roomy.pages (page_number place) page is.in_use in
+    let words : words_at table (page_number place) ≡ page.class_size = ap (λ p. unwrap_or (option_map (λ q. q.class_size) p) 0) is.in_use in
+    let inside : slot_number place < length page.slots = get_or-below page.slots (slot_number place) move.block is.there in
+    let room : page.class_size * suc (slot_number place) ≤ page.class_size * length page.slots = mul-le-mul_left page.class_size inside in
+    let split : page.class_size * suc (slot_number place) ≡ page.class_size * slot_number place + page.class_size = mul-suc page.class_size (slot_number place) in
+    inr (sym is.class ∙ sym words, rw words (omega (arith, room, split, own.words)))
+
+defrag-paid : (collector : Collector) → 0 < length collector.table → IsGreySound (marking_of collector) → StageOf Defrag collector
+    → IsPaid 1 (cost_in Defrag collector true) (steps_left Defrag collector) (units_left Defrag collector) (phase_after Defrag (step_in Defrag collector))
+defrag-paid collector some sound (none, inside) = go (next_move collector.table collector.cursor) refl
+  where
+    next : ℕ
+    next = next_place collector.cursor (flagged_page collector.table collector.cursor)
+
+    go : (move : Option Move) → next_move collector.table collector.cursor ≡ move
+        → IsPaid 1 (move_cost true move) (steps_left Defrag collector) (units_left Defrag collector) (if is_past (with_move collector move).table next then cycle_end (with_phase (with_move collector move) Defrag next) else with_phase (with_move collector move) Defrag next)
+    go None e = defrag_after-paid collector (with_phase collector Defrag next) 0 refl some refl none sound.roomy refl (inl refl) (next_place-next collector.cursor (flagged_page collector.table collector.cursor)) inside
+    go (Some move) e =
+        let is = next_move-is collector.table collector.cursor move e in
+        let old_class : class_at collector.table (page_number collector.cursor) ≡ Some (is.page).class_size = ap (option_map (λ q. q.class_size)) is.in_use in
+        let class : words_at (moved_table collector.table collector.cursor move) (page_number collector.cursor) ≡ words_at collector.table (page_number collector.cursor) =
+        ap (λ o. unwrap_or o 0) (moved-class collector.table collector.cursor move (page_number collector.cursor) (is.page).class_size old_class ∙ sym old_class) in
+        defrag_after-paid collector (with_phase (with_move collector (Some move)) Defrag next) move.class_size refl some (length-set _ _ _ ∙ length-set _ _ _) none (moved-roomy collector.table collector.cursor move sound.roomy is) class
+        (move_fits collector.table collector.cursor move sound.roomy is) (next_place-next collector.cursor (flagged_page collector.table collector.cursor)) inside
+
+-- A step of a running cycle uses up one step and its cost without the charge
+pub collector_step-paid : (collector : Collector) → IsUnderway collector → is_idle collector.phase ≡ false
+    → IsPaid 1 (cost_in collector.phase collector true) (steps_left collector.phase collector) (units_left collector.phase collector) (collector_step collector)
+unfolding collector_step
+collector_step-paid collector under runs = go collector.phase refl under.stage runs
+  where
+    go : (phase : Phase) → collector.phase ≡ phase → StageOf phase collector → is_idle phase ≡ false → IsPaid 1 (cost_in phase collector true) (steps_left phase collector) (units_left phase collector) (phase_after phase (step_in phase collector))
+    go Idle is stage idle = absurd (true≢false idle)
+    go Roots is stage idle = roots-paid collector under.some_page under.sound stage
+    go Mark is stage idle = mark-paid collector under.some_page under.sound stage
+    go Sweep is stage idle = sweep-paid collector is under.some_page under.sound stage
+    go Defrag is stage idle = defrag-paid collector under.some_page under.sound stage

@@ -1,0 +1,4 @@
+pub mod SlotCommands
+pub mod WrittenFields
+pub mod NewObject
+pub mod AllCommands

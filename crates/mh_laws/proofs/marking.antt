@@ -1,0 +1,10 @@
+pub mod GreyList
+pub mod GreyRoom
+pub mod BatchMarking
+pub mod BatchSteps
+pub mod MarkedOnce
+pub mod MarkingPaths
+pub mod BlockChanges
+pub mod SameTable
+pub mod MarkSteps
+pub mod ReachableNow

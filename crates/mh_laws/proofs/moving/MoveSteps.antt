@@ -1,0 +1,360 @@
+-- Steps of defragmentation: a block that moves with all its roots, and the end of the cycle.
+use Rattle.std.proofs.Common.{◌≡◌, ◌≢◌, ℕ, zero, suc, ◌<◌, ◌≤◌, if◌then◌else◌, Bool, true, false, ◌⊎◌, inl, inr, List, [], ◌∷◌, length, get_or, set, Option, Some, None, is_some, option_map, option_and_then, unwrap_or, refl, sym, ap, ◌∙◌, subst, arith}
+use Rattle.std.proofs.lemmas.Bool.{cases_eq, false≢true}
+use Rattle.std.proofs.lemmas.Option.{none-some, same_Some}
+use Rattle.std.proofs.lemmas.List.{length-map}
+use Rattle.mh_model.specs.declared.cycle.Phase.TheVariants.{Idle, Defrag}
+use Rattle.mh_model.specs.World.{World, births}
+use Rattle.mh_model.specs.Pages.{Page, Table, page_number, slot_number, page_at, block_in, block_at, least_dense_place, page_with, with_block, page_for, with_taken}
+use Rattle.mh_model.specs.Table.{Block, resolve, target_of}
+use Rattle.mh_model.specs.Collector.{Collector, Move, if_flagged, flagged_page, move_of, next_move, moved_table, forwarded_slots, with_phase, with_move, defrag_step, next_place, is_idle, cycle_end}
+use Rattle.mh_model.specs.Mutator.{in_roots_or_mark}
+use Rattle.mh_model.specs.View.{in_sweep}
+use Rattle.mh_model.specs.Snapshot.{IsKept}
+use Rattle.mh_laws.specs.Invariant.{IsIn, IsPlainAt, IsPartOf, IsUnflagged, in_defrag, IsSound, KeepsSnapshot, IsFinished}
+use Rattle.mh_laws.proofs.placing.Places.{IsShaped, least_dense_place-page, block_at-with_block_same, block_at-with_block_other}
+use Rattle.mh_laws.proofs.marking.BlockChanges.{is_slot, resolve-live, pages-with_block}
+use Rattle.mh_laws.proofs.marking.SameTable.{snapshot-turned}
+
+-- The move that a step makes ---------------------------------------------------------------------
+
+-- a block that is no forwarder moves from a flagged page to a slot without a block in a page that isn't
+pub record IsMove (table : Table Block) (place : ℕ) (move : Move) : Type 0 where
+  pub page : Page Block
+  pub from : page_at table (page_number place) ≡ Some page
+  pub flagged : page.is_flagged ≡ true
+  pub there : block_at table place ≡ Some (move.block)
+  pub live : move.block.forward ≡ None
+  pub into : Page Block
+  pub to : page_at table (page_number (move.target)) ≡ Some into
+  pub unflagged : into.is_flagged ≡ false
+  pub inside : slot_number (move.target) < length into.slots
+  pub free : block_at table (move.target) ≡ None
+
+pub next_move-is : (table : Table Block) (place : ℕ) → IsShaped table → (move : Move) → next_move table place ≡ Some move → IsMove table place move
+next_move-is table place shaped move e = by_page (page_at table (page_number place)) refl e
+  where
+    by_target : (page : Page Block) → page_at table (page_number place) ≡ Some page → page.is_flagged ≡ true → (block : Block) → block_in (slot_number place) page ≡ Some block → block.forward ≡ None → (target : Option ℕ) → least_dense_place table page.class_size ≡ target
+        → option_map (λ t. record { block = block; class_size = page.class_size; target = t }) target ≡ Some move → IsMove table place move
+    by_target page at flag block in_page live None is h = absurd (none-some move h)
+    by_target page at flag block in_page live (Some t) is h =
+        let (into, to, of_class, unflagged, empty) = least_dense_place-page table page.class_size shaped t is in
+        subst (IsMove table place) (same_Some (record { block = block; class_size = page.class_size; target = t }) move h) (record {
+          page = page;
+          from = at;
+          flagged = flag;
+          there = ap (option_and_then (block_in (slot_number place))) at ∙ in_page;
+          live = live;
+          into = into;
+          to = to;
+          unflagged = unflagged;
+          inside = empty.within;
+          free = ap (option_and_then (block_in (slot_number t))) to ∙ empty.empty;
+        })
+
+    by_forward : (page : Page Block) → page_at table (page_number place) ≡ Some page → page.is_flagged ≡ true → (block : Block) → block_in (slot_number place) page ≡ Some block → (forward : Option ℕ) → block.forward ≡ forward
+        → (if is_some forward then None else option_map (λ t. record { block = block; class_size = page.class_size; target = t }) (least_dense_place table page.class_size)) ≡ Some move → IsMove table place move
+    by_forward page at flag block in_page (Some f) is h = absurd (none-some move h)
+    by_forward page at flag block in_page None is h = by_target page at flag block in_page is (least_dense_place table page.class_size) refl h
+
+    by_block : (page : Page Block) → page_at table (page_number place) ≡ Some page → page.is_flagged ≡ true → (block : Option Block) → block_in (slot_number place) page ≡ block → option_and_then (move_of table page) block ≡ Some move → IsMove table place move
+    by_block page at flag None is h = absurd (none-some move h)
+    by_block page at flag (Some block) is h = by_forward page at flag block is block.forward refl h
+
+    by_flag : (page : Page Block) → page_at table (page_number place) ≡ Some page → (flag : Bool) → page.is_flagged ≡ flag → option_and_then (λ p. option_and_then (move_of table p) (block_in (slot_number place) p)) (if flag then Some page else None) ≡ Some move → IsMove table place move
+    by_flag page at true is h = by_block page at is (block_in (slot_number place) page) refl h
+    by_flag page at false is h = absurd (none-some move h)
+
+    by_page : (content : Option (Page Block)) → page_at table (page_number place) ≡ content → option_and_then (λ p. option_and_then (move_of table p) (block_in (slot_number place) p)) (option_and_then if_flagged content) ≡ Some move → IsMove table place move
+    by_page None at h = absurd (none-some move h)
+    by_page (Some page) at h = by_flag page at page.is_flagged refl h
+
+-- a root forwarded leads to where a root led
+forwarded-root : (table : Table Block) (slots : List (Option ℕ)) (i r : ℕ) → get_or (forwarded_slots table slots) i None ≡ Some r → (s : ℕ) × (get_or slots i None ≡ Some s) × (resolve table s ≡ r)
+forwarded-root table [] i r e = absurd (none-some r e)
+forwarded-root table (None ∷ slots) zero r e = absurd (none-some r e)
+forwarded-root table (Some s ∷ slots) zero r e = (s, refl, same_Some (resolve table s) r e)
+forwarded-root table (o ∷ slots) (suc i) r e = forwarded-root table slots i r e
+
+-- A move -----------------------------------------------------------------------------------------
+
+module _ (snapshot : World) (n : ℕ) (c : Collector) (defrags : c.phase ≡ Defrag) (h : KeepsSnapshot snapshot n c) (move : Move) (is : IsMove c.table c.cursor move) (cursor' : ℕ) where
+  abbrev p : ℕ
+  p = c.cursor
+
+  abbrev q : ℕ
+  q = move.target
+
+  abbrev b : Block
+  b = move.block
+
+  abbrev table' : Table Block
+  table' = moved_table c.table c.cursor move
+
+  abbrev moved : Collector
+  moved = record c { table = table'; slots = forwarded_slots table' c.slots; phase = Defrag; cursor = cursor' }
+
+  taken : with_taken c.table move.class_size q b ≡ with_block c.table q (Some b)
+  taken = ap (λ o. set c.table (page_number q) (Some (page_with (slot_number q) (Some b) (page_for move.class_size o)))) is.to ∙ sym (ap (λ o. set c.table (page_number q) (option_map (page_with (slot_number q) (Some b)) o)) is.to)
+
+  abbrev forwarder : Block
+  forwarder = record b { forward = Some q }
+
+  as_written : table' ≡ with_block (with_block c.table q (Some b)) p (Some forwarder)
+  as_written = ap (λ t. with_block t p (Some forwarder)) taken
+
+  apart : p ≢ q
+  apart e = none-some b (sym is.free ∙ ap (block_at c.table) (sym e) ∙ is.there)
+
+  p_there : block_at (with_block c.table q (Some b)) p ≡ Some b
+  p_there = block_at-with_block_other c.table q p (Some b) apart ∙ is.there
+
+  at_p : block_at table' p ≡ Some forwarder
+  at_p = ap (λ t. block_at t p) as_written ∙ block_at-with_block_same (with_block c.table q (Some b)) p (Some forwarder) (is_slot (with_block c.table q (Some b)) p b p_there)
+
+  at_q : block_at table' q ≡ Some b
+  at_q = ap (λ t. block_at t q) as_written ∙ block_at-with_block_other (with_block c.table q (Some b)) p q (Some forwarder) (λ e. apart (sym e)) ∙ block_at-with_block_same c.table q (Some b) (record { page = is.into; in_use = is.to; within = is.inside })
+
+  at_other : (x : ℕ) → x ≢ p → x ≢ q → block_at table' x ≡ block_at c.table x
+  at_other x i j = ap (λ t. block_at t x) as_written ∙ block_at-with_block_other (with_block c.table q (Some b)) p x (Some forwarder) i ∙ block_at-with_block_other c.table q x (Some b) j
+
+  pages : (number : ℕ) (page : Page Block) → page_at table' number ≡ Some page → (old : Page Block) × (page_at c.table number ≡ Some old) × (length page.slots ≡ length old.slots) × (page.is_flagged ≡ old.is_flagged)
+  pages number page e =
+      let (one, at, size, flag) = pages-with_block (with_block c.table q (Some b)) p (Some forwarder) number page (ap (λ t. page_at t number) (sym as_written) ∙ e) in
+      let (old, at', size', flag') = pages-with_block c.table q (Some b) number one at in
+      (old, at', size ∙ size', flag ∙ flag')
+
+  -- a place with a block isn't the target, and one in a page that isn't flagged isn't where the block was
+  not_q : (x : ℕ) (y : Block) → block_at c.table x ≡ Some y → x ≢ q
+  not_q x y e k = none-some y (sym is.free ∙ ap (block_at c.table) (sym k) ∙ e)
+
+  not_p : (x : ℕ) → IsUnflagged c.table x → x ≢ p
+  not_p x u e = false≢true (sym (u is.page (ap (λ z. page_at c.table (page_number z)) e ∙ is.from)) ∙ is.flagged)
+
+  in_it : in_defrag c.phase ≡ true
+  in_it = ap in_defrag defrags
+
+  -- what is led to is the same block as before
+  pub follows : (r : ℕ) (y : Block) → block_at c.table (resolve c.table r) ≡ Some y → y.forward ≡ None → block_at table' (resolve table' r) ≡ Some y
+  follows r y e live = elim (cases_eq r p) [
+    | inl same ↦
+        let self : resolve c.table r ≡ p = ap (resolve c.table) same ∙ resolve-live c.table p b is.there is.live in
+        let one : b ≡ y = same_Some b y (sym is.there ∙ ap (block_at c.table) (sym self) ∙ e) in
+        let to : resolve table' r ≡ q = ap (resolve table') same ∙ ap (λ o. unwrap_or (option_and_then (λ z. z.forward) o) p) at_p in
+        ap (block_at table') to ∙ at_q ∙ ap Some one
+    | inr not_here ↦ elim (cases_eq r q) [
+      | inl same ↦
+          let self : resolve c.table r ≡ q = ap (resolve c.table) same ∙ ap (λ o. unwrap_or (option_and_then (λ z. z.forward) o) q) is.free in
+          absurd (none-some y (sym is.free ∙ ap (block_at c.table) (sym self) ∙ e))
+      | inr not_there ↦
+          let to : resolve table' r ≡ resolve c.table r = ap (λ o. unwrap_or (option_and_then (λ z. z.forward) o) r) (at_other r not_here not_there) in
+          ap (block_at table') to ∙ at_other (resolve c.table r) (end r not_here) (not_q (resolve c.table r) y e) ∙ e
+    ]
+  ]
+    where
+      end : (r : ℕ) → r ≢ p → resolve c.table r ≢ p
+      end r k = go (block_at c.table r) refl
+        where
+          by_forward : (x : Block) → block_at c.table r ≡ Some x → (o : Option ℕ) → x.forward ≡ o → unwrap_or o r ≢ p
+          by_forward x there None f i = k i
+          by_forward x there (Some z) f i = not_p z (h.sound.dense in_it r z x there f) i
+
+          go : (o : Option Block) → block_at c.table r ≡ o → unwrap_or (option_and_then (λ z. z.forward) o) r ≢ p
+          go None there i = k i
+          go (Some x) there i = by_forward x there x.forward refl i
+
+  -- where a block is from
+  record IsFrom (x : ℕ) (y : Block) : Type 0 where
+    place : ℕ
+    old : Block
+    there : block_at c.table place ≡ Some old
+    case : ((y ≡ old) × (((place ≡ x) × (x ≢ p)) ⊎ ((x ≡ q) × (place ≡ p)))) ⊎ ((y ≡ record old { forward = Some q }) × (x ≡ p))
+
+  from : (x : ℕ) (y : Block) → block_at table' x ≡ Some y → IsFrom x y
+  from x y e = elim (cases_eq x p) [
+    | inl same ↦ record { place = p; old = b; there = is.there; case = inr (same_Some y forwarder (sym e ∙ ap (block_at table') same ∙ at_p), same) }
+    | inr not_here ↦ elim (cases_eq x q) [
+      | inl same ↦ record { place = p; old = b; there = is.there; case = inl (same_Some y b (sym e ∙ ap (block_at table') same ∙ at_q), inr (same, refl)) }
+      | inr not_there ↦ record { place = x; old = y; there = sym (at_other x not_here not_there) ∙ e; case = inl (refl, inl (refl, not_here)) }
+    ]
+  ]
+
+  abbrev SameBut : Block → Block → Type 0
+  SameBut y old = (y.birth ≡ old.birth) × (y.stamp ≡ old.stamp) × (y.part ≡ old.part) × (y.header ≡ old.header) × (y.references ≡ old.references) × (y.numbers ≡ old.numbers)
+
+  same_but : (x : ℕ) (y : Block) (f : IsFrom x y) → SameBut y f.old
+  same_but x y f = elim f.case [
+    | inl k ↦ (ap (λ z. z.birth) k.0, ap (λ z. z.stamp) k.0, ap (λ z. z.part) k.0, ap (λ z. z.header) k.0, ap (λ z. z.references) k.0, ap (λ z. z.numbers) k.0)
+    | inr k ↦ (ap (λ z. z.birth) k.0, ap (λ z. z.stamp) k.0, ap (λ z. z.part) k.0, ap (λ z. z.header) k.0, ap (λ z. z.references) k.0, ap (λ z. z.numbers) k.0)
+  ]
+
+  -- a block that is no forwarder was one that was none
+  pub live_from : (x : ℕ) (y : Block) → block_at table' x ≡ Some y → y.forward ≡ None → (place : ℕ) × (block_at c.table place ≡ Some y) × (((place ≡ x) × (x ≢ p)) ⊎ ((x ≡ q) × (place ≡ p)))
+  live_from x y e live = let f = from x y e in elim f.case [
+    | inl k ↦ (f.place, f.there ∙ ap Some (sym k.0), k.1)
+    | inr k ↦ absurd (none-some q (sym live ∙ ap (λ z. z.forward) k.0))
+  ]
+
+  pub live_forth : (x : ℕ) (y : Block) → block_at c.table x ≡ Some y → y.forward ≡ None → (x' : ℕ) × (block_at table' x' ≡ Some y)
+  live_forth x y e live = elim (cases_eq x p) [
+    | inl same ↦ (q, at_q ∙ sym is.there ∙ ap (block_at c.table) (sym same) ∙ e)
+    | inr not_here ↦ (x, at_other x not_here (not_q x y e) ∙ e)
+  ]
+
+  plain_of : (x : ℕ) (y : Block) → block_at c.table x ≡ Some y → y.forward ≡ None → IsPlainAt c x y
+  plain_of x y e live = record { there = e; original = live; surviving = λ s. absurd (false≢true (ap in_sweep (sym defrags) ∙ s)) }
+
+  plain_then : (x : ℕ) (y : Block) → block_at table' x ≡ Some y → y.forward ≡ None → IsPlainAt moved x y
+  plain_then x y e live = record { there = e; original = live; surviving = λ s. absurd (false≢true s) }
+
+  sound-moved : IsSound n moved
+  sound-moved = record {
+    narrow = λ number page e. let (old, at, size, flag) = pages number page e in let few = h.sound.narrow number old at in omega (arith, size, few);
+    roots = length-map c.slots (target_of table') ∙ h.sound.roots;
+    births = λ x y e. let f = from x y e in subst (λ z. z < n) (sym (same_but x y f).0) (h.sound.births f.place f.old f.there);
+    stamps = λ x y e. let f = from x y e in subst (λ z. z ≤ c.cycle) (sym (same_but x y f).1) (h.sound.stamps f.place f.old f.there);
+    shapes = h.sound.shapes;
+    parts = λ x y e. let f = from x y e in elim f.case [
+      | inl k ↦ subst (λ z. IsPartOf (h.sound.shapes z.birth) z) (sym k.0) (h.sound.parts f.place f.old f.there)
+      | inr k ↦ subst (λ z. IsPartOf (h.sound.shapes z.birth) z) (sym k.0) (let part = h.sound.parts f.place f.old f.there in record { part = part.part; is = part.is; header = part.header; references = part.references; numbers = part.numbers })
+    ];
+    one = one;
+    slots = λ i r e.
+        let (s, f, to) = forwarded-root table' c.slots i r e in
+        let (y, plain, first) = h.sound.slots i s f in
+        let there = follows s y (ap (block_at c.table) (resolve-live c.table s y plain.there plain.original) ∙ plain.there) plain.original in
+        (y, plain_then r y (ap (block_at table') (sym to) ∙ there) plain.original, first);
+    fields = λ x y plain flat i r e.
+        let (place, there, k) = live_from x y plain.there plain.original in
+        let (z, plain', first) = h.sound.fields place y (plain_of place y there plain.original) flat i r e in
+        (z, plain_then (resolve table' r) z (follows r z plain'.there plain'.original) plain'.original, first);
+    spines = λ x y child plain spine i below.
+        let (place, there, k) = live_from x y plain.there plain.original in
+        let (r, e, (z, plain', birth, part)) = h.sound.spines place y child (plain_of place y there plain.original) spine i below in
+        (r, e, (z, plain_then (resolve table' r) z (follows r z plain'.there plain'.original) plain'.original, birth, part));
+    grey = λ x k. absurd (subst (IsIn x) (h.sound.quiet (ap in_roots_or_mark defrags)) k);
+    quiet = λ no. h.sound.quiet (ap in_roots_or_mark defrags);
+    original = λ t. absurd (false≢true t);
+    straight = λ t. absurd (false≢true t);
+    swept = λ t. absurd (false≢true t);
+    marked = λ t x y e. let f = from x y e in (same_but x y f).1 ∙ h.sound.marked in_it f.place f.old f.there;
+    dense = λ t x target y e g page at.
+        let (old, at', size, flag) = pages (page_number target) page at in
+        flag ∙ dense x target y e g old at';
+  }
+    where
+      one : (x x' : ℕ) (y y' : Block) → block_at table' x ≡ Some y → block_at table' x' ≡ Some y' → y.forward ≡ None → y'.forward ≡ None → y.birth ≡ y'.birth → y.part ≡ y'.part → x ≡ x'
+      one x x' y y' e e' live live' birth part =
+          let (place, there, k) = live_from x y e live in
+          let (place', there', k') = live_from x' y' e' live' in
+          let same : place ≡ place' = h.sound.one place place' y y' there there' live live' birth part in
+          elim k [
+            | inl i ↦ elim k' [
+              | inl j ↦ sym i.0 ∙ same ∙ j.0
+              | inr j ↦ absurd (i.1 (sym i.0 ∙ same ∙ j.1))
+            ]
+            | inr i ↦ elim k' [
+              | inl j ↦ absurd (j.1 (sym j.0 ∙ sym same ∙ i.1))
+              | inr j ↦ i.0 ∙ sym j.0
+            ]
+          ]
+
+      dense : (x target : ℕ) (y : Block) → block_at table' x ≡ Some y → y.forward ≡ Some target → IsUnflagged c.table target
+      dense x target y e g = let f = from x y e in elim f.case [
+        | inl k ↦ h.sound.dense in_it f.place target f.old f.there (ap (λ z. z.forward) (sym k.0) ∙ g)
+        | inr k ↦
+            let to : q ≡ target = same_Some q target (sym (ap (λ z. z.forward) k.0) ∙ g) in
+            λ page at. ap (λ z. z.is_flagged) (same_Some page is.into (sym at ∙ ap (λ z. page_at c.table (page_number z)) (sym to) ∙ is.to)) ∙ is.unflagged
+      ]
+
+  -- A move keeps the snapshot
+  pub snapshot-moved : KeepsSnapshot snapshot n moved
+  snapshot-moved = record {
+    sound = sound-moved;
+    before = h.before;
+    cycle = record {
+      path = λ m. absurd (false≢true m);
+      marked = λ m x y e s. let f = from x y e in let same = same_but x y f in subst (IsKept snapshot n) (sym same.0) (h.cycle.marked (ap is_idle defrags) f.place f.old f.there (sym same.1 ∙ s));
+      whole = λ m birth kept.
+          let (x, y, plain, is_birth, first, each) = h.cycle.whole (ap is_idle defrags) birth kept in
+          let (x', there) = live_forth x y plain.there plain.original in (
+            x',
+            y,
+            plain_then x' y there plain.original,
+            is_birth,
+            first,
+            λ i below.
+                let (r, z, plain', is', part) = each i below in
+                let (r', there') = live_forth r z plain'.there plain'.original in
+                (r', z, plain_then r' z there' plain'.original, is', part),
+          );
+      born = λ m x y e since. let f = from x y e in let same = same_but x y f in same.1 ∙ h.cycle.born (ap is_idle defrags) f.place f.old f.there (subst (λ z. births snapshot ≤ z) same.0 since);
+      slots = λ m. absurd (false≢true m);
+      references = λ m. absurd (false≢true m);
+    };
+  }
+
+-- A step of defragmentation keeps the snapshot
+pub snapshot-defrag_step : (snapshot : World) (n : ℕ) (c : Collector) → c.phase ≡ Defrag → KeepsSnapshot snapshot n c → KeepsSnapshot snapshot n (defrag_step c)
+snapshot-defrag_step snapshot n c defrags h = go (next_move c.table c.cursor) refl
+  where
+    cursor' : ℕ
+    cursor' = next_place c.cursor (flagged_page c.table c.cursor)
+
+    go : (move : Option Move) → next_move c.table c.cursor ≡ move → KeepsSnapshot snapshot n (with_phase (with_move c move) Defrag (next_place c.cursor (flagged_page c.table c.cursor)))
+    go (Some move) e = snapshot-moved snapshot n c defrags h move (next_move-is c.table c.cursor h.sound.narrow move e) (next_place c.cursor (flagged_page c.table c.cursor))
+    go None e = snapshot-turned c c.slots Defrag (next_place c.cursor (flagged_page c.table c.cursor)) c.grey c.is_asked c.quanta (record {
+      enters = λ s. absurd (false≢true s);
+      leaves = λ no s. absurd (false≢true (ap in_sweep (sym defrags) ∙ s));
+      roots = h.sound.roots;
+      slots = h.sound.slots;
+      listed = λ q is. is;
+      quiet = λ no. h.sound.quiet (ap in_roots_or_mark defrags);
+      traces = λ t. absurd (false≢true t);
+      left = λ t. absurd (false≢true t);
+      swept = λ t. absurd (false≢true t);
+      marked = λ t. h.sound.marked (ap in_defrag defrags);
+      dense = λ t. h.sound.dense (ap in_defrag defrags);
+    }) snapshot n (record {
+      runs = λ r. ap is_idle defrags;
+      marks = λ t. absurd (false≢true t);
+      from_root = λ t. absurd (false≢true t);
+      from_grey = λ t. absurd (false≢true t);
+      slots = λ t. absurd (false≢true t);
+    }) h
+
+-- The end of the cycle ---------------------------------------------------------------------------
+
+pub snapshot-cycle_end : (snapshot : World) (n : ℕ) (c : Collector) → c.phase ≡ Defrag → KeepsSnapshot snapshot n c → KeepsSnapshot snapshot n (cycle_end c)
+snapshot-cycle_end snapshot n c defrags h = snapshot-turned c c.slots Idle 0 c.grey c.is_asked 0 (record {
+  enters = λ s. absurd (false≢true s);
+  leaves = λ no s. absurd (false≢true (ap in_sweep (sym defrags) ∙ s));
+  roots = h.sound.roots;
+  slots = h.sound.slots;
+  listed = λ q is. is;
+  quiet = λ no. h.sound.quiet (ap in_roots_or_mark defrags);
+  traces = λ t. absurd (false≢true t);
+  left = λ t. absurd (false≢true t);
+  swept = λ t. absurd (false≢true t);
+  marked = λ t. absurd (false≢true t);
+  dense = λ t. absurd (false≢true t);
+}) snapshot n (record {
+  runs = λ r. absurd (false≢true (sym r));
+  marks = λ t. absurd (false≢true t);
+  from_root = λ t. absurd (false≢true t);
+  from_grey = λ t. absurd (false≢true t);
+  slots = λ t. absurd (false≢true t);
+}) h
+
+-- What the cycle leaves as it ends
+pub finished-cycle_end : (snapshot : World) (n : ℕ) (c : Collector) → c.phase ≡ Defrag → KeepsSnapshot snapshot n c → IsFinished snapshot n (cycle_end c)
+finished-cycle_end snapshot n c defrags h = record {
+  only = λ x y e live. h.cycle.marked (ap is_idle defrags) x y e (h.sound.marked (ap in_defrag defrags) x y e);
+  whole = λ birth kept.
+      let (x, y, plain, is, first, each) = h.cycle.whole (ap is_idle defrags) birth kept in
+      (x, y, plain_then x y plain, is, first, λ i below. let (r, z, plain', is', part) = each i below in (r, z, plain_then r z plain', is', part));
+  forwarders = λ x y e. h.sound.marked (ap in_defrag defrags) x y e;
+}
+  where
+    plain_then : (x : ℕ) (y : Block) → IsPlainAt c x y → IsPlainAt (cycle_end c) x y
+    plain_then x y plain = record { there = plain.there; original = plain.original; surviving = λ s. absurd (false≢true s) }

@@ -1,0 +1,2 @@
+pub mod EveryMoment
+pub mod FaithfulMoments

@@ -1,0 +1,100 @@
+-- The block that the search for a birth finds, and when two collectors show the same.
+use Rattle.std.proofs.Common.{ap₂, ◌≡◌, ℕ, zero, suc, ◌+◌, ◌*◌, ◌/◌, ◌%◌, ◌<◌, ◌==◌, true, false, not, ◌&&◌, ◌∷◌, Option, Some, None, is_some, option_map, option_and_then, IsSome, refl, sym, ap, ◌∙◌, subst, arith, eqb-true, eq-eqb}
+use Rattle.std.proofs.lemmas.Bool.{false≢true, and_parts}
+use Rattle.std.proofs.lemmas.Option.{none-some}
+use Rattle.mh_model.specs.Classes.{tabulate}
+use Rattle.mh_model.specs.Pages.{Page, page_at, block_in, block_at}
+use Rattle.mh_model.specs.Table.{Block, is_forwarder}
+use Rattle.mh_model.specs.Collector.{Collector}
+use Rattle.mh_model.specs.View.{in_sweep, is_held, block_of_birth, object_of, object_shown}
+use Rattle.mh_laws.specs.Invariant.{IsSound}
+use Rattle.mh_laws.proofs.marking.BlockChanges.{within}
+use Rattle.mh_laws.proofs.showing.ObjectsShown.{first_block-is, first_block-some}
+
+-- a held part 0 of a birth is at a place
+pub record IsFirstAt (c : Collector) (birth place : ℕ) (block : Block) : Type 0 where
+  pub there : block_at c.table place ≡ Some block
+  pub held : is_held c place block ≡ true
+  pub birth_is : block.birth ≡ birth
+  pub first : block.part ≡ 0
+
+no_forward : (o : Option ℕ) → not (is_some o) ≡ true → o ≡ None
+no_forward None e = refl
+no_forward (Some q) e = absurd (false≢true e)
+
+pub held_live : (c : Collector) (place : ℕ) (block : Block) → is_held c place block ≡ true → block.forward ≡ None
+held_live c place block held = no_forward block.forward (and_parts (not (is_forwarder block)) _ held).0
+
+-- out of the sweep what is no forwarder is held
+pub live_held : (c : Collector) (place : ℕ) (block : Block) → in_sweep c.phase ≡ false → block.forward ≡ None → is_held c place block ≡ true
+live_held c place block no_sweep live = rw (live, no_sweep) refl
+
+module _ (n : ℕ) (c : Collector) (h : IsSound n c) where
+  slot_below : (m s : ℕ) (y : Block) → option_and_then (block_in s) (page_at c.table m) ≡ Some y → s < 64
+  slot_below m s y e = by_page (page_at c.table m) refl e
+    where
+      by_page : (content : Option (Page Block)) → page_at c.table m ≡ content → option_and_then (block_in s) content ≡ Some y → s < 64
+      by_page None is f = absurd (none-some y f)
+      by_page (Some page) is f = omega (arith, h.narrow m page is, within page.slots s y f)
+
+  -- what the search finds is at a place
+  pub found-first : (birth : ℕ) (y : Block) → block_of_birth c birth ≡ Some y → (place : ℕ) × IsFirstAt c birth place y
+  found-first birth y e =
+      let (m, s, at, pass) = first_block-is (λ place block. is_held c place block && ((block.birth == birth) && (block.part == 0))) 0 c.table y e in
+      let small : s < 64 = slot_below m s y at in
+      let page_is : (64 * m + s) / 64 ≡ m = omega arith in
+      let slot_is : (64 * m + s) % 64 ≡ s = omega arith in
+      let from_0 : 64 * (0 + m) + s ≡ 64 * m + s = omega arith in
+      let (a, b) = and_parts (is_held c (64 * (0 + m) + s) y) ((y.birth == birth) && (y.part == 0)) pass in
+      let (is, part) = and_parts (y.birth == birth) (y.part == 0) b in (
+        64 * m + s,
+        record {
+          there = ap (λ k. option_and_then (block_in ((64 * m + s) % 64)) (page_at c.table k)) page_is ∙ ap (λ k. option_and_then (block_in k) (page_at c.table m)) slot_is ∙ at;
+          held = subst (λ k. is_held c k y ≡ true) from_0 a;
+          birth_is = eqb-true y.birth birth is;
+          first = eqb-true y.part 0 part;
+        },
+      )
+
+  -- and what is held at a place is found
+  pub first-found : (birth place : ℕ) (z : Block) → IsFirstAt c birth place z → block_of_birth c birth ≡ Some z
+  first-found birth place z at = go (block_of_birth c birth) refl found
+    where
+      divided : 64 * (0 + place / 64) + place % 64 ≡ place
+      divided = omega arith
+
+      passes : (is_held c place z && ((z.birth == birth) && (z.part == 0))) ≡ true
+      passes = ap (λ b. b && ((z.birth == birth) && (z.part == 0))) at.held ∙ ap (λ b. b && (z.part == 0)) (eq-eqb z.birth birth at.birth_is) ∙ eq-eqb z.part 0 at.first
+
+      found : IsSome (block_of_birth c birth)
+      found = first_block-some (λ place block. is_held c place block && ((block.birth == birth) && (block.part == 0))) 0 c.table (place / 64) (place % 64) z at.there (subst (λ k. (is_held c k z && ((z.birth == birth) && (z.part == 0))) ≡ true) (sym divided) passes)
+
+      go : (o : Option Block) → block_of_birth c birth ≡ o → IsSome o → o ≡ Some z
+      go None e some = absurd (false≢true some)
+      go (Some y) e some =
+          let (p, f) = found-first birth y e in
+          let same : p ≡ place = h.one p place y z f.there at.there (held_live c p y f.held) (held_live c place z at.held) (f.birth_is ∙ sym at.birth_is) (f.first ∙ sym at.first) in
+          sym f.there ∙ ap (block_at c.table) same ∙ at.there
+
+-- what is held of an object in one state is held in another, and shows the same object
+abbrev pub IsShownIn : Collector → Collector → Type 0
+IsShownIn c d = (birth place : ℕ) (block : Block) → IsFirstAt c birth place block → (other : ℕ) × (same : Block) × IsFirstAt d birth other same × (object_of d.table same ≡ object_of c.table block)
+
+-- two sound states show the same object of a birth where each shows what the other has
+pub same-shown : (n m : ℕ) (c d : Collector) → IsSound n c → IsSound m d → IsShownIn c d → IsShownIn d c → (birth : ℕ) → object_shown d birth ≡ object_shown c birth
+same-shown n m c d h k forth back birth = go (block_of_birth c birth) (block_of_birth d birth) refl refl
+  where
+    go : (o p : Option Block) → block_of_birth c birth ≡ o → block_of_birth d birth ≡ p → object_shown d birth ≡ object_shown c birth
+    go None None e f = ap (option_map (object_of d.table)) f ∙ ap (option_map (object_of c.table)) (sym e)
+    go None (Some y) e f =
+        let (q, at) = found-first m d k birth y f in
+        let (p, x, at', same) = back birth q y at in
+        absurd (none-some x (sym e ∙ first-found n c h birth p x at'))
+    go (Some x) p e f =
+        let (q, at) = found-first n c h birth x e in
+        let (r, y, at', same) = forth birth q x at in
+        ap (option_map (object_of d.table)) (first-found m d k birth r y at') ∙ ap Some same ∙ ap (option_map (object_of c.table)) (sym e)
+
+pub tabulate-same : {X : Type 0} (f f' : ℕ → X) → ((i : ℕ) → f' i ≡ f i) → (first count : ℕ) → tabulate f' first count ≡ tabulate f first count
+tabulate-same f f' same first zero = refl
+tabulate-same f f' same first (suc count) = ap₂ (λ x xs. x ∷ xs) (same first) (tabulate-same f f' same (suc first) count)

@@ -1,0 +1,130 @@
+-- Two states show the same where each has the plain blocks of the other, with references that lead to the same blocks.
+use Rattle.std.proofs.Common.{◌≡◌, ℕ, zero, suc, ◌<◌, nat_le, if◌then◌else◌, ◌&&◌, Bool, true, false, inl, inr, List, [], ◌∷◌, ◌++◌, get_or, map, flat_map, Option, Some, None, option_map, refl, sym, ap, ◌∙◌, subst, eq-eqb, eqb-true}
+use Rattle.std.specs.Prelude.{option_to_list}
+use Rattle.std.proofs.lemmas.Bool.{false≢true, leb-false}
+use Rattle.std.proofs.lemmas.Option.{same_Some}
+use Rattle.mh_model.specs.Pages.{Table, block_at}
+use Rattle.mh_model.specs.Table.{Block, resolve, is_spine, is_tall}
+use Rattle.mh_model.specs.Collector.{Collector, is_marked}
+use Rattle.mh_model.specs.View.{in_sweep, is_held, block_named, blocks_named, birth_named, arraylet_words, field_blocks, object_of, object_shown}
+use Rattle.mh_laws.specs.Invariant.{IsPlainAt, IsSound}
+use Rattle.mh_laws.proofs.marking.MarkSteps.{leads}
+use Rattle.mh_laws.proofs.showing.ObjectsShown.{Has, IsFieldBlock, arraylet_word-back, field_block-back}
+use Rattle.mh_laws.proofs.showing.FoundBlocks.{IsShownIn, held_live, same-shown}
+
+-- Held blocks are the plain ones -----------------------------------------------------------------
+
+pub plain-held : (c : Collector) (p : ℕ) (x : Block) → IsPlainAt c p x → is_held c p x ≡ true
+plain-held c p x plain = go (in_sweep c.phase) refl
+  where
+    by_order : (b : Bool) → (b && false) ≡ false
+    by_order true = refl
+    by_order false = refl
+
+    go : (s : Bool) → in_sweep c.phase ≡ s → is_held c p x ≡ true
+    go false is = rw (plain.original, is) refl
+    go true is = rw (plain.original, is, eq-eqb x.stamp c.cycle (plain.surviving is), by_order (nat_le c.cursor p)) refl
+
+pub held-plain : (n : ℕ) (c : Collector) → IsSound n c → (p : ℕ) (x : Block) → block_at c.table p ≡ Some x → is_held c p x ≡ true → IsPlainAt c p x
+held-plain n c h p x there held = record { there = there; original = held_live c p x held; surviving = λ s. by_mark s (is_marked c.cycle x) refl (nat_le c.cursor p) refl }
+  where
+    by_mark : in_sweep c.phase ≡ true → (marked : Bool) → is_marked c.cycle x ≡ marked → (after : Bool) → nat_le c.cursor p ≡ after → x.stamp ≡ c.cycle
+    by_mark s true is after e = eqb-true x.stamp c.cycle is
+    by_mark s false is true e = absurd (false≢true (sym (condemned s is e) ∙ held))
+      where
+        condemned : in_sweep c.phase ≡ true → is_marked c.cycle x ≡ false → nat_le c.cursor p ≡ true → is_held c p x ≡ false
+        condemned s is e = rw (held_live c p x held, s, is, e) refl
+    by_mark s false is false e = h.swept s p x there (below (nat_le c.cursor p) refl e)
+      where
+        below : (b : Bool) → nat_le c.cursor p ≡ b → b ≡ false → p < c.cursor
+        below b is e = leb-false c.cursor p (is ∙ e)
+
+-- Objects ----------------------------------------------------------------------------------------
+
+map-at : {Y : Type 0} (f g : Option ℕ → Y) (xs : List (Option ℕ)) → f None ≡ g None → ((i r : ℕ) → get_or xs i None ≡ Some r → f (Some r) ≡ g (Some r)) → map f xs ≡ map g xs
+map-at f g [] none some = refl
+map-at f g (None ∷ xs) none some = ap (λ y. y ∷ map f xs) none ∙ ap (λ ys. g None ∷ ys) (map-at f g xs none (λ i. some (suc i)))
+map-at f g (Some r ∷ xs) none some = ap (λ y. y ∷ map f xs) (some zero r refl) ∙ ap (λ ys. g (Some r) ∷ ys) (map-at f g xs none (λ i. some (suc i)))
+
+flat_map-at : {X Y : Type 0} (f g : X → List Y) (xs : List X) → ((x : X) → Has xs x → f x ≡ g x) → flat_map f xs ≡ flat_map g xs
+flat_map-at f g [] same = refl
+flat_map-at f g (x ∷ xs) same = ap (λ ys. ys ++ flat_map f xs) (same x (zero, refl)) ∙ ap (λ ys. g x ++ ys) (flat_map-at f g xs (λ y at. same y (suc at.0, at.1)))
+
+flat_map-words : {Y : Type 0} (f g : Option ℕ → List Y) (xs : List (Option ℕ)) → f None ≡ g None → ((i r : ℕ) → get_or xs i None ≡ Some r → f (Some r) ≡ g (Some r)) → flat_map f xs ≡ flat_map g xs
+flat_map-words f g [] none some = refl
+flat_map-words f g (None ∷ xs) none some = ap (λ y. y ++ flat_map f xs) none ∙ ap (λ ys. g None ++ ys) (flat_map-words f g xs none (λ i. some (suc i)))
+flat_map-words f g (Some r ∷ xs) none some = ap (λ y. y ++ flat_map f xs) (some zero r refl) ∙ ap (λ ys. g (Some r) ++ ys) (flat_map-words f g xs none (λ i. some (suc i)))
+
+-- references of plain blocks lead in one state to the plain blocks to which they lead in the other
+abbrev pub Follows : Collector → Collector → Type 0
+Follows c d = (p : ℕ) (x : Block) → IsPlainAt c p x → (i r : ℕ) → get_or x.references i None ≡ Some r → (y : Block) → IsPlainAt c (resolve c.table r) y → block_at d.table (resolve d.table r) ≡ Some y
+
+module _ (n : ℕ) (c d : Collector) (h : IsSound n c) (follows : Follows c d) where
+  named-same : (p : ℕ) (x : Block) → IsPlainAt c p x → (i r : ℕ) → get_or x.references i None ≡ Some r → block_named d.table (Some r) ≡ block_named c.table (Some r)
+  named-same p x plain i r e = let (y, plain') = leads n c h p x plain i r e in follows p x plain i r e y plain' ∙ sym plain'.there
+
+  births-same : (p : ℕ) (x : Block) → IsPlainAt c p x → map (birth_named d.table) x.references ≡ map (birth_named c.table) x.references
+  births-same p x plain = map-at (birth_named d.table) (birth_named c.table) x.references refl (λ i r e. ap (option_map (λ (z : Block). z.birth)) (named-same p x plain i r e))
+
+  named-all : (rs : List (Option ℕ)) → ((i r : ℕ) → get_or rs i None ≡ Some r → block_named d.table (Some r) ≡ block_named c.table (Some r)) → blocks_named d.table rs ≡ blocks_named c.table rs
+  named-all rs same = flat_map-words (λ o. option_to_list (block_named d.table o)) (λ o. option_to_list (block_named c.table o)) rs refl (λ i r e. ap option_to_list (same i r e))
+
+  words-same : (p : ℕ) (x : Block) → IsPlainAt c p x → arraylet_words d.table x ≡ arraylet_words c.table x
+  words-same p x plain = ap (λ ys. if is_tall x then flat_map (λ (y : Block). y.references) ys else x.references) (named-all x.references (named-same p x plain))
+
+  -- a block to which a plain block leads is plain
+  led-plain : (p : ℕ) (x y : Block) (k r : ℕ) → IsPlainAt c p x → get_or x.references k None ≡ Some r → block_at c.table (resolve c.table r) ≡ Some y → IsPlainAt c (resolve c.table r) y
+  led-plain p x y k r plain e there =
+      let (z, plain') = leads n c h p x plain k r e in
+      subst (IsPlainAt c (resolve c.table r)) (same_Some z y (sym plain'.there ∙ there)) plain'
+
+  -- the spine that has a reference to an arraylet
+  word-plain : (p : ℕ) (x : Block) (k r : ℕ) → IsPlainAt c p x → get_or (arraylet_words c.table x) k None ≡ Some r → (q : ℕ) × (y : Block) × (i : ℕ) × IsPlainAt c q y × (get_or y.references i None ≡ Some r)
+  word-plain p x k r plain e = elim (arraylet_word-back c.table x k r e) [
+    | inl own ↦ (p, x, k, plain, own)
+    | inr far ↦ let (y, j, w, i, word, there, own) = far in (resolve c.table w, y, i, led-plain p x y j w plain word there, own)
+  ]
+
+  fields-same : (p : ℕ) (x : Block) → IsPlainAt c p x → field_blocks d.table x ≡ field_blocks c.table x
+  fields-same p x plain = go (is_spine x)
+    where
+      go : (b : Bool) → (if b then blocks_named d.table (arraylet_words d.table x) else x ∷ []) ≡ (if b then blocks_named c.table (arraylet_words c.table x) else x ∷ [])
+      go true = ap (blocks_named d.table) (words-same p x plain) ∙ named-all (arraylet_words c.table x) (λ k r e. let (q, y, i, plain_y, own) = word-plain p x k r plain e in named-same q y plain_y i r own)
+      go false = refl
+
+  field-plain : (p : ℕ) (x y : Block) → IsPlainAt c p x → IsFieldBlock c.table x y → (q : ℕ) × IsPlainAt c q y
+  field-plain p x y plain (inl (flat, same)) = (p, subst (IsPlainAt c p) (sym same) plain)
+  field-plain p x y plain (inr (spine, (k, r, e, there))) =
+      let (q, s, i, plain_s, own) = word-plain p x k r plain e in
+      (resolve c.table r, led-plain q s y i r plain_s own there)
+
+  -- the object of a plain block is the same in both
+  pub object-same : (p : ℕ) (x : Block) → IsPlainAt c p x → object_of d.table x ≡ object_of c.table x
+  object-same p x plain =
+      ap (λ parts. record { references = flat_map (λ (part : Block). map (birth_named d.table) part.references) parts; numbers = flat_map (λ (part : Block). part.numbers) parts }) (fields-same p x plain)
+      ∙ ap (λ xs. record { references = xs; numbers = flat_map (λ (part : Block). part.numbers) (field_blocks c.table x) })
+      (flat_map-at (λ (part : Block). map (birth_named d.table) part.references) (λ (part : Block). map (birth_named c.table) part.references) (field_blocks c.table x) (λ y at. let (q, plain') = field-plain p x y plain (field_block-back c.table x y at) in births-same q y plain'))
+
+-- each plain block of one state is one of the other
+abbrev pub IsCarriedTo : Collector → Collector → Type 0
+IsCarriedTo c d = (p : ℕ) (x : Block) → IsPlainAt c p x → (q : ℕ) × IsPlainAt d q x
+
+-- Two sound states with the same plain blocks, whose references lead to the same, show the same objects
+pub plain-shown : (n : ℕ) (c d : Collector) → IsSound n c → IsSound n d → Follows c d → IsCarriedTo c d → IsCarriedTo d c → (birth : ℕ) → object_shown d birth ≡ object_shown c birth
+plain-shown n c d h k follows forth back = same-shown n n c d h k shown_forth shown_back
+  where
+    shown_forth : IsShownIn c d
+    shown_forth birth p x at =
+        let plain = held-plain n c h p x at.there at.held in
+        let (q, plain') = forth p x plain in
+        (q, x, record { there = plain'.there; held = plain-held d q x plain'; birth_is = at.birth_is; first = at.first }, object-same n c d h follows p x plain)
+
+    shown_back : IsShownIn d c
+    shown_back birth p x at =
+        let plain = held-plain n d k p x at.there at.held in
+        let (q, plain') = back p x plain in
+        (q, x, record { there = plain'.there; held = plain-held c q x plain'; birth_is = at.birth_is; first = at.first }, sym (object-same n c d h follows q x plain'))
+
+-- roots lead to the same blocks
+pub roots-same : (table table' : Table Block) (slots : List (Option ℕ)) → ((i r : ℕ) → get_or slots i None ≡ Some r → block_at table' (resolve table' r) ≡ block_at table (resolve table r)) → map (birth_named table') slots ≡ map (birth_named table) slots
+roots-same table table' slots same = map-at (birth_named table') (birth_named table) slots refl (λ i r e. ap (option_map (λ (z : Block). z.birth)) (same i r e))

@@ -1,0 +1,8 @@
+pub mod CycleSteps
+pub mod Barriers
+pub mod NewObjects
+pub mod SessionCommands
+pub mod CycleStarts
+pub mod RunningCycles
+pub mod AgreeingWorlds
+pub mod BarrierLaws

@@ -1,0 +1,2 @@
+pub mod SweptTables
+pub mod SweepSteps

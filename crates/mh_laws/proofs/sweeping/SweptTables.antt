@@ -1,0 +1,174 @@
+-- The table after a sweep step: what is left in the slot that was swept, and every other block.
+use Rattle.std.proofs.Common.{◌≡◌, ◌≢◌, ℕ, zero, suc, ◌+◌, ◌*◌, ◌/◌, ◌<◌, ◌==◌, nat_le, if◌then◌else◌, Bool, true, false, not, ◌&&◌, ◌||◌, ◌⊎◌, inl, inr, List, [], ◌∷◌, length, get_or, set, Option, Some, None, option_and_then, refl, sym, ap, ◌∙◌, arith, eq-eqb, eqb-true}
+use Rattle.std.proofs.lemmas.Bool.{cases_eq, cases_lt, cases_order}
+use Rattle.std.proofs.lemmas.Option.{none-some, same_Some}
+use Rattle.std.proofs.lemmas.List.{get_or-set_same, get_or-set_other, length-set}
+use Rattle.mh_model.specs.Pages.{Page, Table, page_number, slot_number, page_at, block_in, block_at, block_count, live_in, page_with}
+use Rattle.mh_model.specs.Table.{Block, is_forwarder}
+use Rattle.mh_model.specs.Collector.{is_marked, next_page, is_last_slot, next_place, survivor, has_denser, judged_page, swept_page, swept_table}
+use Rattle.mh_laws.proofs.marking.BlockChanges.{within}
+
+-- What a sweep step leaves: nothing but blocks that were there, at its place only a marked one that is no forwarder, and each such block
+pub record IsSwept (cycle : ℕ) (table : Table Block) (place : ℕ) (table' : Table Block) (place' : ℕ) : Type 0 where
+  pub only : (q : ℕ) (x : Block) → block_at table' q ≡ Some x → block_at table q ≡ Some x
+  pub here : (q : ℕ) (x : Block) → block_at table' q ≡ Some x → q ≡ place → x.stamp ≡ cycle
+  pub kept : (q : ℕ) (x : Block) → block_at table q ≡ Some x → x.stamp ≡ cycle → x.forward ≡ None → block_at table' q ≡ Some x
+  pub passed : (q : ℕ) (x : Block) → block_at table' q ≡ Some x → q < place' → (q < place) ⊎ (q ≡ place)
+  pub narrow : (number : ℕ) (page : Page Block) → page_at table' number ≡ Some page → (old : Page Block) × (page_at table number ≡ Some old) × (length page.slots ≡ length old.slots)
+
+none_left : (slots : List (Option Block)) (slot : ℕ) → block_count slots ≡ 0 → get_or slots slot None ≡ None
+none_left [] slot e = refl
+none_left (None ∷ slots) zero e = refl
+none_left (None ∷ slots) (suc slot) e = none_left slots slot e
+none_left (Some x ∷ slots) slot e = absurd (omega arith)
+
+-- a page that is judged keeps its blocks
+judged-reads : (table : Table Block) (number : ℕ) (page : Page Block) (slot : ℕ) → option_and_then (block_in slot) (judged_page table number page) ≡ get_or page.slots slot None
+judged-reads table number page slot = go (live_in page == 0) refl
+  where
+    go : (empty : Bool) → (live_in page == 0) ≡ empty
+        → option_and_then (block_in slot) (if empty then None else Some (record page { is_flagged = nat_le (4 * live_in page) (length page.slots) && has_denser table number page.class_size })) ≡ get_or page.slots slot None
+    go true e = sym (none_left page.slots slot (eqb-true (live_in page) 0 e))
+    go false e = refl
+
+judged-length : (table : Table Block) (number : ℕ) (page new : Page Block) → judged_page table number page ≡ Some new → length new.slots ≡ length page.slots
+judged-length table number page new = go (live_in page == 0)
+  where
+    go : (empty : Bool) → (if empty then None else Some (record page { is_flagged = nat_le (4 * live_in page) (length page.slots) && has_denser table number page.class_size })) ≡ Some new → length new.slots ≡ length page.slots
+    go true e = absurd (none-some new e)
+    go false e = ap (λ p. length p.slots) (sym (same_Some (record page { is_flagged = nat_le (4 * live_in page) (length page.slots) && has_denser table number page.class_size }) new e))
+
+survivor-is : (cycle : ℕ) (o : Option Block) (x : Block) → option_and_then (survivor cycle) o ≡ Some x → (o ≡ Some x) × (x.stamp ≡ cycle)
+survivor-is cycle None x e = absurd (none-some x e)
+survivor-is cycle (Some y) x e = go (is_forwarder y) (is_marked cycle y) refl e
+  where
+    go : (f s : Bool) → is_marked cycle y ≡ s → (if f || not s then None else Some y) ≡ Some x → (Some y ≡ Some x) × (x.stamp ≡ cycle)
+    go true s i h = absurd (none-some x h)
+    go false false i h = absurd (none-some x h)
+    go false true i h = (h, ap (λ z. z.stamp) (sym (same_Some y x h)) ∙ eqb-true y.stamp cycle i)
+
+survivor-kept : (cycle : ℕ) (x : Block) → x.stamp ≡ cycle → x.forward ≡ None → survivor cycle x ≡ Some x
+survivor-kept cycle x s live = rw (live, eq-eqb x.stamp cycle s) refl
+
+read_none : (table : Table Block) (n m : ℕ) → page_at table n ≡ None → page_at (set table n None) m ≡ page_at table m
+read_none [] n m e = refl
+read_none (p ∷ table) zero zero e = sym e
+read_none (p ∷ table) zero (suc m) e = refl
+read_none (p ∷ table) (suc n) zero e = refl
+read_none (p ∷ table) (suc n) (suc m) e = read_none table n m e
+
+-- a free page is passed
+swept-free : (cycle : ℕ) (table : Table Block) (place : ℕ) → page_at table (page_number place) ≡ None → IsSwept cycle table place (set table (page_number place) None) (next_page place)
+swept-free cycle table place free = record {
+  only = λ q x e. sym (same q) ∙ e;
+  here = λ q x e is. absurd (none-some x (sym (empty q (ap page_number is)) ∙ sym (same q) ∙ e));
+  kept = λ q x e s live. same q ∙ e;
+  passed = λ q x e below. elim (cases_lt q place) [
+    | inl before ↦ inl before
+    | inr after ↦ let here : q / 64 ≡ place / 64 = omega arith in absurd (none-some x (sym (empty q here) ∙ sym (same q) ∙ e))
+  ];
+  narrow = λ number page e. (page, sym (read_none table (page_number place) number free) ∙ e, refl);
+}
+  where
+    same : (q : ℕ) → block_at (set table (page_number place) None) q ≡ block_at table q
+    same q = ap (option_and_then (block_in (slot_number q))) (read_none table (page_number place) (page_number q) free)
+
+    empty : (q : ℕ) → q / 64 ≡ place / 64 → block_at table q ≡ None
+    empty q here = ap (λ n. option_and_then (block_in (slot_number q)) (page_at table n)) here ∙ ap (option_and_then (block_in (slot_number q))) free
+
+-- A page in use of which one slot is swept, with what is in it then
+module _ (cycle : ℕ) (table : Table Block) (place : ℕ) (page : Page Block) (is : page_at table (page_number place) ≡ Some page) where
+  abbrev left : Option Block
+  left = option_and_then (survivor cycle) (block_in (slot_number place) page)
+
+  inside : page_number place < length table
+  inside = within table (page_number place) page is
+
+  module _ (new : Option (Page Block)) (reads : (slot : ℕ) → option_and_then (block_in slot) new ≡ get_or (set page.slots (slot_number place) left) slot None)
+      (size : (p : Page Block) → new ≡ Some p → length p.slots ≡ length page.slots) (place' : ℕ) (passes : (q : ℕ) (x : Block) → block_at (set table (page_number place) new) q ≡ Some x → q < place' → (q < place) ⊎ (q ≡ place)) where
+    other : (q : ℕ) → q ≢ place → block_at (set table (page_number place) new) q ≡ block_at table q
+    other q apart = elim (cases_eq (page_number q) (page_number place)) [
+      | inr pages ↦ ap (option_and_then (block_in (slot_number q))) (get_or-set_other table (page_number place) (page_number q) new None pages)
+      | inl same ↦
+          let slots : slot_number q ≢ slot_number place = λ k. apart (omega arith) in
+          ap (λ n. option_and_then (block_in (slot_number q)) (page_at (set table (page_number place) new) n)) same ∙ ap (option_and_then (block_in (slot_number q))) (get_or-set_same table (page_number place) new None inside)
+          ∙ reads (slot_number q) ∙ get_or-set_other page.slots (slot_number place) (slot_number q) left None slots ∙ sym (ap (λ n. option_and_then (block_in (slot_number q)) (page_at table n)) same ∙ ap (option_and_then (block_in (slot_number q))) is)
+    ]
+
+    now : block_at (set table (page_number place) new) place ≡ get_or (set page.slots (slot_number place) left) (slot_number place) None
+    now = ap (option_and_then (block_in (slot_number place))) (get_or-set_same table (page_number place) new None inside) ∙ reads (slot_number place)
+
+    before : block_at table place ≡ block_in (slot_number place) page
+    before = ap (option_and_then (block_in (slot_number place))) is
+
+    survived : (x : Block) → block_at (set table (page_number place) new) place ≡ Some x → (block_at table place ≡ Some x) × (x.stamp ≡ cycle)
+    survived x e =
+        let f : get_or (set page.slots (slot_number place) left) (slot_number place) None ≡ Some x = sym now ∙ e in
+        let same_length : length (set page.slots (slot_number place) left) ≡ length page.slots = length-set _ _ _ in
+        let inside_page : slot_number place < length page.slots = omega (arith, same_length, within (set page.slots (slot_number place) left) (slot_number place) x f) in
+        let (old, stamp) = survivor-is cycle (block_in (slot_number place) page) x (sym (get_or-set_same page.slots (slot_number place) left None inside_page) ∙ f) in
+        (before ∙ old, stamp)
+
+    swept-page : IsSwept cycle table place (set table (page_number place) new) place'
+    swept-page = record {
+      only = λ q x e. elim (cases_eq q place) [
+        | inl same ↦ ap (block_at table) same ∙ (survived x (ap (block_at (set table (page_number place) new)) (sym same) ∙ e)).0
+        | inr apart ↦ sym (other q apart) ∙ e
+      ];
+      here = λ q x e same. (survived x (ap (block_at (set table (page_number place) new)) (sym same) ∙ e)).1;
+      kept = λ q x e s live. elim (cases_eq q place) [
+        | inl same ↦
+            let old : block_in (slot_number place) page ≡ Some x = sym before ∙ ap (block_at table) (sym same) ∙ e in
+            ap (block_at (set table (page_number place) new)) same ∙ now ∙ get_or-set_same page.slots (slot_number place) left None (within page.slots (slot_number place) x old) ∙ ap (option_and_then (survivor cycle)) old ∙ survivor-kept cycle x s live
+        | inr apart ↦ other q apart ∙ e
+      ];
+      passed = passes;
+      narrow = λ number p e. elim (cases_eq number (page_number place)) [
+        | inr apart ↦ (p, sym (get_or-set_other table (page_number place) number new None apart) ∙ e, refl)
+        | inl same ↦ (page, ap (page_at table) same ∙ is, size p (sym (get_or-set_same table (page_number place) new None inside) ∙ ap (page_at (set table (page_number place) new)) (sym same) ∙ e))
+      ];
+    }
+
+-- A sweep step
+pub swept-is : (cycle : ℕ) (table : Table Block) (place : ℕ) → IsSwept cycle table place (swept_table cycle table place) (next_place place (page_at table (page_number place)))
+swept-is cycle table place = go (page_at table (page_number place)) refl
+  where
+    go : (content : Option (Page Block)) → page_at table (page_number place) ≡ content → IsSwept cycle table place (set table (page_number place) (option_and_then (swept_page cycle table place) content)) (next_place place content)
+    go None is = swept-free cycle table place is
+    go (Some page) is = by_last (is_last_slot place page) refl
+      where
+        o : Option Block
+        o = option_and_then (survivor cycle) (block_in (slot_number place) page)
+
+        same_length : length (set page.slots (slot_number place) o) ≡ length page.slots
+        same_length = length-set _ _ _
+
+        by_last : (last : Bool) → is_last_slot place page ≡ last
+            → IsSwept cycle table place (set table (page_number place) (if last then judged_page table (page_number place) (page_with (slot_number place) o page) else Some (page_with (slot_number place) o page))) (if last then next_page place else place + 1)
+        by_last false e = swept-page cycle table place page is (Some (page_with (slot_number place) o page)) (λ slot. refl) (λ p f. ap (λ z. length z.slots) (sym (same_Some (page_with (slot_number place) o page) p f)) ∙ same_length) (place + 1) (λ q x f below. at_once q below)
+          where
+            at_once : (q : ℕ) → q < place + 1 → (q < place) ⊎ (q ≡ place)
+            at_once q below = elim (cases_lt q place) [ inl l ↦ inl l | inr g ↦ inr (omega arith) ]
+        by_last true e = swept-page cycle table place page is (judged_page table (page_number place) (page_with (slot_number place) o page)) (judged-reads table (page_number place) (page_with (slot_number place) o page))
+            (λ p f. judged-length table (page_number place) (page_with (slot_number place) o page) p f ∙ same_length) (next_page place) passes
+          where
+            last_slot : suc (slot_number place) ≡ length page.slots
+            last_slot = eqb-true (suc (slot_number place)) (length page.slots) e
+
+            inside_table : page_number place < length table
+            inside_table = within table (page_number place) page is
+
+            passes : (q : ℕ) (x : Block) → block_at (set table (page_number place) (judged_page table (page_number place) (page_with (slot_number place) o page))) q ≡ Some x → q < next_page place → (q < place) ⊎ (q ≡ place)
+            passes q x f below = elim (cases_order q place) [
+              | inl same ↦ inr same
+              | inr k ↦ elim k [
+                | inl l ↦ inl l
+                | inr g ↦
+                    let here : q / 64 ≡ place / 64 = omega arith in
+                    let new = judged_page table (page_number place) (page_with (slot_number place) o page) in
+                    let read : get_or (set page.slots (slot_number place) o) (slot_number q) None ≡ Some x =
+                    sym (judged-reads table (page_number place) (page_with (slot_number place) o page) (slot_number q))
+                    ∙ ap (option_and_then (block_in (slot_number q))) (sym (get_or-set_same table (page_number place) new None inside_table)) ∙ ap (λ n. option_and_then (block_in (slot_number q)) (page_at (set table (page_number place) new) n)) (sym here) ∙ f in
+                    absurd (omega (arith, last_slot, same_length, within (set page.slots (slot_number place) o) (slot_number q) x read))
+              ]
+            ]

@@ -1,0 +1,2 @@
+pub mod PageSlots
+pub mod BlockRoom

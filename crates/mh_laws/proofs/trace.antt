@@ -1,0 +1,2 @@
+pub mod MutatorShares
+pub mod RunTraces
