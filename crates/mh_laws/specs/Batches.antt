@@ -5,41 +5,12 @@ use Rattle.mh_model.specs.declared.cycle.Phase.TheVariants.{Mark}
 use Rattle.mh_model.specs.Pages.{Table}
 use Rattle.mh_model.specs.Table.{Block, with_reference_at, found_in}
 use Rattle.mh_model.specs.Collector.{Collector, Marking, shade, mark_step, mark_cost, first_mark_cost, marking_of, with_marking, after_mark, with_units, steps}
-use Rattle.mh_laws.specs.GreyRoom.{NoneTwice}
-
--- what was found of a block written back and shaded, in order from this reference on
-abbrev pub written_back : Marking → ℕ → ℕ → List (Option ℕ) → Marking
-written_back marking place index [] = marking
-written_back marking place index (target ∷ found) = written_back (shade (record marking { table = with_reference_at marking.table place index target }) target) place (suc index) found
-
--- the same for each block of a batch, in order
-abbrev pub batch_written : Marking → List ℕ → List (List (Option ℕ)) → Marking
-batch_written marking [] all = marking
-batch_written marking (place ∷ batch) [] = marking
-batch_written marking (place ∷ batch) (found ∷ all) = batch_written (written_back marking place 0 found) batch all
-
--- A batch taken off the grey list, of which this is left: found at once, and then written back and shaded
-abbrev pub batch_marked : Marking → List ℕ → List ℕ → Marking
-batch_marked marking batch rest = batch_written (record marking { grey = rest }) batch (found_in marking.table batch)
+use Rattle.mh_model.specs.Batches.{NoneTwice, batch_cost, batch_marked, after_batch, longest_front}
 
 -- so many mark steps
 abbrev pub mark_steps : ℕ → Marking → Marking
 mark_steps zero marking = marking
 mark_steps (suc count) marking = mark_steps count (mark_step marking)
-
--- the collector after a batch, and the phase that follows at once
-abbrev pub after_batch : Collector → List ℕ → List ℕ → Collector
-after_batch collector batch rest = let marking = batch_marked (marking_of collector) batch rest in after_mark (with_marking collector marking) marking.grey
-
--- what marking through a batch costs
-abbrev pub batch_cost : Table Block → List ℕ → ℕ
-batch_cost table batch = sum_by (mark_cost table) batch
-
--- the longest front of a grey list that has at most so many places and whose marking fits in what is left
-unfoldable pub longest_front : ℕ → Table Block → ℕ → List ℕ → List ℕ
-longest_front zero table left grey = []
-longest_front (suc most) table left [] = []
-longest_front (suc most) table left (place ∷ grey) = if nat_le (mark_cost table place) left then place ∷ longest_front most table (left - mark_cost table place) grey else []
 
 -- a front that has so few places and fits, and no longer one has and does: the batch is full, or no place is after it, or the next doesn't fit
 pub record IsLongestFront (most : ℕ) (table : Table Block) (left : ℕ) (grey batch : List ℕ) : Type 0 where

@@ -9,7 +9,7 @@ use Rattle.mh_model.specs.World.{own_slot, refusal, never_full}
 use Rattle.mh_model.specs.Table.{Made}
 use Rattle.mh_model.specs.Collector.{Collector}
 use Rattle.mh_model.specs.Mutator.{HeapState, new_group, with_born, heap_sight, mutator_step}
-use Rattle.mh_laws.specs.Tables.{HaveTheirSlots}
+use Rattle.mh_model.specs.Pages.{HaveTheirSlots}
 
 -- a collector on the same course: only blocks, slots and the grey list may differ
 pub record IsOnCourse (old new : Collector) : Type 0 where

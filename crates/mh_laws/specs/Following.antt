@@ -6,7 +6,7 @@ use Rattle.mh_model.specs.declared.reply.Refusal.{Refusal}
 use Rattle.mh_model.specs.World.{refusal, sight_of, heap_step}
 use Rattle.mh_model.specs.Mutator.{HeapState, new_group, heap_sight, mutator_step}
 use Rattle.mh_model.specs.View.{heap_view}
-use Rattle.mh_laws.specs.Snapshots.{IsKeeping}
+use Rattle.mh_model.specs.Invariant.{IsKeeping}
 
 -- the parts of a new object have no places
 abbrev pub has_no_place : HeapState → ℕ → ℕ → Bool

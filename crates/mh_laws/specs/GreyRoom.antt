@@ -7,14 +7,11 @@ use Rattle.mh_model.specs.Pages.{Table, block_at}
 use Rattle.mh_model.specs.Table.{Block}
 use Rattle.mh_model.specs.Collector.{Collector, Marking}
 use Rattle.mh_model.specs.Machine.{first_machine, half_step, machine_after}
+use Rattle.mh_model.specs.Batches.{NoneTwice}
 
 -- the block at a place is marked in a cycle
 abbrev pub IsMarkedIn : Table Block → ℕ → ℕ → Type 0
 IsMarkedIn table cycle place = option_map (λ block. block.stamp) (block_at table place) ≡ Some cycle
-
--- no place stands twice
-abbrev pub NoneTwice : List ℕ → Type 0
-NoneTwice grey = IsDistinct (λ place other. place == other) grey
 
 -- a place holds a marked block, and isn't in the grey list
 pub record IsSettled (marking : Marking) (place : ℕ) : Type 0 where

@@ -10,7 +10,6 @@ pub mod Bounds
 pub mod Utilisation
 pub mod Batches
 pub mod Deeds
-pub mod Invariant
 pub mod Snapshots
 pub mod Showing
 pub mod Following

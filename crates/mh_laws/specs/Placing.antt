@@ -1,8 +1,8 @@
 -- Where a block of a class finds a place.
 use Rattle.std.specs.Prelude.{◌≡◌, ◌⊎◌, ◌↔◌, ◌<◌, ◌+◌, ℕ, false, IsTrue, IsSome, is_none, Option, Some, None, List, length, get_or}
-use Rattle.mh_model.specs.Pages.{Page, Table, page_number, slot_number, page_at, block_in, block_at, live_in, is_dense, is_sparse, open_slot, fresh_slot, least_dense_place, least_place, page_with, page_for, with_taken, with_released}
+use Rattle.mh_model.specs.Pages.{Page, Table, page_number, slot_number, page_at, block_in, block_at, live_in, is_dense, is_sparse, open_slot, fresh_slot, least_dense_place, least_place, page_with, page_for, with_taken, with_released, HaveTheirSlots, IsFreeFor}
 use Rattle.mh_model.specs.Table.{Block}
-use Rattle.mh_laws.specs.Tables.{is_class_size, HaveTheirSlots}
+use Rattle.mh_model.specs.Classes.{is_class_size}
 
 module _ {X : Type 0} where
   -- a slot without a block, after slots that each have one
@@ -20,13 +20,6 @@ module _ {X : Type 0} where
   -- no page gives a slot
   abbrev pub GivesNone : (Option (Page X) → Option ℕ) → Table X → Type 0
   GivesNone slot_of table = (number : ℕ) → number < length table → slot_of (page_at table number) ≡ None
-
-  -- a place is free for a class: slot 0 of a free page, or a slot without a block in a page of the class
-  pub record IsFreeFor (table : Table X) (size place : ℕ) : Type 0 where
-    pub inside : page_number place < length table
-    pub empty : block_at table place ≡ None
-    pub within : slot_number place < length (page_for size (page_at table (page_number place))).slots
-    pub of_class : (page_for size (page_at table (page_number place))).class_size ≡ size
 
   -- there is a free page, or a slot without a block in a page of the class
   abbrev pub HasRoom : Table X → ℕ → Type 0

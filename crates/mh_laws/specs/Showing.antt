@@ -6,8 +6,7 @@ use Rattle.mh_model.specs.Paths.{Agrees}
 use Rattle.mh_model.specs.Collector.{mark_step, marking_of, with_marking, roots_step, with_phase, sweep_step, defrag_step, is_past, cycle_end, collector_step, is_idle, quantum}
 use Rattle.mh_model.specs.Mutator.{HeapState, in_roots_or_mark}
 use Rattle.mh_model.specs.View.{heap_view}
-use Rattle.mh_laws.specs.Invariant.{IsFromRoot}
-use Rattle.mh_laws.specs.Snapshots.{HeapKeeps}
+use Rattle.mh_model.specs.Invariant.{IsFromRoot, HeapKeeps}
 
 -- A mark step
 abbrev pub MarkingShowsTheSame : Type 0

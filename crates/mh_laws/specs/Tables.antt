@@ -4,23 +4,10 @@ use Rattle.std.specs.List.{list_any}
 use Rattle.mh_model.specs.declared.config.Config.{Config}
 use Rattle.mh_model.specs.declared.command.Event.{Event}
 use Rattle.mh_model.specs.Classes.{class_sizes, slots_in}
-use Rattle.mh_model.specs.Pages.{Page, Table, page_at}
+use Rattle.mh_model.specs.Pages.{Page, Table, page_at, HaveTheirSlots}
 use Rattle.mh_model.specs.Table.{Block}
 use Rattle.mh_model.specs.Collector.{Collector, first_collector, collector_step, quantum}
 use Rattle.mh_model.specs.Machine.{Machine, first_machine, half_step, event_step, machine_after}
-
--- a size of the classes
-abbrev pub is_class_size : ℕ → Bool
-is_class_size size = list_any (λ other. other == size) class_sizes
-
--- the class of a page is one of the sizes, and the page has the slots of its class
-pub record HasItsSlots {X : Type 0} (page : Page X) : Type 0 where
-  pub class : IsTrue (is_class_size page.class_size)
-  pub slots : length page.slots ≡ slots_in page.class_size
-
--- each page in use has the slots of its class, which is one of the sizes
-abbrev pub HaveTheirSlots : {X : Type 0} → Table X → Type 0
-HaveTheirSlots {X} table = (number : ℕ) (page : Page X) → page_at table number ≡ Some page → HasItsSlots page
 
 -- as many pages, each in use with the slots of its class where that was so before
 pub record KeepsItsPages (old new : Table Block) : Type 0 where

@@ -1,10 +1,9 @@
 -- The collector: marking, sweep and defragmentation by steps with their costs, and the quantum, which takes such steps.
-use Rattle.std.specs.Prelude.{ℕ, zero, suc, ◌+◌, ◌-◌, ◌*◌, ◌==◌, nat_lt, nat_le, Bool, true, false, not, ◌&&◌, ◌||◌, if◌then◌else◌, Option, Some, None, is_some, option_map, option_and_then, List, [], ◌∷◌, ◌++◌, length, set, get_or, map, take, replicate}
-use Rattle.std.specs.List.{list_any}
+use Rattle.std.specs.Prelude.{ℕ, zero, suc, ◌+◌, ◌-◌, ◌*◌, ◌==◌, nat_lt, nat_le, Bool, true, false, not, ◌&&◌, ◌||◌, if◌then◌else◌, Option, Some, None, is_some, option_map, option_and_then, List, [], ◌∷◌, ◌++◌, length, set, get_or, map, replicate}
 use Rattle.mh_model.specs.declared.config.Config.{Config}
 use Rattle.mh_model.specs.declared.cycle.Phase.{Phase}
 use Rattle.mh_model.specs.declared.cycle.Phase.TheVariants.{Idle, Roots, Mark, Sweep, Defrag}
-use Rattle.mh_model.specs.Pages.{Page, Table, page_number, slot_number, page_at, block_in, block_at, live_in, free_pages, is_dense, least_dense_place, page_with, with_block, with_taken}
+use Rattle.mh_model.specs.Pages.{Page, Table, page_number, slot_number, page_at, block_in, block_at, live_in, free_pages, has_denser, least_dense_place, page_with, with_block, with_taken}
 use Rattle.mh_model.specs.Table.{Block, references_at, with_reference_at, is_forwarder, resolve, target_of}
 
 -- The table and the slots; the phase, with the next slot of the roots or the next place of the sweep or of defragmentation; the grey list;
@@ -94,14 +93,6 @@ next_place place (Some page) = if is_last_slot place page then next_page place e
 -- what the sweep leaves of a block: nothing of a forwarder or of one that isn't marked
 abbrev pub survivor : ℕ → Block → Option Block
 survivor cycle block = if is_forwarder block || not (is_marked cycle block) then None else Some block
-
-abbrev pub is_dense_page : ℕ → Option (Page Block) → Bool
-is_dense_page size None = false
-is_dense_page size (Some page) = is_dense size page
-
--- a page below this one is of this class and unflagged
-abbrev pub has_denser : Table Block → ℕ → ℕ → Bool
-has_denser table page size = list_any (is_dense_page size) (take page table)
 
 -- A page after the sweep of its last slot: free where it has no block; else flagged where at most a quarter of its slots has one and a page below it is unflagged and of its class
 abbrev pub judged_page : Table Block → ℕ → Page Block → Option (Page Block)

@@ -1,8 +1,9 @@
 -- Pages of slots, and the least place of a class. A place is the number page * 64 + slot.
 -- Blocks are seen as values of some type: whole blocks here, and less of them where that is enough.
-use Rattle.std.specs.Prelude.{ℕ, suc, ◌+◌, ◌/◌, ◌%◌, ◌==◌, Bool, true, false, not, ◌&&◌, if◌then◌else◌, Option, Some, None, option_map, option_and_then, List, [], ◌∷◌, set, get_or, replicate}
+use Rattle.std.specs.Prelude.{◌≡◌, ◌<◌, IsTrue, ℕ, suc, ◌+◌, ◌/◌, ◌%◌, ◌==◌, Bool, true, false, not, ◌&&◌, if◌then◌else◌, Option, Some, None, option_map, option_and_then, List, [], ◌∷◌, length, take, set, get_or, replicate}
+use Rattle.std.specs.List.{list_any}
 use Rattle.std.specs.Option.{option_or}
-use Rattle.mh_model.specs.Classes.{slots_in}
+use Rattle.mh_model.specs.Classes.{is_class_size, slots_in}
 
 -- A page in use: the class of its blocks, told by its size, its flag, and its slots, each with a block or without (Metronome)
 pub record Page (X : Type 0) : Type 0 where
@@ -93,6 +94,15 @@ module _ {X : Type 0} where
   abbrev pub least_place : Table X → ℕ → Option ℕ
   least_place table size = option_or (least_dense_place table size) (option_or (least fresh_slot table) (least (open_slot (is_sparse size)) table))
 
+  -- a page that is in use is of this class and unflagged
+  abbrev pub is_dense_page : ℕ → Option (Page X) → Bool
+  is_dense_page size None = false
+  is_dense_page size (Some page) = is_dense size page
+
+  -- a page below this one is of this class and unflagged
+  abbrev pub has_denser : Table X → ℕ → ℕ → Bool
+  has_denser table page size = list_any (is_dense_page size) (take page table)
+
   -- Changes --------------------------------------------------------------------------------------
 
   -- a page with this in a slot
@@ -124,3 +134,21 @@ module _ {X : Type 0} where
   -- the table with the flag of a page in use set so
   abbrev pub with_flag : Table X → ℕ → Bool → Table X
   with_flag table page is_flagged = set table page (option_map (flagged_as is_flagged) (page_at table page))
+
+  -- What holds of pages and places ---------------------------------------------------------------
+
+  -- the class of a page is one of the sizes, and the page has the slots of its class
+  pub record HasItsSlots (page : Page X) : Type 0 where
+    pub class : IsTrue (is_class_size page.class_size)
+    pub slots : length page.slots ≡ slots_in page.class_size
+
+  -- each page in use has the slots of its class, which is one of the sizes
+  abbrev pub HaveTheirSlots : Table X → Type 0
+  HaveTheirSlots table = (number : ℕ) (page : Page X) → page_at table number ≡ Some page → HasItsSlots page
+
+  -- a place is free for a class: slot 0 of a free page, or a slot without a block in a page of the class
+  pub record IsFreeFor (table : Table X) (size place : ℕ) : Type 0 where
+    pub inside : page_number place < length table
+    pub empty : block_at table place ≡ None
+    pub within : slot_number place < length (page_for size (page_at table (page_number place))).slots
+    pub of_class : (page_for size (page_at table (page_number place))).class_size ≡ size

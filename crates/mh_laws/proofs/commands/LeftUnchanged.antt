@@ -13,13 +13,13 @@ use Rattle.mh_model.specs.declared.reply.Refusal.{Refusal}
 use Rattle.mh_model.specs.declared.reply.Refusal.TheVariants.{BadSlot, TooLarge, HeapFull, Ended, TooManySessions}
 use Rattle.mh_model.specs.declared.reply.Reply.TheVariants as reply
 use Rattle.mh_model.specs.World.{Answer, most_fields, own_slot, board_slot, first_refusal, is_bad, refusal, never_full, done, unless_refused}
-use Rattle.mh_model.specs.Classes.{Part, class_of, part_words, parts}
-use Rattle.mh_model.specs.Pages.{Page, Table, page_number, slot_number, page_at, block_in, block_at, live_in, least_place, page_with, with_taken}
+use Rattle.mh_model.specs.Classes.{Part, class_of, part_words, parts, is_class_size}
+use Rattle.mh_model.specs.Pages.{Page, Table, page_number, slot_number, page_at, block_in, block_at, live_in, least_place, page_with, with_taken, has_denser, HasItsSlots, HaveTheirSlots}
 use Rattle.mh_model.specs.Table.{Block, Made, MadeParts, Position, references_at, with_reference_at, resolve, target_of, new_block, made_in_class, made_parts, with_block_change, linked_block, linked_parts, group_of, made_group, reference_in}
-use Rattle.mh_model.specs.Collector.{Collector, first_collector, Marking, is_marked, with_grey, shade_block, shade, mark_reference, mark_references, mark_first, is_last_slot, survivor, has_denser, judged_page, swept_page, swept_table, next_move, Move, moved_table, with_move, with_phase, with_shade, marking_of, after_mark, is_past, step_in, phase_after, collector_step, step_cost, is_moving, is_idle, is_start_due, cycle_start, cycle_end, with_count, quantum_start, Spending, steps, quantum}
+use Rattle.mh_model.specs.Collector.{Collector, first_collector, Marking, is_marked, with_grey, shade_block, shade, mark_reference, mark_references, mark_first, is_last_slot, survivor, judged_page, swept_page, swept_table, next_move, Move, moved_table, with_move, with_phase, with_shade, marking_of, after_mark, is_past, step_in, phase_after, collector_step, step_cost, is_moving, is_idle, is_start_due, cycle_start, cycle_end, with_count, quantum_start, Spending, steps, quantum}
 use Rattle.mh_model.specs.Mutator.{HeapState, in_roots, in_roots_or_mark, before_field, with_root, with_roots_cleared, with_session_cleared, with_reference_stored, with_number_stored, field_of, number_field, new_group, with_born, heap_sight, heap_effect, mutator_step}
 use Rattle.mh_model.specs.Machine.{Machine, first_machine, with_collector, quantum_run, command_step, machine_after}
-use Rattle.mh_laws.specs.Tables.{is_class_size, HasItsSlots, HaveTheirSlots, KeepsItsPages, EventKeeps, HasItsPages}
+use Rattle.mh_laws.specs.Tables.{KeepsItsPages, EventKeeps, HasItsPages}
 use Rattle.mh_laws.specs.Commands.{IsOnCourse, IsBorn}
 use Rattle.mh_laws.proofs.Lists.{none_at}
 use Rattle.mh_laws.proofs.tables.PageSlots.{class_of-class_size, page_with-slots, keeps_same, keeps_then, set-keeps, with_block-keeps, with_taken-keeps}

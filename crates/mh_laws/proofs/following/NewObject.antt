@@ -11,8 +11,7 @@ use Rattle.mh_model.specs.Table.{Block, Made, resolve}
 use Rattle.mh_model.specs.Collector.{Collector}
 use Rattle.mh_model.specs.Mutator.{HeapState, with_root, new_group, with_born, heap_sight, heap_effect}
 use Rattle.mh_model.specs.View.{birth_named, arraylet_words, field_blocks, block_of_birth, object_of, object_shown, heap_view}
-use Rattle.mh_laws.specs.Invariant.{IsPlainAt, first_child, IsSound, KeepsSnapshot}
-use Rattle.mh_laws.specs.Snapshots.{IsKeeping}
+use Rattle.mh_model.specs.Invariant.{IsPlainAt, first_child, IsSound, KeepsSnapshot, IsKeeping}
 use Rattle.mh_laws.specs.Following.{Follows}
 use Rattle.mh_laws.proofs.showing.ObjectsShown.{Has, field_block-back, count-tabulate}
 use Rattle.mh_laws.proofs.marking.BlockChanges.{resolve-live, within}

@@ -16,8 +16,7 @@ use Rattle.mh_model.specs.Table.{resolve, Block, target_of, position_of, referen
 use Rattle.mh_model.specs.Collector.{Collector, with_shade}
 use Rattle.mh_model.specs.Mutator.{HeapState, in_roots, with_root, with_roots_cleared, with_session_cleared, root_at, shape_at, heap_sight, heap_effect, mutator_step, field_of, number_field}
 use Rattle.mh_model.specs.View.{in_sweep, birth_named, object_of, object_shown, heap_view}
-use Rattle.mh_laws.specs.Invariant.{IsPlainAt, IsSound, KeepsSnapshot}
-use Rattle.mh_laws.specs.Snapshots.{IsKeeping}
+use Rattle.mh_model.specs.Invariant.{IsPlainAt, IsSound, KeepsSnapshot, IsKeeping}
 use Rattle.mh_laws.specs.Following.{has_no_place, Follows}
 use Rattle.mh_laws.proofs.showing.ObjectsShown.{read-tabulate}
 use Rattle.mh_laws.proofs.objects.JoinedFields.{shape_is, held_plain, laid, number_read, reference_read}

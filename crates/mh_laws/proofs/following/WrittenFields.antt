@@ -15,8 +15,7 @@ use Rattle.mh_model.specs.Collector.{Collector, with_shade}
 use Rattle.mh_model.specs.Mutator.{HeapState, in_roots_or_mark, root_at, shape_at, field_of, heap_sight, heap_effect, with_number_stored, with_reference_stored}
 use Rattle.mh_model.specs.Snapshot.{IsKept}
 use Rattle.mh_model.specs.View.{in_sweep, block_named, blocks_named, birth_named, arraylet_words, field_blocks, object_of, object_shown, heap_view}
-use Rattle.mh_laws.specs.Invariant.{IsPlainAt, HasFieldsAt, first_child, IsSound}
-use Rattle.mh_laws.specs.Snapshots.{IsKeeping}
+use Rattle.mh_model.specs.Invariant.{IsPlainAt, HasFieldsAt, first_child, IsSound, IsKeeping}
 use Rattle.mh_laws.specs.Following.{Follows}
 use Rattle.mh_laws.proofs.placing.Places.{block_at-with_block_same, block_at-with_block_other}
 use Rattle.mh_laws.proofs.marking.BlockChanges.{is_slot, resolve-live}

@@ -6,11 +6,11 @@ use Rattle.std.proofs.lemmas.List.{length-set, length-append}
 use Rattle.std.proofs.lemmas.List.Sums.{sum_by-append, sum_by-cons, sum_by-set}
 use Rattle.mh_model.specs.Classes.{slots_in}
 use Rattle.std.proofs.lemmas.Option.{none-some, same_Some}
-use Rattle.mh_model.specs.Pages.{Page, Table, page_number, slot_number, page_at, block_in, block_at, page_with, with_block, page_for, with_taken}
+use Rattle.mh_model.specs.Pages.{Page, Table, page_number, slot_number, page_at, block_in, block_at, page_with, with_block, page_for, with_taken, IsFreeFor}
 use Rattle.mh_model.specs.Table.{Block, references_at, with_block_change, with_reference_at, resolve, target_of}
 use Rattle.mh_model.specs.Collector.{Marking, is_marked, with_grey, shade_block, shade, mark_reference, mark_references, mark_first}
-use Rattle.mh_laws.specs.GreyRoom.{IsMarkedIn, NoneTwice, IsSettled}
-use Rattle.mh_laws.specs.Placing.{IsFreeFor}
+use Rattle.mh_laws.specs.GreyRoom.{IsMarkedIn, IsSettled}
+use Rattle.mh_model.specs.Batches.{NoneTwice}
 use Rattle.mh_laws.proofs.placing.Places.{IsSlot, block_in-page_for, block_at-with_block_same, block_at-with_block_other}
 use Rattle.mh_laws.proofs.tables.BlockRoom.{IsRoomy, rewritten-roomy, block-slot, get_or-below, with_block-none}
 

@@ -12,7 +12,7 @@ use Rattle.mh_model.specs.Collector.{Collector, Marking, is_marked, with_grey, s
 use Rattle.mh_model.specs.Mutator.{in_roots_or_mark}
 use Rattle.mh_model.specs.View.{in_sweep}
 use Rattle.mh_model.specs.Snapshot.{IsKept}
-use Rattle.mh_laws.specs.Invariant.{IsIn, IsPlainAt, first_child, in_trace, IsSound, IsMarkedAt, IsFromGrey, KeepsSnapshot}
+use Rattle.mh_model.specs.Invariant.{IsIn, IsPlainAt, first_child, in_trace, IsSound, IsMarkedAt, IsFromGrey, KeepsSnapshot}
 use Rattle.mh_laws.proofs.marking.MarkingPaths.{is_in-left, is_in-last, is_in-either}
 use Rattle.mh_laws.proofs.marking.BlockChanges.{IsChange, IsKeptChange, forth, at_here, resolve-changed, snapshot-changed, resolve-live, not_sweep, within, marked_at}
 use Rattle.mh_laws.proofs.marking.SameTable.{IsTurn, turned, snapshot-turned}

@@ -4,7 +4,7 @@ use Rattle.std.proofs.lemmas.Option.{same_Some}
 use Rattle.mh_model.specs.Pages.{block_at}
 use Rattle.mh_model.specs.Table.{Block}
 use Rattle.mh_model.specs.Collector.{Collector}
-use Rattle.mh_laws.specs.Invariant.{IsIn, IsMarkedAt, Links, IsFromRoot, IsFromGrey, IsWay, IsPromised}
+use Rattle.mh_model.specs.Invariant.{IsIn, IsMarkedAt, Links, IsFromRoot, IsFromGrey, IsWay, IsPromised}
 
 -- what becomes of a block: it stays but for its stamp and its fields, and where it is marked anew it is grey
 abbrev pub StaysAt : Collector → Collector → ℕ → Block → Type 0

@@ -11,7 +11,7 @@ use Rattle.mh_model.specs.Table.{Block, resolve}
 use Rattle.mh_model.specs.Mutator.{HeapState, in_roots_or_mark}
 use Rattle.mh_model.specs.View.{in_sweep, arraylet_words, object_of, heap_view}
 use Rattle.mh_model.specs.Snapshot.{IsKept}
-use Rattle.mh_laws.specs.Snapshots.{HeapKeeps}
+use Rattle.mh_model.specs.Invariant.{HeapKeeps}
 use Rattle.mh_laws.proofs.worlds.Agreement.{Reachable-in}
 use Rattle.mh_laws.proofs.marking.BlockChanges.{within}
 use Rattle.mh_laws.proofs.marking.MarkSteps.{runs}

@@ -10,7 +10,7 @@ use Rattle.mh_model.specs.Collector.{Collector, is_idle}
 use Rattle.mh_model.specs.Mutator.{in_roots_or_mark}
 use Rattle.mh_model.specs.View.{in_sweep}
 use Rattle.mh_model.specs.Snapshot.{IsKept}
-use Rattle.mh_laws.specs.Invariant.{IsIn, IsPlainAt, IsStraight, IsUnflagged, in_trace, in_defrag, IsSound, IsMarkedAt, IsFromRoot, IsFromGrey, IsWhole, KeepsCycle, KeepsSnapshot}
+use Rattle.mh_model.specs.Invariant.{IsIn, IsPlainAt, IsStraight, IsUnflagged, in_trace, in_defrag, IsSound, IsMarkedAt, IsFromRoot, IsFromGrey, IsWhole, KeepsCycle, KeepsSnapshot}
 use Rattle.mh_laws.proofs.marking.MarkingPaths.{Keeps, promises_stay}
 
 module _ (c : Collector) (slots' : List (Option ℕ)) (phase' : Phase) (cursor' : ℕ) (grey' : List ℕ) (asked' : Bool) (quanta' : ℕ) where

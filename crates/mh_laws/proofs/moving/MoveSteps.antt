@@ -11,7 +11,7 @@ use Rattle.mh_model.specs.Collector.{Collector, Move, if_flagged, flagged_page, 
 use Rattle.mh_model.specs.Mutator.{in_roots_or_mark}
 use Rattle.mh_model.specs.View.{in_sweep}
 use Rattle.mh_model.specs.Snapshot.{IsKept}
-use Rattle.mh_laws.specs.Invariant.{IsIn, IsPlainAt, IsPartOf, IsUnflagged, in_defrag, IsSound, KeepsSnapshot, IsFinished}
+use Rattle.mh_model.specs.Invariant.{IsIn, IsPlainAt, IsPartOf, IsUnflagged, in_defrag, IsSound, KeepsSnapshot, IsFinished}
 use Rattle.mh_laws.proofs.placing.Places.{IsShaped, least_dense_place-page, block_at-with_block_same, block_at-with_block_other}
 use Rattle.mh_laws.proofs.marking.BlockChanges.{is_slot, resolve-live, pages-with_block}
 use Rattle.mh_laws.proofs.marking.SameTable.{snapshot-turned}

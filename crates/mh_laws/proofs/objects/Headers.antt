@@ -5,7 +5,7 @@ use Rattle.mh_model.specs.Classes.{parts}
 use Rattle.mh_model.specs.Pages.{block_at}
 use Rattle.mh_model.specs.Table.{Block}
 use Rattle.mh_model.specs.Collector.{Collector}
-use Rattle.mh_laws.specs.Invariant.{IsSound, HasFieldsAt, first_child}
+use Rattle.mh_model.specs.Invariant.{IsSound, HasFieldsAt, first_child}
 use Rattle.mh_laws.proofs.objects.Parts.{IsFirst, first_part}
 
 module _ (n : ℕ) (c : Collector) (h : IsSound n c) where

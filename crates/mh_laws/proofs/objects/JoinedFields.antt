@@ -11,7 +11,7 @@ use Rattle.mh_model.specs.Pages.{Table, block_at}
 use Rattle.mh_model.specs.Table.{Block, Position, resolve, target_of, is_spine, is_tall, is_at, child_place, spine_place, arraylet_place, position_of}
 use Rattle.mh_model.specs.Collector.{Collector}
 use Rattle.mh_model.specs.View.{in_sweep, is_held, block_named, blocks_named, birth_named, arraylet_words, field_blocks, object_of}
-use Rattle.mh_laws.specs.Invariant.{IsPlainAt, IsPartOf, IsSound, HasFieldsAt, first_child}
+use Rattle.mh_model.specs.Invariant.{IsPlainAt, IsPartOf, IsSound, HasFieldsAt, first_child}
 use Rattle.mh_laws.proofs.objects.Parts.{IsFirst, counts, later_part, child_is}
 use Rattle.mh_laws.proofs.objects.Headers.{first_is, header_is}
 

@@ -4,9 +4,8 @@ use Rattle.std.proofs.lemmas.Bool.{cases_eq}
 use Rattle.std.proofs.lemmas.Option.{none-some, same_Some}
 use Rattle.std.proofs.lemmas.List.{length-set, length-replicate, length-map, length-take, length-drop}
 use Rattle.mh_model.specs.Classes.{Part, class_of, slots_in, part_words}
-use Rattle.mh_model.specs.Pages.{Page, Table, page_number, slot_number, page_at, block_in, block_at, least_place, page_with, page_for, with_taken}
+use Rattle.mh_model.specs.Pages.{Page, Table, page_number, slot_number, page_at, block_in, block_at, least_place, page_with, page_for, with_taken, IsFreeFor}
 use Rattle.mh_model.specs.Table.{Block, Made, MadeParts, new_block, made_in_class, made_part, made_parts, with_block_change, words_of, linked_block, linked_parts, group_of, made_group}
-use Rattle.mh_laws.specs.Placing.{IsFreeFor}
 use Rattle.mh_laws.specs.NewObjects.{IsMade, AreMade, IsGroup, LacksAPlace}
 use Rattle.mh_laws.proofs.Lists.{below_length, get_or-set_either}
 use Rattle.mh_laws.proofs.tables.PageSlots.{slots_in-class_size, class_of-class_size}

@@ -5,9 +5,8 @@ use Rattle.std.proofs.lemmas.Bool.{cases_eq, false≢true, and_parts, not-true, 
 use Rattle.std.proofs.lemmas.Option.{none-some, same_Some}
 use Rattle.std.proofs.lemmas.List.{get_or-set_same, get_or-set_other, length-replicate}
 use Rattle.mh_model.specs.Classes.{slots_in}
-use Rattle.mh_model.specs.Pages.{Page, Table, page_number, slot_number, page_at, block_in, block_at, block_count, is_dense, is_sparse, empty_slot, open_slot, fresh_slot, first_place, least, least_dense_place, least_place, page_with, with_block, page_for, with_taken, with_released}
-use Rattle.mh_laws.specs.Tables.{HaveTheirSlots}
-use Rattle.mh_laws.specs.Placing.{IsFirstEmpty, IsFound, GivesNone, IsFreeFor, HasRoom, IsLeastOfItsTier, IsDensePlace}
+use Rattle.mh_model.specs.Pages.{Page, Table, page_number, slot_number, page_at, block_in, block_at, block_count, is_dense, is_sparse, empty_slot, open_slot, fresh_slot, first_place, least, least_dense_place, least_place, page_with, with_block, page_for, with_taken, with_released, HaveTheirSlots, IsFreeFor}
+use Rattle.mh_laws.specs.Placing.{IsFirstEmpty, IsFound, GivesNone, HasRoom, IsLeastOfItsTier, IsDensePlace}
 use Rattle.mh_laws.proofs.Lists.{from_some, below_length, set_back, none_at}
 use Rattle.mh_laws.proofs.tables.PageSlots.{slots_in-class_size}
 

@@ -15,8 +15,7 @@ use Rattle.mh_model.specs.Mutator.{HeapState, mutator_step}
 use Rattle.mh_model.specs.Machine.{Machine, is_quantum_due, quantum_run, command_step, control_step, event_step}
 use Rattle.mh_model.specs.View.{heap_view}
 use Rattle.mh_model.specs.Snapshot.{Moment, first_moment, half_moment, next_moment, moment_after, is_heap_full, world_beside_event}
-use Rattle.mh_laws.specs.Snapshots.{HeapKeeps, IsKeeping}
-use Rattle.mh_laws.specs.Invariant.{IsFinished}
+use Rattle.mh_model.specs.Invariant.{HeapKeeps, IsKeeping, IsFinished}
 use Rattle.mh_laws.specs.BesideTheWorld.{IsFaithful, MomentsAreFaithful, RepliesAreTheWorlds, IsInCycle, FinishedCyclesAreExact}
 use Rattle.mh_laws.specs.Following.{Follows, has_no_place}
 use Rattle.mh_laws.proofs.Lists.{none_at}

@@ -7,7 +7,7 @@ use Rattle.mh_model.specs.Pages.{Page, page_at, block_in, block_at}
 use Rattle.mh_model.specs.Table.{Block, is_forwarder}
 use Rattle.mh_model.specs.Collector.{Collector}
 use Rattle.mh_model.specs.View.{in_sweep, is_held, block_of_birth, object_of, object_shown}
-use Rattle.mh_laws.specs.Invariant.{IsSound}
+use Rattle.mh_model.specs.Invariant.{IsSound}
 use Rattle.mh_laws.proofs.marking.BlockChanges.{within}
 use Rattle.mh_laws.proofs.showing.ObjectsShown.{first_block-is, first_block-some}
 

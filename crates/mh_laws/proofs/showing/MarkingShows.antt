@@ -9,8 +9,7 @@ use Rattle.mh_model.specs.Table.{Block, references_at, with_reference_at, resolv
 use Rattle.mh_model.specs.Collector.{Collector, Marking, shade_place, shade, mark_reference, mark_references, mark_first, mark_step, marking_of, with_marking, roots_step}
 use Rattle.mh_model.specs.Mutator.{HeapState, in_roots_or_mark}
 use Rattle.mh_model.specs.View.{in_sweep, birth_named, object_shown, heap_view}
-use Rattle.mh_laws.specs.Invariant.{IsIn, IsPlainAt, IsSound, KeepsSnapshot}
-use Rattle.mh_laws.specs.Snapshots.{HeapKeeps}
+use Rattle.mh_model.specs.Invariant.{IsIn, IsPlainAt, IsSound, KeepsSnapshot, HeapKeeps}
 use Rattle.mh_laws.proofs.marking.BlockChanges.{resolve-live, not_sweep}
 use Rattle.mh_laws.proofs.marking.MarkSteps.{leads, shade_place-is, snapshot-mark_step, snapshot-roots_step}
 use Rattle.mh_laws.proofs.showing.FoundBlocks.{IsShownIn, held_live, live_held, same-shown, tabulate-same}

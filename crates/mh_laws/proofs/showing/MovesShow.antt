@@ -8,8 +8,7 @@ use Rattle.mh_model.specs.Table.{Block, resolve}
 use Rattle.mh_model.specs.Collector.{Collector, Move, flagged_page, next_move, moved_table, forwarded_slots, with_phase, with_move, defrag_step, next_place}
 use Rattle.mh_model.specs.Mutator.{HeapState}
 use Rattle.mh_model.specs.View.{in_sweep, birth_named, heap_view}
-use Rattle.mh_laws.specs.Invariant.{IsPlainAt, IsSound}
-use Rattle.mh_laws.specs.Snapshots.{HeapKeeps}
+use Rattle.mh_model.specs.Invariant.{IsPlainAt, IsSound, HeapKeeps}
 use Rattle.mh_laws.proofs.marking.BlockChanges.{resolve-live}
 use Rattle.mh_laws.proofs.moving.MoveSteps.{IsMove, next_move-is, follows, live_from, live_forth, snapshot-defrag_step}
 use Rattle.mh_laws.proofs.showing.SamePlainBlocks.{plain-shown}

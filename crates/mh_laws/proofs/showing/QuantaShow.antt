@@ -7,8 +7,7 @@ use Rattle.mh_model.specs.Paths.{Agrees}
 use Rattle.mh_model.specs.Collector.{Collector, collector_step, step_cost, is_moving, is_idle, cycle_start, with_count, is_start_due, quantum_start, steps, quantum}
 use Rattle.mh_model.specs.Mutator.{HeapState}
 use Rattle.mh_model.specs.View.{in_sweep, heap_view}
-use Rattle.mh_laws.specs.Invariant.{KeepsSnapshot}
-use Rattle.mh_laws.specs.Snapshots.{HeapKeeps}
+use Rattle.mh_model.specs.Invariant.{KeepsSnapshot, HeapKeeps}
 use Rattle.mh_laws.proofs.costs.Quanta.{steps-stop, steps-go}
 use Rattle.mh_laws.proofs.snapshots.CycleSteps.{continues-collector_step, snapshot-counted}
 use Rattle.mh_laws.proofs.snapshots.RunningCycles.{idle_is, quantum-rests}

@@ -7,7 +7,7 @@ use Rattle.mh_model.specs.Pages.{Table, block_at}
 use Rattle.mh_model.specs.Table.{Block, resolve, is_spine, is_tall}
 use Rattle.mh_model.specs.Collector.{Collector, is_marked}
 use Rattle.mh_model.specs.View.{in_sweep, is_held, block_named, blocks_named, birth_named, arraylet_words, field_blocks, object_of, object_shown}
-use Rattle.mh_laws.specs.Invariant.{IsPlainAt, IsSound}
+use Rattle.mh_model.specs.Invariant.{IsPlainAt, IsSound}
 use Rattle.mh_laws.proofs.marking.MarkSteps.{leads}
 use Rattle.mh_laws.proofs.showing.ObjectsShown.{Has, IsFieldBlock, arraylet_word-back, field_block-back}
 use Rattle.mh_laws.proofs.showing.FoundBlocks.{IsShownIn, held_live, same-shown}

@@ -8,7 +8,7 @@ use Rattle.mh_model.specs.Pages.{Table, block_at}
 use Rattle.mh_model.specs.Table.{Block, references_at, resolve, target_of, is_spine, is_tall, is_at, child_place, spine_place, arraylet_place, position_of}
 use Rattle.mh_model.specs.Collector.{Collector, Marking, marking_of, shade_place, with_grey, with_shade}
 use Rattle.mh_model.specs.View.{in_sweep, block_of_birth, block_named, blocks_named, birth_named, arraylet_words, field_blocks, object_of, object_shown}
-use Rattle.mh_laws.specs.Invariant.{IsSound}
+use Rattle.mh_model.specs.Invariant.{IsSound}
 use Rattle.mh_laws.proofs.placing.Places.{block_at-with_block_same, block_at-with_block_other}
 use Rattle.mh_laws.proofs.marking.BlockChanges.{is_slot}
 use Rattle.mh_laws.proofs.marking.MarkSteps.{shade_place-is}

@@ -12,8 +12,7 @@ use Rattle.mh_model.specs.Table.{Block}
 use Rattle.mh_model.specs.Collector.{Collector, mark_step, marking_of, with_marking, with_phase, roots_step, sweep_step, defrag_step, after_mark, is_past, cycle_end, phase_after, step_in, collector_step, is_idle}
 use Rattle.mh_model.specs.Mutator.{HeapState, in_roots_or_mark, in_roots}
 use Rattle.mh_model.specs.View.{in_sweep, block_of_birth, object_of, object_shown, heap_view}
-use Rattle.mh_laws.specs.Invariant.{IsPlainAt, IsFromRoot, IsSound, KeepsSnapshot}
-use Rattle.mh_laws.specs.Snapshots.{HeapKeeps}
+use Rattle.mh_model.specs.Invariant.{IsPlainAt, IsFromRoot, IsSound, KeepsSnapshot, HeapKeeps}
 use Rattle.mh_laws.proofs.marking.BlockChanges.{not_sweep}
 use Rattle.mh_laws.proofs.marking.MarkSteps.{snapshot-roots_step, snapshot-mark_step}
 use Rattle.mh_laws.proofs.sweeping.SweepSteps.{snapshot-sweeping, snapshot-after_mark, snapshot-sweep_step, snapshot-after_sweep}

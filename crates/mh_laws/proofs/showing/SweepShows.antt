@@ -6,7 +6,7 @@ use Rattle.mh_model.specs.Pages.{block_at}
 use Rattle.mh_model.specs.Collector.{Collector, sweep_step}
 use Rattle.mh_model.specs.Mutator.{HeapState}
 use Rattle.mh_model.specs.View.{heap_view}
-use Rattle.mh_laws.specs.Snapshots.{HeapKeeps}
+use Rattle.mh_model.specs.Invariant.{HeapKeeps}
 use Rattle.mh_laws.proofs.marking.BlockChanges.{resolve-live}
 use Rattle.mh_laws.proofs.sweeping.SweepSteps.{plain_forth, plain_back, referred_then, snapshot-sweep_step}
 use Rattle.mh_laws.proofs.showing.SamePlainBlocks.{plain-shown, roots-same}

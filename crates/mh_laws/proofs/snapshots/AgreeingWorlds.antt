@@ -14,8 +14,7 @@ use Rattle.mh_model.specs.Mutator.{HeapState}
 use Rattle.mh_model.specs.View.{heap_view}
 use Rattle.mh_model.specs.Machine.{Machine, quantum_run, is_quantum_due, command_step, control_step, event_step}
 use Rattle.mh_model.specs.Snapshot.{Moment, half_moment, next_moment, IsKept}
-use Rattle.mh_laws.specs.Invariant.{IsSound, KeepsSnapshot, IsFinished, Continues}
-use Rattle.mh_laws.specs.Snapshots.{HeapKeeps}
+use Rattle.mh_model.specs.Invariant.{IsSound, KeepsSnapshot, IsFinished, Continues, HeapKeeps}
 use Rattle.mh_laws.proofs.snapshots.CycleSteps.{continues-quantum, snapshot-counted}
 use Rattle.mh_laws.proofs.snapshots.SessionCommands.{snapshot-mutator_step}
 use Rattle.mh_laws.proofs.snapshots.RunningCycles.{idle_is, quantum-rests, continues-start}

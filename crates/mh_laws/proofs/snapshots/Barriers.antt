@@ -11,7 +11,7 @@ use Rattle.mh_model.specs.Table.{Block, Position, with_reference_at, with_number
 use Rattle.mh_model.specs.Collector.{Collector, with_shade}
 use Rattle.mh_model.specs.Mutator.{in_roots, in_roots_or_mark, with_root, with_roots_cleared, with_session_cleared, with_reference_stored, with_number_stored}
 use Rattle.mh_model.specs.Snapshot.{IsKept}
-use Rattle.mh_laws.specs.Invariant.{IsPlainAt, HasFieldsAt, IsSound, IsMarkedAt, KeepsSnapshot}
+use Rattle.mh_model.specs.Invariant.{IsPlainAt, HasFieldsAt, IsSound, IsMarkedAt, KeepsSnapshot}
 use Rattle.mh_laws.proofs.Lists.{get_or-set_either}
 use Rattle.mh_laws.proofs.objects.Headers.{flat_of}
 use Rattle.mh_laws.proofs.marking.BlockChanges.{IsChange, IsKeptChange, snapshot-changed, resolve-live, not_sweep}

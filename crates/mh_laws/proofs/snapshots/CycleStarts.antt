@@ -11,7 +11,7 @@ use Rattle.mh_model.specs.Table.{Block, resolve, is_spine}
 use Rattle.mh_model.specs.Collector.{Collector, cycle_start}
 use Rattle.mh_model.specs.Mutator.{HeapState}
 use Rattle.mh_model.specs.View.{in_sweep, block_of_birth, birth_named, arraylet_words, object_of, object_shown, heap_view}
-use Rattle.mh_laws.specs.Invariant.{IsPlainAt, IsPartOf, first_child, IsSound, IsMarkedAt, IsPromised, IsWhole, KeepsSnapshot}
+use Rattle.mh_model.specs.Invariant.{IsPlainAt, IsPartOf, first_child, IsSound, IsMarkedAt, IsPromised, IsWhole, KeepsSnapshot}
 use Rattle.mh_laws.proofs.marking.BlockChanges.{resolve-live, within}
 use Rattle.mh_laws.proofs.objects.Parts.{later_part, IsChild, parent_of, child_is}
 use Rattle.mh_laws.proofs.objects.Headers.{header_is}

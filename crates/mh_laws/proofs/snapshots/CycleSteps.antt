@@ -10,7 +10,7 @@ use Rattle.mh_model.specs.World.{World}
 use Rattle.mh_model.specs.Pages.{free_pages}
 use Rattle.mh_model.specs.Collector.{Collector, mark_step, marking_of, with_marking, with_phase, roots_step, sweep_step, defrag_step, after_mark, is_past, cycle_end, phase_after, step_in, collector_step, step_cost, is_moving, is_idle, cycle_start, with_count, quantum_start, steps, quantum}
 use Rattle.mh_model.specs.Mutator.{in_roots_or_mark, in_roots}
-use Rattle.mh_laws.specs.Invariant.{IsFromRoot, KeepsSnapshot, Continues}
+use Rattle.mh_model.specs.Invariant.{IsFromRoot, KeepsSnapshot, Continues}
 use Rattle.mh_laws.proofs.costs.Quanta.{steps-stop, steps-go}
 use Rattle.mh_laws.proofs.marking.SameTable.{snapshot-turned}
 use Rattle.mh_laws.proofs.marking.MarkSteps.{snapshot-roots_step, snapshot-mark_step}

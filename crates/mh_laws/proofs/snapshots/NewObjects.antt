@@ -11,7 +11,7 @@ use Rattle.mh_model.specs.Table.{Block, Made, resolve}
 use Rattle.mh_model.specs.Collector.{Collector, is_idle}
 use Rattle.mh_model.specs.Mutator.{in_roots_or_mark}
 use Rattle.mh_model.specs.Snapshot.{IsKept}
-use Rattle.mh_laws.specs.Invariant.{IsPlainAt, IsPartOf, first_child, IsSound, Links, IsWhole, KeepsCycle, KeepsSnapshot}
+use Rattle.mh_model.specs.Invariant.{IsPlainAt, IsPartOf, first_child, IsSound, Links, IsWhole, KeepsCycle, KeepsSnapshot}
 use Rattle.mh_laws.proofs.marking.MarkingPaths.{Keeps, promises_stay}
 use Rattle.mh_laws.proofs.marking.BlockChanges.{resolve-live, not_sweep}
 use Rattle.mh_laws.proofs.marking.MarkSteps.{leads}

@@ -14,8 +14,8 @@ use Rattle.mh_model.specs.Collector.{Collector, first_collector, is_marked, is_i
 use Rattle.mh_model.specs.Mutator.{HeapState, first_heap, in_roots_or_mark}
 use Rattle.mh_model.specs.Machine.{Machine, first_machine, with_collector, quantum_run, command_step, half_step, machine_after}
 use Rattle.mh_model.specs.View.{in_sweep, is_condemned, is_held, heap_view}
-use Rattle.mh_laws.specs.Invariant.{IsPlainAt, IsSound, KeepsSnapshot, Continues, IsLinked}
-use Rattle.mh_laws.specs.Snapshots.{IsKeeping, MomentsKeepASnapshot}
+use Rattle.mh_model.specs.Invariant.{IsPlainAt, IsSound, KeepsSnapshot, Continues, IsLinked, IsKeeping}
+use Rattle.mh_laws.specs.Snapshots.{MomentsKeepASnapshot}
 use Rattle.mh_laws.proofs.Lists.{none_at}
 use Rattle.mh_laws.proofs.costs.Quanta.{steps-stop}
 use Rattle.mh_laws.proofs.runs.EveryMoment.{half_step-keeps, machine_after-keeps}

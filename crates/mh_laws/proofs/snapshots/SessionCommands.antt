@@ -13,7 +13,7 @@ use Rattle.mh_model.specs.Table.{Block, Made, Position, resolve, target_of, is_s
 use Rattle.mh_model.specs.Collector.{Collector}
 use Rattle.mh_model.specs.Mutator.{HeapState, in_roots_or_mark, root_at, shape_at, field_of, number_field, new_group, with_born, heap_sight, heap_effect, mutator_step}
 use Rattle.mh_model.specs.Snapshot.{IsKept}
-use Rattle.mh_laws.specs.Invariant.{IsPlainAt, KeepsSnapshot}
+use Rattle.mh_model.specs.Invariant.{IsPlainAt, KeepsSnapshot}
 use Rattle.mh_laws.proofs.marking.BlockChanges.{resolve-live}
 use Rattle.mh_laws.proofs.marking.MarkSteps.{leads}
 use Rattle.mh_laws.proofs.snapshots.Barriers.{IsWritable, HasFields, nothing_writable, root_writable, snapshot-with_root, snapshot-with_session_cleared, snapshot-with_reference_stored, snapshot-with_number_stored}

@@ -10,7 +10,7 @@ use Rattle.mh_model.specs.Collector.{Collector, with_phase, after_mark, sweep_st
 use Rattle.mh_model.specs.Mutator.{in_roots_or_mark}
 use Rattle.mh_model.specs.View.{in_sweep}
 use Rattle.mh_model.specs.Snapshot.{IsKept}
-use Rattle.mh_laws.specs.Invariant.{IsIn, IsPlainAt, in_trace, in_defrag, IsSound, IsFromRoot, KeepsSnapshot}
+use Rattle.mh_model.specs.Invariant.{IsIn, IsPlainAt, in_trace, in_defrag, IsSound, IsFromRoot, KeepsSnapshot}
 use Rattle.mh_laws.proofs.marking.MarkingPaths.{nothing_promised}
 use Rattle.mh_laws.proofs.marking.BlockChanges.{resolve-live, not_sweep, within}
 use Rattle.mh_laws.proofs.marking.SameTable.{snapshot-turned}

@@ -5,9 +5,9 @@ use Rattle.std.proofs.lemmas.Option.{none-some, same_Some}
 use Rattle.std.proofs.Math.Nat.{mul-le-mul_right}
 use Rattle.std.proofs.lemmas.List.{length-set, length-replicate, set-get_or}
 use Rattle.mh_model.specs.Classes.{class_sizes, class_of, slots_in}
-use Rattle.mh_model.specs.Pages.{Page, Table, page_number, slot_number, page_at, block_in, block_at, live_in, page_with, with_block, page_for, with_taken}
+use Rattle.mh_model.specs.Pages.{Page, Table, page_number, slot_number, page_at, block_in, block_at, live_in, page_with, with_block, page_for, with_taken, has_denser}
 use Rattle.mh_model.specs.Table.{Block, is_forwarder}
-use Rattle.mh_model.specs.Collector.{survivor, is_last_slot, is_marked, has_denser, judged_page, swept_page, swept_table}
+use Rattle.mh_model.specs.Collector.{survivor, is_last_slot, is_marked, judged_page, swept_page, swept_table}
 use Rattle.mh_laws.proofs.Lists.{find-passes, get_or-set_either, none_at}
 use Rattle.mh_laws.proofs.placing.Places.{IsShaped, IsSlot}
 use Rattle.mh_laws.specs.Costs.{IsSized}

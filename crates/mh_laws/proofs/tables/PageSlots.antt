@@ -3,10 +3,10 @@ use Rattle.std.proofs.Common.{◌≡◌, ℕ, ◌==◌, ◌<◌, ◌≤◌, ◌&
 use Rattle.std.proofs.lemmas.Bool.{and_parts, ltb-true, leb-true}
 use Rattle.std.proofs.lemmas.Option.{none-some, same_Some}
 use Rattle.std.proofs.lemmas.List.{length-set, length-replicate}
-use Rattle.mh_model.specs.Classes.{class_sizes, class_of, slots_in}
-use Rattle.mh_model.specs.Pages.{Page, Table, page_number, slot_number, page_at, page_with, with_block, page_for, with_taken}
+use Rattle.mh_model.specs.Classes.{class_sizes, class_of, slots_in, is_class_size}
+use Rattle.mh_model.specs.Pages.{Page, Table, page_number, slot_number, page_at, page_with, with_block, page_for, with_taken, HasItsSlots, HaveTheirSlots}
 use Rattle.mh_model.specs.Table.{Block}
-use Rattle.mh_laws.specs.Tables.{is_class_size, HasItsSlots, HaveTheirSlots, KeepsItsPages}
+use Rattle.mh_laws.specs.Tables.{KeepsItsPages}
 use Rattle.mh_laws.proofs.Lists.{get_or-set_either, find-passes, member-passes}
 
 -- Classes ----------------------------------------------------------------------------------------
