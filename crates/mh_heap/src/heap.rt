@@ -1,7 +1,7 @@
-ghost use Rattle.std.specs.Prelude.{◌≡◌, ◌<◌, ℕ, Bool, IfOk, OnErr};
+ghost use Rattle.std.specs.Prelude.{◌≡◌, ◌<◌, ℕ, Bool, None, IfOk, OnErr};
 ghost use Rattle.mh_model.specs.declared.birth.TheConstants.{LIFE};
 ghost use Rattle.mh_model.specs.declared.command.Command.TheVariants as command;
-ghost use Rattle.mh_model.specs.World.{World, births, IsClosed, Performs};
+ghost use Rattle.mh_model.specs.World.{World, births, sight_of, refusal, IsClosed, Performs};
 ghost use Rattle.mh_heap.specs.Outcome.{done_or, number_or, same_or, shape_or};
 
 use mh_model::memory::NoMemory;
@@ -26,7 +26,9 @@ pub trait Heap {
         requires { births (view self.old) < LIFE }
         ensures step { IfOk result
             (λ outcome. Performs (is_full self.old) (view self.old) who (command.New slot references numbers) (done_or outcome) (view self.new)) }
-        ensures err { OnErr result (view self.new ≡ view self.old) };
+        ensures err { OnErr result (view self.new ≡ view self.old) }
+        ensures asked { OnErr result
+            (refusal (sight_of (is_full self.old) (view self.old)) who (command.New slot references numbers) ≡ None) };
 
     fn get(&mut self, who: u8, slot: u32, source: u32, field: u32) -> Result<(), Refusal>
         ensures { Performs (is_full self.old) (view self.old) who (command.Get slot source field) (done_or result) (view self.new) };

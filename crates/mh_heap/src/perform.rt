@@ -1,6 +1,6 @@
-ghost use Rattle.std.specs.Prelude.{◌≡◌, ◌<◌, IfOk, OnErr};
+ghost use Rattle.std.specs.Prelude.{◌≡◌, ◌<◌, None, IfOk, OnErr};
 ghost use Rattle.mh_model.specs.declared.birth.TheConstants.{LIFE};
-ghost use Rattle.mh_model.specs.World.{births, IsClosed, Performs};
+ghost use Rattle.mh_model.specs.World.{births, sight_of, refusal, IsClosed, Performs};
 ghost use Rattle.mh_heap.specs.Memory.{IsNew};
 ghost use Rattle.mh_heap.specs.Outcome.{done_or, number_or, same_or, shape_or};
 
@@ -37,12 +37,14 @@ fn shape(outcome: Result<Shape, Refusal>) -> Reply
     outcome.map_or_else(Reply::Refused, Reply::Shape)
 }
 
-/// Performs a command of the session `who`, and answers it.
+/// Performs a command of the session `who`, and answers it. Only a new object that nothing refuses asks for memory.
 pub fn perform<H: Heap>(heap: &mut H, who: u8, command: &Command) -> Result<Reply, NoMemory>
     requires { births (H.view heap.old) < LIFE }
     ensures step { IfOk result (λ reply. Performs (H.is_full heap.old) (H.view heap.old) who command.now reply (H.view heap.new)) }
     ensures err { OnErr result (H.view heap.new ≡ H.view heap.old) }
     ensures only_new { OnErr result (IsNew command.now) }
+    ensures asked { OnErr result
+        (refusal (sight_of (H.is_full heap.old) (H.view heap.old)) who command.now ≡ None) }
     ensures closed { IsClosed (H.view heap.new) }
 {
     let reply = match *command {

@@ -1,38 +1,86 @@
 -- What a run of a script has read and written.
-use Rattle.std.specs.Prelude.{◌≡◌, ℕ, ◌≤◌, List, ◌++◌, length, Option, IfSome}
-use Rattle.std.specs.Io.KnownBytes.{Appends}
+use Rattle.std.specs.Prelude.{◌≡◌, ℕ, ◌<◌, ◌≤◌, List, ◌++◌, length, Option, IfSome, Result, Ok, Err, IfOk, OnErr, IsErrOf}
+use Rattle.std.specs.Io.KnownBytes.{Appends, Consumes, IsAtEnd, Keeps}
 use Rattle.mh_model.specs.declared.command.Event.{Event}
 use Rattle.mh_model.specs.Bytes.{Text}
-use Rattle.mh_model.specs.Output.{output}
-use Rattle.mh_model.specs.Script.{BadLine, Means, Meaning, reading}
+use Rattle.mh_model.specs.Output.{most_entries}
+use Rattle.mh_model.specs.Script.{BadLine, Means, Meaning}
+use Rattle.mh_text.specs.Stream.{ConsumesBeginning}
+use Rattle.mh_script.specs.Stage.{served_reading, served_output}
 use Rattle.mh_script.specs.declared.end.End.{End}
 use Rattle.mh_script.specs.declared.end.End.TheVariants.{Done, Refused}
+use Rattle.mh_script.specs.declared.fault.ScriptFault.{ScriptFault}
+use Rattle.mh_script.specs.declared.fault.ScriptFault.TheVariants.{Read, Write, NoMemory, HistoryFull}
 
--- the bytes that a source had left are the script, where they are known
-abbrev pub IsScriptOf : Option Text → Text → Type 0
-IsScriptOf known script = IfSome known (λ bytes. bytes ≡ script)
+-- Texts ------------------------------------------------------------------------------------------
 
 -- a text was taken in: a front of it is written, and the rest waits in the buffer
 abbrev pub Buffers : Option Text → Option Text → Text → Text → Type 0
 Buffers old new buffer text = (front : Text) × Appends old new front × (front ++ buffer ≡ text)
 
--- the script of the source is within the grammar, and its output was written
-abbrev pub RunsToEnd : Option Text → Option Text → Option Text → Type 0
-RunsToEnd known old new = (script : Text) × IsScriptOf known script × ((meaning : Meaning) × (reading script ≡ Means meaning)) × Appends old new (output script)
+-- the bytes that a source had left are the script, where they are known
+abbrev pub IsScriptOf : Option Text → Text → Type 0
+IsScriptOf known script = IfSome known (λ bytes. bytes ≡ script)
 
--- the script's least bad line is this one, and its output, which says so, was written
+-- a source was read to its end, or until it had given more than the longest script
+abbrev pub ReadsScript : Option Text → Option Text → Type 0
+ReadsScript old new = (text : Text) × Consumes old new text × (length text ≤ 67108864 → IsAtEnd new)
+
+-- Runs -------------------------------------------------------------------------------------------
+
+-- what is known of a device: the bytes that a source has left or that a sink was given, and how often it failed
+pub record Device : Type 0 where
+  pub bytes : Option Text
+  pub failures : ℕ
+
+abbrev pub device : Option Text → ℕ → Device
+device bytes failures = record { bytes = bytes; failures = failures }
+
+-- the script of the source is served, and its output was written
+pub record Answers (known old new : Option Text) (meaning : Meaning) : Type 0 where
+  pub script : Text
+  pub is_script : IsScriptOf known script
+  pub means : served_reading script ≡ Means meaning
+  pub wrote : Appends old new (served_output script)
+
+-- all events were answered
+abbrev pub RunsToEnd : Option Text → Option Text → Option Text → Type 0
+RunsToEnd known old new = (meaning : Meaning) × Answers known old new meaning × (length meaning.events ≤ most_entries)
+
+-- as many events were answered as a history has room for, and more are left
+abbrev pub FillsHistory : Option Text → Option Text → Option Text → Type 0
+FillsHistory known old new = (meaning : Meaning) × Answers known old new meaning × (most_entries < length meaning.events)
+
+-- this is the script's least line that is bad or isn't served, and its output, which says so, was written
 abbrev pub RefusesAt : Option Text → Option Text → Option Text → ℕ → Type 0
-RefusesAt known old new line = (script : Text) × IsScriptOf known script × (reading script ≡ BadLine line) × Appends old new (output script)
+RefusesAt known old new line = (script : Text) × IsScriptOf known script × (served_reading script ≡ BadLine line) × Appends old new (served_output script)
 
 -- a beginning of the output of the source's script was written
 abbrev pub WritesBeginning : Option Text → Option Text → Option Text → Type 0
-WritesBeginning known old new = (script front rest : Text) × IsScriptOf known script × (front ++ rest ≡ output script) × Appends old new front
+WritesBeginning known old new = (script front rest : Text) × IsScriptOf known script × (front ++ rest ≡ served_output script) × Appends old new front
 
 -- what a run that ended well has read and written
 abbrev pub EndsAs : Option Text → Option Text → Option Text → End → Type 0
 EndsAs known old new Done = RunsToEnd known old new
 EndsAs known old new (Refused line) = RefusesAt known old new line
 
--- there are no more events than bytes in the longest script
-abbrev pub IsFew : List Event → Type 0
-IsFew events = length events ≤ 67108864
+-- the source is read as far as its script goes, unless it failed or memory was wanting
+abbrev pub LeavesSource : Option Text → Option Text → Result End ScriptFault → Type 0
+LeavesSource old new (Err Read) = ConsumesBeginning old new
+LeavesSource old new (Err NoMemory) = ConsumesBeginning old new
+LeavesSource old new _ = ReadsScript old new
+
+-- a device failed only where it is blamed
+abbrev pub Blames : Device → Device → Device → Device → Result End ScriptFault → Type 0
+Blames source source' sink sink' (Err Read) = (source.failures < source'.failures) × (sink'.failures ≡ sink.failures)
+Blames source source' sink sink' (Err Write) = (source'.failures ≡ source.failures) × (sink.failures < sink'.failures)
+Blames source source' sink sink' _ = (source'.failures ≡ source.failures) × (sink'.failures ≡ sink.failures)
+
+-- A run of the script of a source into a sink, and how it ended
+pub record IsRun (source source' sink sink' : Device) (ended : Result End ScriptFault) : Type 0 where
+  pub ends : IfOk ended (EndsAs source.bytes sink.bytes sink'.bytes)
+  pub begun : OnErr ended (WritesBeginning source.bytes sink.bytes sink'.bytes)
+  pub full : IsErrOf ended HistoryFull → FillsHistory source.bytes sink.bytes sink'.bytes
+  pub unread : IsErrOf ended Read → Keeps sink.bytes sink'.bytes
+  pub taken : LeavesSource source.bytes source'.bytes ended
+  pub blames : Blames source source' sink sink' ended

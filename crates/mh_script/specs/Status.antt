@@ -3,10 +3,10 @@ use Rattle.std.specs.Prelude.{ℕ, Result, Ok, Err}
 use Rattle.mh_script.specs.declared.end.End.{End}
 use Rattle.mh_script.specs.declared.end.End.TheVariants.{Done, Refused}
 use Rattle.mh_script.specs.declared.fault.LineFault.{LineFault}
-use Rattle.mh_script.specs.declared.fault.LineFault.TheVariants.{Words, Subcommand, NoMemory}
+use Rattle.mh_script.specs.declared.fault.LineFault.TheVariants.{Words, NotText, NoMemory}
 use Rattle.mh_script.specs.declared.fault.ScriptFault.{ScriptFault}
 
--- 0 for a script that was run, 1 for one that was refused, 3 for a fault of memory or of a device
+-- 0 for a script that was run, 1 for one that was refused, 3 for a fault of memory or of a device, and for a full history
 abbrev pub status_of : Result End ScriptFault → ℕ
 status_of (Ok Done) = 0
 status_of (Ok (Refused line)) = 1
@@ -15,5 +15,5 @@ status_of (Err fault) = 3
 -- 2 for words that are refused, 3 for want of memory
 abbrev pub line_status_of : LineFault → ℕ
 line_status_of (Words error) = 2
-line_status_of Subcommand = 2
+line_status_of NotText = 2
 line_status_of NoMemory = 3

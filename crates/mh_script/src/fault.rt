@@ -1,12 +1,13 @@
 use thiserror::Error;
 
-/// Why a command line gave no order. Its text is that of `clap`, which ends with its line, or one line.
+/// Why a command line gave no order. The text of words that are refused is that of `clap`, which ends with its line.
 #[derive(Debug, Drop, Error)]
 pub enum LineFault {
     #[error("{0}")]
     Words(clap::Error),
-    #[error("metroheap: no subcommand\n")]
-    Subcommand,
+    /// A word isn't UTF-8.
+    #[error("metroheap: a word is not text\n")]
+    NotText,
     #[error("metroheap: no memory\n")]
     NoMemory,
 }
@@ -20,4 +21,7 @@ pub enum ScriptFault {
     Write,
     #[error("metroheap: no memory")]
     NoMemory,
+    /// More events than a history has room for; those that it has were answered.
+    #[error("metroheap: history full")]
+    HistoryFull,
 }

@@ -1,4 +1,4 @@
-//! Runs over texts: the command line, and scripts from their bytes to their replies.
+//! Runs over texts: the command line, scripts from their bytes to their replies, and the program.
 #![tactic(auto)]
 
 pub mod end;
@@ -7,8 +7,14 @@ pub mod line;
 pub mod order;
 #[cfg(test)]
 mod order_tests;
+pub mod program;
+#[cfg(test)]
+mod program_tests;
 pub mod replies;
 pub mod run;
 #[cfg(test)]
 mod run_tests;
+pub mod stage;
 pub mod status;
+#[cfg(test)]
+mod test_devices;

@@ -13,10 +13,11 @@ fn the_one_word(rt: HostRuntime) -> Result<(), Fail> {
 
 #[test]
 fn other_words(rt: HostRuntime) -> Result<(), Fail> {
-    let lines: [&[&str]; 5] = [
+    let lines: [&[&str]; 6] = [
         &["metroheap"],
         &["metroheap", "walk"],
         &["metroheap", "--help"],
+        &["metroheap", "help"],
         &["metroheap", "run", "--workers"],
         &["metroheap", "run", "twice"],
     ];

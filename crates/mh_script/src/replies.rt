@@ -7,7 +7,6 @@ ghost use Rattle.mh_model.specs.Replies.{replies_text};
 ghost use Rattle.mh_text.specs.Stream.{AppendsBeginning};
 ghost use Rattle.mh_script.specs.Run.{Buffers};
 
-use crate::fault::ScriptFault;
 use mh_heap::heap::Heap;
 use mh_heap::perform::perform;
 use mh_model::command::Event;
@@ -18,9 +17,19 @@ use mh_text::sink::Sink;
 use mh_text::stream::write_text;
 use std::alloc::Global;
 use std::fmt::Write;
+use thiserror::Error;
 
 /// How many bytes of replies wait before they are written.
 const BUFFER: usize = 65_536;
+
+/// Why replies were not all written.
+#[derive(Clone, Copy, Debug, PartialEq, Eq, Error)]
+pub enum WriteError {
+    #[error("write failed")]
+    Device,
+    #[error("no memory")]
+    NoMemory,
+}
 
 /// Does an event, and adds the line of its reply to the text. The world knows of no control.
 fn answer<H: Heap>(heap: &mut H, event: &Event, text: &mut String) -> Result<(), NoMemory>
@@ -78,7 +87,7 @@ pub fn write_replies<H: Heap, W: Sink>(
     heap: &mut H,
     events: &[Event],
     sink: &mut W,
-) -> Result<(), ScriptFault>
+) -> Result<(), WriteError>
     requires never_full { (any : H) → H.is_full any ≡ never_full }
     requires births { births (H.view heap.old) + length events.now < LIFE }
     requires count { W.failures sink.old < 2 ^ 62 }
@@ -86,20 +95,20 @@ pub fn write_replies<H: Heap, W: Sink>(
     ensures view { OnOk result (H.view heap.new ≡ world_after (H.view heap.old) events.now) }
     ensures begun { OnErr result (AppendsBeginning (W.written sink.old) (W.written sink.new) (replies_text (world_replies (H.view heap.old) events.now))) }
     ensures no_failure { OnOk result (W.failures sink.new ≡ W.failures sink.old) }
-    ensures blamed { IsErrOf result ScriptFault.Write → W.failures sink.old < W.failures sink.new }
-    ensures not_read { (IsErrOf result ScriptFault.Read) → ⊥ }
+    ensures blamed { IsErrOf result WriteError.Device → W.failures sink.old < W.failures sink.new }
+    ensures not_blamed { IsErrOf result WriteError.NoMemory → W.failures sink.new ≡ W.failures sink.old }
 {
     let mut text = String::new(alloc);
     for event in events {
         let Ok(()) = answer(heap, event, &mut text) else {
-            return Err(ScriptFault::NoMemory);
+            return Err(WriteError::NoMemory);
         };
         let Ok(()) = flush_full(sink, &mut text) else {
-            return Err(ScriptFault::Write);
+            return Err(WriteError::Device);
         };
     }
     let Ok(()) = flush(sink, &mut text) else {
-        return Err(ScriptFault::Write);
+        return Err(WriteError::Device);
     };
     Ok(())
 }

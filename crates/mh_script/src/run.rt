@@ -1,53 +1,71 @@
-ghost use Rattle.std.specs.Prelude.{◌≡◌, ◌<◌, ◌^◌, IfOk, OnOk, OnErr, IsErrOf};
-ghost use Rattle.std.specs.Io.KnownBytes.{Appends, Keeps};
-ghost use Rattle.mh_model.specs.Output.{output_of};
-ghost use Rattle.mh_model.specs.Replies.{bad_line_text, line_text};
-ghost use Rattle.mh_model.specs.Script.{reading, Means};
+ghost use Rattle.std.specs.Prelude.{◌≡◌, ◌<◌, ◌^◌, OnOk, OnErr, IsErrOf};
+ghost use Rattle.std.specs.Io.KnownBytes.{Appends};
+ghost use Rattle.mh_model.specs.Bytes.{line_text};
+ghost use Rattle.mh_model.specs.Replies.{bad_line_text};
+ghost use Rattle.mh_model.specs.Script.{Means};
 ghost use Rattle.mh_text.specs.Stream.{AppendsBeginning};
-ghost use Rattle.mh_script.specs.Run.{EndsAs, IsFew, WritesBeginning};
+ghost use Rattle.mh_script.specs.Run.{device, IsRun};
+ghost use Rattle.mh_script.specs.Stage.{served_output_of};
 
 use crate::end::End;
 use crate::fault::ScriptFault;
-use crate::replies::write_replies;
+use crate::replies::{WriteError, write_replies};
+use crate::stage::parse_served;
+use arrayvec::ArrayString;
+use itoa::Buffer;
 use mh_heap::plain::PlainHeap;
-use mh_text::script::{SCRIPT_BYTES, Script, ScriptError, parse};
+use mh_text::device::DeviceFailed;
+use mh_text::script::{SCRIPT_BYTES, Script, ScriptError};
 use mh_text::sink::Sink;
 use mh_text::source::Source;
 use mh_text::stream::{ReadError, read_text, write_text};
 use std::alloc::Global;
 
-/// Does the events of a script over a heap that never collects, and writes the lines of their replies.
-fn write_output<W: Sink>(alloc: Global, script: &Script, sink: &mut W) -> Result<(), ScriptFault>
-    requires few { IsFew script.now.events }
-    requires count { W.failures sink.old < 2 ^ 62 }
-    ensures done { OnOk result (Appends (W.written sink.old) (W.written sink.new) (output_of (Means script.now))) }
-    ensures begun { OnErr result (AppendsBeginning (W.written sink.old) (W.written sink.new) (output_of (Means script.now))) }
-    ensures blamed { IsErrOf result ScriptFault.Write → W.failures sink.old < W.failures sink.new }
-    ensures not_read { IsErrOf result ScriptFault.Read → ⊥ }
+/// The most events that are answered.
+const MOST_ENTRIES: usize = 1_000_000;
+
+/// The most bytes of the line that refuses a script.
+const REFUSAL_BYTES: usize = 64;
+
+/// Answers the events of a script, as far as a history has room, over a heap that never collects.
+fn write_answers<W: Sink>(alloc: Global, script: &Script, sink: &mut W) -> Result<(), WriteError>
+    requires { W.failures sink.old < 2 ^ 62 }
+    ensures done { OnOk result (Appends (W.written sink.old) (W.written sink.new) (served_output_of (Means script.now))) }
+    ensures begun { OnErr result (AppendsBeginning (W.written sink.old) (W.written sink.new) (served_output_of (Means script.now))) }
+    ensures no_failure { OnOk result (W.failures sink.new ≡ W.failures sink.old) }
+    ensures blamed { IsErrOf result WriteError.Device → W.failures sink.old < W.failures sink.new }
+    ensures not_blamed { IsErrOf result WriteError.NoMemory → W.failures sink.new ≡ W.failures sink.old }
 {
     let mut heap = PlainHeap::open(alloc, script.config());
-    write_replies(alloc, &mut heap, script.events(), sink)
+    let events = script.events();
+    let count = events.len().min(MOST_ENTRIES);
+    write_replies(alloc, &mut heap, &events[..count], sink)
+}
+
+fn refusal_line(line: u64) -> ArrayString<REFUSAL_BYTES>
+    ensures { result.bytes ≡ line_text (bad_line_text line) }
+{
+    let mut text = ArrayString::new();
+    text.push_str("refused 10 line ");
+    text.push_str(Buffer::new().format(line));
+    text.push_str("\n");
+    text
 }
 
 /// Writes the line that names a script's least bad line.
-fn write_refusal<W: Sink>(alloc: Global, line: u64, sink: &mut W) -> Result<(), ScriptFault>
+fn write_refusal<W: Sink>(line: u64, sink: &mut W) -> Result<(), DeviceFailed>
     requires { W.failures sink.old < 2 ^ 62 }
     ensures done { OnOk result (Appends (W.written sink.old) (W.written sink.new) (line_text (bad_line_text line))) }
     ensures begun { OnErr result (AppendsBeginning (W.written sink.old) (W.written sink.new) (line_text (bad_line_text line))) }
-    ensures blamed { IsErrOf result ScriptFault.Write → W.failures sink.old < W.failures sink.new }
-    ensures not_read { IsErrOf result ScriptFault.Read → ⊥ }
+    ensures no_failure { OnOk result (W.failures sink.new ≡ W.failures sink.old) }
+    ensures blamed { OnErr result (W.failures sink.old < W.failures sink.new) }
 {
-    let Ok(text) = format!(in alloc; "refused 10 line {line}\n") else {
-        return Err(ScriptFault::NoMemory);
-    };
-    let Ok(()) = write_text(sink, text.as_bytes()) else {
-        return Err(ScriptFault::Write);
-    };
-    Ok(())
+    let text = refusal_line(line);
+    write_text(sink, text.as_str().as_bytes())
 }
 
-/// Reads a whole script, and then writes its output: a line for each reply, or where a line of the script is outside
-/// the grammar the one line that names the least such line.
+/// Reads a whole script, and then writes its output: a line for each reply, or the one line that names the least line that
+/// is outside the grammar or of a form that isn't served yet.
 pub fn run_script<S: Source, W: Sink>(
     alloc: Global,
     source: &mut S,
@@ -55,25 +73,24 @@ pub fn run_script<S: Source, W: Sink>(
 ) -> Result<End, ScriptFault>
     requires source_count { S.failures source.old < 2 ^ 62 }
     requires sink_count { W.failures sink.old < 2 ^ 62 }
-    ensures ends { IfOk result (EndsAs (S.rest source.old) (W.written sink.old) (W.written sink.new)) }
-    ensures begun { OnErr result (WritesBeginning (S.rest source.old) (W.written sink.old) (W.written sink.new)) }
-    ensures read { IsErrOf result ScriptFault.Read → Keeps (W.written sink.old) (W.written sink.new) }
-    ensures read_blamed { IsErrOf result ScriptFault.Read → S.failures source.old < S.failures source.new }
-    ensures write_blamed { IsErrOf result ScriptFault.Write → W.failures sink.old < W.failures sink.new }
+    ensures { IsRun (device (S.rest source.old) (S.failures source.old)) (device (S.rest source.new) (S.failures source.new))
+        (device (W.written sink.old) (W.failures sink.old)) (device (W.written sink.new) (W.failures sink.new)) result }
 {
     let text = match read_text(alloc, source, SCRIPT_BYTES) {
         Ok(text) => text,
         Err(ReadError::Device) => return Err(ScriptFault::Read),
         Err(ReadError::NoMemory) => return Err(ScriptFault::NoMemory),
     };
-    match parse(alloc, text.as_slice()) {
-        Ok(script) => match write_output(alloc, &script, sink) {
+    match parse_served(alloc, text.as_slice()) {
+        Ok(script) => match write_answers(alloc, &script, sink) {
+            Ok(()) if script.events().len() > MOST_ENTRIES => Err(ScriptFault::HistoryFull),
             Ok(()) => Ok(End::Done),
-            Err(fault) => Err(fault),
+            Err(WriteError::Device) => Err(ScriptFault::Write),
+            Err(WriteError::NoMemory) => Err(ScriptFault::NoMemory),
         },
-        Err(ScriptError::Line(line)) => match write_refusal(alloc, line, sink) {
+        Err(ScriptError::Line(line)) => match write_refusal(line, sink) {
             Ok(()) => Ok(End::Refused(line)),
-            Err(fault) => Err(fault),
+            Err(DeviceFailed) => Err(ScriptFault::Write),
         },
         Err(ScriptError::NoMemory) => Err(ScriptFault::NoMemory),
     }

@@ -20,7 +20,7 @@ pub fn line_status(fault: &LineFault) -> u8
     ensures { result ≡ line_status_of fault.now }
 {
     match fault {
-        LineFault::Words(_) | LineFault::Subcommand => 2,
+        LineFault::Words(_) | LineFault::NotText => 2,
         LineFault::NoMemory => 3,
     }
 }

@@ -1,0 +1,109 @@
+ghost use Rattle.std.specs.Prelude.{◌≡◌, ◌<◌, ◌^◌, Result, MatchResult, map};
+ghost use Rattle.std.specs.IoError.{error_kind};
+ghost use Rattle.std.specs.String.{string_bytes};
+ghost use Rattle.std.specs.Vec.Iter.{into_iter_items};
+ghost use Rattle.mh_model.specs.Bytes.{line_text};
+ghost use Rattle.mh_script.specs.declared.fault.LineFault.{LineFault};
+ghost use Rattle.mh_script.specs.declared.line.Order.{Order};
+ghost use Rattle.mh_script.specs.Program.{fault_text, OrdersBy, Unreads, Serves, Tells, TellsLine};
+ghost use Rattle.mh_script.specs.Run.{device};
+
+use crate::fault::{LineFault, ScriptFault};
+use crate::line::Order;
+use crate::order::line_order;
+use crate::run::run_script;
+use crate::status::{line_status, status};
+use mh_text::sink::Sink;
+use mh_text::source::Source;
+use mh_text::stream::write_text;
+use std::alloc::Global;
+use std::env::Args;
+use std::io;
+
+/// The line that tells a fault of a run.
+fn fault_line(fault: ScriptFault) -> &'static [u8]
+    ensures { result.now ≡ line_text (fault_text fault) }
+{
+    match fault {
+        ScriptFault::Read => b"metroheap: read failed\n",
+        ScriptFault::Write => b"metroheap: write failed\n",
+        ScriptFault::NoMemory => b"metroheap: no memory\n",
+        ScriptFault::HistoryFull => b"metroheap: history full\n",
+    }
+}
+
+/// Tells a text. Where standard error fails there is nobody left to tell.
+fn tell<E: Sink>(errors: &mut E, text: &[u8])
+    requires { E.failures errors.old < 2 ^ 62 }
+    ensures { Tells (device (E.written errors.old) (E.failures errors.old)) (device (E.written errors.new) (E.failures errors.new)) text.now }
+{
+    let _ = write_text(errors, text);
+}
+
+fn tell_line<E: Sink>(alloc: Global, errors: &mut E, fault: &LineFault)
+    requires { E.failures errors.old < 2 ^ 62 }
+    ensures { TellsLine (device (E.written errors.old) (E.failures errors.old)) (device (E.written errors.new) (E.failures errors.new)) fault.now }
+{
+    match fault {
+        LineFault::Words(error) => match format!(in alloc; "{error}") {
+            Ok(text) => tell(errors, text.as_bytes()),
+            Err(_) => tell(errors, b"metroheap: bad command line\n"),
+        },
+        LineFault::NotText => tell(errors, b"metroheap: a word is not text\n"),
+        LineFault::NoMemory => tell(errors, b"metroheap: no memory\n"),
+    }
+}
+
+/// Does what the command line asks for, tells on `errors` what went wrong, and gives the exit status.
+pub fn serve<S: Source, W: Sink, E: Sink>(
+    alloc: Global,
+    order: Result<Order, LineFault>,
+    source: &mut S,
+    sink: &mut W,
+    errors: &mut E,
+) -> u8
+    requires source_count { S.failures source.old < 2 ^ 62 }
+    requires sink_count { W.failures sink.old < 2 ^ 62 }
+    requires errors_count { E.failures errors.old < 2 ^ 62 }
+    ensures { Serves order
+        (device (S.rest source.old) (S.failures source.old)) (device (S.rest source.new) (S.failures source.new))
+        (device (W.written sink.old) (W.failures sink.old)) (device (W.written sink.new) (W.failures sink.new))
+        (device (E.written errors.old) (E.failures errors.old)) (device (E.written errors.new) (E.failures errors.new)) result }
+{
+    match order {
+        Ok(Order::Run) => {
+            let ended = run_script(alloc, source, sink);
+            if let Err(fault) = ended {
+                tell(errors, fault_line(fault));
+            }
+            status(&ended)
+        }
+        Err(fault) => {
+            tell_line(alloc, errors, &fault);
+            line_status(&fault)
+        }
+    }
+}
+
+/// The program: does what the words of the command line ask for, of which the first is its own name, tells on `errors` what
+/// went wrong, and gives the exit status.
+pub fn program<S: Source, W: Sink, E: Sink>(
+    alloc: Global,
+    words: io::Result<Args>,
+    source: &mut S,
+    sink: &mut W,
+    errors: &mut E,
+) -> u8
+    requires source_count { S.failures source.old < 2 ^ 62 }
+    requires sink_count { W.failures sink.old < 2 ^ 62 }
+    requires errors_count { E.failures errors.old < 2 ^ 62 }
+    ensures { (order : Result Order LineFault)
+        × MatchResult words (λ words. OrdersBy (map string_bytes (into_iter_items words)) order) (λ error. Unreads (error_kind error) order)
+        × Serves order
+        (device (S.rest source.old) (S.failures source.old)) (device (S.rest source.new) (S.failures source.new))
+        (device (W.written sink.old) (W.failures sink.old)) (device (W.written sink.new) (W.failures sink.new))
+        (device (E.written errors.old) (E.failures errors.old)) (device (E.written errors.new) (E.failures errors.new)) result }
+{
+    let order = line_order(alloc, words);
+    serve(alloc, order, source, sink, errors)
+}
