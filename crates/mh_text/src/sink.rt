@@ -2,7 +2,7 @@ ghost use Rattle.std.specs.Prelude.{◌≡◌, ◌≤◌, ◌<◌, ◌+◌, ◌^
 ghost use Rattle.std.specs.Io.KnownBytes.{Appends, Keeps};
 
 use crate::device::DeviceFailed;
-use std::io::Write;
+use std::io::{ErrorKind, Write};
 
 /// Where bytes go.
 pub trait Sink {
@@ -24,7 +24,7 @@ pub trait Sink {
         ensures failed { OnErr result (failures self.new ≡ failures self.old + 1) };
 }
 
-/// A writer of std as a sink. A write of 0 bytes counts as a failure.
+/// A writer of std as a sink. A write that is interrupted is tried again, and a write of 0 bytes counts as a failure.
 #[derive(Drop)]
 pub struct StdSink<W> {
     pub writer: W,
@@ -49,12 +49,14 @@ impl<W: Write> Sink for StdSink<W> {
     ghost failures = { λ sink. sink.failures };
 
     fn write(&mut self, bytes: &[u8]) -> Result<usize, DeviceFailed> {
-        match self.writer.write(bytes) {
-            Ok(count) if count > 0 => Ok(count),
-            _ => {
-                self.failures += 1;
-                Err(DeviceFailed)
+        for _ in 0..u64::MAX {
+            match self.writer.write(bytes) {
+                Ok(count) if count > 0 => return Ok(count),
+                Err(error) if error.kind() == ErrorKind::Interrupted => {}
+                _ => break,
             }
         }
+        self.failures += 1;
+        Err(DeviceFailed)
     }
 }

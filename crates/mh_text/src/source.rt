@@ -2,7 +2,7 @@ ghost use Rattle.std.specs.Prelude.{◌≡◌, ◌≤◌, ◌<◌, ◌+◌, ◌^
 ghost use Rattle.std.specs.Io.KnownBytes.{Consumes, Keeps, IsAtEnd};
 
 use crate::device::DeviceFailed;
-use std::io::Read;
+use std::io::{ErrorKind, Read};
 
 /// Where bytes come from.
 pub trait Source {
@@ -24,7 +24,7 @@ pub trait Source {
         ensures failed { OnErr result (failures self.new ≡ failures self.old + 1) };
 }
 
-/// A reader of std as a source.
+/// A reader of std as a source. A read that is interrupted is tried again.
 #[derive(Drop)]
 pub struct StdSource<R> {
     pub reader: R,
@@ -49,12 +49,14 @@ impl<R: Read> Source for StdSource<R> {
     ghost failures = { λ source. source.failures };
 
     fn read(&mut self, buffer: &mut [u8]) -> Result<usize, DeviceFailed> {
-        match self.reader.read(buffer) {
-            Ok(count) => Ok(count),
-            Err(_) => {
-                self.failures += 1;
-                Err(DeviceFailed)
+        for _ in 0..u64::MAX {
+            match self.reader.read(buffer) {
+                Ok(count) => return Ok(count),
+                Err(error) if error.kind() == ErrorKind::Interrupted => {}
+                Err(_) => break,
             }
         }
+        self.failures += 1;
+        Err(DeviceFailed)
     }
 }
