@@ -1,6 +1,0 @@
-use Rattle.std.proofs.Common.{◌≡◌}
-use Rattle.std.specs.Io.KnownBytes.{Keeps}
-use Rattle.mh_text.proofs.sink.StdSinkSink.write.Given as goal
-
-abbrev pub invariant-loop : goal.invariant-loop
-invariant-loop g l = (l.self.failures ≡ l.initial.self.failures) × Keeps (g.W.Write.contents l.initial.self.writer) (g.W.Write.contents l.self.writer)
