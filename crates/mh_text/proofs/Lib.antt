@@ -1,5 +1,9 @@
 pub mod StreamLemmas
 pub mod PieceLemmas
 pub mod WordLemmas
+pub mod RowLemmas
+pub mod FormLemmas
 pub mod LineLemmas
+pub mod NameLemmas
 pub mod ScriptLemmas
+pub mod ReplyLemmas

@@ -1,10 +1,11 @@
 -- What the bytes of a word say of it.
-use Rattle.std.proofs.Common.{◌≡◌, ℕ, suc, ◌+◌, ◌*◌, ◌-◌, ◌<◌, ◌≤◌, ◌==◌, nat_lt, nat_le, ◌&&◌, ◌||◌, Bool, true, false, Option, Some, None, option_map, List, [], ◌∷◌, ◌++◌, length, get_or, drop, ap, sym, refl, append_assoc, add-one, drop-cons, arith}
+use Rattle.std.proofs.Common.{◌≡◌, ℕ, suc, ◌+◌, ◌*◌, ◌-◌, ◌<◌, ◌≤◌, ◌==◌, nat_lt, nat_le, ◌&&◌, ◌||◌, Bool, true, false, Option, Some, None, option_map, option_and_then, cond, List, [], ◌∷◌, ◌++◌, length, get_or, drop, ap, sym, refl, append_assoc, add-one, drop-cons, arith}
 use Rattle.std.specs.List.{list_all}
 use Rattle.std.proofs.lemmas.List.{append-nil}
 use Rattle.std.proofs.lemmas.Bool.Decides.{nat_tests}
 use Rattle.std.proofs.lemmas.Grind.{common_steps}
 use Rattle.mh_model.specs.Bytes.{Text, is_digit, is_letter, is_numeral, is_name, value_after, number, numbers}
+use Rattle.mh_text.specs.Words.{few_numbers}
 
 and_true : (b : Bool) → (b && true) ≡ b
 and_true true = refl
@@ -60,3 +61,34 @@ numbers_stop found word words is = rw is refl
 
 pub numbers_end : (found : List ℕ) → option_map (λ more. found ++ more) (numbers []) ≡ Some found
 numbers_end found = ap Some (append-nil found)
+
+-- a list of answers has as many numbers as there are words
+length_next : (first : Option ℕ) (more : Option (List ℕ)) (count : ℕ) (found : List ℕ) → ((ns : List ℕ) → more ≡ Some ns → length ns ≡ count)
+    → option_and_then (λ n. option_map (λ ns. n ∷ ns) more) first ≡ Some found → length found ≡ suc count
+length_next None more count found same is = cc
+length_next (Some n) None count found same is = cc
+length_next (Some n) (Some ns) count found same is =
+    let all : n ∷ ns ≡ found = cc in
+    let one : length ns ≡ count = same ns refl in
+    rw (← all, one) refl
+
+length_numbers : (words : List Text) (found : List ℕ) → numbers words ≡ Some found → length found ≡ length words
+length_numbers [] found is = let none : [] ≡ found = cc in rw (← none) refl
+length_numbers (word ∷ words) found is = length_next (number word) (numbers words) (length words) found (length_numbers words) is
+
+none_by : {X : Type 0} (form : List ℕ → Option X) → ((found : List ℕ) → 4 < length found → form found ≡ None)
+    → (is : Bool) (count : ℕ) (all : Option (List ℕ)) → is ≡ nat_le count 4 → ((found : List ℕ) → all ≡ Some found → length found ≡ count) → cond is all None ≡ None → option_and_then form all ≡ None
+none_by form many true count all few same none = rw none refl
+none_by form many false count None few same none = refl
+none_by form many false count (Some found) few same none = many found (let one : length found ≡ count = same found refl in grind (arith, nat_tests))
+
+-- what takes four numbers at most is none of words that are not so many numbers
+pub none_of : {X : Type 0} (form : List ℕ → Option X) → ((found : List ℕ) → 4 < length found → form found ≡ None) → (words : List Text) → few_numbers words ≡ None → option_and_then form (numbers words) ≡ None
+none_of form many words none = none_by form many (nat_le (length words) 4) (length words) (numbers words) refl (length_numbers words) none
+
+same_by : (is : Bool) (all : Option (List ℕ)) (ns : List ℕ) → cond is all None ≡ Some ns → all ≡ Some ns
+same_by true all ns few = few
+same_by false all ns few = cc
+
+pub few_same : (words : List Text) (ns : List ℕ) → few_numbers words ≡ Some ns → numbers words ≡ Some ns
+few_same words ns few = same_by (nat_le (length words) 4) (numbers words) ns few

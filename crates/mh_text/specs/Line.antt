@@ -1,9 +1,10 @@
 -- Lines of the code, in the book's words.
 use Rattle.mh_model.specs.Script as book
 use Rattle.mh_text.specs.declared.line.Line.{Line}
-use Rattle.mh_text.specs.declared.line.Line.TheVariants.{Blank, Calls, Wrong}
+use Rattle.mh_text.specs.declared.line.Line.TheVariants.{Blank, Calls, Asks, Wrong}
 
 abbrev pub line_shown : Line → book.Line
 line_shown Blank = book.Blank
 line_shown (Calls name command) = book.Calls name.now command
+line_shown (Asks control) = book.Asks control
 line_shown Wrong = book.Wrong

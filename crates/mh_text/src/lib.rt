@@ -2,8 +2,10 @@
 #![tactic(auto)]
 
 pub mod device;
-mod line;
-mod pieces;
+mod forms;
+pub mod line;
+mod names;
+pub mod pieces;
 pub mod reply_text;
 pub mod script;
 #[cfg(test)]

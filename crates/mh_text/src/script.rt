@@ -1,13 +1,13 @@
-ghost use Rattle.std.specs.Prelude.{◌≡◌, IfOk, IfErr, None, option_map};
-ghost use Rattle.mh_model.specs.Script.{Means, reading, is_session};
-ghost use Rattle.mh_text.specs.Reading.{Refuses, script_left, events_left};
+ghost use Rattle.std.specs.Prelude.{◌≡◌, ◌≢◌, IfOk, IfErr, IsErrOf};
+ghost use Rattle.mh_model.specs.Script.{Means, reading};
+ghost use Rattle.mh_text.specs.Reading.{Refuses, TakesConfig, HasEvent, BeginsWithEvent, script_left, events_left};
 
-use crate::line::{Line, config_line, is_blank, session_line};
+use crate::line::{Line, config_line, is_blank, line_of};
+use crate::names::Names;
 use crate::pieces::Lines;
-use crate::word::is_word;
 use mh_model::command::Event;
 use mh_model::config::Config;
-use std::alloc::Global;
+use std::alloc::{AllocFailed, Global};
 use std::marker::Model;
 use thiserror::Error;
 
@@ -22,6 +22,17 @@ pub enum ScriptError {
     Line(u64),
     #[error("no memory")]
     NoMemory,
+}
+
+impl<T: Drop> From<AllocFailed<T>> for ScriptError {
+    ghost use Rattle.std.specs.Prelude.{◌≡◌};
+    ghost use Rattle.mh_text.specs.declared.script.ScriptError.TheVariants.{NoMemory};
+
+    ghost from_gives = { λ _ error. error ≡ NoMemory };
+
+    fn from(_error: AllocFailed<T>) -> ScriptError {
+        ScriptError::NoMemory
+    }
 }
 
 /// A script that is within the grammar: its configuration and its events.
@@ -53,25 +64,27 @@ impl Script {
     }
 }
 
-/// Reads a script, up to its first bad line.
-#[tactic(auto, using(crate::proofs::ScriptLemmas::reading_long, crate::proofs::ScriptLemmas::reading_left))]
+/// Reads a script, up to its first bad line. It takes memory for its events alone.
+#[tactic(auto, using(crate::proofs::ScriptLemmas::reading_long, crate::proofs::ScriptLemmas::reading_left, crate::proofs::ScriptLemmas::begins_with_event))]
 pub fn parse(alloc: Global, text: &[u8]) -> Result<Script, ScriptError>
     ensures script { IfOk result (λ script. reading text.now ≡ Means script) }
     ensures line { IfErr result (Refuses (reading text.now)) }
+    ensures memory { IsErrOf result ScriptError.NoMemory → BeginsWithEvent text.now }
 {
     if text.len() > SCRIPT_BYTES {
         return Err(ScriptError::Line(0));
     }
     let mut lines = Lines::new(text);
     let config = config_from(&mut lines)?;
-    events_from(alloc, config, lines)
+    let events = events_from(alloc, lines)?;
+    Ok(Script { config, events })
 }
 
 /// Reads up to the configuration, the first line that isn't blank.
 fn config_from(lines: &mut Lines<'_>) -> Result<Config, ScriptError>
-    ensures config { IfOk result
-        (λ config. script_left lines.old ≡ events_left config None lines.new) }
+    ensures config { IfOk result (TakesConfig lines.old lines.new) }
     ensures line { IfErr result (Refuses (script_left lines.old)) }
+    ensures memory { result ≢ Err ScriptError.NoMemory }
 {
     while let Some((number, line)) = lines.next_line() {
         if !is_blank(line) {
@@ -82,41 +95,27 @@ fn config_from(lines: &mut Lines<'_>) -> Result<Config, ScriptError>
 }
 
 /// Reads the lines after the configuration.
-#[tactic(auto, using(crate::proofs::ScriptLemmas::events_blank, crate::proofs::ScriptLemmas::events_call, crate::proofs::ScriptLemmas::events_end, crate::proofs::ScriptLemmas::events_rest))]
-fn events_from(alloc: Global, config: Config, mut lines: Lines<'_>) -> Result<Script, ScriptError>
-    ensures script { IfOk result (λ script. events_left config None lines.entry ≡ Means script) }
-    ensures line { IfErr result (Refuses (events_left config None lines.entry)) }
+fn events_from(alloc: Global, mut lines: Lines<'_>) -> Result<Vec<Event>, ScriptError>
+    ensures events { IfOk result (λ events. events_left lines.entry ≡ Means events.items) }
+    ensures line { IfErr result (Refuses (events_left lines.entry)) }
+    ensures memory { IsErrOf result ScriptError.NoMemory → HasEvent lines.entry }
 {
     let mut events = Vec::new(alloc);
-    let mut session = None;
+    let mut names = Names::new();
     while let Some((number, line)) = lines.next_line() {
-        match session_line(line) {
+        match line_of(line) {
             Line::Blank => {}
             Line::Calls(name, command) => {
-                if !is_session(session, name) {
-                    return Err(ScriptError::Line(number));
-                }
-                session = Some(name);
-                if events.push(Event::Session(0, command)).is_err() {
-                    return Err(ScriptError::NoMemory);
-                }
+                let who = names.number(name);
+                events.push(Event::Session(who, command))?;
             }
+            Line::Asks(control) => events.push(Event::Control(control))?,
             Line::Wrong => return Err(ScriptError::Line(number)),
         }
     }
     if lines.is_empty() {
-        Ok(Script { config, events })
+        Ok(events)
     } else {
         Err(ScriptError::Line(lines.number()))
-    }
-}
-
-/// Whether a name is the one seen before, if there was one.
-fn is_session(seen: Option<&[u8]>, name: &[u8]) -> bool
-    ensures { result ≡ is_session (option_map (λ text. text.now) seen.entry) name.now }
-{
-    match seen {
-        Some(seen) => is_word(seen, name),
-        None => true,
     }
 }

@@ -1,8 +1,11 @@
-ghost use Rattle.std.specs.Prelude.{◌≡◌, ◌≤◌, ◌<◌, ◌+◌, ◌^◌, ℕ, List, Option, length, take, IfOk, OnOk, OnErr};
-ghost use Rattle.std.specs.Io.KnownBytes.{Appends, Keeps};
+ghost use Rattle.std.specs.Prelude.{◌≡◌, ◌≢◌, ◌≤◌, ◌<◌, ◌+◌, ◌^◌, ℕ, List, Option, length, take, IfOk, IfErr, OnOk, OnErr};
+ghost use Rattle.std.specs.Io.{WritesAtMost};
+ghost use Rattle.std.specs.Io.KnownBytes.{Appends, Keeps, WriteAppends};
+ghost use Rattle.std.specs.IoError.{error_kind};
 
 use crate::device::DeviceFailed;
-use std::io::Write;
+use std::io;
+use std::io::{ErrorKind, Write};
 
 /// Where bytes go.
 pub trait Sink {
@@ -24,7 +27,7 @@ pub trait Sink {
         ensures failed { OnErr result (failures self.new ≡ failures self.old + 1) };
 }
 
-/// A writer of std as a sink. A write of 0 bytes counts as a failure.
+/// A writer of std as a sink. A write that is interrupted is tried again, and a write of 0 bytes counts as a failure.
 #[derive(Drop)]
 pub struct StdSink<W> {
     pub writer: W,
@@ -49,7 +52,7 @@ impl<W: Write> Sink for StdSink<W> {
     ghost failures = { λ sink. sink.failures };
 
     fn write(&mut self, bytes: &[u8]) -> Result<usize, DeviceFailed> {
-        match self.writer.write(bytes) {
+        match write_retrying(&mut self.writer, bytes) {
             Ok(count) if count > 0 => Ok(count),
             _ => {
                 self.failures += 1;
@@ -57,4 +60,20 @@ impl<W: Write> Sink for StdSink<W> {
             }
         }
     }
+}
+
+/// One write, tried again where it is interrupted.
+fn write_retrying<W: Write>(writer: &mut W, bytes: &[u8]) -> io::Result<usize>
+    ensures bound { WritesAtMost result bytes.now }
+    ensures bytes { WriteAppends (W.contents writer.old) (W.contents writer.new) result bytes.now }
+    ensures retried { IfErr result (λ error. error_kind error ≢ ErrorKind.Interrupted) }
+{
+    for _ in 0..u64::MAX {
+        match writer.write(bytes) {
+            Ok(count) => return Ok(count),
+            Err(error) if error.kind() != ErrorKind::Interrupted => return Err(error),
+            Err(_) => {}
+        }
+    }
+    Err(io::Error::new(ErrorKind::TimedOut, "interrupted each time"))
 }

@@ -1,8 +1,11 @@
-ghost use Rattle.std.specs.Prelude.{◌≡◌, ◌≤◌, ◌<◌, ◌+◌, ◌^◌, ℕ, List, Option, length, take, IfOk, OnOk, OnErr};
-ghost use Rattle.std.specs.Io.KnownBytes.{Consumes, Keeps, IsAtEnd};
+ghost use Rattle.std.specs.Prelude.{◌≡◌, ◌≢◌, ◌≤◌, ◌<◌, ◌+◌, ◌^◌, ℕ, List, Option, length, take, IfOk, IfErr, OnOk, OnErr};
+ghost use Rattle.std.specs.Io.{ReadsAtMost};
+ghost use Rattle.std.specs.Io.KnownBytes.{Consumes, Keeps, IsAtEnd, ReadConsumes};
+ghost use Rattle.std.specs.IoError.{error_kind};
 
 use crate::device::DeviceFailed;
-use std::io::Read;
+use std::io;
+use std::io::{ErrorKind, Read};
 
 /// Where bytes come from.
 pub trait Source {
@@ -24,7 +27,7 @@ pub trait Source {
         ensures failed { OnErr result (failures self.new ≡ failures self.old + 1) };
 }
 
-/// A reader of std as a source.
+/// A reader of std as a source. A read that is interrupted is tried again.
 #[derive(Drop)]
 pub struct StdSource<R> {
     pub reader: R,
@@ -49,7 +52,7 @@ impl<R: Read> Source for StdSource<R> {
     ghost failures = { λ source. source.failures };
 
     fn read(&mut self, buffer: &mut [u8]) -> Result<usize, DeviceFailed> {
-        match self.reader.read(buffer) {
+        match read_retrying(&mut self.reader, buffer) {
             Ok(count) => Ok(count),
             Err(_) => {
                 self.failures += 1;
@@ -57,4 +60,20 @@ impl<R: Read> Source for StdSource<R> {
             }
         }
     }
+}
+
+/// One read, tried again where it is interrupted.
+fn read_retrying<R: Read>(reader: &mut R, buffer: &mut [u8]) -> io::Result<usize>
+    ensures bound { ReadsAtMost result buffer.new }
+    ensures bytes { ReadConsumes (R.remaining reader.old) (R.remaining reader.new) result buffer.new }
+    ensures retried { IfErr result (λ error. error_kind error ≢ ErrorKind.Interrupted) }
+{
+    for _ in 0..u64::MAX {
+        match reader.read(buffer) {
+            Ok(count) => return Ok(count),
+            Err(error) if error.kind() != ErrorKind::Interrupted => return Err(error),
+            Err(_) => {}
+        }
+    }
+    Err(io::Error::new(ErrorKind::TimedOut, "interrupted each time"))
 }

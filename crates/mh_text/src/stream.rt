@@ -1,6 +1,6 @@
 ghost use Rattle.std.specs.Prelude.{◌≡◌, ◌≤◌, ◌<◌, ◌^◌, IfOk, OnOk, OnErr, IsErrOf, length};
 ghost use Rattle.std.specs.Io.KnownBytes.{Consumes, Appends, IsAtEnd};
-ghost use Rattle.mh_text.specs.Stream.{AppendsBeginning};
+ghost use Rattle.mh_text.specs.Stream.{AppendsBeginning, ConsumesBeginning, ConsumesSome};
 
 use crate::device::DeviceFailed;
 use crate::sink::Sink;
@@ -29,7 +29,12 @@ pub fn read_text<S: Source>(
     ensures read { IfOk result (λ text. Consumes (S.rest source.old) (S.rest source.new) text.items) }
     ensures whole { IfOk result (λ text. length text.items ≤ most → IsAtEnd (S.rest source.new)) }
     ensures no_failure { OnOk result (S.failures source.new ≡ S.failures source.old) }
+    ensures begun { OnErr result (ConsumesBeginning (S.rest source.old) (S.rest source.new)) }
     ensures blamed { IsErrOf result ReadError.Device → S.failures source.old < S.failures source.new }
+
+    // Memory is taken only for bytes that the source gave.
+    ensures took { IsErrOf result ReadError.NoMemory → ConsumesSome (S.rest source.old) (S.rest source.new) }
+    ensures not_blamed { IsErrOf result ReadError.NoMemory → S.failures source.new ≡ S.failures source.old }
 {
     let mut text = Vec::new(alloc);
     let mut chunk = [0u8; CHUNK];

@@ -1,0 +1,86 @@
+-- Commands and controls by their first word and their numbers.
+use Rattle.std.proofs.Common.{◌≡◌, ℕ, ◌^◌, ◌<◌, nat_lt, Bool, true, false, Option, Some, None, option_and_then, List, [], ◌∷◌, length, get_or, ap, sym, refl, ◌∙◌, arith}
+use Rattle.std.specs.Prelude.{codes}
+use Rattle.std.proofs.lemmas.Bool.Decides.{nat_tests}
+use Rattle.mh_model.specs.declared.command.Command.{Command}
+use Rattle.mh_model.specs.declared.command.Control.{Control}
+use Rattle.mh_model.specs.declared.command.Command.TheVariants as command
+use Rattle.mh_model.specs.declared.command.Control.TheVariants as control
+use Rattle.mh_model.specs.Bytes.{Text, is_text, numbers}
+use Rattle.mh_model.specs.Forms.{Two, within, u32, u64, command_of, control_of}
+use Rattle.mh_text.specs.Words.{few_numbers}
+use Rattle.mh_text.specs.Rows.{said, command_rows, three_rows, two_rows, one_rows, no_rows, control_rows, plain_rows}
+use Rattle.mh_text.proofs.WordLemmas.{few_same, none_of}
+use Rattle.mh_text.proofs.RowLemmas.{formed_said, said_counted, said_long}
+
+-- Numbers of 32 bits -----------------------------------------------------------------------------
+
+same_within : (is : Bool) (number found : ℕ) → within is number ≡ Some found → found ≡ number
+same_within true number found is = cc
+same_within false number found is = cc
+
+pub small_same : (number found : ℕ) → within (nat_lt number u32) number ≡ Some found → found ≡ number
+small_same number found is = same_within (nat_lt number u32) number found is
+
+-- Commands ---------------------------------------------------------------------------------------
+
+pub command_said : (line : List Text) (verb : Text) (words : List Text) (ns : List ℕ) → line ≡ verb ∷ words → few_numbers words ≡ Some ns → command_of line ≡ said command_rows verb ns
+command_said line verb words ns is few = rw is (formed_said command_rows verb words ∙ rw (few_same words ns few) refl)
+
+pub command_none : (line : List Text) (verb : Text) (words : List Text) → line ≡ verb ∷ words → few_numbers words ≡ None → command_of line ≡ None
+command_none line verb words is few = rw is (formed_said command_rows verb words ∙ none_of (said command_rows verb) (λ found many. said_long command_rows verb found refl (omega arith)) words few)
+
+pub no_said : (verb : Text) (ns : List ℕ) → length ns ≡ 0 → said command_rows verb ns ≡ said no_rows verb []
+no_said verb [] none = said_counted command_rows verb [] refl
+no_said verb (n ∷ ns) none = absurd (omega arith)
+
+pub end_said : (verb : Text) (ns : List ℕ) → length ns ≡ 0 → is_text verb (codes "end") ≡ true → said command_rows verb ns ≡ Some command.End
+end_said verb ns none is = no_said verb ns none ∙ rw is refl
+
+one_counted : (verb : Text) (a : ℕ) → said command_rows verb (a ∷ []) ≡ said one_rows verb (a ∷ [])
+one_counted verb a = said_counted command_rows verb (a ∷ []) refl
+
+pub one_said : (verb : Text) (ns : List ℕ) (slot : ℕ) → length ns ≡ 1 → within (nat_lt (get_or ns 0 0) u32) (get_or ns 0 0) ≡ Some slot → said command_rows verb ns ≡ said one_rows verb (slot ∷ [])
+one_said verb [] slot one small = absurd (omega arith)
+one_said verb (a ∷ []) slot one small = rw (small_same a slot small) (one_counted verb a)
+one_said verb (a ∷ b ∷ ns) slot one small = absurd (omega arith)
+
+two_counted : (verb : Text) (a b : ℕ) → said command_rows verb (a ∷ b ∷ []) ≡ said two_rows verb (a ∷ b ∷ [])
+two_counted verb a b = said_counted command_rows verb (a ∷ b ∷ []) refl
+
+pub two_said : (verb : Text) (ns : List ℕ) (first second : ℕ) → length ns ≡ 2 → within (nat_lt (get_or ns 0 0) u32) (get_or ns 0 0) ≡ Some first → within (nat_lt (get_or ns 1 0) u32) (get_or ns 1 0) ≡ Some second
+    → said command_rows verb ns ≡ said two_rows verb (first ∷ second ∷ [])
+two_said verb [] first second two x y = absurd (omega arith)
+two_said verb (a ∷ []) first second two x y = absurd (omega arith)
+two_said verb (a ∷ b ∷ []) first second two x y = rw (small_same a first x, small_same b second y) (two_counted verb a b)
+two_said verb (a ∷ b ∷ c ∷ ns) first second two x y = absurd (omega arith)
+
+three_counted : (verb : Text) (a b c : ℕ) → said command_rows verb (a ∷ b ∷ c ∷ []) ≡ said three_rows verb (a ∷ b ∷ c ∷ [])
+three_counted verb a b c = said_counted command_rows verb (a ∷ b ∷ c ∷ []) refl
+
+pub three_said : (verb : Text) (ns : List ℕ) (first second : ℕ) → length ns ≡ 3 → within (nat_lt (get_or ns 0 0) u32) (get_or ns 0 0) ≡ Some first → within (nat_lt (get_or ns 1 0) u32) (get_or ns 1 0) ≡ Some second
+    → said command_rows verb ns ≡ said three_rows verb (first ∷ second ∷ get_or ns 2 0 ∷ [])
+three_said verb [] first second three x y = absurd (omega arith)
+three_said verb (a ∷ []) first second three x y = absurd (omega arith)
+three_said verb (a ∷ b ∷ []) first second three x y = absurd (omega arith)
+three_said verb (a ∷ b ∷ c ∷ []) first second three x y = rw (small_same a first x, small_same b second y) (three_counted verb a b c)
+three_said verb (a ∷ b ∷ c ∷ d ∷ ns) first second three x y = absurd (omega arith)
+
+-- Controls ---------------------------------------------------------------------------------------
+
+pub control_said : (line : List Text) (verb : Text) (words : List Text) (ns : List ℕ) → line ≡ verb ∷ words → few_numbers words ≡ Some ns → control_of Two line ≡ said control_rows verb ns
+control_said line verb words ns is few = rw is (formed_said control_rows verb words ∙ rw (few_same words ns few) refl)
+
+pub control_none : (line : List Text) (verb : Text) (words : List Text) → line ≡ verb ∷ words → few_numbers words ≡ None → control_of Two line ≡ None
+control_none line verb words is few = rw is (formed_said control_rows verb words ∙ none_of (said control_rows verb) (λ found many. said_long control_rows verb found refl (omega arith)) words few)
+
+pub plain_said : (verb : Text) (ns : List ℕ) → length ns ≡ 0 → said control_rows verb ns ≡ said plain_rows verb []
+plain_said verb [] none = said_counted control_rows verb [] refl
+plain_said verb (n ∷ ns) none = absurd (omega arith)
+
+pub report_said : (verb : Text) (ns : List ℕ) → length ns ≡ 1 → get_or ns 0 0 < 2 ^ 64 → is_text verb (codes "report") ≡ true → said control_rows verb ns ≡ Some (control.Report (get_or ns 0 0))
+report_said verb [] one small is = absurd (omega arith)
+report_said verb (n ∷ []) one small is =
+    let below : nat_lt n u64 ≡ true = grind (arith, nat_tests) in
+    said_counted control_rows verb (n ∷ []) refl ∙ rw (is, below) refl
+report_said verb (n ∷ m ∷ ns) one small is = absurd (omega arith)
