@@ -1,5 +1,6 @@
 -- Commands, controls and replies are read as they were written.
 use Rattle.std.proofs.Common.{option_to_list, ◌≡◌, ◌∙◌, ℕ, ◌<◌, ◌^◌, ◌==◌, nat_lt, nat_le, not, ◌&&◌, Bool, true, false, Option, Some, None, List, [], ◌∷◌, ◌++◌, length, map, flat_map, refl, decimal, codes, arith}
+use Rattle.std.proofs.lemmas.Bool.{and_parts, and_from}
 use Rattle.std.specs.List.{list_all}
 use Rattle.std.proofs.lemmas.Bool.Decides.{nat_tests}
 use Rattle.std.proofs.lemmas.Fmt.{decimal_nonempty}
@@ -18,7 +19,7 @@ use Rattle.mh_model.specs.declared.dump.DumpItem.TheVariants as item
 use Rattle.mh_model.specs.Bytes.{Text, parts_at, is_digit, number, tagged}
 use Rattle.mh_model.specs.Forms.{are_below, numbered, at, u32, u64, phrase_words, is_sayable, command_phrase, command_of, Version, One, Two, control_phrase, control_of, knows_control}
 use Rattle.mh_model.specs.Replies.{refusal_words, phase_word, flag_word, placed_word, item_words, optional_word, reply_words, are_u64, items_in_range, ascends, is_reply, phase_of, flag_of, optional_of, placed_by, placed_of, Ready, HasPage, HasClass, with_item, items_from, reply_of}
-use Rattle.mh_text_laws.proofs.Words.{and_left, and_right, and_both, below, number-decimal, numbers-decimal, decimal-digits, is_free, cut-free, cut-piece, free-append, parts-joined, decimal_free, decimal_free_low, below_or}
+use Rattle.mh_text_laws.proofs.round_trips.WordRoundTrips.{below, number-decimal, numbers-decimal, decimal-digits, is_free, cut-free, cut-piece, free-append, parts-joined, decimal_free, decimal_free_low, below_or}
 
 -- Numbers after a word ---------------------------------------------------------------------------
 
@@ -30,9 +31,9 @@ small_numbers [] [] h most = refl
 small_numbers [] (n ∷ ns) h most = cc
 small_numbers (bound ∷ bounds) [] h most = cc
 small_numbers (bound ∷ bounds) (n ∷ ns) h most =
-    and_both (nat_lt n u64) (are_u64 ns)
-    (below_most n bound (and_left (nat_lt n bound) (are_below bounds ns) h) (and_left (nat_le bound u64) (list_all (λ b. nat_le b u64) bounds) most))
-    (small_numbers bounds ns (and_right (nat_lt n bound) (are_below bounds ns) h) (and_right (nat_le bound u64) (list_all (λ b. nat_le b u64) bounds) most))
+    and_from (nat_lt n u64) (are_u64 ns)
+    (below_most n bound (and_parts (nat_lt n bound) (are_below bounds ns) h).0 (and_parts (nat_le bound u64) (list_all (λ b. nat_le b u64) bounds) most).0)
+    (small_numbers bounds ns (and_parts (nat_lt n bound) (are_below bounds ns) h).1 (and_parts (nat_le bound u64) (list_all (λ b. nat_le b u64) bounds) most).1)
 
 pub numbered-words : {X : Type 0} (bounds : List ℕ) (made : List ℕ → X) (ns : List ℕ) → are_below bounds ns ≡ true → list_all (λ bound. nat_le bound u64) bounds ≡ true
     → numbered bounds made (map decimal ns) ≡ Some (made ns)
@@ -87,7 +88,7 @@ refused-words version TooManySessions = refl
 
 optional_of-word : (n : Option ℕ) → are_u64 (option_to_list n) ≡ true → optional_of (optional_word n) ≡ Some n
 optional_of-word None h = refl
-optional_of-word (Some n) h = rw (number-decimal n (below n u64 (and_left (nat_lt n u64) true h))) refl
+optional_of-word (Some n) h = rw (number-decimal n (below n u64 (and_parts (nat_lt n u64) true h).0)) refl
 
 -- Dumps ------------------------------------------------------------------------------------------
 
@@ -96,7 +97,7 @@ other_tag c tag high digit = let range = below_or c digit in grind (arith, nat_t
 
 tagged_digits : (tag : ℕ) (ds text : Text) → 57 < tag → 0 < length ds → list_all is_digit ds ≡ true → tagged tag (ds ++ text) ≡ None
 tagged_digits tag [] text high some digits = absurd (omega arith)
-tagged_digits tag (d ∷ ds) text high some digits = rw (other_tag d tag high (and_left (is_digit d) (list_all is_digit ds) digits)) refl
+tagged_digits tag (d ∷ ds) text high some digits = rw (other_tag d tag high (and_parts (is_digit d) (list_all is_digit ds) digits).0) refl
 
 not_46 : (mark : ℕ) → 57 < mark → not (46 == mark) ≡ true
 not_46 mark high = let other : (46 == mark) ≡ false = grind (arith, nat_tests) in rw other refl
@@ -104,13 +105,13 @@ not_46 mark high = let other : (46 == mark) ≡ false = grind (arith, nat_tests)
 placed_by-word : (mark : ℕ) (made : List ℕ → DumpItem) (slot a b : ℕ) → 57 < mark → slot < 2 ^ 64 → a < 2 ^ 64 → b < 2 ^ 64 → placed_by mark made (placed_word mark slot a b) ≡ Some (made (slot ∷ a ∷ b ∷ []))
 placed_by-word mark made slot a b high s_small a_small b_small =
     let place : is_free mark (decimal a ++ 46 ∷ decimal b) ≡ true =
-    free-append mark (decimal a) (46 ∷ decimal b) (decimal_free mark a high a_small) (and_both (not (46 == mark)) (is_free mark (decimal b)) (not_46 mark high) (decimal_free mark b high b_small)) in
+    free-append mark (decimal a) (46 ∷ decimal b) (decimal_free mark a high a_small) (and_from (not (46 == mark)) (is_free mark (decimal b)) (not_46 mark high) (decimal_free mark b high b_small)) in
     let outer : parts_at mark (placed_word mark slot a b) ≡ decimal slot ∷ (decimal a ++ 46 ∷ decimal b) ∷ [] =
     rw (cut-piece mark (decimal slot) (decimal a ++ 46 ∷ decimal b) (decimal_free mark slot high s_small), cut-free mark (decimal a ++ 46 ∷ decimal b) place) refl in
     let inner : parts_at 46 (decimal a ++ 46 ∷ decimal b) ≡ decimal a ∷ decimal b ∷ [] =
-    parts-joined 46 (decimal a) (decimal b ∷ []) (and_both (is_free 46 (decimal a)) (is_free 46 (decimal b) && true) (decimal_free_low 46 a (omega arith) a_small) (and_both (is_free 46 (decimal b)) true (decimal_free_low 46 b (omega arith) b_small) refl)) in
+    parts-joined 46 (decimal a) (decimal b ∷ []) (and_from (is_free 46 (decimal a)) (is_free 46 (decimal b) && true) (decimal_free_low 46 a (omega arith) a_small) (and_from (is_free 46 (decimal b)) true (decimal_free_low 46 b (omega arith) b_small) refl)) in
     let small : are_below (u64 ∷ u64 ∷ u64 ∷ []) (slot ∷ a ∷ b ∷ []) ≡ true =
-    and_both (nat_lt slot u64) (nat_lt a u64 && (nat_lt b u64 && true)) (grind (arith, nat_tests)) (and_both (nat_lt a u64) (nat_lt b u64 && true) (grind (arith, nat_tests)) (and_both (nat_lt b u64) true (grind (arith, nat_tests)) refl)) in
+    and_from (nat_lt slot u64) (nat_lt a u64 && (nat_lt b u64 && true)) (grind (arith, nat_tests)) (and_from (nat_lt a u64) (nat_lt b u64 && true) (grind (arith, nat_tests)) (and_from (nat_lt b u64) true (grind (arith, nat_tests)) refl)) in
     rw (outer, inner) (numbered-words (u64 ∷ u64 ∷ u64 ∷ []) made (slot ∷ a ∷ b ∷ []) small refl)
 
 placed_by-other : (made : List ℕ → DumpItem) (slot a b : ℕ) → slot < 2 ^ 64 → a < 2 ^ 64 → b < 2 ^ 64 → placed_by 61 made (placed_word 62 slot a b) ≡ None
@@ -132,33 +133,33 @@ step_placed word words is = rw (is, items_from) refl
 items_from-words : (items : List DumpItem) → items_in_range items ≡ true → items_from Ready (flat_map item_words items) ≡ Some items
 items_from-words [] h = refl
 items_from-words (item.Page page class_size flag ∷ items) h =
-    let here : (nat_lt page u64 && (nat_lt class_size u64 && true)) ≡ true = and_left (are_u64 (page ∷ class_size ∷ [])) (items_in_range items) h in
-    let p : number (decimal page) ≡ Some page = number-decimal page (below page u64 (and_left (nat_lt page u64) (nat_lt class_size u64 && true) here)) in
-    let c : number (decimal class_size) ≡ Some class_size = number-decimal class_size (below class_size u64 (and_left (nat_lt class_size u64) true (and_right (nat_lt page u64) (nat_lt class_size u64 && true) here))) in
-    let more : items_from Ready (flat_map item_words items) ≡ Some items = items_from-words items (and_right (are_u64 (page ∷ class_size ∷ [])) (items_in_range items) h) in
+    let here : (nat_lt page u64 && (nat_lt class_size u64 && true)) ≡ true = (and_parts (are_u64 (page ∷ class_size ∷ [])) (items_in_range items) h).0 in
+    let p : number (decimal page) ≡ Some page = number-decimal page (below page u64 (and_parts (nat_lt page u64) (nat_lt class_size u64 && true) here).0) in
+    let c : number (decimal class_size) ≡ Some class_size = number-decimal class_size (below class_size u64 (and_parts (nat_lt class_size u64) true (and_parts (nat_lt page u64) (nat_lt class_size u64 && true) here).1).0) in
+    let more : items_from Ready (flat_map item_words items) ≡ Some items = items_from-words items (and_parts (are_u64 (page ∷ class_size ∷ [])) (items_in_range items) h).1 in
     step_page (80 ∷ decimal page) ((67 ∷ decimal class_size) ∷ flag_word flag ∷ flat_map item_words items) page p
     ∙ step_class (67 ∷ decimal class_size) (flag_word flag ∷ flat_map item_words items) page class_size c
     ∙ rw (flag_of-word flag, more) refl
 items_from-words (item.Block slot a b ∷ items) h =
-    let here : (nat_lt slot u64 && (nat_lt a u64 && (nat_lt b u64 && true))) ≡ true = and_left (are_u64 (slot ∷ a ∷ b ∷ [])) (items_in_range items) h in
-    let s_small : slot < 2 ^ 64 = below slot u64 (and_left (nat_lt slot u64) (nat_lt a u64 && (nat_lt b u64 && true)) here) in
-    let rest : (nat_lt a u64 && (nat_lt b u64 && true)) ≡ true = and_right (nat_lt slot u64) (nat_lt a u64 && (nat_lt b u64 && true)) here in
-    let a_small : a < 2 ^ 64 = below a u64 (and_left (nat_lt a u64) (nat_lt b u64 && true) rest) in
-    let b_small : b < 2 ^ 64 = below b u64 (and_left (nat_lt b u64) true (and_right (nat_lt a u64) (nat_lt b u64 && true) rest)) in
+    let here : (nat_lt slot u64 && (nat_lt a u64 && (nat_lt b u64 && true))) ≡ true = (and_parts (are_u64 (slot ∷ a ∷ b ∷ [])) (items_in_range items) h).0 in
+    let s_small : slot < 2 ^ 64 = below slot u64 (and_parts (nat_lt slot u64) (nat_lt a u64 && (nat_lt b u64 && true)) here).0 in
+    let rest : (nat_lt a u64 && (nat_lt b u64 && true)) ≡ true = (and_parts (nat_lt slot u64) (nat_lt a u64 && (nat_lt b u64 && true)) here).1 in
+    let a_small : a < 2 ^ 64 = below a u64 (and_parts (nat_lt a u64) (nat_lt b u64 && true) rest).0 in
+    let b_small : b < 2 ^ 64 = below b u64 (and_parts (nat_lt b u64) true (and_parts (nat_lt a u64) (nat_lt b u64 && true) rest).1).0 in
     let no_page : tagged 80 (placed_word 61 slot a b) ≡ None = tagged_digits 80 (decimal slot) (61 ∷ (decimal a ++ 46 ∷ decimal b)) (omega arith) (decimal_nonempty slot s_small) (decimal-digits slot s_small) in
     let placed : placed_of (placed_word 61 slot a b) ≡ Some (item.Block slot a b) = rw (placed_by-word 61 (λ ns. item.Block (at ns 0) (at ns 1) (at ns 2)) slot a b (omega arith) s_small a_small b_small) refl in
-    let more : items_from Ready (flat_map item_words items) ≡ Some items = items_from-words items (and_right (are_u64 (slot ∷ a ∷ b ∷ [])) (items_in_range items) h) in
+    let more : items_from Ready (flat_map item_words items) ≡ Some items = items_from-words items (and_parts (are_u64 (slot ∷ a ∷ b ∷ [])) (items_in_range items) h).1 in
     step_placed (placed_word 61 slot a b) (flat_map item_words items) no_page ∙ rw (placed, more) refl
 items_from-words (item.Forwarder slot a b ∷ items) h =
-    let here : (nat_lt slot u64 && (nat_lt a u64 && (nat_lt b u64 && true))) ≡ true = and_left (are_u64 (slot ∷ a ∷ b ∷ [])) (items_in_range items) h in
-    let s_small : slot < 2 ^ 64 = below slot u64 (and_left (nat_lt slot u64) (nat_lt a u64 && (nat_lt b u64 && true)) here) in
-    let rest : (nat_lt a u64 && (nat_lt b u64 && true)) ≡ true = and_right (nat_lt slot u64) (nat_lt a u64 && (nat_lt b u64 && true)) here in
-    let a_small : a < 2 ^ 64 = below a u64 (and_left (nat_lt a u64) (nat_lt b u64 && true) rest) in
-    let b_small : b < 2 ^ 64 = below b u64 (and_left (nat_lt b u64) true (and_right (nat_lt a u64) (nat_lt b u64 && true) rest)) in
+    let here : (nat_lt slot u64 && (nat_lt a u64 && (nat_lt b u64 && true))) ≡ true = (and_parts (are_u64 (slot ∷ a ∷ b ∷ [])) (items_in_range items) h).0 in
+    let s_small : slot < 2 ^ 64 = below slot u64 (and_parts (nat_lt slot u64) (nat_lt a u64 && (nat_lt b u64 && true)) here).0 in
+    let rest : (nat_lt a u64 && (nat_lt b u64 && true)) ≡ true = (and_parts (nat_lt slot u64) (nat_lt a u64 && (nat_lt b u64 && true)) here).1 in
+    let a_small : a < 2 ^ 64 = below a u64 (and_parts (nat_lt a u64) (nat_lt b u64 && true) rest).0 in
+    let b_small : b < 2 ^ 64 = below b u64 (and_parts (nat_lt b u64) true (and_parts (nat_lt a u64) (nat_lt b u64 && true) rest).1).0 in
     let no_page : tagged 80 (placed_word 62 slot a b) ≡ None = tagged_digits 80 (decimal slot) (62 ∷ (decimal a ++ 46 ∷ decimal b)) (omega arith) (decimal_nonempty slot s_small) (decimal-digits slot s_small) in
     let placed : placed_of (placed_word 62 slot a b) ≡ Some (item.Forwarder slot a b) =
     rw (placed_by-other (λ ns. item.Block (at ns 0) (at ns 1) (at ns 2)) slot a b s_small a_small b_small, placed_by-word 62 (λ ns. item.Forwarder (at ns 0) (at ns 1) (at ns 2)) slot a b (omega arith) s_small a_small b_small) refl in
-    let more : items_from Ready (flat_map item_words items) ≡ Some items = items_from-words items (and_right (are_u64 (slot ∷ a ∷ b ∷ [])) (items_in_range items) h) in
+    let more : items_from Ready (flat_map item_words items) ≡ Some items = items_from-words items (and_parts (are_u64 (slot ∷ a ∷ b ∷ [])) (items_in_range items) h).1 in
     step_placed (placed_word 62 slot a b) (flat_map item_words items) no_page ∙ rw (placed, more) refl
 
 -- Replies ----------------------------------------------------------------------------------------
@@ -171,14 +172,14 @@ reply_of-words version (reply.Number n) h = numbered-words (u64 ∷ []) (λ ns. 
 reply_of-words version (reply.Shape shape) h =
     numbered-words (u32 ∷ u32 ∷ []) (λ ns. reply.Shape (record { references = at ns 0; numbers = at ns 1 })) (shape.references ∷ shape.numbers ∷ []) h refl
 reply_of-words version (reply.Refused refusal) h = refused-words version refusal
-reply_of-words version (reply.Spent units phase) h = rw (number-decimal units (below units u64 (and_left (nat_lt units u64) true h)), phase_of-word phase) refl
+reply_of-words version (reply.Spent units phase) h = rw (number-decimal units (below units u64 (and_parts (nat_lt units u64) true h).0), phase_of-word phase) refl
 reply_of-words version (reply.Stat free live old phase cycle) h = rw (numbers-decimal (free ∷ live ∷ old ∷ cycle ∷ []) h, phase_of-word phase) refl
 reply_of-words version (reply.Dump items) h =
-    rw (items_from-words items (and_left (items_in_range items) (ascends None None items) h), and_right (items_in_range items) (ascends None None items) h) refl
+    rw (items_from-words items (and_parts (items_in_range items) (ascends None None items) h).0, (and_parts (items_in_range items) (ascends None None items) h).1) refl
 reply_of-words version (reply.Report mutator collector quanta greatest window least floor) h =
     let ns : List ℕ = mutator ∷ collector ∷ quanta ∷ greatest ∷ window ∷ [] in
-    let all : are_u64 (mutator ∷ collector ∷ quanta ∷ greatest ∷ window ∷ []) ≡ true = and_left (are_u64 ns) (are_u64 (option_to_list least) && are_u64 (option_to_list floor)) h in
-    let two : (are_u64 (option_to_list least) && are_u64 (option_to_list floor)) ≡ true = and_right (are_u64 ns) (are_u64 (option_to_list least) && are_u64 (option_to_list floor)) h in
-    rw (numbers-decimal (mutator ∷ collector ∷ quanta ∷ greatest ∷ window ∷ []) all, optional_of-word least (and_left (are_u64 (option_to_list least)) (are_u64 (option_to_list floor)) two), optional_of-word floor (and_right (are_u64 (option_to_list least)) (are_u64 (option_to_list floor)) two)) refl
+    let all : are_u64 (mutator ∷ collector ∷ quanta ∷ greatest ∷ window ∷ []) ≡ true = (and_parts (are_u64 ns) (are_u64 (option_to_list least) && are_u64 (option_to_list floor)) h).0 in
+    let two : (are_u64 (option_to_list least) && are_u64 (option_to_list floor)) ≡ true = (and_parts (are_u64 ns) (are_u64 (option_to_list least) && are_u64 (option_to_list floor)) h).1 in
+    rw (numbers-decimal (mutator ∷ collector ∷ quanta ∷ greatest ∷ window ∷ []) all, optional_of-word least (and_parts (are_u64 (option_to_list least)) (are_u64 (option_to_list floor)) two).0, optional_of-word floor (and_parts (are_u64 (option_to_list least)) (are_u64 (option_to_list floor)) two).1) refl
 reply_of-words One (reply.Left quanta) h = cc
 reply_of-words Two (reply.Left quanta) h = numbered-words (u64 ∷ []) (λ ns. reply.Left (at ns 0)) (quanta ∷ []) h refl

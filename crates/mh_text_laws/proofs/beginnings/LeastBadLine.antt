@@ -1,5 +1,6 @@
 -- What is read line by line is refused by its least bad line.
 use Rattle.std.proofs.Common.{◌≡◌, ◌∙◌, ℕ, zero, suc, ◌+◌, ◌-◌, ◌<◌, ◌≤◌, ◌==◌, cond, Bool, true, false, Option, Some, None, List, [], ◌∷◌, ◌++◌, length, map, take, ap, sym, refl, subst, codes, arith}
+use Rattle.std.proofs.lemmas.Bool.{and_parts, and_from}
 use Rattle.std.proofs.lemmas.Bool.Decides.{nat_tests}
 use Rattle.mh_model.specs.declared.config.Config.{Config}
 use Rattle.mh_model.specs.declared.command.Event.{Event}
@@ -10,42 +11,9 @@ use Rattle.mh_model.specs.Script.{Meaning, Reading, BadLine, Means, reading_map,
 use Rattle.mh_model.specs.Forms.{One}
 use Rattle.mh_model.specs.HistoryTexts.{Measured, Recorded, entry_of, measured_of, header_of, entries_from, history_of, history_reading, recorded_by, recorded_of, recorded_reading}
 use Rattle.mh_text_laws.specs.Beginnings.{front, IsLeastBad}
-use Rattle.mh_text_laws.proofs.Words.{and_left, and_right, and_both, is_free, are_free, cut-lines}
-use Rattle.mh_text_laws.proofs.Recorded.{cut-text, short, history_reading-short, recorded_reading-short}
-
--- Cuts -------------------------------------------------------------------------------------------
-
-glued : (byte : ℕ) (pieces : List Text) (rest : Text) → lines_text (with_byte byte (record { pieces = pieces; rest = rest })).pieces ++ (with_byte byte (record { pieces = pieces; rest = rest })).rest ≡ byte ∷ (lines_text pieces ++ rest)
-glued byte [] rest = refl
-glued byte (piece ∷ pieces) rest = refl
-
-glued_by : (byte : ℕ) (is : Bool) (cut : Cut) → (is ≡ true → byte ≡ 10) → lines_text (cond is (record { pieces = [] ∷ cut.pieces; rest = cut.rest }) (with_byte byte cut)).pieces ++ (cond is (record { pieces = [] ∷ cut.pieces; rest = cut.rest }) (with_byte byte cut)).rest ≡ byte ∷ (lines_text cut.pieces ++ cut.rest)
-glued_by byte true cut same = rw (same refl) refl
-glued_by byte false cut same = glued byte cut.pieces cut.rest
-
-same_ten : (byte : ℕ) → (byte == 10) ≡ true → byte ≡ 10
-same_ten byte h = grind (arith, nat_tests)
-
-pub text_is_lines : (text : Text) → lines_text (cut_after 10 text).pieces ++ (cut_after 10 text).rest ≡ text
-text_is_lines [] = refl
-text_is_lines (byte ∷ bytes) = glued_by byte (byte == 10) (cut_after 10 bytes) (same_ten byte) ∙ ap (λ (found : Text). byte ∷ found) (text_is_lines bytes)
-
-freed : (byte end : ℕ) (pieces : List Text) (rest : Text) → (byte == end) ≡ false → are_free end pieces ≡ true → are_free end (with_byte byte (record { pieces = pieces; rest = rest })).pieces ≡ true
-freed byte end [] rest other h = refl
-freed byte end (piece ∷ pieces) rest other h = rw other h
-
-freed_by : (byte end : ℕ) (is : Bool) (cut : Cut) → (byte == end) ≡ is → are_free end cut.pieces ≡ true → are_free end (cond is (record { pieces = [] ∷ cut.pieces; rest = cut.rest }) (with_byte byte cut)).pieces ≡ true
-freed_by byte end true cut same h = h
-freed_by byte end false cut same h = freed byte end cut.pieces cut.rest same h
-
-pub pieces_free : (end : ℕ) (text : Text) → are_free end (cut_after end text).pieces ≡ true
-pieces_free end [] = refl
-pieces_free end (byte ∷ bytes) = freed_by byte end (byte == end) (cut_after end bytes) refl (pieces_free end bytes)
-
-pub take_free : (end n : ℕ) (lines : List Text) → are_free end lines ≡ true → are_free end (take n lines) ≡ true
-take_free end zero lines h = refl
-take_free end (suc n) [] h = refl
-take_free end (suc n) (line ∷ lines) h = and_both (is_free end line) (are_free end (take n lines)) (and_left (is_free end line) (are_free end lines) h) (take_free end n lines (and_right (is_free end line) (are_free end lines) h))
+use Rattle.mh_text_laws.proofs.round_trips.WordRoundTrips.{is_free, are_free, cut-lines}
+use Rattle.mh_text_laws.proofs.beginnings.WholeLines.{pieces_free, take_free}
+use Rattle.mh_text_laws.proofs.round_trips.HistoryRoundTrips.{cut-text, short, history_reading-short, recorded_reading-short}
 
 -- Readers of lines -------------------------------------------------------------------------------
 
