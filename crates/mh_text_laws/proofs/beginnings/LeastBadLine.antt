@@ -228,8 +228,6 @@ least read text m is h =
 
 front-longer : (n m : ℕ) (text : Text) → n ≤ m → front m text ≡ front n text ++ lines_text (drop n (take m (cut_after 10 text).pieces))
 front-longer n m text within =
-    let lines : List Text = take m (cut_after 10 text).pieces in
-    let more : List Text = drop n (take m (cut_after 10 text).pieces) in
     let cut : take n (take m (cut_after 10 text).pieces) ++ drop n (take m (cut_after 10 text).pieces) ≡ take m (cut_after 10 text).pieces = take-append-drop n (take m (cut_after 10 text).pieces) in
     let first : take n (take m (cut_after 10 text).pieces) ≡ take n (cut_after 10 text).pieces = take-take n m (cut_after 10 text).pieces within in
     ap lines_text (sym cut) ∙ flat_map-append line_text (take n (take m (cut_after 10 text).pieces)) (drop n (take m (cut_after 10 text).pieces))
@@ -237,7 +235,6 @@ front-longer n m text within =
 
 begins-shorter : {X : Type 0} (read : Cut → Reading X) (n m : ℕ) (text : Text) → n ≤ m → Begins read (front m text) → Begins read (front n text)
 begins-shorter read n m text within begins =
-    let between : Text = lines_text (drop n (take m (cut_after 10 text).pieces)) in
     let same : front n text ++ (lines_text (drop n (take m (cut_after 10 text).pieces)) ++ begins.0) ≡ front m text ++ begins.0 =
     sym (append_assoc (front n text) (lines_text (drop n (take m (cut_after 10 text).pieces))) begins.0) ∙ ap (λ (t : Text). t ++ begins.0) (sym (front-longer n m text within)) in
     (lines_text (drop n (take m (cut_after 10 text).pieces)) ++ begins.0, begins.1, ap (λ (t : Text). read (cut_after 10 t)) same ∙ begins.2)

@@ -24,8 +24,8 @@ use Rattle.mh_model.specs.History.{IsLegal}
 use Rattle.mh_model.specs.Forms.{One, Two, u64}
 use Rattle.mh_model.specs.Replies.{is_reply, are_u64}
 use Rattle.mh_model.specs.Bytes.{Text}
-use Rattle.mh_model.specs.Script.{Means}
-use Rattle.mh_model.specs.HistoryTexts.{history_reading, is_event, is_entry, is_measured, recorded_text, measured_step, machine_record, history_text, migrated}
+use Rattle.mh_model.specs.Script.{Reading, BadLine, Means}
+use Rattle.mh_model.specs.HistoryTexts.{Refused, Legal, IsJudged, IsChecked, IsAudited, migration_text, history_reading, is_event, is_entry, is_measured, recorded_text, measured_step, machine_record, history_text, migrated}
 use Rattle.mh_text_laws.specs.Migration.{IsMigrated}
 use Rattle.mh_laws.proofs.Quanta.{units-quantum}
 use Rattle.mh_laws.proofs.Runs.{config-mutator_step}
@@ -259,3 +259,16 @@ migration_keeps config text entries first read legal =
     let known = history_reading_is text entries read in
     let few : length (history_text entries) ≤ 1073741824 = subst (λ (t : Text). length t ≤ 1073741824) known.same known.short in
     migration (record { limit = units-quantum; config = config-mutator_step }) config entries first known.passed legal few
+
+-- Texts ------------------------------------------------------------------------------------------
+
+audited_legal : (config : Config) (text : Text) (count : ℕ) (found : Reading (List Entry)) → history_reading text ≡ found → config.rules ≡ First → IsChecked config text (Legal count)
+    → IsAudited (migration_text config (Legal count) found) (Legal count)
+audited_legal config text count (BadLine line) is first h = let refused : Legal count ≡ Refused line = rw is at h in cc
+audited_legal config text count (Means entries) is first h =
+    let legal : IsJudged (IsLegal config) entries (Legal count) = rw is at h in
+    let kept = migration_keeps config text entries first is legal.0 in
+    rw kept.read (kept.legal, legal.1 ∙ sym kept.count)
+
+pub migrated_legal : (config : Config) (text : Text) (count : ℕ) → config.rules ≡ First → IsChecked config text (Legal count) → IsAudited (migration_text config (Legal count) (history_reading text)) (Legal count)
+migrated_legal config text count first h = audited_legal config text count (history_reading text) refl first h
