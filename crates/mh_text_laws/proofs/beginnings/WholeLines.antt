@@ -31,4 +31,4 @@ pieces_free end (byte ∷ bytes) = freed_by byte end (byte == end) (cut_after en
 pub take_free : (end n : ℕ) (lines : List Text) → are_free end lines ≡ true → are_free end (take n lines) ≡ true
 take_free end zero lines h = refl
 take_free end (suc n) [] h = refl
-take_free end (suc n) (line ∷ lines) h = and_from (is_free end line) (are_free end (take n lines)) (and_parts (is_free end line) (are_free end lines) h).0 (take_free end n lines (and_parts (is_free end line) (are_free end lines) h).1)
+take_free end (suc n) (line ∷ lines) h = and_from _ _ (and_parts _ _ h).0 (take_free end n lines (and_parts _ _ h).1)

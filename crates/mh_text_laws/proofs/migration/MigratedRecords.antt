@@ -167,7 +167,7 @@ reply_two (reply.Left quanta) h = cc
 
 pub entry_two : (e : Entry) → is_entry One e ≡ true → is_entry Two e ≡ true
 entry_two e h =
-    and_from (is_event Two e.event) (is_reply Two e.reply) (event_two e.event (and_parts (is_event One e.event) (is_reply One e.reply) h).0) (reply_two e.reply (and_parts (is_event One e.event) (is_reply One e.reply) h).1)
+    and_from _ _ (event_two e.event (and_parts _ _ h).0) (reply_two e.reply (and_parts _ _ h).1)
 
 most_quantum : (config : Config) → config.quantum ≤ 1000000
 most_quantum config = most config.pages config.quantum config.trigger config.every config.in_limits where
@@ -219,14 +219,14 @@ unfolding machine_replies machine_record
 record_measured p machine [] first h same = refl
 record_measured p machine (e ∷ entries) first h same =
     let here : e.reply ≡ (event_step machine e.event).reply = head_same e.reply (event_step machine e.event).reply (replies_of entries) (machine_replies (event_step machine e.event).state (events_of entries)) same in
-    let known : is_entry Two e ≡ true = entry_two e (and_parts (is_entry One e) (are_entries One entries) h).0 in
+    let known : is_entry Two e ≡ true = entry_two e (and_parts _ _ h).0 in
     let stepped : Entry = record { event = e.event; reply = (event_step machine e.event).reply } in
     let whole : is_entry Two (record { event = e.event; reply = (event_step machine e.event).reply }) ≡ true = rw (← here) known in
     let step = event_steps p machine e.event first in
     let next : (event_step machine e.event).state.heap.config.rules ≡ First = ap (λ (config : Config). config.rules) step.config ∙ first in
-    and_from (is_measured (measured_step machine e.event (event_step machine e.event))) (are_measured (machine_record (event_step machine e.event).state (events_of entries)))
-    (and_from (is_entry Two (measured_step machine e.event (event_step machine e.event)).entry) (are_u64 ((measured_step machine e.event (event_step machine e.event)).mutator ∷ (measured_step machine e.event (event_step machine e.event)).collector ∷ [])) whole (step_small p machine e.event first))
-    (record_measured p (event_step machine e.event).state entries next (and_parts (is_entry One e) (are_entries One entries) h).1 (tail_same e.reply (event_step machine e.event).reply (replies_of entries) (machine_replies (event_step machine e.event).state (events_of entries)) same))
+    and_from _ _
+    (and_from _ _ whole (step_small p machine e.event first))
+    (record_measured p (event_step machine e.event).state entries next (and_parts _ _ h).1 (tail_same e.reply (event_step machine e.event).reply (replies_of entries) (machine_replies (event_step machine e.event).state (events_of entries)) same))
 
 record_events : (machine : Machine) (events : List Event) → map (λ measured. measured.entry.event) (machine_record machine events) ≡ events
 unfolding machine_record

@@ -101,7 +101,7 @@ with_item_is (Some i) rest items h = let found = mapped_is (λ more. i ∷ more)
 one_more : (here words : List Text) (i : DumpItem) (more items : List DumpItem) → i ∷ more ≡ items → IsItem here i → AreItems words more → AreItems (here ++ words) items
 one_more here words i more items same item later =
     let written : item_words i ++ flat_map item_words more ≡ here ++ words = rw (item.0, later.0) refl in
-    let ranged : items_in_range (i ∷ more) ≡ true = and_from (are_u64 (item_numbers i)) (items_in_range more) item.1 later.1 in
+    let ranged : items_in_range (i ∷ more) ≡ true = and_from _ _ item.1 later.1 in
     (ap (flat_map item_words) (sym same) ∙ written, ap items_in_range (sym same) ∙ ranged)
 
 -- what the later words mean after any that were read
@@ -113,7 +113,7 @@ first_word_is : (word : Text) (words : List Text) (items : List DumpItem) (page 
     → AreItems (word ∷ words) items
 first_word_is word words items (Some page) is later h =
     let known = tagged_is 80 word page is in
-    let found = later (HasPage page) items h (and_from (nat_lt page u64) true known.1 refl) in
+    let found = later (HasPage page) items h (and_from _ _ known.1 refl) in
     (found.0 ∙ ap (λ (w : Text). w ∷ words) known.0, found.1)
 first_word_is word words items None is later h =
     let found = with_item_is (placed_of word) (items_from Ready words) items h in
@@ -143,5 +143,5 @@ items_are [] Ready items h small = let none : [] ≡ items = cc in (ap (flat_map
 items_are [] (HasPage page) items h small = cc
 items_are [] (HasClass page class_size) items h small = cc
 items_are (word ∷ words) Ready items h small = first_word_is word words items (tagged 80 word) refl (items_are words) h
-items_are (word ∷ words) (HasPage page) items h small = class_is page word words items (tagged 67 word) refl (items_are words) (and_parts (nat_lt page u64) true small).0 h
+items_are (word ∷ words) (HasPage page) items h small = class_is page word words items (tagged 67 word) refl (items_are words) (and_parts _ _ small).0 h
 items_are (word ∷ words) (HasClass page class_size) items h small = page_is page class_size word words items (items_are words) small h

@@ -42,7 +42,7 @@ event_by version word words e false is h =
     let who = session_is word one.0 one.1 in
     let known = command_is words two.0 two.1 in
     let written : event_words (event.Session one.0 two.0) ≡ word ∷ words = rw (who.0, known.0) refl in
-    (ap event_words (sym two.2) ∙ written, ap (is_event version) (sym two.2) ∙ and_from (nat_le one.0 8) (is_sayable (command_phrase two.0)) who.1 known.1)
+    (ap event_words (sym two.2) ∙ written, ap (is_event version) (sym two.2) ∙ and_from _ _ who.1 known.1)
 
 pub event_is : (version : Version) (words : List Text) (e : Event) → event_of version words ≡ Some e → IsOf event_words (is_event version) words e
 event_is version [] e h = cc
@@ -74,7 +74,7 @@ entry_by_is version halves e h =
     let re = reply_is version halves.after two.0 two.1 in
     let made : Entry = record { event = one.0; reply = two.0 } in
     let written : event_words one.0 ++ codes "=" ∷ reply_words two.0 ≡ halves.before ++ codes "=" ∷ halves.after = rw (ev.0, re.0) refl in
-    (ap entry_words (sym two.2) ∙ written, ap (is_entry version) (sym two.2) ∙ and_from (is_event version one.0) (is_reply version two.0) ev.1 re.1)
+    (ap entry_words (sym two.2) ∙ written, ap (is_entry version) (sym two.2) ∙ and_from _ _ ev.1 re.1)
 
 pub entry_is : (version : Version) (words : List Text) (e : Entry) → entry_of version words ≡ Some e → IsOf entry_words (is_entry version) words e
 entry_is version words e h =
@@ -90,7 +90,7 @@ measured_with_is e (a ∷ b ∷ c ∷ ns) words m is small known h = cc
 measured_with_is e (a ∷ b ∷ []) words m is small known h =
     let made : Measured = record { entry = e; mutator = a; collector = b } in
     let same : made ≡ m = cc in
-    (ap measured_words (sym same) ∙ ap (λ (ws : List Text). entry_words e ++ codes "units" ∷ ws) is, ap is_measured (sym same) ∙ and_from (is_entry Two e) (are_u64 (a ∷ b ∷ [])) known small)
+    (ap measured_words (sym same) ∙ ap (λ (ws : List Text). entry_words e ++ codes "units" ∷ ws) is, ap is_measured (sym same) ∙ and_from _ _ known small)
 
 pub measured_is : (words : List Text) (m : Measured) → measured_of words ≡ Some m → IsOf measured_words is_measured words m
 measured_is words m h =

@@ -64,7 +64,7 @@ texts_are [] [] h = refl
 texts_are [] (y ∷ ys) h = cc
 texts_are (x ∷ xs) [] h = cc
 texts_are (x ∷ xs) (y ∷ ys) h =
-    let both = and_parts (is_text x y) (are_texts xs ys) h in
+    let both = and_parts _ _ h in
     let one : x ≡ y = text_is x y both.0 in
     let more : xs ≡ ys = texts_are xs ys both.1 in
     cc
@@ -128,5 +128,5 @@ pub control_again : (version : Version) (words : List Text) (c : Control) → co
     → (phrase_words (control_phrase c) ≡ words) × (knows_control version c ≡ true) × (is_sayable (control_phrase c) ≡ true)
 control_again version words c h =
     let found = control_is version words c h in
-    let both = and_parts (knows_control version c) (is_sayable (control_phrase c)) found.1 in
+    let both = and_parts _ _ found.1 in
     (found.0, both.0, both.1)

@@ -44,7 +44,7 @@ entries_are {X} read line passes is n (l ∷ lines) rest xs h = by (read l) refl
       record {
         same = ap (map line) (sym found.2) ∙ rw (one.0, more.same) refl;
         end = more.end;
-        passed = ap (list_all passes) (sym found.2) ∙ and_from (passes x) (list_all passes found.0) one.1 more.passed;
+        passed = ap (list_all passes) (sym found.2) ∙ and_from _ _ one.1 more.passed;
       }
 
 -- the whole text of the lines before an empty rest

@@ -73,7 +73,7 @@ numbers_are (word ∷ words) ns h =
     let one = number_is word first.0 first.1 in
     let more = numbers_are words later.0 later.1 in
     let written : map decimal (first.0 ∷ later.0) ≡ word ∷ words = rw (one.0, more.0) refl in
-    let small : are_u64 (first.0 ∷ later.0) ≡ true = and_from (nat_lt first.0 u64) (are_u64 later.0) one.1 more.1 in
+    let small : are_u64 (first.0 ∷ later.0) ≡ true = and_from _ _ one.1 more.1 in
     (ap (map decimal) (sym later.2) ∙ written, ap are_u64 (sym later.2) ∙ small)
 
 -- what the numbers of a form are made of
@@ -101,7 +101,7 @@ pub length-below : (bounds ns : List ℕ) → are_below bounds ns ≡ true → l
 length-below [] [] h = refl
 length-below [] (n ∷ ns) h = cc
 length-below (b ∷ bounds) [] h = cc
-length-below (b ∷ bounds) (n ∷ ns) h = ap suc (length-below bounds ns (and_parts (nat_lt n b) (are_below bounds ns) h).1)
+length-below (b ∷ bounds) (n ∷ ns) h = ap suc (length-below bounds ns (and_parts _ _ h).1)
 
 pub length-decimals : (ns : List ℕ) (words : List Text) → map decimal ns ≡ words → length ns ≡ length words
 length-decimals ns words h = sym (length-map ns decimal) ∙ ap length h

@@ -89,7 +89,7 @@ spent_is version (units ∷ phase ∷ []) r h =
     let one = chained_is (λ n. option_map (λ p. reply.Spent n p) (phase_of phase)) (number units) r h in
     let two = mapped_is (λ p. reply.Spent one.0 p) (phase_of phase) r one.2 in
     let known = number_is units one.0 one.1 in
-    same_reply version (codes "spent" ∷ units ∷ codes "phase" ∷ phase ∷ []) (reply.Spent one.0 two.0) r two.2 (rw (known.0, phase_is phase two.0 two.1) refl, and_from _ true known.1 refl)
+    same_reply version (codes "spent" ∷ units ∷ codes "phase" ∷ phase ∷ []) (reply.Spent one.0 two.0) r two.2 (rw (known.0, phase_is phase two.0 two.1) refl, and_from _ _ known.1 refl)
 
 abbrev stat_words : Text → Text → Text → Text → Text → List Text
 stat_words free live old phase cycle = codes "free" ∷ free ∷ codes "live" ∷ live ∷ codes "old" ∷ old ∷ codes "phase" ∷ phase ∷ codes "cycle" ∷ cycle ∷ []

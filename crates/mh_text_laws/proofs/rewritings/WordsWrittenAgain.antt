@@ -10,7 +10,7 @@ text_is [] [] h = refl
 text_is [] (b ∷ ys) h = cc
 text_is (a ∷ xs) [] h = cc
 text_is (a ∷ xs) (b ∷ ys) h =
-    let both = and_parts (a == b) (is_text xs ys) h in
+    let both = and_parts _ _ h in
     let one : a ≡ b = eqb-true a b both.0 in
     let more : xs ≡ ys = text_is xs ys both.1 in
     cc

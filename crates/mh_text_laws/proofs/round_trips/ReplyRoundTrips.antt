@@ -31,9 +31,9 @@ small_numbers [] [] h most = refl
 small_numbers [] (n ∷ ns) h most = cc
 small_numbers (bound ∷ bounds) [] h most = cc
 small_numbers (bound ∷ bounds) (n ∷ ns) h most =
-    and_from (nat_lt n u64) (are_u64 ns)
-    (below_most n bound (and_parts (nat_lt n bound) (are_below bounds ns) h).0 (and_parts (nat_le bound u64) (list_all (λ b. nat_le b u64) bounds) most).0)
-    (small_numbers bounds ns (and_parts (nat_lt n bound) (are_below bounds ns) h).1 (and_parts (nat_le bound u64) (list_all (λ b. nat_le b u64) bounds) most).1)
+    and_from _ _
+    (below_most n bound (and_parts _ _ h).0 (and_parts _ _ most).0)
+    (small_numbers bounds ns (and_parts _ _ h).1 (and_parts _ _ most).1)
 
 pub numbered-words : {X : Type 0} (bounds : List ℕ) (made : List ℕ → X) (ns : List ℕ) → are_below bounds ns ≡ true → list_all (λ bound. nat_le bound u64) bounds ≡ true
     → numbered bounds made (map decimal ns) ≡ Some (made ns)
@@ -88,7 +88,7 @@ refused-words version TooManySessions = refl
 
 optional_of-word : (n : Option ℕ) → are_u64 (option_to_list n) ≡ true → optional_of (optional_word n) ≡ Some n
 optional_of-word None h = refl
-optional_of-word (Some n) h = rw (number-decimal n (below n u64 (and_parts (nat_lt n u64) true h).0)) refl
+optional_of-word (Some n) h = rw (number-decimal n (below n u64 (and_parts _ _ h).0)) refl
 
 -- Dumps ------------------------------------------------------------------------------------------
 
@@ -97,7 +97,7 @@ other_tag c tag high digit = let range = below_or c digit in grind (arith, nat_t
 
 tagged_digits : (tag : ℕ) (ds text : Text) → 57 < tag → 0 < length ds → list_all is_digit ds ≡ true → tagged tag (ds ++ text) ≡ None
 tagged_digits tag [] text high some digits = absurd (omega arith)
-tagged_digits tag (d ∷ ds) text high some digits = rw (other_tag d tag high (and_parts (is_digit d) (list_all is_digit ds) digits).0) refl
+tagged_digits tag (d ∷ ds) text high some digits = rw (other_tag d tag high (and_parts _ _ digits).0) refl
 
 not_46 : (mark : ℕ) → 57 < mark → not (46 == mark) ≡ true
 not_46 mark high = let other : (46 == mark) ≡ false = grind (arith, nat_tests) in rw other refl
@@ -133,33 +133,33 @@ step_placed word words is = rw (is, items_from) refl
 items_from-words : (items : List DumpItem) → items_in_range items ≡ true → items_from Ready (flat_map item_words items) ≡ Some items
 items_from-words [] h = refl
 items_from-words (item.Page page class_size flag ∷ items) h =
-    let here : (nat_lt page u64 && (nat_lt class_size u64 && true)) ≡ true = (and_parts (are_u64 (page ∷ class_size ∷ [])) (items_in_range items) h).0 in
-    let p : number (decimal page) ≡ Some page = number-decimal page (below page u64 (and_parts (nat_lt page u64) (nat_lt class_size u64 && true) here).0) in
-    let c : number (decimal class_size) ≡ Some class_size = number-decimal class_size (below class_size u64 (and_parts (nat_lt class_size u64) true (and_parts (nat_lt page u64) (nat_lt class_size u64 && true) here).1).0) in
-    let more : items_from Ready (flat_map item_words items) ≡ Some items = items_from-words items (and_parts (are_u64 (page ∷ class_size ∷ [])) (items_in_range items) h).1 in
+    let here : (nat_lt page u64 && (nat_lt class_size u64 && true)) ≡ true = (and_parts _ _ h).0 in
+    let p : number (decimal page) ≡ Some page = number-decimal page (below page u64 (and_parts _ _ here).0) in
+    let c : number (decimal class_size) ≡ Some class_size = number-decimal class_size (below class_size u64 (and_parts _ _ (and_parts _ _ here).1).0) in
+    let more : items_from Ready (flat_map item_words items) ≡ Some items = items_from-words items (and_parts _ _ h).1 in
     step_page (80 ∷ decimal page) ((67 ∷ decimal class_size) ∷ flag_word flag ∷ flat_map item_words items) page p
     ∙ step_class (67 ∷ decimal class_size) (flag_word flag ∷ flat_map item_words items) page class_size c
     ∙ rw (flag_of-word flag, more) refl
 items_from-words (item.Block slot a b ∷ items) h =
-    let here : (nat_lt slot u64 && (nat_lt a u64 && (nat_lt b u64 && true))) ≡ true = (and_parts (are_u64 (slot ∷ a ∷ b ∷ [])) (items_in_range items) h).0 in
-    let s_small : slot < 2 ^ 64 = below slot u64 (and_parts (nat_lt slot u64) (nat_lt a u64 && (nat_lt b u64 && true)) here).0 in
-    let rest : (nat_lt a u64 && (nat_lt b u64 && true)) ≡ true = (and_parts (nat_lt slot u64) (nat_lt a u64 && (nat_lt b u64 && true)) here).1 in
-    let a_small : a < 2 ^ 64 = below a u64 (and_parts (nat_lt a u64) (nat_lt b u64 && true) rest).0 in
-    let b_small : b < 2 ^ 64 = below b u64 (and_parts (nat_lt b u64) true (and_parts (nat_lt a u64) (nat_lt b u64 && true) rest).1).0 in
+    let here : (nat_lt slot u64 && (nat_lt a u64 && (nat_lt b u64 && true))) ≡ true = (and_parts _ _ h).0 in
+    let s_small : slot < 2 ^ 64 = below slot u64 (and_parts _ _ here).0 in
+    let rest : (nat_lt a u64 && (nat_lt b u64 && true)) ≡ true = (and_parts _ _ here).1 in
+    let a_small : a < 2 ^ 64 = below a u64 (and_parts _ _ rest).0 in
+    let b_small : b < 2 ^ 64 = below b u64 (and_parts _ _ (and_parts _ _ rest).1).0 in
     let no_page : tagged 80 (placed_word 61 slot a b) ≡ None = tagged_digits 80 (decimal slot) (61 ∷ (decimal a ++ 46 ∷ decimal b)) (omega arith) (decimal_nonempty slot s_small) (decimal-digits slot s_small) in
     let placed : placed_of (placed_word 61 slot a b) ≡ Some (item.Block slot a b) = rw (placed_by-word 61 (λ ns. item.Block (at ns 0) (at ns 1) (at ns 2)) slot a b (omega arith) s_small a_small b_small) refl in
-    let more : items_from Ready (flat_map item_words items) ≡ Some items = items_from-words items (and_parts (are_u64 (slot ∷ a ∷ b ∷ [])) (items_in_range items) h).1 in
+    let more : items_from Ready (flat_map item_words items) ≡ Some items = items_from-words items (and_parts _ _ h).1 in
     step_placed (placed_word 61 slot a b) (flat_map item_words items) no_page ∙ rw (placed, more) refl
 items_from-words (item.Forwarder slot a b ∷ items) h =
-    let here : (nat_lt slot u64 && (nat_lt a u64 && (nat_lt b u64 && true))) ≡ true = (and_parts (are_u64 (slot ∷ a ∷ b ∷ [])) (items_in_range items) h).0 in
-    let s_small : slot < 2 ^ 64 = below slot u64 (and_parts (nat_lt slot u64) (nat_lt a u64 && (nat_lt b u64 && true)) here).0 in
-    let rest : (nat_lt a u64 && (nat_lt b u64 && true)) ≡ true = (and_parts (nat_lt slot u64) (nat_lt a u64 && (nat_lt b u64 && true)) here).1 in
-    let a_small : a < 2 ^ 64 = below a u64 (and_parts (nat_lt a u64) (nat_lt b u64 && true) rest).0 in
-    let b_small : b < 2 ^ 64 = below b u64 (and_parts (nat_lt b u64) true (and_parts (nat_lt a u64) (nat_lt b u64 && true) rest).1).0 in
+    let here : (nat_lt slot u64 && (nat_lt a u64 && (nat_lt b u64 && true))) ≡ true = (and_parts _ _ h).0 in
+    let s_small : slot < 2 ^ 64 = below slot u64 (and_parts _ _ here).0 in
+    let rest : (nat_lt a u64 && (nat_lt b u64 && true)) ≡ true = (and_parts _ _ here).1 in
+    let a_small : a < 2 ^ 64 = below a u64 (and_parts _ _ rest).0 in
+    let b_small : b < 2 ^ 64 = below b u64 (and_parts _ _ (and_parts _ _ rest).1).0 in
     let no_page : tagged 80 (placed_word 62 slot a b) ≡ None = tagged_digits 80 (decimal slot) (62 ∷ (decimal a ++ 46 ∷ decimal b)) (omega arith) (decimal_nonempty slot s_small) (decimal-digits slot s_small) in
     let placed : placed_of (placed_word 62 slot a b) ≡ Some (item.Forwarder slot a b) =
     rw (placed_by-other (λ ns. item.Block (at ns 0) (at ns 1) (at ns 2)) slot a b s_small a_small b_small, placed_by-word 62 (λ ns. item.Forwarder (at ns 0) (at ns 1) (at ns 2)) slot a b (omega arith) s_small a_small b_small) refl in
-    let more : items_from Ready (flat_map item_words items) ≡ Some items = items_from-words items (and_parts (are_u64 (slot ∷ a ∷ b ∷ [])) (items_in_range items) h).1 in
+    let more : items_from Ready (flat_map item_words items) ≡ Some items = items_from-words items (and_parts _ _ h).1 in
     step_placed (placed_word 62 slot a b) (flat_map item_words items) no_page ∙ rw (placed, more) refl
 
 -- Replies ----------------------------------------------------------------------------------------
