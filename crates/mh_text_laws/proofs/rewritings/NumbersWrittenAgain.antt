@@ -8,7 +8,7 @@ use Rattle.std.proofs.lemmas.Fmt.{decimal-digits_value}
 use Rattle.mh_model.specs.Forms.{u64, within, are_below, numbered}
 use Rattle.mh_model.specs.Replies.{are_u64}
 use Rattle.mh_model.specs.Bytes.{Text, is_digit, is_numeral, value_after, number, numbers}
-use Rattle.mh_text_laws.proofs.round_trips.WordRoundTrips.{not_true, own}
+use Rattle.mh_text_laws.proofs.round_trips.WordRoundTrips.{not_true, numerals}
 
 record IsNumeral (word : Text) : Type 0 where
   digits : list_all is_digit word ≡ true
@@ -37,7 +37,7 @@ number_by word n true is h =
     let numeral = numeral_is word (and_parts (is_numeral word) (nat_lt (value_after 0 word) (2 ^ 64)) is).0 in
     let test : nat_lt (value_after 0 word) (2 ^ 64) ≡ true = (and_parts (is_numeral word) (nat_lt (value_after 0 word) (2 ^ 64)) is).1 in
     let small : value_after 0 word < 2 ^ 64 = grind (arith, nat_tests) in
-    let written : decimal (value_after 0 word) ≡ word = decimal-digits_value own word numeral.digits numeral.some numeral.one small in
+    let written : decimal (value_after 0 word) ≡ word = decimal-digits_value numerals word numeral.digits numeral.some numeral.one small in
     (rw (← same) written, rw (← same) test)
 
 pub number_is : (word : Text) (n : ℕ) → number word ≡ Some n → (decimal n ≡ word) × (nat_lt n u64 ≡ true)
