@@ -1,4 +1,4 @@
 pub mod BufferLemmas
 pub mod RunLemmas
+pub mod StageLemmas
 pub mod SourceLemmas
-pub mod OrderLemmas

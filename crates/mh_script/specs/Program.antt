@@ -57,8 +57,8 @@ pub record Obeys (source source' sink sink' errors errors' : Device) (status : �
 
 -- there was no order: nothing was read or written, and why was told
 pub record Declines (source source' sink sink' errors errors' : Device) (fault : LineFault) (status : ℕ) : Type 0 where
-  pub source : source' ≡ source
-  pub sink : sink' ≡ sink
+  pub unread : source' ≡ source
+  pub unwritten : sink' ≡ sink
   pub told : TellsLine errors errors' fault
   pub exit : status ≡ line_status_of fault
 

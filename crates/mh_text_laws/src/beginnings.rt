@@ -1,12 +1,17 @@
 //! Laws of the line with which a text is refused.
-ghost use Rattle.mh_text_laws.specs.Beginnings.{TextsAreTheirLines, ScriptsAreRefusedByTheirLeastBadLine, HistoriesAreRefusedByTheirLeastBadLine, RecordsAreRefusedByTheirLeastBadLine};
+ghost use Rattle.mh_text_laws.specs.Beginnings.{TextsAreTheirLines, LeastBadLinesAreOne, ScriptsAreRefusedByTheirLeastBadLine, HistoriesAreRefusedByTheirLeastBadLine, RecordsAreRefusedByTheirLeastBadLine};
 
 /// A text is its whole lines and what follows them.
 pub fn texts_are_their_lines()
     ensures { TextsAreTheirLines }
 {}
 
-/// The lines before the one with which a script is refused begin a script, and no script begins with the lines up to it.
+/// A text has one least bad line at most.
+pub fn least_bad_lines_are_one()
+    ensures { LeastBadLinesAreOne }
+{}
+
+/// A script is refused with its least bad line: the lines before it begin a script, and no script begins with the lines up to it.
 pub fn scripts_are_refused_by_their_least_bad_line()
     ensures { ScriptsAreRefusedByTheirLeastBadLine }
 {}

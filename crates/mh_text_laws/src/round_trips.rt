@@ -1,5 +1,5 @@
-//! Laws of texts that are read back as they were written, and of migration.
-ghost use Rattle.mh_text_laws.specs.RoundTrips.{NumbersAreReadBack, CommandsAreReadBack, ControlsAreReadBack, RepliesAreReadBack, EntriesAreReadBack, MeasuredEntriesAreReadBack, HeadersAreReadBack, HistoriesAreReadBack, RecordsAreReadBack, MigrationKeepsHistories};
+//! Laws of texts that are read back as they were written.
+ghost use Rattle.mh_text_laws.specs.RoundTrips.{NumbersAreReadBack, CommandsAreReadBack, ControlsAreReadBack, RepliesAreReadBack, EntriesAreReadBack, MeasuredEntriesAreReadBack, HeadersAreReadBack, HistoriesAreReadBack, RecordsAreReadBack};
 
 /// A number below 2^64 is read as it was written.
 pub fn numbers_are_read_back()
@@ -44,9 +44,4 @@ pub fn histories_are_read_back()
 /// A history of version 2 is read as it was written.
 pub fn records_are_read_back()
     ensures { RecordsAreReadBack }
-{}
-
-/// A legal history of version 1 is migrated to a legal one of version 2 with the same entries.
-pub fn migration_keeps_histories()
-    ensures { MigrationKeepsHistories }
 {}

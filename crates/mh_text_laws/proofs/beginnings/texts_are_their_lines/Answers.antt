@@ -1,4 +1,4 @@
-use Rattle.mh_text_laws.proofs.Begun.{text_is_lines}
+use Rattle.mh_text_laws.proofs.beginnings.WholeLines.{text_is_lines}
 use Rattle.mh_text_laws.proofs.beginnings.texts_are_their_lines.Goals as goal
 
 pub returns : goal.returns

@@ -1,4 +1,4 @@
-use Rattle.mh_text_laws.proofs.Said.{control_of-words}
+use Rattle.mh_text_laws.proofs.round_trips.ReplyRoundTrips.{control_of-words}
 use Rattle.mh_text_laws.proofs.round_trips.controls_are_read_back.Goals as goal
 
 pub returns : goal.returns

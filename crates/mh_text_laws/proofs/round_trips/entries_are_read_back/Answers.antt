@@ -1,4 +1,4 @@
-use Rattle.mh_text_laws.proofs.Entered.{entry_of-line}
+use Rattle.mh_text_laws.proofs.round_trips.EntryRoundTrips.{entry_of-line}
 use Rattle.mh_text_laws.proofs.round_trips.entries_are_read_back.Goals as goal
 
 pub returns : goal.returns

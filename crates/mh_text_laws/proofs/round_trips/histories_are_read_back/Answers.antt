@@ -1,4 +1,4 @@
-use Rattle.mh_text_laws.proofs.Recorded.{history_reading-text}
+use Rattle.mh_text_laws.proofs.round_trips.HistoryRoundTrips.{history_reading-text}
 use Rattle.mh_text_laws.proofs.round_trips.histories_are_read_back.Goals as goal
 
 pub returns : goal.returns

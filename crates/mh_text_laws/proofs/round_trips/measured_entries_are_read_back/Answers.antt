@@ -1,4 +1,4 @@
-use Rattle.mh_text_laws.proofs.Entered.{measured_of-line}
+use Rattle.mh_text_laws.proofs.round_trips.EntryRoundTrips.{measured_of-line}
 use Rattle.mh_text_laws.proofs.round_trips.measured_entries_are_read_back.Goals as goal
 
 pub returns : goal.returns

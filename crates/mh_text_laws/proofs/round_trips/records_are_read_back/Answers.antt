@@ -1,4 +1,4 @@
-use Rattle.mh_text_laws.proofs.Recorded.{recorded_reading-text}
+use Rattle.mh_text_laws.proofs.round_trips.HistoryRoundTrips.{recorded_reading-text}
 use Rattle.mh_text_laws.proofs.round_trips.records_are_read_back.Goals as goal
 
 pub returns : goal.returns

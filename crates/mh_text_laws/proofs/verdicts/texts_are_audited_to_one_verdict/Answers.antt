@@ -1,4 +1,4 @@
-use Rattle.mh_text_laws.proofs.Judged.{audited-one}
+use Rattle.mh_text_laws.proofs.verdicts.VerdictLemmas.{audited-one}
 use Rattle.mh_text_laws.proofs.verdicts.texts_are_audited_to_one_verdict.Goals as goal
 
 pub returns : goal.returns

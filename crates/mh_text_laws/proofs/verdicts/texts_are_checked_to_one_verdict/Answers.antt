@@ -1,4 +1,4 @@
-use Rattle.mh_text_laws.proofs.Judged.{checked-one}
+use Rattle.mh_text_laws.proofs.verdicts.VerdictLemmas.{checked-one}
 use Rattle.mh_text_laws.proofs.verdicts.texts_are_checked_to_one_verdict.Goals as goal
 
 pub returns : goal.returns

@@ -1,5 +1,6 @@
 -- Histories are read as they were written.
 use Rattle.std.proofs.Common.{◌≡◌, ◌∙◌, ℕ, suc, ◌<◌, ◌≤◌, ◌^◌, nat_lt, nat_le, ◌&&◌, Bool, true, false, Option, Some, List, [], ◌∷◌, ◌++◌, length, map, ap, sym, refl, decimal, codes, arith, append-nil}
+use Rattle.std.proofs.lemmas.Bool.{and_parts, and_from}
 use Rattle.std.specs.List.{list_all}
 use Rattle.std.proofs.lemmas.Bool.Decides.{nat_tests}
 use Rattle.mh_model.specs.declared.config.Config.{Config}
@@ -13,8 +14,8 @@ use Rattle.mh_model.specs.Replies.{are_u64}
 use Rattle.mh_model.specs.Script.{Means, reading_map}
 use Rattle.mh_model.specs.HistoryTexts.{Measured, Recorded, entry_words, measured_words, is_entry, is_measured, entry_of, measured_of, rules_number, rules_of, header_words, header_of, history_text, recorded_text, entries_from, history_of, history_reading, recorded_by, recorded_of, recorded_reading}
 use Rattle.mh_model.proofs.ConfigLemmas.{configured-within}
-use Rattle.mh_text_laws.proofs.Words.{and_left, and_right, and_both, numbers-decimal, decimals_words, is_free, are_free, cut-lines, joined_free, are_words, words-joined}
-use Rattle.mh_text_laws.proofs.Entered.{entry_of-line, measured_of-line, entry_are_words, measured_are_words}
+use Rattle.mh_text_laws.proofs.round_trips.WordRoundTrips.{numbers-decimal, decimals_words, is_free, are_free, cut-lines, joined_free, are_words, words-joined}
+use Rattle.mh_text_laws.proofs.round_trips.EntryRoundTrips.{entry_of-line, measured_of-line, entry_are_words, measured_are_words}
 
 step_entry : {X : Type 0} (read : Text → Option X) (n : ℕ) (line : Text) (lines : List Text) (rest : Text) (x : X) → read line ≡ Some x
     → entries_from read n (line ∷ lines) rest ≡ reading_map (λ entries. x ∷ entries) (entries_from read (suc n) lines rest)
@@ -24,14 +25,14 @@ pub entries_from-lines : {X : Type 0} (read : Text → Option X) (line : X → T
     → (n : ℕ) (xs : List X) → list_all ok xs ≡ true → entries_from read n (map line xs) [] ≡ Means xs
 entries_from-lines read line ok said n [] h = refl
 entries_from-lines read line ok said n (x ∷ xs) h =
-    step_entry read n (line x) (map line xs) [] x (said x (and_left (ok x) (list_all ok xs) h))
-    ∙ ap (reading_map (λ entries. x ∷ entries)) (entries_from-lines read line ok said (suc n) xs (and_right (ok x) (list_all ok xs) h))
+    step_entry read n (line x) (map line xs) [] x (said x (and_parts _ _ h).0)
+    ∙ ap (reading_map (λ entries. x ∷ entries)) (entries_from-lines read line ok said (suc n) xs (and_parts _ _ h).1)
 
 lines_free : {X : Type 0} (line : X → List Text) (ok : X → Bool) → ((x : X) → ok x ≡ true → are_words (line x) ≡ true) → (xs : List X) → list_all ok xs ≡ true → are_free 10 (map (λ x. joined (line x)) xs) ≡ true
 lines_free line ok plain [] h = refl
 lines_free line ok plain (x ∷ xs) h =
-    and_both (is_free 10 (joined (line x))) (are_free 10 (map (λ x. joined (line x)) xs)) (joined_free (line x) (plain x (and_left (ok x) (list_all ok xs) h)))
-    (lines_free line ok plain xs (and_right (ok x) (list_all ok xs) h))
+    and_from _ _ (joined_free (line x) (plain x (and_parts _ _ h).0))
+    (lines_free line ok plain xs (and_parts _ _ h).1)
 
 pub cut-text : (lines : List Text) → are_free 10 lines ≡ true → cut_after 10 (lines_text lines) ≡ record { pieces = lines; rest = [] }
 cut-text lines h =
@@ -76,14 +77,14 @@ is_u64 n h = grind (arith, nat_tests)
 
 config_small : (rules : Rules) (p q t e : ℕ) → is_configuration p q t e ≡ true → are_u64 (rules_number rules ∷ p ∷ q ∷ t ∷ e ∷ []) ≡ true
 config_small r p q t e h =
-    let h1 : (nat_le p 4096 && (nat_le 209 q && (nat_le q 1000000 && (nat_le t p && nat_le e 1000000)))) ≡ true = and_right (nat_le 1 p) (nat_le p 4096 && (nat_le 209 q && (nat_le q 1000000 && (nat_le t p && nat_le e 1000000)))) h in
-    let p_most : p ≤ 4096 = at_most p 4096 (and_left (nat_le p 4096) (nat_le 209 q && (nat_le q 1000000 && (nat_le t p && nat_le e 1000000))) h1) in
-    let h2 : (nat_le 209 q && (nat_le q 1000000 && (nat_le t p && nat_le e 1000000))) ≡ true = and_right (nat_le p 4096) (nat_le 209 q && (nat_le q 1000000 && (nat_le t p && nat_le e 1000000))) h1 in
-    let h3 : (nat_le q 1000000 && (nat_le t p && nat_le e 1000000)) ≡ true = and_right (nat_le 209 q) (nat_le q 1000000 && (nat_le t p && nat_le e 1000000)) h2 in
-    let q_most : q ≤ 1000000 = at_most q 1000000 (and_left (nat_le q 1000000) (nat_le t p && nat_le e 1000000) h3) in
-    let h4 : (nat_le t p && nat_le e 1000000) ≡ true = and_right (nat_le q 1000000) (nat_le t p && nat_le e 1000000) h3 in
-    let t_most : t ≤ p = at_most t p (and_left (nat_le t p) (nat_le e 1000000) h4) in
-    let e_most : e ≤ 1000000 = at_most e 1000000 (and_right (nat_le t p) (nat_le e 1000000) h4) in
+    let h1 : (nat_le p 4096 && (nat_le 209 q && (nat_le q 1000000 && (nat_le t p && nat_le e 1000000)))) ≡ true = (and_parts _ _ h).1 in
+    let p_most : p ≤ 4096 = at_most p 4096 (and_parts _ _ h1).0 in
+    let h2 : (nat_le 209 q && (nat_le q 1000000 && (nat_le t p && nat_le e 1000000))) ≡ true = (and_parts _ _ h1).1 in
+    let h3 : (nat_le q 1000000 && (nat_le t p && nat_le e 1000000)) ≡ true = (and_parts _ _ h2).1 in
+    let q_most : q ≤ 1000000 = at_most q 1000000 (and_parts _ _ h3).0 in
+    let h4 : (nat_le t p && nat_le e 1000000) ≡ true = (and_parts _ _ h3).1 in
+    let t_most : t ≤ p = at_most t p (and_parts _ _ h4).0 in
+    let e_most : e ≤ 1000000 = at_most e 1000000 (and_parts _ _ h4).1 in
     rw (is_u64 (rules_number r) (rules_small r), is_u64 p (omega arith), is_u64 q (omega arith), is_u64 t (omega arith), is_u64 e (omega arith)) refl
 
 pub header_numbers : (c : Config) → are_u64 (rules_number c.rules ∷ c.pages ∷ c.quantum ∷ c.trigger ∷ c.every ∷ []) ≡ true
@@ -113,7 +114,7 @@ recorded_by-known c found lines entries is all = rw (is, all) refl
 pub recorded_reading-text : (r : Recorded) → are_measured r.entries ≡ true → length (recorded_text r) ≤ 2147483648 → recorded_reading (recorded_text r) ≡ Means r
 recorded_reading-text r h few =
     let free : are_free 10 (joined (header_words r.config) ∷ map (λ measured. joined (measured_words measured)) r.entries) ≡ true =
-    and_both (is_free 10 (joined (header_words r.config))) (are_free 10 (map (λ measured. joined (measured_words measured)) r.entries)) (joined_free (header_words r.config) (header_are_words r.config)) (lines_free measured_words is_measured measured_are_words r.entries h) in
+    and_from _ _ (joined_free (header_words r.config) (header_are_words r.config)) (lines_free measured_words is_measured measured_are_words r.entries h) in
     recorded_reading-short (recorded_text r) few ∙ ap recorded_of (cut-text (joined (header_words r.config) ∷ map (λ measured. joined (measured_words measured)) r.entries) free)
     ∙ recorded_by-known r.config (header_of (words (joined (header_words r.config)))) (map (λ measured. joined (measured_words measured)) r.entries) r.entries (header_of-line r.config)
     (entries_from-lines (λ line. measured_of (words line)) (λ measured. joined (measured_words measured)) is_measured measured_of-line 2 r.entries h)

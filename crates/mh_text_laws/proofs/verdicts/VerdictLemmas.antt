@@ -7,7 +7,7 @@ use Rattle.mh_model.specs.History.{IsLegal, IsFirstBadOf}
 use Rattle.mh_model.specs.Bytes.{Text}
 use Rattle.mh_model.specs.Script.{Reading, BadLine, Means}
 use Rattle.mh_model.specs.HistoryTexts.{Measured, Recorded, Verdict, Refused, Legal, FirstBad, IsJudged, IsLegalRecord, measured_step, machine_record, history_reading, recorded_reading, IsChecked, IsAudited}
-use Rattle.mh_text_laws.proofs.Migrated.{events_of, replies_of, head_same, tail_same}
+use Rattle.mh_text_laws.proofs.migration.MigratedRecords.{events_of, replies_of, head_same, tail_same}
 
 -- a beginning of a beginning
 take-within : {X : Type 0} (n m : ℕ) (xs : List X) → n ≤ m → take n (take m xs) ≡ take n xs

@@ -1,5 +1,6 @@
 -- The record of a legal history of version 1 is a legal history of version 2 with the same entries.
-use Rattle.std.proofs.Common.{◌≡◌, ◌∙◌, ℕ, zero, suc, ◌+◌, ◌-◌, ◌≤◌, ◌==◌, nat_lt, nat_le, ◌&&◌, cond, Bool, true, false, List, [], ◌∷◌, ◌++◌, length, map, ap, sym, refl, arith}
+use Rattle.std.proofs.Common.{◌≡◌, ◌∙◌, ℕ, zero, suc, ◌+◌, ◌-◌, ◌≤◌, ◌==◌, nat_lt, nat_le, ◌&&◌, cond, Bool, true, false, List, [], ◌∷◌, ◌++◌, length, map, ap, sym, refl, subst, arith}
+use Rattle.std.proofs.lemmas.Bool.{and_parts, and_from}
 use Rattle.std.specs.Prelude.{replicate}
 use Rattle.std.proofs.lemmas.Bool.Decides.{nat_tests}
 use Rattle.std.proofs.lemmas.List.{length-map}
@@ -22,13 +23,15 @@ use Rattle.mh_model.specs.Machine.{Machine, first_machine, command_units, comman
 use Rattle.mh_model.specs.History.{IsLegal}
 use Rattle.mh_model.specs.Forms.{One, Two, u64}
 use Rattle.mh_model.specs.Replies.{is_reply, are_u64}
-use Rattle.mh_model.specs.HistoryTexts.{is_event, is_entry, is_measured, recorded_text, measured_step, machine_record, history_text, migrated}
-use Rattle.mh_text_laws.specs.RoundTrips.{IsMigrated, MigrationKeepsHistories}
+use Rattle.mh_model.specs.Bytes.{Text}
+use Rattle.mh_model.specs.Script.{Reading, BadLine, Means}
+use Rattle.mh_model.specs.HistoryTexts.{Refused, Legal, IsJudged, IsChecked, IsAudited, migration_text, history_reading, is_event, is_entry, is_measured, recorded_text, measured_step, machine_record, history_text, migrated}
+use Rattle.mh_text_laws.specs.Migration.{IsMigrated}
 use Rattle.mh_laws.proofs.costs.Quanta.{units-quantum}
 use Rattle.mh_laws.proofs.runs.EveryMoment.{config-mutator_step}
-use Rattle.mh_text_laws.proofs.Words.{and_left, and_right, and_both}
-use Rattle.mh_text_laws.proofs.Sizes.{recorded_length}
-use Rattle.mh_text_laws.proofs.Recorded.{are_entries, are_measured, recorded_reading-text}
+use Rattle.mh_text_laws.proofs.rewritings.HistoriesWrittenAgain.{history_reading_is}
+use Rattle.mh_text_laws.proofs.migration.RecordLength.{recorded_length}
+use Rattle.mh_text_laws.proofs.round_trips.HistoryRoundTrips.{are_entries, are_measured, recorded_reading-text}
 
 -- Letters ----------------------------------------------------------------------------------------
 
@@ -164,16 +167,16 @@ reply_two (reply.Left quanta) h = cc
 
 pub entry_two : (e : Entry) → is_entry One e ≡ true → is_entry Two e ≡ true
 entry_two e h =
-    and_both (is_event Two e.event) (is_reply Two e.reply) (event_two e.event (and_left (is_event One e.event) (is_reply One e.reply) h)) (reply_two e.reply (and_right (is_event One e.event) (is_reply One e.reply) h))
+    and_from _ _ (event_two e.event (and_parts _ _ h).0) (reply_two e.reply (and_parts _ _ h).1)
 
 most_quantum : (config : Config) → config.quantum ≤ 1000000
 most_quantum config = most config.pages config.quantum config.trigger config.every config.in_limits where
   most : (p q t e : ℕ) → is_configuration p q t e ≡ true → q ≤ 1000000
   most p q t e h =
-      let h1 : (nat_le p 4096 && (nat_le 209 q && (nat_le q 1000000 && (nat_le t p && nat_le e 1000000)))) ≡ true = and_right (nat_le 1 p) (nat_le p 4096 && (nat_le 209 q && (nat_le q 1000000 && (nat_le t p && nat_le e 1000000)))) h in
-      let h2 : (nat_le 209 q && (nat_le q 1000000 && (nat_le t p && nat_le e 1000000))) ≡ true = and_right (nat_le p 4096) (nat_le 209 q && (nat_le q 1000000 && (nat_le t p && nat_le e 1000000))) h1 in
-      let h3 : (nat_le q 1000000 && (nat_le t p && nat_le e 1000000)) ≡ true = and_right (nat_le 209 q) (nat_le q 1000000 && (nat_le t p && nat_le e 1000000)) h2 in
-      let h4 : nat_le q 1000000 ≡ true = and_left (nat_le q 1000000) (nat_le t p && nat_le e 1000000) h3 in
+      let h1 : (nat_le p 4096 && (nat_le 209 q && (nat_le q 1000000 && (nat_le t p && nat_le e 1000000)))) ≡ true = (and_parts (nat_le 1 p) (nat_le p 4096 && (nat_le 209 q && (nat_le q 1000000 && (nat_le t p && nat_le e 1000000)))) h).1 in
+      let h2 : (nat_le 209 q && (nat_le q 1000000 && (nat_le t p && nat_le e 1000000))) ≡ true = (and_parts (nat_le p 4096) (nat_le 209 q && (nat_le q 1000000 && (nat_le t p && nat_le e 1000000))) h1).1 in
+      let h3 : (nat_le q 1000000 && (nat_le t p && nat_le e 1000000)) ≡ true = (and_parts (nat_le 209 q) (nat_le q 1000000 && (nat_le t p && nat_le e 1000000)) h2).1 in
+      let h4 : nat_le q 1000000 ≡ true = (and_parts (nat_le q 1000000) (nat_le t p && nat_le e 1000000) h3).0 in
       grind (arith, nat_tests)
 
 small : (n : ℕ) → n ≤ 1000000 → nat_lt n u64 ≡ true
@@ -216,14 +219,14 @@ unfolding machine_replies machine_record
 record_measured p machine [] first h same = refl
 record_measured p machine (e ∷ entries) first h same =
     let here : e.reply ≡ (event_step machine e.event).reply = head_same e.reply (event_step machine e.event).reply (replies_of entries) (machine_replies (event_step machine e.event).state (events_of entries)) same in
-    let known : is_entry Two e ≡ true = entry_two e (and_left (is_entry One e) (are_entries One entries) h) in
+    let known : is_entry Two e ≡ true = entry_two e (and_parts _ _ h).0 in
     let stepped : Entry = record { event = e.event; reply = (event_step machine e.event).reply } in
     let whole : is_entry Two (record { event = e.event; reply = (event_step machine e.event).reply }) ≡ true = rw (← here) known in
     let step = event_steps p machine e.event first in
     let next : (event_step machine e.event).state.heap.config.rules ≡ First = ap (λ (config : Config). config.rules) step.config ∙ first in
-    and_both (is_measured (measured_step machine e.event (event_step machine e.event))) (are_measured (machine_record (event_step machine e.event).state (events_of entries)))
-    (and_both (is_entry Two (measured_step machine e.event (event_step machine e.event)).entry) (are_u64 ((measured_step machine e.event (event_step machine e.event)).mutator ∷ (measured_step machine e.event (event_step machine e.event)).collector ∷ [])) whole (step_small p machine e.event first))
-    (record_measured p (event_step machine e.event).state entries next (and_right (is_entry One e) (are_entries One entries) h) (tail_same e.reply (event_step machine e.event).reply (replies_of entries) (machine_replies (event_step machine e.event).state (events_of entries)) same))
+    and_from _ _
+    (and_from _ _ whole (step_small p machine e.event first))
+    (record_measured p (event_step machine e.event).state entries next (and_parts _ _ h).1 (tail_same e.reply (event_step machine e.event).reply (replies_of entries) (machine_replies (event_step machine e.event).state (events_of entries)) same))
 
 record_events : (machine : Machine) (events : List Event) → map (λ measured. measured.entry.event) (machine_record machine events) ≡ events
 unfolding machine_record
@@ -237,7 +240,7 @@ record_length machine (e ∷ events) = ap suc (record_length (event_step machine
 
 -- Migration --------------------------------------------------------------------------------------
 
-pub migration : Premises → (config : Config) (entries : List Entry) → config.rules ≡ First → are_entries One entries ≡ true → IsLegal config entries → length (history_text entries) ≤ 1073741824
+migration : Premises → (config : Config) (entries : List Entry) → config.rules ≡ First → are_entries One entries ≡ true → IsLegal config entries → length (history_text entries) ≤ 1073741824
     → IsMigrated config entries
 migration p config entries first h legal few =
     let made : length (machine_record (first_machine config) (events_of entries)) ≡ length entries = record_length (first_machine config) (events_of entries) ∙ length-map entries (λ entry. entry.event) in
@@ -251,5 +254,21 @@ migration p config entries first h legal few =
       same = same;
     }
 
-pub migration-kept : MigrationKeepsHistories
-migration-kept config entries first h legal few = migration (record { limit = units-quantum; config = config-mutator_step }) config entries first h legal few
+pub migration_keeps : (config : Config) (text : Text) (entries : List Entry) → config.rules ≡ First → history_reading text ≡ Means entries → IsLegal config entries → IsMigrated config entries
+migration_keeps config text entries first read legal =
+    let known = history_reading_is text entries read in
+    let few : length (history_text entries) ≤ 1073741824 = subst (λ (t : Text). length t ≤ 1073741824) known.same known.short in
+    migration (record { limit = units-quantum; config = config-mutator_step }) config entries first known.passed legal few
+
+-- Texts ------------------------------------------------------------------------------------------
+
+audited_legal : (config : Config) (text : Text) (count : ℕ) (found : Reading (List Entry)) → history_reading text ≡ found → config.rules ≡ First → IsChecked config text (Legal count)
+    → IsAudited (migration_text config (Legal count) found) (Legal count)
+audited_legal config text count (BadLine line) is first h = let refused : Legal count ≡ Refused line = rw is at h in cc
+audited_legal config text count (Means entries) is first h =
+    let legal : IsJudged (IsLegal config) entries (Legal count) = rw is at h in
+    let kept = migration_keeps config text entries first is legal.0 in
+    rw kept.read (kept.legal, legal.1 ∙ sym kept.count)
+
+pub migrated_legal : (config : Config) (text : Text) (count : ℕ) → config.rules ≡ First → IsChecked config text (Legal count) → IsAudited (migration_text config (Legal count) (history_reading text)) (Legal count)
+migrated_legal config text count first h = audited_legal config text count (history_reading text) refl first h

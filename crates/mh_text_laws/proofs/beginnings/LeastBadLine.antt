@@ -1,51 +1,22 @@
 -- What is read line by line is refused by its least bad line.
-use Rattle.std.proofs.Common.{◌≡◌, ◌∙◌, ℕ, zero, suc, ◌+◌, ◌-◌, ◌<◌, ◌≤◌, ◌==◌, cond, Bool, true, false, Option, Some, None, List, [], ◌∷◌, ◌++◌, length, map, take, ap, sym, refl, subst, codes, arith}
+use Rattle.std.proofs.Common.{◌≡◌, ◌∙◌, ℕ, zero, suc, ◌+◌, ◌-◌, ◌<◌, ◌≤◌, ◌==◌, cond, Bool, true, false, Option, Some, None, List, [], ◌∷◌, ◌++◌, length, map, take, drop, ap, sym, refl, subst, codes, arith, ◌⊎◌, inl, inr, append_assoc, ◌↔◌}
+use Rattle.std.proofs.lemmas.Bool.{and_parts, and_from}
 use Rattle.std.proofs.lemmas.Bool.Decides.{nat_tests}
+use Rattle.std.proofs.lemmas.Bool.{cases_order}
+use Rattle.std.proofs.lemmas.List.{take-append-drop, take-take}
+use Rattle.std.proofs.lemmas.Grind.{flat_map-append}
 use Rattle.mh_model.specs.declared.config.Config.{Config}
 use Rattle.mh_model.specs.declared.command.Event.{Event}
 use Rattle.mh_model.specs.declared.command.Event.TheVariants as event
 use Rattle.mh_model.specs.declared.history.Entry.{Entry}
-use Rattle.mh_model.specs.Bytes.{Text, Cut, cut_after, with_byte, words, lines_text, is_text}
+use Rattle.mh_model.specs.Bytes.{Text, Cut, cut_after, with_byte, words, line_text, lines_text, is_text}
 use Rattle.mh_model.specs.Script.{Meaning, Reading, BadLine, Means, reading_map, at_end, Line, Blank, Calls, Asks, Wrong, line_of, is_blank, config_words, session_number, with_name, events_from, after_config, script_from, script_of, reading}
 use Rattle.mh_model.specs.Forms.{One}
 use Rattle.mh_model.specs.HistoryTexts.{Measured, Recorded, entry_of, measured_of, header_of, entries_from, history_of, history_reading, recorded_by, recorded_of, recorded_reading}
-use Rattle.mh_text_laws.specs.Beginnings.{front, IsLeastBad}
-use Rattle.mh_text_laws.proofs.Words.{and_left, and_right, and_both, is_free, are_free, cut-lines}
-use Rattle.mh_text_laws.proofs.Recorded.{cut-text, short, history_reading-short, recorded_reading-short}
-
--- Cuts -------------------------------------------------------------------------------------------
-
-glued : (byte : ℕ) (pieces : List Text) (rest : Text) → lines_text (with_byte byte (record { pieces = pieces; rest = rest })).pieces ++ (with_byte byte (record { pieces = pieces; rest = rest })).rest ≡ byte ∷ (lines_text pieces ++ rest)
-glued byte [] rest = refl
-glued byte (piece ∷ pieces) rest = refl
-
-glued_by : (byte : ℕ) (is : Bool) (cut : Cut) → (is ≡ true → byte ≡ 10) → lines_text (cond is (record { pieces = [] ∷ cut.pieces; rest = cut.rest }) (with_byte byte cut)).pieces ++ (cond is (record { pieces = [] ∷ cut.pieces; rest = cut.rest }) (with_byte byte cut)).rest ≡ byte ∷ (lines_text cut.pieces ++ cut.rest)
-glued_by byte true cut same = rw (same refl) refl
-glued_by byte false cut same = glued byte cut.pieces cut.rest
-
-same_ten : (byte : ℕ) → (byte == 10) ≡ true → byte ≡ 10
-same_ten byte h = grind (arith, nat_tests)
-
-pub text_is_lines : (text : Text) → lines_text (cut_after 10 text).pieces ++ (cut_after 10 text).rest ≡ text
-text_is_lines [] = refl
-text_is_lines (byte ∷ bytes) = glued_by byte (byte == 10) (cut_after 10 bytes) (same_ten byte) ∙ ap (λ (found : Text). byte ∷ found) (text_is_lines bytes)
-
-freed : (byte end : ℕ) (pieces : List Text) (rest : Text) → (byte == end) ≡ false → are_free end pieces ≡ true → are_free end (with_byte byte (record { pieces = pieces; rest = rest })).pieces ≡ true
-freed byte end [] rest other h = refl
-freed byte end (piece ∷ pieces) rest other h = rw other h
-
-freed_by : (byte end : ℕ) (is : Bool) (cut : Cut) → (byte == end) ≡ is → are_free end cut.pieces ≡ true → are_free end (cond is (record { pieces = [] ∷ cut.pieces; rest = cut.rest }) (with_byte byte cut)).pieces ≡ true
-freed_by byte end true cut same h = h
-freed_by byte end false cut same h = freed byte end cut.pieces cut.rest same h
-
-pub pieces_free : (end : ℕ) (text : Text) → are_free end (cut_after end text).pieces ≡ true
-pieces_free end [] = refl
-pieces_free end (byte ∷ bytes) = freed_by byte end (byte == end) (cut_after end bytes) refl (pieces_free end bytes)
-
-pub take_free : (end n : ℕ) (lines : List Text) → are_free end lines ≡ true → are_free end (take n lines) ≡ true
-take_free end zero lines h = refl
-take_free end (suc n) [] h = refl
-take_free end (suc n) (line ∷ lines) h = and_both (is_free end line) (are_free end (take n lines)) (and_left (is_free end line) (are_free end lines) h) (take_free end n lines (and_right (is_free end line) (are_free end lines) h))
+use Rattle.mh_text_laws.specs.Beginnings.{front, Begins, IsLeastBad, HasOneLeastBadLine, LeastBadLinesAreOne}
+use Rattle.mh_text_laws.proofs.round_trips.WordRoundTrips.{is_free, are_free, cut-lines}
+use Rattle.mh_text_laws.proofs.beginnings.WholeLines.{pieces_free, take_free}
+use Rattle.mh_text_laws.proofs.round_trips.HistoryRoundTrips.{cut-text, short, history_reading-short, recorded_reading-short}
 
 -- Readers of lines -------------------------------------------------------------------------------
 
@@ -234,8 +205,9 @@ recorded-breaks (line ∷ lines) rest m h = header-breaks line lines rest m (hea
 front-cut : (n : ℕ) (text more : Text) → cut_after 10 (front n text ++ more) ≡ record { pieces = take n (cut_after 10 text).pieces ++ (cut_after 10 more).pieces; rest = (cut_after 10 more).rest }
 front-cut n text more = cut-lines (take n (cut_after 10 text).pieces) more (take_free 10 n (cut_after 10 text).pieces (pieces_free 10 text))
 
-least : {X : Type 0} (read : Cut → Reading X) (text : Text) (m : ℕ) → Breaks (λ lines rest. read (record { pieces = lines; rest = rest })) 1 (cut_after 10 text).pieces m → IsLeastBad read text m
-least read text m h =
+least : {X : Type 0} (read : Cut → Reading X) (text : Text) (m : ℕ) → read (cut_after 10 text) ≡ BadLine m
+    → Breaks (λ lines rest. read (record { pieces = lines; rest = rest })) 1 (cut_after 10 text).pieces m → IsLeastBad read text m
+least read text m is h =
     let one : m - 1 ≡ h.place = omega (arith, h.number) in
     let next : m ≡ suc h.place = omega (arith, h.number) in
     let begun : read (cut_after 10 (front h.place text ++ lines_text h.more)) ≡ Means h.means =
@@ -243,6 +215,7 @@ least read text m h =
     record {
       counted = omega arith;
       within = omega (arith, h.within);
+      unread = λ x means. cc;
       before = rw one (lines_text h.more, h.means, begun);
       bad = λ whole begins.
           let known : read (cut_after 10 (front (suc h.place) text ++ begins.0)) ≡ Means begins.1 = rw next at begins.2 in
@@ -251,15 +224,58 @@ least read text m h =
           cc;
     }
 
+-- One line at most -------------------------------------------------------------------------------
+
+front-longer : (n m : ℕ) (text : Text) → n ≤ m → front m text ≡ front n text ++ lines_text (drop n (take m (cut_after 10 text).pieces))
+front-longer n m text within =
+    let cut : take n (take m (cut_after 10 text).pieces) ++ drop n (take m (cut_after 10 text).pieces) ≡ take m (cut_after 10 text).pieces = take-append-drop n (take m (cut_after 10 text).pieces) in
+    let first : take n (take m (cut_after 10 text).pieces) ≡ take n (cut_after 10 text).pieces = take-take n m (cut_after 10 text).pieces within in
+    ap lines_text (sym cut) ∙ flat_map-append line_text (take n (take m (cut_after 10 text).pieces)) (drop n (take m (cut_after 10 text).pieces))
+    ∙ ap (λ (found : List Text). lines_text found ++ lines_text (drop n (take m (cut_after 10 text).pieces))) first
+
+begins-shorter : {X : Type 0} (read : Cut → Reading X) (n m : ℕ) (text : Text) → n ≤ m → Begins read (front m text) → Begins read (front n text)
+begins-shorter read n m text within begins =
+    let same : front n text ++ (lines_text (drop n (take m (cut_after 10 text).pieces)) ++ begins.0) ≡ front m text ++ begins.0 =
+    sym (append_assoc (front n text) (lines_text (drop n (take m (cut_after 10 text).pieces))) begins.0) ∙ ap (λ (t : Text). t ++ begins.0) (sym (front-longer n m text within)) in
+    (lines_text (drop n (take m (cut_after 10 text).pieces)) ++ begins.0, begins.1, ap (λ (t : Text). read (cut_after 10 t)) same ∙ begins.2)
+
+none-earlier : {X : Type 0} (read : Cut → Reading X) (text : Text) (n m : ℕ) → n < m → IsLeastBad read text n → IsLeastBad read text m → ⊥
+none-earlier read text n m below h k = h.bad (omega (arith, k.within)) (begins-shorter read n (m - 1) text (omega arith) k.before)
+
+one-least : {X : Type 0} (read : Cut → Reading X) → HasOneLeastBadLine read
+one-least read text n m h k =
+    elim (cases_order n m) as (λ _. n ≡ m) [
+      inl same ↦ same
+    | inr other ↦ elim other as (λ _. n ≡ m) [ inl below ↦ absurd (none-earlier read text n m below h k) | inr above ↦ absurd (none-earlier read text m n above k h) ]
+    ]
+
+least-only : {X : Type 0} (read : Cut → Reading X) (text : Text) (found : Reading X) (line : ℕ) → read (cut_after 10 text) ≡ found
+    → ((m : ℕ) → found ≡ BadLine m → IsLeastBad read text m) → IsLeastBad read text line → found ≡ BadLine line
+least-only read text (Means x) line is least h = absurd (h.unread x is)
+least-only read text (BadLine m) line is least h = ap BadLine (one-least read text m line (least m refl) h)
+
+-- The line with which a text is refused ----------------------------------------------------------
+
+-- what a text without its limit is refused with
+refused-least : {X : Type 0} (read : Cut → Reading X) (found : Reading X) (text : Text) (line : ℕ) → found ≡ read (cut_after 10 text)
+    → ((m : ℕ) → read (cut_after 10 text) ≡ BadLine m → Breaks (λ lines rest. read (record { pieces = lines; rest = rest })) 1 (cut_after 10 text).pieces m)
+    → (found ≡ BadLine line) ↔ IsLeastBad read text line
+refused-least read found text line same breaks =
+    let least_of : (m : ℕ) → found ≡ BadLine m → IsLeastBad read text m = λ m h. least read text m (sym same ∙ h) (breaks m (sym same ∙ h)) in
+    (least_of line, least-only read text found line (sym same) least_of)
+
 reading-short : (text : Text) → length text ≤ 67108864 → reading text ≡ script_of (cut_after 10 text)
 unfolding reading
 reading-short text few = rw (short (length text) 67108864 few) refl
 
-pub scripts-least : (text : Text) (line : ℕ) → length text ≤ 67108864 → reading text ≡ BadLine line → IsLeastBad script_of text line
-scripts-least text line few h = least script_of text line (script-breaks 1 (cut_after 10 text).pieces (cut_after 10 text).rest line (sym (reading-short text few) ∙ h))
+pub scripts-least : (text : Text) (line : ℕ) → length text ≤ 67108864 → (reading text ≡ BadLine line) ↔ IsLeastBad script_of text line
+scripts-least text line few = refused-least script_of (reading text) text line (reading-short text few) (script-breaks 1 (cut_after 10 text).pieces (cut_after 10 text).rest)
 
-pub histories-least : (text : Text) (line : ℕ) → length text ≤ 1073741824 → history_reading text ≡ BadLine line → IsLeastBad history_of text line
-histories-least text line few h = least history_of text line (history-breaks (cut_after 10 text).pieces (cut_after 10 text).rest line (sym (history_reading-short text few) ∙ h))
+pub histories-least : (text : Text) (line : ℕ) → length text ≤ 1073741824 → (history_reading text ≡ BadLine line) ↔ IsLeastBad history_of text line
+histories-least text line few = refused-least history_of (history_reading text) text line (history_reading-short text few) (history-breaks (cut_after 10 text).pieces (cut_after 10 text).rest)
 
-pub records-least : (text : Text) (line : ℕ) → length text ≤ 2147483648 → recorded_reading text ≡ BadLine line → IsLeastBad recorded_of text line
-records-least text line few h = least recorded_of text line (recorded-breaks (cut_after 10 text).pieces (cut_after 10 text).rest line (sym (recorded_reading-short text few) ∙ h))
+pub records-least : (text : Text) (line : ℕ) → length text ≤ 2147483648 → (recorded_reading text ≡ BadLine line) ↔ IsLeastBad recorded_of text line
+records-least text line few = refused-least recorded_of (recorded_reading text) text line (recorded_reading-short text few) (recorded-breaks (cut_after 10 text).pieces (cut_after 10 text).rest)
+
+pub lines-one : LeastBadLinesAreOne
+lines-one = (one-least script_of, one-least history_of, one-least recorded_of)

@@ -1,6 +1,6 @@
 -- Worked rows of texts.
 use Rattle.std.proofs.Common.{◌≡◌, refl, codes, ◌∷◌, ◌++◌}
-use Rattle.mh_text_laws.proofs.Worked.{worked}
+use Rattle.mh_text_laws.proofs.rows.Worked.{worked}
 use Rattle.mh_model.specs.Output.{output}
 use Rattle.mh_model.specs.Script.{reading}
 

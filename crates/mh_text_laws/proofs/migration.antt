@@ -1,0 +1,2 @@
+pub mod RecordLength
+pub mod MigratedRecords

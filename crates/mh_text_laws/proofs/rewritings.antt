@@ -1,0 +1,7 @@
+pub mod NumbersWrittenAgain
+pub mod WordsWrittenAgain
+pub mod FormsWrittenAgain
+pub mod DumpsWrittenAgain
+pub mod RepliesWrittenAgain
+pub mod EntriesWrittenAgain
+pub mod HistoriesWrittenAgain

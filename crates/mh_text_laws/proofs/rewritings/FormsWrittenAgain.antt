@@ -1,0 +1,132 @@
+-- What a form reads is written with its word and the words that it read: commands and controls.
+use Rattle.std.proofs.Common.{◌≡◌, ◌∙◌, ℕ, suc, nat_lt, ◌&&◌, cond, Bool, true, false, Option, Some, option_and_then, List, [], ◌∷◌, length, map, ap, sym, refl, codes, decimal, arith}
+use Rattle.std.proofs.lemmas.Bool.{and_parts}
+use Rattle.mh_model.specs.declared.command.Command.{Command}
+use Rattle.mh_model.specs.declared.command.Command.TheVariants as command
+use Rattle.mh_model.specs.declared.command.Control.{Control}
+use Rattle.mh_model.specs.declared.command.Control.TheVariants as control
+use Rattle.mh_model.specs.Bytes.{Text, is_text}
+use Rattle.mh_model.specs.Forms.{within, Form, form_of, formed, are_below, with_numbers, at, u32, u64, phrase_words, is_sayable, command_forms, command_phrase, command_of, Version, One, Two, control_forms, control_phrase, control_of, knows_control, where_known}
+use Rattle.mh_model.specs.Replies.{are_texts, with_words}
+use Rattle.mh_text_laws.proofs.rewritings.NumbersWrittenAgain.{within_is, numbered_is, OfEach, of_each, length-below}
+use Rattle.mh_text_laws.proofs.rewritings.WordsWrittenAgain.{text_is}
+
+-- these words are written of something, which passes a test
+abbrev pub IsOf : {X : Type 0} → (X → List Text) → (X → Bool) → List Text → X → Type 0
+IsOf written passes words x = (written x ≡ words) × (passes x ≡ true)
+
+-- what a form reads is written with its word and the words that it read, and passes
+pub record IsFaithful {X : Type 0} (written : X → List Text) (passes : X → Bool) (form : Form X) : Type 0 where
+  pub read : (words : List Text) (x : X) → form.meaning words ≡ Some x → IsOf written passes (form.verb ∷ words) x
+
+abbrev pub AreFaithful : {X : Type 0} → (X → List Text) → (X → Bool) → List (Form X) → Type 0
+AreFaithful written passes [] = Unit {0}
+AreFaithful written passes (form ∷ forms) = IsFaithful written passes form × AreFaithful written passes forms
+
+-- Tables -----------------------------------------------------------------------------------------
+
+form_or_later : {X : Type 0} (written : X → List Text) (passes : X → Bool) (form : Form X) (verb : Text) (words : List Text) (x : X) (later : Option (Form X)) (is : Bool)
+    → IsFaithful written passes form → is_text verb form.verb ≡ is → (option_and_then (λ form. form.meaning words) later ≡ Some x → IsOf written passes (verb ∷ words) x)
+    → option_and_then (λ form. form.meaning words) (cond is (Some form) later) ≡ Some x → IsOf written passes (verb ∷ words) x
+form_or_later written passes form verb words x later true faithful is next h =
+    let found = faithful.read words x h in
+    let same : form.verb ≡ verb = sym (text_is verb form.verb is) in
+    (found.0 ∙ ap (λ (v : Text). v ∷ words) same, found.1)
+form_or_later written passes form verb words x later false faithful is next h = next h
+
+found-faithful : {X : Type 0} (written : X → List Text) (passes : X → Bool) (forms : List (Form X)) (verb : Text) (words : List Text) (x : X)
+    → AreFaithful written passes forms → option_and_then (λ form. form.meaning words) (form_of verb forms) ≡ Some x → IsOf written passes (verb ∷ words) x
+found-faithful written passes [] verb words x all h = cc
+found-faithful written passes (form ∷ forms) verb words x all h =
+    form_or_later written passes form verb words x (form_of verb forms) (is_text verb form.verb) all.0 refl (λ k. found-faithful written passes forms verb words x all.1 k) h
+
+pub formed-faithful : {X : Type 0} (written : X → List Text) (passes : X → Bool) (forms : List (Form X)) → AreFaithful written passes forms
+    → (words : List Text) (x : X) → formed forms words ≡ Some x → IsOf written passes words x
+formed-faithful written passes forms all [] x h = cc
+formed-faithful written passes forms all (verb ∷ words) x h = found-faithful written passes forms verb words x all h
+
+-- Forms of numbers -------------------------------------------------------------------------------
+
+-- a form of numbers is faithful where what they make is written with these, and passes where they are below the bounds
+pub numbers-faithful : {X : Type 0} (written : X → List Text) (passes : X → Bool) (verb : Text) (bounds : List ℕ) (made : List ℕ → X)
+    → OfEach bounds (λ ns. (written (made ns) ≡ verb ∷ map decimal ns) × (passes (made ns) ≡ are_below bounds ns)) → IsFaithful written passes (with_numbers verb bounds made)
+numbers-faithful written passes verb bounds made back = record {
+  read = λ words x h.
+      let found = numbered_is bounds made words x h in
+      let known = of_each bounds (λ ns. (written (made ns) ≡ verb ∷ map decimal ns) × (passes (made ns) ≡ are_below bounds ns)) back found.0 (length-below bounds found.0 found.2) in
+      (ap written (sym found.1) ∙ known.0 ∙ ap (λ (ws : List Text). verb ∷ ws) found.3, ap passes (sym found.1) ∙ known.1 ∙ found.2);
+}
+
+-- Forms of words ---------------------------------------------------------------------------------
+
+texts_are : (xs ys : List Text) → are_texts xs ys ≡ true → xs ≡ ys
+texts_are [] [] h = refl
+texts_are [] (y ∷ ys) h = cc
+texts_are (x ∷ xs) [] h = cc
+texts_are (x ∷ xs) (y ∷ ys) h =
+    let both = and_parts _ _ h in
+    let one : x ≡ y = text_is x y both.0 in
+    let more : xs ≡ ys = texts_are xs ys both.1 in
+    cc
+
+pub words-faithful : {X : Type 0} (written : X → List Text) (passes : X → Bool) (verb : Text) (more : List Text) (made : X) → written made ≡ verb ∷ more → passes made ≡ true
+    → IsFaithful written passes (with_words verb more made)
+words-faithful written passes verb more made is good = record {
+  read = λ words x h.
+      let found = within_is (are_texts words more) made x h in
+      (ap written (sym found.1) ∙ is ∙ ap (λ (ws : List Text). verb ∷ ws) (sym (texts_are words more found.0)), ap passes (sym found.1) ∙ good);
+}
+
+-- Commands and controls --------------------------------------------------------------------------
+
+abbrev command_words : Command → List Text
+command_words c = phrase_words (command_phrase c)
+
+abbrev command_passes : Command → Bool
+command_passes c = is_sayable (command_phrase c)
+
+pub command_is : (words : List Text) (c : Command) → command_of words ≡ Some c → IsOf command_words command_passes words c
+command_is = formed-faithful command_words command_passes command_forms
+    (numbers-faithful _ _ (codes "new") (u32 ∷ u32 ∷ u32 ∷ []) _ (λ a b c. (refl, refl)),
+    (numbers-faithful _ _ (codes "get") (u32 ∷ u32 ∷ u32 ∷ []) _ (λ a b c. (refl, refl)),
+    (numbers-faithful _ _ (codes "put") (u32 ∷ u32 ∷ u32 ∷ []) _ (λ a b c. (refl, refl)),
+    (numbers-faithful _ _ (codes "copy") (u32 ∷ u32 ∷ []) _ (λ a b. (refl, refl)),
+    (numbers-faithful _ _ (codes "clear") (u32 ∷ []) _ (λ a. (refl, refl)),
+    (numbers-faithful _ _ (codes "read") (u32 ∷ u32 ∷ []) _ (λ a b. (refl, refl)),
+    (numbers-faithful _ _ (codes "write") (u32 ∷ u32 ∷ u64 ∷ []) _ (λ a b c. (refl, refl)),
+    (numbers-faithful _ _ (codes "same") (u32 ∷ u32 ∷ []) _ (λ a b. (refl, refl)),
+    (numbers-faithful _ _ (codes "shape") (u32 ∷ []) _ (λ a. (refl, refl)),
+    (numbers-faithful _ _ (codes "post") (u32 ∷ u32 ∷ []) _ (λ a b. (refl, refl)),
+    (numbers-faithful _ _ (codes "take") (u32 ∷ u32 ∷ []) _ (λ a b. (refl, refl)),
+    (numbers-faithful _ _ (codes "end") [] _ (refl, refl), tt))))))))))))
+
+abbrev control_words : Control → List Text
+control_words c = phrase_words (control_phrase c)
+
+abbrev control_passes : Version → Control → Bool
+control_passes version c = knows_control version c && is_sayable (control_phrase c)
+
+-- what version 1 knows is known
+known : (version : Version) (c : Control) (test : Bool) → knows_control One c ≡ true → (knows_control version c && test) ≡ test
+known One c test h = rw h refl
+known Two c test h = refl
+
+left-faithful : (version : Version) → AreFaithful control_words (control_passes version) (where_known version (with_numbers (codes "left") [] (λ ns. control.Left)))
+left-faithful One = tt
+left-faithful Two = (numbers-faithful _ _ (codes "left") [] _ (refl, refl), tt)
+
+pub control_is : (version : Version) (words : List Text) (c : Control) → control_of version words ≡ Some c → IsOf control_words (control_passes version) words c
+control_is version = formed-faithful control_words (control_passes version) (control_forms version)
+    (numbers-faithful _ _ (codes "quantum") [] _ (refl, known version control.Quantum true refl),
+    (numbers-faithful _ _ (codes "start") [] _ (refl, known version control.Start true refl),
+    (numbers-faithful _ _ (codes "stat") [] _ (refl, known version control.Stat true refl),
+    (numbers-faithful _ _ (codes "dump") [] _ (refl, known version control.Dump true refl),
+    (numbers-faithful _ _ (codes "report") (u64 ∷ []) _ (λ a. (refl, known version (control.Report a) (nat_lt a u64 && true) refl)),
+    left-faithful version)))))
+
+pub control_again : (version : Version) (words : List Text) (c : Control) → control_of version words ≡ Some c
+    → (phrase_words (control_phrase c) ≡ words) × (knows_control version c ≡ true) × (is_sayable (control_phrase c) ≡ true)
+control_again version words c h =
+    let found = control_is version words c h in
+    let both = and_parts _ _ found.1 in
+    (found.0, both.0, both.1)

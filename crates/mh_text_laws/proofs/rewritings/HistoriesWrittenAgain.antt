@@ -1,0 +1,122 @@
+-- A text that is a history of either version is what is written of it, with its entries in range.
+use Rattle.std.proofs.Common.{◌≡◌, ◌∙◌, ℕ, suc, ◌≤◌, nat_lt, ◌&&◌, cond, Bool, true, false, Option, Some, None, List, [], ◌∷◌, ◌++◌, length, map, ap, sym, refl, codes, arith, append-nil}
+use Rattle.std.specs.List.{list_all}
+use Rattle.std.proofs.lemmas.Bool.{and_from}
+use Rattle.std.proofs.lemmas.Bool.Decides.{nat_tests}
+use Rattle.mh_model.specs.declared.config.Config.{Config}
+use Rattle.mh_model.specs.declared.history.Entry.{Entry}
+use Rattle.mh_model.specs.Bytes.{Text, cut_after, words, joined, lines_text, is_text}
+use Rattle.mh_model.specs.Forms.{One}
+use Rattle.mh_model.specs.Script.{Reading, BadLine, Means, reading_map, at_end}
+use Rattle.mh_model.specs.HistoryTexts.{Measured, Recorded, entry_words, is_entry, entry_of, measured_words, is_measured, measured_of, header_words, header_of, entries_from, history_text, history_of, history_reading, recorded_text, recorded_by, recorded_of, recorded_reading}
+use Rattle.mh_text_laws.proofs.beginnings.WholeLines.{text_is_lines}
+use Rattle.mh_text_laws.proofs.rewritings.WordsWrittenAgain.{text_is}
+use Rattle.mh_text_laws.proofs.rewritings.EntriesWrittenAgain.{entry_line_is, measured_line_is, header_line_is}
+
+reading_map_is : {X Y : Type 0} (f : X → Y) (found : Reading X) (y : Y) → reading_map f found ≡ Means y → (x : X) × (found ≡ Means x) × (f x ≡ y)
+reading_map_is f (BadLine n) y h = cc
+reading_map_is f (Means x) y h = (x, refl, (let same : f x ≡ y = cc in same))
+
+-- Lines that are entries are what is written of these, which are in range, and nothing follows them
+record AreRead {X : Type 0} (line : X → Text) (passes : X → Bool) (lines : List Text) (rest : Text) (xs : List X) : Type 0 where
+  same : map line xs ≡ lines
+  end : rest ≡ []
+  passed : list_all passes xs ≡ true
+
+no_lines : {X : Type 0} (line : X → Text) (passes : X → Bool) (n : ℕ) (rest : Text) (xs : List X) → at_end [] n rest ≡ Means xs → AreRead line passes [] rest xs
+no_lines {X} line passes n [] xs h =
+    let none : [] ≡ xs = cc in
+    record { same = ap (map line) (sym none); end = refl; passed = ap (list_all passes) (sym none) }
+no_lines line passes n (byte ∷ bytes) xs h = cc
+
+entries_are : {X : Type 0} (read : Text → Option X) (line : X → Text) (passes : X → Bool) → ((l : Text) (x : X) → read l ≡ Some x → (line x ≡ l) × (passes x ≡ true))
+    → (n : ℕ) (lines : List Text) (rest : Text) (xs : List X) → entries_from read n lines rest ≡ Means xs → AreRead line passes lines rest xs
+entries_are read line passes is n [] rest xs h = no_lines line passes n rest xs h
+entries_are {X} read line passes is n (l ∷ lines) rest xs h = by (read l) refl (entries_are read line passes is (suc n) lines rest) h where
+  by : (found : Option X) → read l ≡ found → ((ys : List X) → entries_from read (suc n) lines rest ≡ Means ys → AreRead line passes lines rest ys)
+      → elim found as (λ _. Reading (List X)) [ Some entry ↦ reading_map (λ entries. entry ∷ entries) (entries_from read (suc n) lines rest) | None ↦ BadLine n ] ≡ Means xs
+      → AreRead line passes (l ∷ lines) rest xs
+  by None was later k = cc
+  by (Some x) was later k =
+      let found = reading_map_is (λ entries. x ∷ entries) (entries_from read (suc n) lines rest) xs k in
+      let one = is l x was in
+      let more = later found.0 found.1 in
+      record {
+        same = ap (map line) (sym found.2) ∙ rw (one.0, more.same) refl;
+        end = more.end;
+        passed = ap (list_all passes) (sym found.2) ∙ and_from _ _ one.1 more.passed;
+      }
+
+-- the whole text of the lines before an empty rest
+whole : (text : Text) (lines : List Text) → (cut_after 10 text).pieces ≡ lines → (cut_after 10 text).rest ≡ [] → text ≡ lines_text lines
+whole text lines same end =
+    let joined_again : lines_text lines ++ [] ≡ text = rw (← same, ← end) (text_is_lines text) in
+    sym joined_again ∙ append-nil (lines_text lines)
+
+not_long : {X : Type 0} (limit n : ℕ) (found : Reading X) (x : X) → cond (nat_lt limit n) (BadLine 0) found ≡ Means x → (n ≤ limit) × (found ≡ Means x)
+not_long {X} limit n found x h = by (nat_lt limit n) refl h where
+  by : (long : Bool) → nat_lt limit n ≡ long → cond long (BadLine 0) found ≡ Means x → (n ≤ limit) × (found ≡ Means x)
+  by true is k = cc
+  by false is k = (grind (arith, nat_tests), k)
+
+-- Version 1 --------------------------------------------------------------------------------------
+
+abbrev entry_line : Entry → Text
+entry_line e = joined (entry_words e)
+
+history_is : (lines : List Text) (rest : Text) (entries : List Entry) → history_of (record { pieces = lines; rest = rest }) ≡ Means entries
+    → (lines ≡ codes "history 1" ∷ map entry_line entries) × (rest ≡ []) × (list_all (is_entry One) entries ≡ true)
+history_is [] rest entries h = cc
+history_is (first ∷ lines) rest entries h = by (is_text first (codes "history 1")) refl h where
+  by : (is : Bool) → is_text first (codes "history 1") ≡ is → cond is (entries_from (λ line. entry_of One (words line)) 2 lines rest) (BadLine 1) ≡ Means entries
+      → (first ∷ lines ≡ codes "history 1" ∷ map entry_line entries) × (rest ≡ []) × (list_all (is_entry One) entries ≡ true)
+  by false is k = cc
+  by true is k =
+      let found = entries_are (λ line. entry_of One (words line)) entry_line (is_entry One) (entry_line_is One) 2 lines rest entries k in
+      let here : first ≡ codes "history 1" = text_is first (codes "history 1") is in
+      (ap (λ (line : Text). line ∷ lines) here ∙ ap (λ (more : List Text). codes "history 1" ∷ more) (sym found.same), found.end, found.passed)
+
+-- what a text of version 1 is, that is read
+pub record IsHistory (text : Text) (entries : List Entry) : Type 0 where
+  pub short : length text ≤ 1073741824
+  pub same : text ≡ history_text entries
+  pub passed : list_all (is_entry One) entries ≡ true
+
+pub history_reading_is : (text : Text) (entries : List Entry) → history_reading text ≡ Means entries → IsHistory text entries
+unfolding history_reading
+history_reading_is text entries h =
+    let read = not_long 1073741824 (length text) (history_of (cut_after 10 text)) entries h in
+    let found = history_is (cut_after 10 text).pieces (cut_after 10 text).rest entries read.1 in
+    record { short = read.0; same = whole text (codes "history 1" ∷ map entry_line entries) found.0 found.1; passed = found.2 }
+
+pub histories-again : (text : Text) (entries : List Entry) → history_reading text ≡ Means entries → (text ≡ history_text entries) × (list_all (is_entry One) entries ≡ true)
+histories-again text entries h = let found = history_reading_is text entries h in (found.same, found.passed)
+
+-- Version 2 --------------------------------------------------------------------------------------
+
+abbrev measured_line : Measured → Text
+measured_line m = joined (measured_words m)
+
+record_is : (first : Text) (lines : List Text) (rest : Text) (r : Recorded) (found : Option Config) → header_of (words first) ≡ found → recorded_by found lines rest ≡ Means r
+    → (first ∷ lines ≡ joined (header_words r.config) ∷ map measured_line r.entries) × (rest ≡ []) × (list_all is_measured r.entries ≡ true)
+record_is first lines rest r None is h = cc
+record_is first lines rest r (Some config) is h =
+    let one = reading_map_is (λ entries. let made : Recorded = record { config = config; entries = entries } in made) (entries_from (λ line. measured_of (words line)) 2 lines rest) r h in
+    let found = entries_are (λ line. measured_of (words line)) measured_line is_measured measured_line_is 2 lines rest one.0 one.1 in
+    let here : first ≡ joined (header_words config) = sym (header_line_is first config is) in
+    let config_same : config ≡ r.config = ap (λ (r : Recorded). r.config) one.2 in
+    let entries_same : one.0 ≡ r.entries = ap (λ (r : Recorded). r.entries) one.2 in
+    (ap (λ (line : Text). line ∷ lines) (here ∙ ap (λ (c : Config). joined (header_words c)) config_same)
+    ∙ ap (λ (more : List Text). joined (header_words r.config) ∷ more) (sym found.same ∙ ap (map measured_line) entries_same), found.end, ap (list_all is_measured) (sym entries_same) ∙ found.passed)
+
+recorded_is : (lines : List Text) (rest : Text) (r : Recorded) → recorded_of (record { pieces = lines; rest = rest }) ≡ Means r
+    → (lines ≡ joined (header_words r.config) ∷ map measured_line r.entries) × (rest ≡ []) × (list_all is_measured r.entries ≡ true)
+recorded_is [] rest r h = cc
+recorded_is (first ∷ lines) rest r h = record_is first lines rest r (header_of (words first)) refl h
+
+pub records-again : (text : Text) (r : Recorded) → recorded_reading text ≡ Means r → (text ≡ recorded_text r) × (list_all is_measured r.entries ≡ true)
+unfolding recorded_reading
+records-again text r h =
+    let read = not_long 2147483648 (length text) (recorded_of (cut_after 10 text)) r h in
+    let found = recorded_is (cut_after 10 text).pieces (cut_after 10 text).rest r read.1 in
+    (whole text (joined (header_words r.config) ∷ map measured_line r.entries) found.0 found.1, found.2)

@@ -1,0 +1,4 @@
+pub mod WordRoundTrips
+pub mod ReplyRoundTrips
+pub mod EntryRoundTrips
+pub mod HistoryRoundTrips

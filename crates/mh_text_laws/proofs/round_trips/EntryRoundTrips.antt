@@ -1,0 +1,248 @@
+-- Entries are read as they were written.
+use Rattle.std.proofs.Common.{option_to_list, ◌≡◌, ℕ, ◌<◌, ◌^◌, nat_lt, nat_le, not, ◌&&◌, Bool, true, false, Option, Some, None, List, [], ◌∷◌, ◌++◌, length, map, flat_map, ap, ◌∙◌, refl, decimal, codes, arith, length-append, append-nil, subst, sym}
+use Rattle.std.proofs.lemmas.Bool.{and_parts, and_from, not-true, not_from_false, ltb-true, leb-true}
+use Rattle.std.specs.List.{list_all}
+use Rattle.std.proofs.lemmas.Fmt.{decimal_nonempty}
+use Rattle.mh_model.specs.declared.command.Command.{Command}
+use Rattle.mh_model.specs.declared.command.Command.TheVariants as command
+use Rattle.mh_model.specs.declared.command.Control.{Control}
+use Rattle.mh_model.specs.declared.command.Control.TheVariants as control
+use Rattle.mh_model.specs.declared.command.Event.{Event}
+use Rattle.mh_model.specs.declared.command.Event.TheVariants as event
+use Rattle.mh_model.specs.declared.reply.Reply.{Reply}
+use Rattle.mh_model.specs.declared.reply.Reply.TheVariants as reply
+use Rattle.mh_model.specs.declared.reply.Refusal.{Refusal}
+use Rattle.mh_model.specs.declared.reply.Refusal.TheVariants.{BadSlot, Null, NoField, TooLarge, HeapFull, Ended, TooManySessions}
+use Rattle.mh_model.specs.declared.cycle.Phase.{Phase}
+use Rattle.mh_model.specs.declared.cycle.Phase.TheVariants.{Idle, Roots, Mark, Sweep, Defrag}
+use Rattle.mh_model.specs.declared.dump.DumpItem.{DumpItem}
+use Rattle.mh_model.specs.declared.dump.DumpItem.TheVariants as item
+use Rattle.mh_model.specs.declared.history.Entry.{Entry}
+use Rattle.mh_model.specs.Bytes.{Text, is_text, is_digit, number, words, joined}
+use Rattle.mh_model.specs.Forms.{are_below, u32, u64, Phrase, phrase, phrase_words, is_sayable, command_phrase, Version, One, Two, control_phrase, knows_control}
+use Rattle.mh_model.specs.Replies.{refusal_words, phase_word, flag_word, placed_word, item_words, optional_word, reply_words, are_u64, item_numbers, items_in_range, ascends, is_reply}
+use Rattle.mh_model.specs.HistoryTexts.{Measured, event_words, entry_words, measured_words, is_event, is_entry, is_measured, event_of, halves_at, entry_of, measured_of}
+use Rattle.mh_text_laws.proofs.ListTests.{all_weaker, all-append}
+use Rattle.mh_text_laws.proofs.round_trips.WordRoundTrips.{number-decimal, numbers-decimal, decimal_word, is_word, are_words, words-joined, all-decimals, are_small, digit_other, is_numbered, numbered_first}
+use Rattle.mh_text_laws.proofs.round_trips.ReplyRoundTrips.{small_numbers, command_of-words, control_of-words, reply_of-words}
+
+-- Plain words ------------------------------------------------------------------------------------
+
+-- a word that is no mark of an entry
+abbrev is_plain : Text → Bool
+is_plain word = is_word word && (not (is_text word (codes "=")) && not (is_text word (codes "units")))
+
+abbrev are_plain : List Text → Bool
+are_plain words = list_all is_plain words
+
+abbrev are_not : Text → List Text → Bool
+are_not mark words = list_all (λ word. not (is_text word mark)) words
+
+plain_words : (ws : List Text) → are_plain ws ≡ true → are_words ws ≡ true
+plain_words ws h = all_weaker is_plain is_word ws (λ w k. (and_parts _ _ k).0) h
+
+plain_equals : (ws : List Text) → are_plain ws ≡ true → are_not (codes "=") ws ≡ true
+plain_equals ws h = all_weaker is_plain (λ w. not (is_text w (codes "="))) ws (λ w k. (and_parts _ _ (and_parts _ _ k).1).0) h
+
+plain_units : (ws : List Text) → are_plain ws ≡ true → are_not (codes "units") ws ≡ true
+plain_units ws h = all_weaker is_plain (λ w. not (is_text w (codes "units"))) ws (λ w k. (and_parts _ _ (and_parts _ _ k).1).1) h
+
+-- a word that begins with a digit is no mark
+no_mark : (c : ℕ) (cs word : Text) → is_digit c ≡ false → is_numbered word ≡ true → not (is_text word (c ∷ cs)) ≡ true
+no_mark c cs [] no_digit numbered = cc
+no_mark c cs (d ∷ ds) no_digit numbered = rw (digit_other c d no_digit numbered) refl
+
+plain_numbered : (word : Text) → is_word word ≡ true → is_numbered word ≡ true → is_plain word ≡ true
+plain_numbered word is numbered = and_from _ _ is (and_from _ _ (no_mark 61 [] word refl numbered) (no_mark 117 (codes "nits") word refl numbered))
+
+plain_decimal : (n : ℕ) → n < 2 ^ 64 → is_plain (decimal n) ≡ true
+plain_decimal n small =
+    let numbered : is_numbered (decimal n) ≡ true = subst (λ (word : Text). is_numbered word ≡ true) (append-nil (decimal n)) (numbered_first n [] small) in
+    plain_numbered (decimal n) (decimal_word n small) numbered
+
+plain_decimals : (ns : List ℕ) → are_u64 ns ≡ true → are_plain (map decimal ns) ≡ true
+plain_decimals = all-decimals is_plain plain_decimal
+
+-- a number before others
+next_plain : (n : ℕ) (ns : List ℕ) (rest : Bool) → are_u64 (n ∷ ns) ≡ true → (are_u64 ns ≡ true → rest ≡ true) → (is_plain (decimal n) && rest) ≡ true
+next_plain n ns rest h more = and_from _ _ (plain_decimal n (ltb-true n u64 (and_parts _ _ h).0)) (more (and_parts _ _ h).1)
+
+-- Events -----------------------------------------------------------------------------------------
+
+-- its verb is no mark, and its numbers have 64 bits at most
+abbrev is_fine : Phrase → Bool
+is_fine said = is_plain said.verb && list_all (λ bound. nat_le bound u64) said.bounds
+
+phrase_plain : (said : Phrase) → is_fine said ≡ true → is_sayable said ≡ true → are_plain (phrase_words said) ≡ true
+phrase_plain said fine h =
+    let both = and_parts (is_plain said.verb) (list_all (λ bound. nat_le bound u64) said.bounds) fine in
+    and_from _ _ both.0 (plain_decimals said.numbers (small_numbers said.bounds said.numbers h both.1))
+
+fine_command : (c : Command) → is_fine (command_phrase c) ≡ true
+fine_command (command.New d r n) = refl
+fine_command (command.Get d s f) = refl
+fine_command (command.Put s f v) = refl
+fine_command (command.Copy d s) = refl
+fine_command (command.Clear d) = refl
+fine_command (command.Read s i) = refl
+fine_command (command.Write s i x) = refl
+fine_command (command.Same a b) = refl
+fine_command (command.Shape s) = refl
+fine_command (command.Post b s) = refl
+fine_command (command.Take d b) = refl
+fine_command command.End = refl
+
+fine_control : (c : Control) → is_fine (control_phrase c) ≡ true
+fine_control control.Quantum = refl
+fine_control control.Start = refl
+fine_control control.Stat = refl
+fine_control control.Dump = refl
+fine_control control.Left = refl
+fine_control (control.Report window) = refl
+
+small_who : (who : ℕ) → nat_le who 8 ≡ true → who < 2 ^ 64
+small_who who h = omega (arith, leb-true who 8 h)
+
+event_plain : (version : Version) (e : Event) → is_event version e ≡ true → are_plain (event_words e) ≡ true
+event_plain version (event.Session who c) h =
+    let both = and_parts (nat_le who 8) (is_sayable (command_phrase c)) h in
+    and_from _ _ (and_from _ _ (decimal_word who (small_who who both.0)) refl) (phrase_plain (command_phrase c) (fine_command c) both.1)
+event_plain version (event.Control c) h = phrase_plain (control_phrase c) (fine_control c) (and_parts _ _ h).1
+
+event_of-words : (version : Version) (e : Event) → is_event version e ≡ true → event_of version (event_words e) ≡ Some e
+event_of-words version (event.Session who c) h =
+    let both = and_parts (nat_le who 8) (is_sayable (command_phrase c)) h in
+    let n : number (decimal who) ≡ Some who = number-decimal who (small_who who both.0) in
+    rw (n, both.0, command_of-words c both.1) refl
+event_of-words version (event.Control c) h =
+    let both = and_parts (knows_control version c) (is_sayable (control_phrase c)) h in
+    rw (control_of-words version c both.0 both.1) refl
+
+-- Replies ----------------------------------------------------------------------------------------
+
+placed_plain : (mark slot a b : ℕ) → nat_lt 32 mark ≡ true → are_u64 (slot ∷ a ∷ b ∷ []) ≡ true → is_plain (placed_word mark slot a b) ≡ true
+placed_plain mark slot a b high h =
+    let small = are_small slot a b h in
+    let place : is_word (mark ∷ (decimal a ++ 46 ∷ decimal b)) ≡ true =
+    and_from _ _ high (all-append (λ c. nat_lt 32 c) (decimal a) (46 ∷ decimal b) (decimal_word a small.second) (decimal_word b small.third)) in
+    plain_numbered (placed_word mark slot a b)
+    (all-append (λ c. nat_lt 32 c) (decimal slot) (mark ∷ (decimal a ++ 46 ∷ decimal b)) (decimal_word slot small.first) place)
+    (numbered_first slot (mark ∷ (decimal a ++ 46 ∷ decimal b)) small.first)
+
+flag_plain : (flag : Bool) → is_plain (flag_word flag) ≡ true
+flag_plain true = refl
+flag_plain false = refl
+
+phase_plain : (phase : Phase) → is_plain (phase_word phase) ≡ true
+phase_plain Idle = refl
+phase_plain Roots = refl
+phase_plain Mark = refl
+phase_plain Sweep = refl
+phase_plain Defrag = refl
+
+optional_plain : (n : Option ℕ) → are_u64 (option_to_list n) ≡ true → is_plain (optional_word n) ≡ true
+optional_plain None h = refl
+optional_plain (Some n) h = plain_decimal n (ltb-true n u64 (and_parts _ _ h).0)
+
+refusal_plain : (refusal : Refusal) → are_plain (refusal_words refusal) ≡ true
+refusal_plain BadSlot = refl
+refusal_plain Null = refl
+refusal_plain NoField = refl
+refusal_plain TooLarge = refl
+refusal_plain HeapFull = refl
+refusal_plain Ended = refl
+refusal_plain TooManySessions = refl
+
+item_plain : (i : DumpItem) → are_u64 (item_numbers i) ≡ true → are_plain (item_words i) ≡ true
+item_plain (item.Page page class_size flag) h =
+    let p : is_word (decimal page) ≡ true = decimal_word page (ltb-true page u64 (and_parts _ _ h).0) in
+    let c : is_word (decimal class_size) ≡ true = decimal_word class_size (ltb-true class_size u64 (and_parts _ _ (and_parts _ _ h).1).0) in
+    rw (p, c, flag_plain flag) refl
+item_plain (item.Block slot a b) h = and_from _ _ (placed_plain 61 slot a b refl h) refl
+item_plain (item.Forwarder slot a b) h = and_from _ _ (placed_plain 62 slot a b refl h) refl
+
+items_plain : (items : List DumpItem) → items_in_range items ≡ true → are_plain (flat_map item_words items) ≡ true
+items_plain [] h = refl
+items_plain (i ∷ items) h =
+    all-append is_plain (item_words i) (flat_map item_words items) (item_plain i (and_parts _ _ h).0) (items_plain items (and_parts _ _ h).1)
+
+reply_plain : (version : Version) (r : Reply) → is_reply version r ≡ true → are_plain (reply_words r) ≡ true
+reply_plain version reply.Done h = refl
+reply_plain version reply.Yes h = refl
+reply_plain version reply.No h = refl
+reply_plain version (reply.Number n) h = plain_decimals (n ∷ []) h
+reply_plain version (reply.Shape shape) h = plain_decimals (shape.references ∷ shape.numbers ∷ []) (small_numbers (u32 ∷ u32 ∷ []) (shape.references ∷ shape.numbers ∷ []) h refl)
+reply_plain version (reply.Refused refusal) h = refusal_plain refusal
+reply_plain version (reply.Spent units phase) h = next_plain units [] _ h (λ end. and_from _ _ (phase_plain phase) refl)
+reply_plain version (reply.Stat free live old phase cycle) h =
+    next_plain free (live ∷ old ∷ cycle ∷ []) _ h
+    (λ h1. next_plain live (old ∷ cycle ∷ []) _ h1
+    (λ h2. next_plain old (cycle ∷ []) _ h2
+    (λ h3. and_from _ _ (phase_plain phase) (plain_decimals (cycle ∷ []) h3))))
+reply_plain version (reply.Dump items) h = items_plain items (and_parts _ _ h).0
+reply_plain version (reply.Report mutator collector quanta greatest window least floor) h =
+    let both = and_parts (are_u64 (mutator ∷ collector ∷ quanta ∷ greatest ∷ window ∷ [])) (are_u64 (option_to_list least) && are_u64 (option_to_list floor)) h in
+    next_plain mutator (collector ∷ quanta ∷ greatest ∷ window ∷ []) _ both.0
+    (λ h1. next_plain collector (quanta ∷ greatest ∷ window ∷ []) _ h1
+    (λ h2. next_plain quanta (greatest ∷ window ∷ []) _ h2
+    (λ h3. next_plain greatest (window ∷ []) _ h3
+    (λ h4. next_plain window [] _ h4
+    (λ end. and_from _ _ (optional_plain least (and_parts _ _ both.1).0) (and_from _ _ (optional_plain floor (and_parts _ _ both.1).1) refl))))))
+reply_plain One (reply.Left quanta) h = cc
+reply_plain Two (reply.Left quanta) h = plain_decimals (quanta ∷ []) h
+
+-- Entries ----------------------------------------------------------------------------------------
+
+halves_at-words : (mark : Text) (xs ys : List Text) → is_text mark mark ≡ true → are_not mark xs ≡ true → halves_at mark (xs ++ mark ∷ ys) ≡ Some (record { before = xs; after = ys })
+halves_at-words mark [] ys same h = rw same refl
+halves_at-words mark (x ∷ xs) ys same h =
+    let both = and_parts (not (is_text x mark)) (are_not mark xs) h in
+    let other : is_text x mark ≡ false = not-true (is_text x mark) both.0 in
+    rw (other, halves_at-words mark xs ys same both.1) refl
+
+entry_of-words : (version : Version) (e : Entry) → is_entry version e ≡ true → entry_of version (entry_words e) ≡ Some e
+entry_of-words version e h =
+    let both = and_parts (is_event version e.event) (is_reply version e.reply) h in
+    rw (halves_at-words (codes "=") (event_words e.event) (reply_words e.reply) refl (plain_equals (event_words e.event) (event_plain version e.event both.0)),
+        event_of-words version e.event both.0, reply_of-words version e.reply both.1) refl
+
+pub entry_are_words : (version : Version) (e : Entry) → is_entry version e ≡ true → are_words (entry_words e) ≡ true
+entry_are_words version e h =
+    all-append is_word (event_words e.event) (codes "=" ∷ reply_words e.reply) (plain_words (event_words e.event) (event_plain version e.event (and_parts _ _ h).0))
+    (plain_words (reply_words e.reply) (reply_plain version e.reply (and_parts _ _ h).1))
+
+entry_no_units : (version : Version) (e : Entry) → is_entry version e ≡ true → are_not (codes "units") (entry_words e) ≡ true
+entry_no_units version e h =
+    all-append (λ word. not (is_text word (codes "units"))) (event_words e.event) (codes "=" ∷ reply_words e.reply)
+    (plain_units (event_words e.event) (event_plain version e.event (and_parts _ _ h).0)) (plain_units (reply_words e.reply) (reply_plain version e.reply (and_parts _ _ h).1))
+
+measured_of-words : (m : Measured) → is_measured m ≡ true → measured_of (measured_words m) ≡ Some m
+measured_of-words m h =
+    let both = and_parts (is_entry Two m.entry) (are_u64 (m.mutator ∷ m.collector ∷ [])) h in
+    rw (halves_at-words (codes "units") (entry_words m.entry) (map decimal (m.mutator ∷ m.collector ∷ [])) refl (entry_no_units Two m.entry both.0),
+        entry_of-words Two m.entry both.0, numbers-decimal (m.mutator ∷ m.collector ∷ []) both.1) refl
+
+pub measured_are_words : (m : Measured) → is_measured m ≡ true → are_words (measured_words m) ≡ true
+measured_are_words m h =
+    all-append is_word (entry_words m.entry) (codes "units" ∷ decimal m.mutator ∷ decimal m.collector ∷ []) (entry_are_words Two m.entry (and_parts _ _ h).0)
+    (plain_words (decimal m.mutator ∷ decimal m.collector ∷ []) (plain_decimals (m.mutator ∷ m.collector ∷ []) (and_parts _ _ h).1))
+
+-- words of a line that isn't empty
+words-line : (ws : List Text) → 0 < length ws → are_words ws ≡ true → words (joined ws) ≡ ws
+words-line [] some h = absurd (omega arith)
+words-line (w ∷ ws) some h = words-joined w ws h
+
+some_event : (e : Event) → 0 < length (event_words e)
+some_event (event.Session who c) = omega arith
+some_event (event.Control c) = omega arith
+
+some_entry : (e : Entry) → 0 < length (entry_words e)
+some_entry e = omega (arith, some_event e.event, length-append (event_words e.event) (codes "=" ∷ reply_words e.reply))
+
+pub entry_of-line : (version : Version) (e : Entry) → is_entry version e ≡ true → entry_of version (words (joined (entry_words e))) ≡ Some e
+entry_of-line version e h = ap (entry_of version) (words-line (entry_words e) (some_entry e) (entry_are_words version e h)) ∙ entry_of-words version e h
+
+pub measured_of-line : (m : Measured) → is_measured m ≡ true → measured_of (words (joined (measured_words m))) ≡ Some m
+measured_of-line m h =
+    let some : 0 < length (measured_words m) = omega (arith, some_entry m.entry, length-append (entry_words m.entry) (codes "units" ∷ decimal m.mutator ∷ decimal m.collector ∷ [])) in
+    ap measured_of (words-line (measured_words m) some (measured_are_words m h)) ∙ measured_of-words m h

@@ -1,0 +1,24 @@
+-- Migration makes a legal record with the same entries.
+use Rattle.std.specs.Prelude.{◌≡◌, ℕ, List, length, map}
+use Rattle.mh_model.specs.declared.config.Config.{Config}
+use Rattle.mh_model.specs.declared.config.Rules.TheVariants.{First}
+use Rattle.mh_model.specs.declared.history.Entry.{Entry}
+use Rattle.mh_model.specs.Bytes.{Text}
+use Rattle.mh_model.specs.Script.{Means}
+use Rattle.mh_model.specs.History.{IsLegal}
+use Rattle.mh_model.specs.HistoryTexts.{history_reading, recorded_text, recorded_reading, IsLegalRecord, Legal, IsChecked, IsAudited, migrated, migration_text}
+
+-- What migration makes of a legal history: a text that is read as the record of its events, which is legal, with the same entries
+pub record IsMigrated (config : Config) (entries : List Entry) : Type 0 where
+  pub read : recorded_reading (recorded_text (migrated config entries)) ≡ Means (migrated config entries)
+  pub legal : IsLegalRecord config (migrated config entries).entries
+  pub count : length (migrated config entries).entries ≡ length entries
+  pub same : map (λ measured. measured.entry) (migrated config entries).entries ≡ entries
+
+-- for any text that is read as a legal history under the first rules
+abbrev pub MigrationKeepsHistories : Type 0
+MigrationKeepsHistories = (config : Config) (text : Text) (entries : List Entry) → config.rules ≡ First → history_reading text ≡ Means entries → IsLegal config entries → IsMigrated config entries
+
+-- what is written for a text that is checked and found legal is audited and found legal, with as many entries
+abbrev pub MigratedTextsAreLegal : Type 0
+MigratedTextsAreLegal = (config : Config) (text : Text) (count : ℕ) → config.rules ≡ First → IsChecked config text (Legal count) → IsAudited (migration_text config (Legal count) (history_reading text)) (Legal count)
