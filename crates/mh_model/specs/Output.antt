@@ -6,7 +6,7 @@ use Rattle.mh_model.specs.Replies.{bad_line_text, replies_text}
 use Rattle.mh_model.specs.Script.{Meaning, Reading, BadLine, Means, reading}
 
 -- the most events that are answered, and the most entries of a history
-abbrev pub most_entries : ℕ
+unfoldable pub most_entries : ℕ
 most_entries = 1000000
 
 abbrev pub output_of : Reading Meaning → Text

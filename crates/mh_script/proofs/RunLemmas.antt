@@ -1,5 +1,6 @@
 -- A run of events, from one to the next.
-use Rattle.std.proofs.Common.{◌≡◌, ℕ, ◌+◌, ◌<◌, ◌≤◌, List, [], ◌∷◌, ◌++◌, length, take, get_or, Option, subst, ◌∙◌}
+use Rattle.std.proofs.Common.{◌≡◌, ℕ, ◌+◌, ◌<◌, ◌≤◌, min, List, [], ◌∷◌, ◌++◌, length, take, get_or, Option, refl, sym, subst, ◌∙◌, arith, inl, inr}
+use Rattle.std.proofs.lemmas.Bool.{cases_lt}
 use Rattle.std.proofs.lemmas.List.{take_all}
 use Rattle.std.specs.Io.KnownBytes.{Appends}
 use Rattle.mh_model.specs.declared.command.Event.{Event}
@@ -9,6 +10,13 @@ use Rattle.mh_model.proofs.EventLemmas.{births-below, lines_of_events, lines_of_
 use Rattle.mh_text.specs.Stream.{AppendsBeginning}
 use Rattle.mh_script.specs.Run.{Buffers}
 use Rattle.mh_script.proofs.BufferLemmas.{AppendsBeginning-after, AppendsBeginning-buffers, Appends-buffers, Buffers-more, Buffers-trans}
+
+-- a front of at most so many elements
+pub take_min : {X : Type 0} (xs : List X) (n : ℕ) → take (min (length xs) n) xs ≡ take n xs
+take_min xs n = elim (cases_lt n (length xs)) [
+  | inl long ↦ let cut : min (length xs) n ≡ n = omega arith in rw cut refl
+  | inr short ↦ let all : min (length xs) n ≡ length xs = omega arith in rw all (take_all (length xs) xs (omega arith) ∙ sym (take_all n xs short))
+]
 
 -- the first i events were done, and the lines of their replies taken in
 pub record Runs (first world : World) (events : List Event) (i : ℕ) (old new : Option Text) (buffer : Text) : Type 0 where

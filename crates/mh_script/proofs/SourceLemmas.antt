@@ -1,7 +1,8 @@
 -- What was read of a source tells how its whole script reads.
-use Rattle.std.proofs.Common.{◌≡◌, ℕ, ◌<◌, ◌≤◌, [], length, Option, Some, None, refl, subst, ap, sym, ◌∙◌}
+use Rattle.std.proofs.Common.{◌≡◌, ℕ, List, ◌<◌, ◌≤◌, [], length, Option, Some, None, refl, subst, ap, sym, ◌∙◌, append-nil, arith}
 use Rattle.std.proofs.KnownBytes.{Appends-nil}
 use Rattle.std.specs.Io.KnownBytes.{Appends, Consumes, IsAtEnd}
+use Rattle.mh_model.specs.declared.command.Event.{Event}
 use Rattle.mh_model.specs.Bytes.{Text}
 use Rattle.mh_model.specs.Output.{most_entries}
 use Rattle.mh_model.specs.Script.{Reading, Meaning, Means, BadLine}
@@ -58,3 +59,16 @@ module _ {known : Option Text} {text : Text} (reads : Reads known text) where
 pub WritesBeginning-nothing : (known a : Option Text) → WritesBeginning known a a
 WritesBeginning-nothing None a = ([], [], served_output [], tt, refl, Appends-nil a)
 WritesBeginning-nothing (Some bytes) a = (bytes, [], served_output bytes, refl, refl, Appends-nil a)
+
+-- a text that was written whole is a beginning of itself
+pub beginning_of : (old new : Option Text) (text : Text) → Appends old new text → AppendsBeginning old new text
+beginning_of old new text wrote = (text, [], append-nil text, wrote)
+
+-- as many events as a history has room for, and more
+pub few_entries : (events shown : List Event) → shown ≡ events → length shown ≤ 1000000 → length events ≤ most_entries
+unfolding most_entries
+few_entries events shown same few = omega (arith, ap length same, few)
+
+pub many_entries : (events shown : List Event) → shown ≡ events → 1000000 < length shown → most_entries < length events
+unfolding most_entries
+many_entries events shown same many = omega (arith, ap length same)

@@ -70,11 +70,11 @@ LeavesSource old new (Err Read) = ConsumesBeginning old new
 LeavesSource old new (Err NoMemory) = ConsumesBeginning old new
 LeavesSource old new _ = ReadsScript old new
 
--- a device failed only where it is blamed
-abbrev pub Blames : Device → Device → Device → Device → Result End ScriptFault → Type 0
-Blames source source' sink sink' (Err Read) = (source.failures < source'.failures) × (sink'.failures ≡ sink.failures)
-Blames source source' sink sink' (Err Write) = (source'.failures ≡ source.failures) × (sink.failures < sink'.failures)
-Blames source source' sink sink' _ = (source'.failures ≡ source.failures) × (sink'.failures ≡ sink.failures)
+-- by their counts of failures a device failed only where it is blamed
+abbrev pub Blames : (source source' sink sink' : ℕ) → Result End ScriptFault → Type 0
+Blames source source' sink sink' (Err Read) = (source < source') × (sink' ≡ sink)
+Blames source source' sink sink' (Err Write) = (source' ≡ source) × (sink < sink')
+Blames source source' sink sink' _ = (source' ≡ source) × (sink' ≡ sink)
 
 -- A run of the script of a source into a sink, and how it ended
 pub record IsRun (source source' sink sink' : Device) (ended : Result End ScriptFault) : Type 0 where
@@ -83,4 +83,4 @@ pub record IsRun (source source' sink sink' : Device) (ended : Result End Script
   pub full : IsErrOf ended HistoryFull → FillsHistory source.bytes sink.bytes sink'.bytes
   pub unread : IsErrOf ended Read → Keeps sink.bytes sink'.bytes
   pub taken : LeavesSource source.bytes source'.bytes ended
-  pub blames : Blames source source' sink sink' ended
+  pub blames : Blames source.failures source'.failures sink.failures sink'.failures ended

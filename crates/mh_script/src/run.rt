@@ -1,10 +1,11 @@
-ghost use Rattle.std.specs.Prelude.{◌≡◌, ◌<◌, ◌^◌, OnOk, OnErr, IsErrOf};
-ghost use Rattle.std.specs.Io.KnownBytes.{Appends};
+ghost use Rattle.std.specs.Prelude.{◌≡◌, ◌<◌, ◌^◌, take, IfOk, OnOk, OnErr, IsErrOf};
+ghost use Rattle.std.specs.Io.KnownBytes.{Appends, Keeps};
 ghost use Rattle.mh_model.specs.Bytes.{line_text};
+ghost use Rattle.mh_model.specs.Output.{most_entries};
 ghost use Rattle.mh_model.specs.Replies.{bad_line_text};
 ghost use Rattle.mh_model.specs.Script.{Means};
 ghost use Rattle.mh_text.specs.Stream.{AppendsBeginning};
-ghost use Rattle.mh_script.specs.Run.{device, IsRun};
+ghost use Rattle.mh_script.specs.Run.{EndsAs, FillsHistory, WritesBeginning, LeavesSource, Blames};
 ghost use Rattle.mh_script.specs.Stage.{served_output_of};
 
 use crate::end::End;
@@ -14,6 +15,7 @@ use crate::stage::parse_served;
 use arrayvec::ArrayString;
 use itoa::Buffer;
 use mh_heap::plain::PlainHeap;
+use mh_model::command::Event;
 use mh_text::device::DeviceFailed;
 use mh_text::script::{SCRIPT_BYTES, Script, ScriptError};
 use mh_text::sink::Sink;
@@ -27,6 +29,14 @@ const MOST_ENTRIES: usize = 1_000_000;
 /// The most bytes of the line that refuses a script.
 const REFUSAL_BYTES: usize = 64;
 
+/// The events that are answered.
+#[tactic(auto, using(crate::proofs::RunLemmas::take_min), unfolding(mh_model::specs::Output::most_entries))]
+fn answered(events: &[Event]) -> &[Event]
+    ensures { result.now ≡ take most_entries events.now }
+{
+    &events[..events.len().min(MOST_ENTRIES)]
+}
+
 /// Answers the events of a script, as far as a history has room, over a heap that never collects.
 fn write_answers<W: Sink>(alloc: Global, script: &Script, sink: &mut W) -> Result<(), WriteError>
     requires { W.failures sink.old < 2 ^ 62 }
@@ -37,9 +47,7 @@ fn write_answers<W: Sink>(alloc: Global, script: &Script, sink: &mut W) -> Resul
     ensures not_blamed { IsErrOf result WriteError.NoMemory → W.failures sink.new ≡ W.failures sink.old }
 {
     let mut heap = PlainHeap::open(alloc, script.config());
-    let events = script.events();
-    let count = events.len().min(MOST_ENTRIES);
-    write_replies(alloc, &mut heap, &events[..count], sink)
+    write_replies(alloc, &mut heap, answered(script.events()), sink)
 }
 
 fn refusal_line(line: u64) -> ArrayString<REFUSAL_BYTES>
@@ -73,8 +81,12 @@ pub fn run_script<S: Source, W: Sink>(
 ) -> Result<End, ScriptFault>
     requires source_count { S.failures source.old < 2 ^ 62 }
     requires sink_count { W.failures sink.old < 2 ^ 62 }
-    ensures { IsRun (device (S.rest source.old) (S.failures source.old)) (device (S.rest source.new) (S.failures source.new))
-        (device (W.written sink.old) (W.failures sink.old)) (device (W.written sink.new) (W.failures sink.new)) result }
+    ensures ends { IfOk result (EndsAs (S.rest source.old) (W.written sink.old) (W.written sink.new)) }
+    ensures begun { OnErr result (WritesBeginning (S.rest source.old) (W.written sink.old) (W.written sink.new)) }
+    ensures full { IsErrOf result ScriptFault.HistoryFull → FillsHistory (S.rest source.old) (W.written sink.old) (W.written sink.new) }
+    ensures unread { IsErrOf result ScriptFault.Read → Keeps (W.written sink.old) (W.written sink.new) }
+    ensures taken { LeavesSource (S.rest source.old) (S.rest source.new) result }
+    ensures blames { Blames (S.failures source.old) (S.failures source.new) (W.failures sink.old) (W.failures sink.new) result }
 {
     let text = match read_text(alloc, source, SCRIPT_BYTES) {
         Ok(text) => text,

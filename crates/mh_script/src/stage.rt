@@ -69,6 +69,7 @@ fn unserved_line(text: &[u8]) -> Option<u64>
 }
 
 /// Reads a script, up to its first line that is bad or isn't served by a heap that never collects.
+#[tactic(auto, unfolding(crate::specs::Stage::served_reading))]
 pub fn parse_served(alloc: Global, text: &[u8]) -> Result<Script, ScriptError>
     requires { length text.now + 1 < 2 ^ 64 }
     ensures script { IfOk result (λ script. served_reading text.now ≡ Means script) }
