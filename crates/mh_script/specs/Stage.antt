@@ -1,8 +1,9 @@
--- What is served while the heap that never collects is the only one: commands of one session on objects and their fields, and no quanta of the scheduler. A line of another form is refused like one outside the grammar.
+-- What is served while the heap that never collects is the only one: commands of one session on objects and their fields under the first rules, and no quanta of the scheduler. A line of another form is refused like one outside the grammar.
 use Rattle.std.specs.Prelude.{ℕ, suc, nat_lt, min, Bool, true, false, if◌then◌else◌, Option, Some, None, List, [], ◌∷◌, length, map, take}
 use Rattle.mh_model.specs.declared.command.Command.{Command}
 use Rattle.mh_model.specs.declared.command.Command.TheVariants as command
 use Rattle.mh_model.specs.declared.config.Config.{Config}
+use Rattle.mh_model.specs.declared.config.Rules.TheVariants.{First}
 use Rattle.mh_model.specs.Bytes.{Text, cut_after, words, line_text, is_text}
 use Rattle.mh_model.specs.Output.{most_entries}
 use Rattle.mh_model.specs.Replies.{bad_line_text, replies_text}
@@ -63,9 +64,13 @@ ended_at (Some line) (Means script) = BadLine line
 unfoldable pub served_reading : Text → Reading Meaning
 served_reading text = ended_at (unserved_line text) (reading text)
 
+-- the same limits under the first rules
+abbrev pub under_first : Config → Config
+under_first config = record config { rules = First }
+
 abbrev pub served_output_of : Reading Meaning → Text
 served_output_of (BadLine line) = line_text (bad_line_text line)
-served_output_of (Means script) = replies_text (world_replies (first_world script.config) (take most_entries script.events))
+served_output_of (Means script) = replies_text (world_replies (first_world (under_first script.config)) (take most_entries script.events))
 
 -- Its output: the least line that is bad or isn't served, or the ever-growing world's replies to its first 1,000,000 events
 unfoldable pub served_output : Text → Text

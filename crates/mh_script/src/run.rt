@@ -11,7 +11,7 @@ ghost use Rattle.mh_script.specs.Stage.{served_output_of};
 use crate::end::End;
 use crate::fault::ScriptFault;
 use crate::replies::{WriteError, write_replies};
-use crate::stage::parse_served;
+use crate::stage::{parse_served, under_first};
 use arrayvec::ArrayString;
 use itoa::Buffer;
 use mh_heap::plain::PlainHeap;
@@ -46,7 +46,7 @@ fn write_answers<W: Sink>(alloc: Global, script: &Script, sink: &mut W) -> Resul
     ensures blamed { IsErrOf result WriteError.Device → W.failures sink.old < W.failures sink.new }
     ensures not_blamed { IsErrOf result WriteError.NoMemory → W.failures sink.new ≡ W.failures sink.old }
 {
-    let mut heap = PlainHeap::open(alloc, script.config());
+    let mut heap = PlainHeap::open(alloc, under_first(script.config()));
     write_replies(alloc, &mut heap, answered(script.events()), sink)
 }
 

@@ -2,9 +2,10 @@ ghost use Rattle.std.specs.Prelude.{◌≡◌, ◌<◌, ◌+◌, ◌^◌, length
 ghost use Rattle.mh_model.specs.Script.{Means};
 ghost use Rattle.mh_text.specs.Reading.{Refuses};
 ghost use Rattle.mh_script.specs.Asked.{asked_shown};
-ghost use Rattle.mh_script.specs.Stage.{is_served, asked_of, is_session, unserved_line, served_reading};
+ghost use Rattle.mh_script.specs.Stage.{is_served, asked_of, is_session, unserved_line, under_first, served_reading};
 
 use mh_model::command::Command;
+use mh_model::config::{Config, Rules};
 use mh_text::line::{Line, config_line, line_of};
 use mh_text::pieces::Lines;
 use mh_text::script::{Script, ScriptError, parse};
@@ -82,5 +83,18 @@ pub fn parse_served(alloc: Global, text: &[u8]) -> Result<Script, ScriptError>
         (Err(ScriptError::Line(bad)), Some(line)) => Err(ScriptError::Line(bad.min(line))),
         (Err(ScriptError::NoMemory), Some(_)) => Err(ScriptError::NoMemory),
         (Ok(_), Some(line)) => Err(ScriptError::Line(line)),
+    }
+}
+
+/// The same limits under the first rules.
+pub fn under_first(config: Config) -> Config
+    ensures { result ≡ under_first config }
+{
+    Config {
+        pages: config.pages,
+        quantum: config.quantum,
+        trigger: config.trigger,
+        every: config.every,
+        rules: Rules::First,
     }
 }
