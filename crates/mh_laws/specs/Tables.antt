@@ -1,10 +1,8 @@
 -- Tables whose pages have the slots of their classes.
-use Rattle.std.specs.Prelude.{◌≡◌, ℕ, ◌==◌, Bool, IsTrue, Some, List, length}
-use Rattle.std.specs.List.{list_any}
+use Rattle.std.specs.Prelude.{◌≡◌, List, length}
 use Rattle.mh_model.specs.declared.config.Config.{Config}
 use Rattle.mh_model.specs.declared.command.Event.{Event}
-use Rattle.mh_model.specs.Classes.{class_sizes, slots_in}
-use Rattle.mh_model.specs.Pages.{Page, Table, page_at, HaveTheirSlots}
+use Rattle.mh_model.specs.Pages.{Table, HaveTheirSlots}
 use Rattle.mh_model.specs.Table.{Block}
 use Rattle.mh_model.specs.Collector.{Collector, first_collector, collector_step, quantum}
 use Rattle.mh_model.specs.Machine.{Machine, first_machine, half_step, event_step, machine_after}

@@ -16,14 +16,13 @@ use Rattle.mh_model.specs.Collector.{Collector, Spending, first_collector, is_id
 use Rattle.mh_model.specs.Mutator.{HeapState, mutator_step}
 use Rattle.mh_model.specs.World.{says}
 use Rattle.mh_model.specs.Machine.{Machine, first_machine, with_collector, quantum_run, command_step, control_step, half_step, machine_after}
-use Rattle.mh_model.specs.Bound.{most_steps, most_units, most_quanta}
+use Rattle.mh_model.specs.Bound.{most_steps, most_units, most_quanta, IsRoomy, in_steps, in_units, steps_left, units_left, StageOf, IsUnderway, IsWithin, IsInBounds}
 use Rattle.mh_laws.specs.Bounds.{IsInTime, HasEnded, HasRun, CycleEndsWithinItsBound, left_of, QuantaLeftEndTheCycle}
 use Rattle.mh_laws.proofs.costs.Quanta.{steps-stop}
 use Rattle.mh_laws.proofs.commands.LeftUnchanged.{mutator_step-course, steps-keeps}
 use Rattle.mh_laws.proofs.Lists.{none_at}
-use Rattle.mh_laws.proofs.tables.BlockRoom.{IsRoomy}
 use Rattle.mh_laws.proofs.bounds.CommandsKeepBounds.{mutator_step-carried}
-use Rattle.mh_laws.proofs.bounds.WorkLeft.{in_steps, in_units, steps_left, units_left, StageOf, IsUnderway, none_grey, steps_left-positive}
+use Rattle.mh_laws.proofs.bounds.WorkLeft.{none_grey, steps_left-positive}
 use Rattle.mh_laws.proofs.bounds.CycleBounds.{carried-leaves, Spends, steps-spend, steps-some, KeepsCount, steps-count, page-in_steps, page-in_units, table-bounded}
 use Rattle.mh_laws.proofs.runs.EveryMoment.{config-mutator_step, half_step-keeps, machine_after-keeps}
 
@@ -36,18 +35,6 @@ config-quantum config =
     let rest = (and_parts (nat_le 1 config.pages) _ config.in_limits).1 in
     let rest' = (and_parts (nat_le config.pages 4096) _ rest).1 in
     leb-true 209 config.quantum (and_parts (nat_le 209 config.quantum) _ rest').0
-
--- so many quanta and what is left are within the bounds of a cycle
-pub record IsWithin (config : Config) (quanta steps units : ℕ) : Type 0 where
-  pub by_steps : quanta + steps ≤ most_steps config
-  pub by_units : 353 ≤ config.quantum → quanta * (config.quantum - 352) + units ≤ most_units config
-
--- A collector within the bounds of its cycle
-pub record InBounds (config : Config) (collector : Collector) : Type 0 where
-  pub pages : length collector.table ≡ config.pages
-  pub under : IsUnderway collector
-  pub idle : is_idle collector.phase ≡ true → collector.quanta ≡ 0
-  pub within : IsWithin config collector.quanta (steps_left collector.phase collector) (units_left collector.phase collector)
 
 -- a collector as its first quantum's or next quantum's steps begin: one quantum more is counted than was paid for
 record IsStarted (config : Config) (old new : Collector) : Type 0 where
@@ -65,7 +52,7 @@ pub record IsFresh (config : Config) (collector : Collector) : Type 0 where
   pub steps : steps_left collector.phase collector ≤ most_steps config
   pub units : units_left collector.phase collector ≤ most_units config
 
-pub cycle_start-fresh : (config : Config) (collector : Collector) → InBounds config collector → IsFresh config (cycle_start collector)
+pub cycle_start-fresh : (config : Config) (collector : Collector) → IsInBounds config collector → IsFresh config (cycle_start collector)
 cycle_start-fresh config collector bounds =
     let new : Collector = cycle_start collector in
     let roomy : IsRoomy collector.table = (bounds.under).sound.roomy in
@@ -77,7 +64,7 @@ cycle_start-fresh config collector bounds =
       units = omega (arith, marking_units, bounds.pages);
     }
 
-cycle_start-started : (config : Config) (collector : Collector) → InBounds config collector → is_idle collector.phase ≡ true → IsStarted config collector (with_count (cycle_start collector))
+cycle_start-started : (config : Config) (collector : Collector) → IsInBounds config collector → is_idle collector.phase ≡ true → IsStarted config collector (with_count (cycle_start collector))
 cycle_start-started config collector bounds idle =
     let fresh = cycle_start-fresh config collector bounds in
     record {
@@ -119,7 +106,7 @@ module _ (collector : Collector) (quanta : ℕ) (is_asked : Bool) where
   units-recounted Sweep = refl
   units-recounted Defrag = refl
 
-with_count-started : (config : Config) (collector : Collector) → InBounds config collector → is_idle collector.phase ≡ false → IsStarted config collector (record collector { quanta = collector.quanta + 1 })
+with_count-started : (config : Config) (collector : Collector) → IsInBounds config collector → is_idle collector.phase ≡ false → IsStarted config collector (record collector { quanta = collector.quanta + 1 })
 with_count-started config collector bounds runs =
     let more : ℕ = collector.quanta + 1 in
     let asked : Bool = collector.is_asked in
@@ -134,7 +121,7 @@ with_count-started config collector bounds runs =
     }
 
 -- a quantum begins with a cycle that runs, or leaves an idle collector as it is
-quantum_start-started : (config : Config) (collector : Collector) → InBounds config collector → ((is_idle collector.phase ≡ true) × (quantum_start config collector ≡ collector)) ⊎ IsStarted config collector (quantum_start config collector)
+quantum_start-started : (config : Config) (collector : Collector) → IsInBounds config collector → ((is_idle collector.phase ≡ true) × (quantum_start config collector ≡ collector)) ⊎ IsStarted config collector (quantum_start config collector)
 quantum_start-started config collector bounds = go (is_start_due config collector) refl
   where
     counted : (idle : Bool) → is_idle collector.phase ≡ idle
@@ -148,7 +135,7 @@ quantum_start-started config collector bounds = go (is_start_due config collecto
 
 -- What a quantum leaves: the bounds, one quantum more of the same cycle while it runs, and little that was not spent
 pub record IsQuantum (config : Config) (old : Collector) (after : Spending) : Type 0 where
-  pub bounds : InBounds config after.collector
+  pub bounds : IsInBounds config after.collector
   pub rest : is_idle after.collector.phase ≡ false → config.quantum ≤ after.units + 208
   pub cycle : old.cycle ≤ after.collector.cycle
   pub same : after.collector.cycle ≡ old.cycle → is_idle after.collector.phase ≡ false → (is_idle old.phase ≡ false) × (after.collector.quanta ≡ old.quanta + 1)
@@ -158,7 +145,7 @@ unfolding steps
 steps-idle zero left has_moved collector idle = refl
 steps-idle (suc more) left has_moved collector idle = steps-stop more left has_moved collector (ap (λ b. b || nat_lt left (step_cost collector has_moved)) idle)
 
-quantum-idle : (config : Config) (collector : Collector) → InBounds config collector → is_idle collector.phase ≡ true → IsQuantum config collector (steps config.quantum config.quantum false collector)
+quantum-idle : (config : Config) (collector : Collector) → IsInBounds config collector → is_idle collector.phase ≡ true → IsQuantum config collector (steps config.quantum config.quantum false collector)
 quantum-idle config collector bounds idle = subst (IsQuantum config collector) (sym (steps-idle config.quantum config.quantum false collector idle)) (record {
   bounds = bounds;
   rest = λ runs. absurd (true≢false (sym idle ∙ runs));
@@ -215,7 +202,7 @@ quantum-started config old new started =
     }
 
 -- A quantum keeps a cycle within its bounds
-pub quantum-in_bounds : (config : Config) (collector : Collector) → InBounds config collector → IsQuantum config collector (quantum config collector)
+pub quantum-in_bounds : (config : Config) (collector : Collector) → IsInBounds config collector → IsQuantum config collector (quantum config collector)
 unfolding quantum
 quantum-in_bounds config collector bounds = elim (quantum_start-started config collector bounds) [
   | inl same ↦ subst (λ c. IsQuantum config collector (steps config.quantum config.quantum false c)) (sym same.1) (quantum-idle config collector bounds same.0)
@@ -224,7 +211,7 @@ quantum-in_bounds config collector bounds = elim (quantum_start-started config c
 
 -- Runs -------------------------------------------------------------------------------------------
 
-command-in_bounds : (config : Config) (heap : HeapState) (who : ℕ) (command : Command) → InBounds config heap.collector → InBounds config (mutator_step heap who command).state.collector
+command-in_bounds : (config : Config) (heap : HeapState) (who : ℕ) (command : Command) → IsInBounds config heap.collector → IsInBounds config (mutator_step heap who command).state.collector
 command-in_bounds config heap who command bounds =
     let old : Collector = heap.collector in
     let new : Collector = (mutator_step heap who command).state.collector in
@@ -237,7 +224,7 @@ command-in_bounds config heap who command bounds =
       within = rw course.quanta (record { by_steps = omega (arith, leaves.steps, (bounds.within).by_steps); by_units = λ large. omega (arith, leaves.units, (bounds.within).by_units large) });
     }
 
-first-in_bounds : (config : Config) → InBounds config (first_collector config)
+first-in_bounds : (config : Config) → IsInBounds config (first_collector config)
 first-in_bounds config =
     let pages : length (first_collector config).table ≡ config.pages = length-replicate config.pages None in
     record {
@@ -247,7 +234,7 @@ first-in_bounds config =
       within = record { by_steps = omega arith; by_units = λ large. omega arith };
     }
 
-asked-in_bounds : (config : Config) (collector : Collector) → InBounds config collector → InBounds config (record collector { is_asked = true })
+asked-in_bounds : (config : Config) (collector : Collector) → IsInBounds config collector → IsInBounds config (record collector { is_asked = true })
 asked-in_bounds config collector bounds = record {
   pages = bounds.pages;
   under = under-recounted collector collector.quanta true bounds.under;
@@ -261,7 +248,7 @@ asked-in_bounds config collector bounds = record {
 -- a machine of this configuration within the bounds of its cycle
 pub record StaysInBounds (config : Config) (machine : Machine) : Type 0 where
   pub config_is : machine.heap.config ≡ config
-  pub bounds : InBounds config machine.heap.collector
+  pub bounds : IsInBounds config machine.heap.collector
 
 module _ (config : Config) where
   pub by_command : (machine : Machine) (who : ℕ) (command : Command) → StaysInBounds config machine → StaysInBounds config (command_step machine who command).state
@@ -288,7 +275,7 @@ module _ (config : Config) where
 
   -- In time ----------------------------------------------------------------------------------------
 
-  fewer-than_most : (collector : Collector) → InBounds config collector → is_idle collector.phase ≡ false → collector.quanta < most_quanta config
+  fewer-than_most : (collector : Collector) → IsInBounds config collector → is_idle collector.phase ≡ false → collector.quanta < most_quanta config
   fewer-than_most collector bounds runs =
       let by_steps : collector.quanta < most_steps config = omega (arith, (bounds.within).by_steps, steps_left-positive collector bounds.under runs) in
       go (nat_le 353 config.quantum) refl by_steps
@@ -302,7 +289,7 @@ module _ (config : Config) where
           let divided : collector.quanta ≤ most_units config / (config.quantum - 352) = (le-div_iff_mul-le positive).1 room in
           omega arith
 
-  in_time : (collector : Collector) → InBounds config collector → IsInTime config collector
+  in_time : (collector : Collector) → IsInBounds config collector → IsInTime config collector
   in_time collector bounds = record { running = fewer-than_most collector bounds; idle = bounds.idle }
 
   -- so many quanta of a cycle were run since a machine, or the cycle has ended

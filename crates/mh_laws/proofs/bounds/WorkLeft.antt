@@ -9,61 +9,14 @@ use Rattle.mh_model.specs.declared.cycle.Phase.TheVariants.{Idle, Roots, Mark, S
 use Rattle.mh_model.specs.Pages.{Page, Table, page_number, slot_number, page_at, block_in, block_at, least_dense_place, page_for, with_taken}
 use Rattle.mh_model.specs.Table.{Block, is_forwarder}
 use Rattle.mh_model.specs.Collector.{Collector, Marking, Move, marking_of, with_marking, with_phase, with_shade, mark_first, first_mark_cost, next_page, next_place, is_last_slot, if_flagged, flagged_page, move_of, next_move, moved_table, move_cost, with_move, after_mark, is_past, cycle_end, step_in, phase_after, collector_step, cost_in, is_idle}
+use Rattle.mh_model.specs.Bound.{IsRoomy, count_at, class_at, weight, IsGreySound, in_steps, in_units, words_at, movable, movable_words, steps_left, units_left, StageOf, IsUnderway}
 use Rattle.mh_laws.proofs.commands.LeftUnchanged.{shade-keeps, mark_first-keeps, step_in-keeps}
 use Rattle.mh_laws.proofs.placing.Places.{least_dense_place-page, block_at-with_taken_other}
-use Rattle.mh_laws.proofs.tables.BlockRoom.{IsRoomy, IsClass, roomy-shaped, swept-roomy, with_taken-roomy, rewritten-roomy, get_or-below}
-use Rattle.mh_laws.proofs.marking.GreyList.{IsGreySound, Carries, MarksThrough, weight, class_at, count_at, class-with_block, class-with_taken, mark_first-pays, cycle-mark_first}
+use Rattle.mh_laws.proofs.tables.BlockRoom.{IsClass, roomy-shaped, swept-roomy, with_taken-roomy, rewritten-roomy, get_or-below}
+use Rattle.mh_laws.proofs.marking.GreyList.{Carries, MarksThrough, class-with_block, class-with_taken, mark_first-pays, cycle-mark_first}
 use Rattle.mh_laws.proofs.bounds.CommandsKeepBounds.{with_shade-carries}
 
 -- What is left -----------------------------------------------------------------------------------
-
--- marking a block is one step, and as many units as it has references and one more
-abbrev pub in_steps : ℕ → ℕ
-in_steps references = 1
-
-abbrev pub in_units : ℕ → ℕ
-in_units references = 1 + references
-
--- the class of a page, and 0 where it is free
-abbrev pub words_at : Table Block → ℕ → ℕ
-words_at table number = unwrap_or (class_at table number) 0
-
--- how many words may still be moved: 256 of each page after this one, and those of the slots from the cursor on
-abbrev pub movable : ℕ → ℕ → ℕ → ℕ → ℕ
-movable pages page slot words = 256 * (pages - suc page) + (256 - words * slot)
-
-abbrev pub movable_words : Collector → ℕ
-movable_words collector = movable (length collector.table) (page_number collector.cursor) (slot_number collector.cursor) (words_at collector.table (page_number collector.cursor))
-
--- how many steps the cycle may still take
-abbrev pub steps_left : Phase → Collector → ℕ
-steps_left Idle collector = 0
-steps_left Roots collector = (144 - collector.cursor) + weight in_steps (marking_of collector) + 128 * length collector.table
-steps_left Mark collector = weight in_steps (marking_of collector) + 128 * length collector.table
-steps_left Sweep collector = (64 * length collector.table - collector.cursor) + 64 * length collector.table
-steps_left Defrag collector = 64 * length collector.table - collector.cursor
-
--- how many units it may still spend, without the charge for slots
-abbrev pub units_left : Phase → Collector → ℕ
-units_left Idle collector = 0
-units_left Roots collector = 2 * (144 - collector.cursor) + weight in_units (marking_of collector) + 384 * length collector.table
-units_left Mark collector = weight in_units (marking_of collector) + 384 * length collector.table
-units_left Sweep collector = (64 * length collector.table - collector.cursor) + 320 * length collector.table
-units_left Defrag collector = (64 * length collector.table - collector.cursor) + movable_words collector
-
--- where a phase stands: its cursor in range, and the grey list empty outside the roots and marking
-abbrev pub StageOf : Phase → Collector → Type 0
-StageOf Idle collector = collector.grey ≡ []
-StageOf Roots collector = collector.cursor < 144
-StageOf Mark collector = 0 < length collector.grey
-StageOf Sweep collector = (collector.grey ≡ []) × (collector.cursor < 64 * length collector.table)
-StageOf Defrag collector = (collector.grey ≡ []) × (collector.cursor < 64 * length collector.table)
-
--- a collector on its way through a cycle, or between two
-pub record IsUnderway (collector : Collector) : Type 0 where
-  pub some_page : 0 < length collector.table
-  pub sound : IsGreySound (marking_of collector)
-  pub stage : StageOf collector.phase collector
 
 -- A running cycle has a step left
 pub steps_left-positive : (collector : Collector) → IsUnderway collector → is_idle collector.phase ≡ false → 0 < steps_left collector.phase collector

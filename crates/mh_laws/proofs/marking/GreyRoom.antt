@@ -8,9 +8,10 @@ use Rattle.mh_model.specs.declared.config.Config.{Config}
 use Rattle.mh_model.specs.Pages.{Page, Table, page_number, slot_number, page_at, block_in}
 use Rattle.mh_model.specs.Table.{Block}
 use Rattle.mh_model.specs.Collector.{Collector}
-use Rattle.mh_laws.specs.GreyRoom.{IsMarkedIn, HasGreyRoom, GreyListHasRoom}
+use Rattle.mh_model.specs.Bound.{IsMarkedIn, IsInBounds}
+use Rattle.mh_laws.specs.GreyRoom.{HasGreyRoom, GreyListHasRoom}
 use Rattle.mh_laws.proofs.tables.BlockRoom.{get_or-below}
-use Rattle.mh_laws.proofs.bounds.CyclesInTime.{InBounds, run-stays, half-stays}
+use Rattle.mh_laws.proofs.bounds.CyclesInTime.{run-stays, half-stays}
 
 -- a place with a marked block is a place of the table
 marked-below : (table : Table Block) (cycle place : ℕ) → IsMarkedIn table cycle place → place < 64 * length table
@@ -29,7 +30,7 @@ listed P (other ∷ list) place all e = go (place == other) refl e (listed P lis
     go true is h after = subst P (sym (eqb-true place other is)) all.0
     go false is h after = after h
 
-has_room : (config : Config) (collector : Collector) → InBounds config collector → HasGreyRoom config collector
+has_room : (config : Config) (collector : Collector) → IsInBounds config collector → HasGreyRoom config collector
 has_room config collector bounds =
     let sound = (bounds.under).sound in
     let few : length collector.grey ≤ 64 * length collector.table = length-le_from_distinct_below collector.grey (64 * length collector.table) sound.once (λ place is. marked-below collector.table collector.cycle place (listed (IsMarkedIn collector.table collector.cycle) collector.grey place sound.marked is)) in

@@ -8,22 +8,12 @@ use Rattle.mh_model.specs.Classes.{class_sizes, class_of, slots_in}
 use Rattle.mh_model.specs.Pages.{Page, Table, page_number, slot_number, page_at, block_in, block_at, live_in, page_with, with_block, page_for, with_taken, has_denser}
 use Rattle.mh_model.specs.Table.{Block, is_forwarder}
 use Rattle.mh_model.specs.Collector.{survivor, is_last_slot, is_marked, judged_page, swept_page, swept_table}
+use Rattle.mh_model.specs.Bound.{IsRoomyPage, IsRoomy}
 use Rattle.mh_laws.proofs.Lists.{find-passes, get_or-set_either, none_at}
 use Rattle.mh_laws.proofs.placing.Places.{IsShaped, IsSlot}
 use Rattle.mh_laws.specs.Costs.{IsSized}
 
 -- Pages ------------------------------------------------------------------------------------------
-
--- a class has 4 to 64 words, its slots lie in 256 words, and each block lies in its slot
-pub record IsRoomyPage (page : Page Block) : Type 0 where
-  pub least : 4 ≤ page.class_size
-  pub most : page.class_size ≤ 64
-  pub words : page.class_size * length page.slots ≤ 256
-  pub blocks : (slot : ℕ) (block : Block) → block_in slot page ≡ Some block → length block.references + 4 ≤ page.class_size
-
--- each page in use is so
-pub record IsRoomy (table : Table Block) : Type 0 where
-  pub pages : (number : ℕ) (page : Page Block) → page_at table number ≡ Some page → IsRoomyPage page
 
 -- a class of at least 4 words has at most 64 slots
 pub few_slots : (page : Page Block) → IsRoomyPage page → length page.slots ≤ 64
