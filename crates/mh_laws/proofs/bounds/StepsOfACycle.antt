@@ -15,7 +15,7 @@ use Rattle.mh_laws.proofs.bounds.CycleBounds.{carried-leaves}
 use Rattle.mh_laws.proofs.bounds.CyclesInTime.{IsFresh, cycle_start-fresh, idle-left, half-stays}
 
 -- a step of an idle collector does nothing, and costs nothing
-step-idle : (collector : Collector) → is_idle collector.phase ≡ true → (collector_step collector ≡ collector) × (cost_in collector.phase collector true ≡ 0)
+pub step-idle : (collector : Collector) → is_idle collector.phase ≡ true → (collector_step collector ≡ collector) × (cost_in collector.phase collector true ≡ 0)
 unfolding collector_step
 step-idle collector idle = go collector.phase idle
   where
