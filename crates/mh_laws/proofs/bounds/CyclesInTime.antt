@@ -15,9 +15,9 @@ use Rattle.mh_model.specs.Pages.{free_pages}
 use Rattle.mh_model.specs.Collector.{Collector, Spending, first_collector, is_idle, cycle_start, is_start_due, with_count, quantum_start, step_cost, steps, quantum}
 use Rattle.mh_model.specs.Mutator.{HeapState, mutator_step}
 use Rattle.mh_model.specs.World.{says}
-use Rattle.mh_model.specs.Machine.{Machine, first_machine, with_collector, quantum_run, command_step, control_step, half_step, machine_after}
+use Rattle.mh_model.specs.Machine.{Machine, first_machine, quanta_left, with_collector, quantum_run, command_step, control_step, half_step, machine_after}
 use Rattle.mh_model.specs.Bound.{most_steps, most_units, most_quanta, IsRoomy, in_steps, in_units, steps_left, units_left, StageOf, IsUnderway, IsWithin, IsInBounds}
-use Rattle.mh_laws.specs.Bounds.{IsInTime, HasEnded, HasRun, CycleEndsWithinItsBound, left_of, QuantaLeftEndTheCycle}
+use Rattle.mh_laws.specs.Bounds.{IsInTime, HasEnded, HasRun, CycleEndsWithinItsBound, left_of, QuantaLeftEndTheCycle, CollectorsStayInBounds}
 use Rattle.mh_laws.proofs.costs.Quanta.{steps-stop}
 use Rattle.mh_laws.proofs.commands.LeftUnchanged.{mutator_step-course, steps-keeps}
 use Rattle.mh_laws.proofs.Lists.{none_at}
@@ -245,6 +245,54 @@ asked-in_bounds config collector bounds = record {
   };
 }
 
+-- In time ----------------------------------------------------------------------------------------
+
+fewer-than_most : (config : Config) (collector : Collector) → IsInBounds config collector → is_idle collector.phase ≡ false → collector.quanta < most_quanta config
+fewer-than_most config collector bounds runs =
+    let by_steps : collector.quanta < most_steps config = omega (arith, (bounds.within).by_steps, steps_left-positive collector bounds.under runs) in
+    go (nat_le 353 config.quantum) refl by_steps
+  where
+    go : (large : Bool) → nat_le 353 config.quantum ≡ large → collector.quanta < most_steps config → collector.quanta < (if large then min (most_steps config) (most_units config / (config.quantum - 352) + 1) else most_steps config)
+    go false e by_steps = by_steps
+    go true e by_steps =
+        let large : 353 ≤ config.quantum = leb-true 353 config.quantum e in
+        let room : collector.quanta * (config.quantum - 352) ≤ most_units config = omega (arith, (bounds.within).by_units large) in
+        let positive : 0 < config.quantum - 352 = omega arith in
+        let divided : collector.quanta ≤ most_units config / (config.quantum - 352) = (le-div_iff_mul-le positive).1 room in
+        omega arith
+
+in_time : (config : Config) (collector : Collector) → IsInBounds config collector → IsInTime config collector
+in_time config collector bounds = record { running = fewer-than_most config collector bounds; idle = bounds.idle }
+
+most_quanta-few : (config : Config) → most_quanta config ≤ 786576
+most_quanta-few config = go (nat_le 353 config.quantum)
+  where
+    pages : config.pages ≤ 4096
+    pages = leb-true config.pages 4096 (and_parts (nat_le config.pages 4096) _ (and_parts (nat_le 1 config.pages) _ config.in_limits).1).0
+
+    go : (large : Bool) → (if large then min (most_steps config) (most_units config / (config.quantum - 352) + 1) else most_steps config) ≤ 786576
+    go true = omega (arith, pages)
+    go false = omega (arith, pages)
+
+count-most : (config : Config) (collector : Collector) → IsInBounds config collector → collector.quanta ≤ most_quanta config
+count-most config collector bounds = elim (cases_Bool (is_idle collector.phase)) [ inl idle ↦ omega (arith, bounds.idle idle) | inr runs ↦ omega (arith, fewer-than_most config collector bounds runs) ]
+
+quanta_left-some : (config : Config) (collector : Collector) → IsInBounds config collector → is_idle collector.phase ≡ false → 1 ≤ quanta_left config collector
+quanta_left-some config collector bounds runs = subst (λ idle. 1 ≤ (if idle then 0 else most_quanta config - collector.quanta)) (sym runs) (omega (arith, fewer-than_most config collector bounds runs))
+
+-- A collector stays within the bounds of its cycle
+pub collectors-in_bounds : CollectorsStayInBounds
+collectors-in_bounds = record {
+  first = first-in_bounds;
+  commands = command-in_bounds;
+  asking = asked-in_bounds;
+  quanta = λ config collector bounds. (quantum-in_bounds config collector bounds).bounds;
+  in_time = in_time;
+  count = count-most;
+  few = most_quanta-few;
+  left = quanta_left-some;
+}
+
 -- a machine of this configuration within the bounds of its cycle
 pub record StaysInBounds (config : Config) (machine : Machine) : Type 0 where
   pub config_is : machine.heap.config ≡ config
@@ -272,25 +320,6 @@ module _ (config : Config) where
 
   pub half-stays : (events : List Event) (event : Event) → StaysInBounds config (half_step (machine_after (first_machine config) events) event)
   half-stays events event = half_step-keeps (StaysInBounds config) by_command by_quantum by_asking (machine_after (first_machine config) events) event (run-stays events)
-
-  -- In time ----------------------------------------------------------------------------------------
-
-  fewer-than_most : (collector : Collector) → IsInBounds config collector → is_idle collector.phase ≡ false → collector.quanta < most_quanta config
-  fewer-than_most collector bounds runs =
-      let by_steps : collector.quanta < most_steps config = omega (arith, (bounds.within).by_steps, steps_left-positive collector bounds.under runs) in
-      go (nat_le 353 config.quantum) refl by_steps
-    where
-      go : (large : Bool) → nat_le 353 config.quantum ≡ large → collector.quanta < most_steps config → collector.quanta < (if large then min (most_steps config) (most_units config / (config.quantum - 352) + 1) else most_steps config)
-      go false e by_steps = by_steps
-      go true e by_steps =
-          let large : 353 ≤ config.quantum = leb-true 353 config.quantum e in
-          let room : collector.quanta * (config.quantum - 352) ≤ most_units config = omega (arith, (bounds.within).by_units large) in
-          let positive : 0 < config.quantum - 352 = omega arith in
-          let divided : collector.quanta ≤ most_units config / (config.quantum - 352) = (le-div_iff_mul-le positive).1 room in
-          omega arith
-
-  in_time : (collector : Collector) → IsInBounds config collector → IsInTime config collector
-  in_time collector bounds = record { running = fewer-than_most collector bounds; idle = bounds.idle }
 
   -- so many quanta of a cycle were run since a machine, or the cycle has ended
   record IsLater (machine later : Machine) : Type 0 where
@@ -336,7 +365,7 @@ module _ (config : Config) where
       | inl more ↦ inl (ltb-true (first.heap.collector).cycle (later.heap.collector).cycle more)
       | inr same ↦
           let equal : (later.heap.collector).cycle ≡ (first.heap.collector).cycle = omega (arith, ltb-false (first.heap.collector).cycle (later.heap.collector).cycle same, is.cycle) in
-          absurd (omega (arith, run, is.same equal runs, fewer-than_most later.heap.collector (is.stays).bounds runs))
+          absurd (omega (arith, run, is.same equal runs, fewer-than_most config later.heap.collector (is.stays).bounds runs))
     ]
   ]
 
@@ -368,8 +397,7 @@ cycle_tells = record {
   none = λ machine idle. ap (λ b. if b then 0 else most_quanta machine.heap.config - machine.heap.collector.quanta) idle;
   some = λ config events runs.
       let stays = run-stays config events in
-      let left = quanta_left-running config (machine_after (first_machine config) events) stays.config_is runs in
-      omega (arith, left, fewer-than_most config _ stays.bounds runs);
+      subst (λ c. 1 ≤ quanta_left c (machine_after (first_machine config) events).heap.collector) (sym stays.config_is) (quanta_left-some config _ stays.bounds runs);
   ends = λ config events more runs run.
       let machine = machine_after (first_machine config) events in
       let left = quanta_left-running config machine (run-stays config events).config_is runs in

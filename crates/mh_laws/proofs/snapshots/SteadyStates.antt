@@ -1,5 +1,5 @@
 -- A state that keeps some snapshot keeps one after each start, step, quantum, asking and command.
-use Rattle.std.proofs.Common.{◌≡◌, ◌+◌, ◌&&◌, ◌||◌, nat_le, if◌then◌else◌, inl, inr, Bool, true, false, [], sym, ap, subst}
+use Rattle.std.proofs.Common.{◌≡◌, ◌+◌, ◌||◌, nat_le, if◌then◌else◌, inl, inr, Bool, true, false, [], sym, ap, subst}
 use Rattle.std.proofs.lemmas.Bool.{cases_Bool, and_parts}
 use Rattle.mh_model.specs.declared.config.Config.{Config}
 use Rattle.mh_model.specs.Pages.{free_pages}
