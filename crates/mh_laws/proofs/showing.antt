@@ -8,3 +8,4 @@ pub mod MovesShow
 pub mod StepsShow
 pub mod QuantaShow
 pub mod ShadedTables
+pub mod ClosedViews
