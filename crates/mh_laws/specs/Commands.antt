@@ -6,7 +6,7 @@ use Rattle.mh_model.specs.declared.reply.Refusal.{Refusal}
 use Rattle.mh_model.specs.declared.reply.Refusal.TheVariants.{HeapFull}
 use Rattle.mh_model.specs.declared.reply.Reply.TheVariants as reply
 use Rattle.mh_model.specs.World.{own_slot, refusal, never_full}
-use Rattle.mh_model.specs.Table.{Made}
+use Rattle.mh_model.specs.Table.{HasSmallBlocks, Made}
 use Rattle.mh_model.specs.Collector.{Collector}
 use Rattle.mh_model.specs.Mutator.{HeapState, new_group, with_born, heap_sight, mutator_step}
 use Rattle.mh_model.specs.Pages.{HaveTheirSlots}
@@ -15,6 +15,7 @@ use Rattle.mh_model.specs.Pages.{HaveTheirSlots}
 pub record IsOnCourse (old new : Collector) : Type 0 where
   pub pages : length new.table ≡ length old.table
   pub slots : HaveTheirSlots old.table → HaveTheirSlots new.table
+  pub limits : HasSmallBlocks old.table → HasSmallBlocks new.table
   pub phase : new.phase ≡ old.phase
   pub cursor : new.cursor ≡ old.cursor
   pub cycle : new.cycle ≡ old.cycle

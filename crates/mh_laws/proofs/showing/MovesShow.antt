@@ -10,7 +10,7 @@ use Rattle.mh_model.specs.Mutator.{HeapState}
 use Rattle.mh_model.specs.View.{in_sweep, birth_named, heap_view}
 use Rattle.mh_model.specs.Invariant.{IsPlainAt, IsSound, HeapKeeps}
 use Rattle.mh_laws.proofs.marking.BlockChanges.{resolve-live}
-use Rattle.mh_laws.proofs.moving.MoveSteps.{IsMove, next_move-is, follows, live_from, live_forth, snapshot-defrag_step}
+use Rattle.mh_laws.proofs.moving.MoveSteps.{IsMove, move-is, follows, live_from, live_forth, snapshot-defrag_step}
 use Rattle.mh_laws.proofs.showing.SamePlainBlocks.{plain-shown}
 use Rattle.mh_laws.proofs.showing.MarkingShows.{same-view}
 
@@ -50,7 +50,7 @@ view-defrag_step snapshot heap defrags h = go (next_move c.table c.cursor) refl 
         (λ p x plain. (p, plain_now p x plain.there plain.original)))
         refl
     go (Some move) e k =
-        let is : IsMove c.table c.cursor move = next_move-is c.table c.cursor h.sound.narrow move e in
+        let is : IsMove c.table c.cursor move = move-is c.table c.cursor h.sound.narrow move e in
         let d : Collector = with_phase (with_move c (Some move)) Defrag cursor' in
         same-view
         heap

@@ -1,11 +1,12 @@
 -- The table after a sweep step: what is left in the slot that was swept, and every other block.
-use Rattle.std.proofs.Common.{◌≡◌, ◌≢◌, ℕ, zero, suc, ◌+◌, ◌*◌, ◌/◌, ◌<◌, ◌==◌, nat_le, if◌then◌else◌, Bool, true, false, not, ◌&&◌, ◌||◌, ◌⊎◌, inl, inr, List, [], ◌∷◌, length, get_or, set, Option, Some, None, option_and_then, refl, sym, ap, ◌∙◌, arith, eq-eqb, eqb-true}
+use Rattle.std.proofs.Common.{◌≡◌, ◌≢◌, ℕ, zero, suc, ◌+◌, ◌/◌, ◌<◌, ◌==◌, if◌then◌else◌, Bool, true, false, not, ◌||◌, ◌⊎◌, inl, inr, List, [], ◌∷◌, length, get_or, set, Option, Some, None, option_and_then, refl, sym, ap, ◌∙◌, arith, eq-eqb, eqb-true}
 use Rattle.std.proofs.lemmas.Bool.{cases_eq, cases_lt, cases_order}
 use Rattle.std.proofs.lemmas.Option.{none-some, same_Some}
 use Rattle.std.proofs.lemmas.List.{get_or-set_same, get_or-set_other, length-set}
-use Rattle.mh_model.specs.Pages.{Page, Table, page_number, slot_number, page_at, block_in, block_at, block_count, live_in, page_with, has_denser}
+use Rattle.mh_model.specs.Pages.{Page, Table, page_number, slot_number, page_at, block_in, block_at, block_count, live_in, page_with}
 use Rattle.mh_model.specs.Table.{Block, is_forwarder}
 use Rattle.mh_model.specs.Collector.{is_marked, next_page, is_last_slot, next_place, survivor, judged_page, swept_page, swept_table}
+use Rattle.mh_laws.proofs.tables.PageSlots.{judged_page-is}
 use Rattle.mh_laws.proofs.marking.BlockChanges.{within}
 
 -- What a sweep step leaves: nothing but blocks that were there, at its place only a marked one that is no forwarder, and each such block
@@ -24,19 +25,11 @@ none_left (Some x ∷ slots) slot e = absurd (omega arith)
 
 -- a page that is judged keeps its blocks
 judged-reads : (table : Table Block) (number : ℕ) (page : Page Block) (slot : ℕ) → option_and_then (block_in slot) (judged_page table number page) ≡ get_or page.slots slot None
-judged-reads table number page slot = go (live_in page == 0) refl
+judged-reads table number page slot = go (live_in page == 0) _ refl
   where
-    go : (empty : Bool) → (live_in page == 0) ≡ empty
-        → option_and_then (block_in slot) (if empty then None else Some (record page { is_flagged = nat_le (4 * live_in page) (length page.slots) && has_denser table number page.class_size })) ≡ get_or page.slots slot None
-    go true e = sym (none_left page.slots slot (eqb-true (live_in page) 0 e))
-    go false e = refl
-
-judged-length : (table : Table Block) (number : ℕ) (page new : Page Block) → judged_page table number page ≡ Some new → length new.slots ≡ length page.slots
-judged-length table number page new = go (live_in page == 0)
-  where
-    go : (empty : Bool) → (if empty then None else Some (record page { is_flagged = nat_le (4 * live_in page) (length page.slots) && has_denser table number page.class_size })) ≡ Some new → length new.slots ≡ length page.slots
-    go true e = absurd (none-some new e)
-    go false e = ap (λ p. length p.slots) (sym (same_Some (record page { is_flagged = nat_le (4 * live_in page) (length page.slots) && has_denser table number page.class_size }) new e))
+    go : (empty flag : Bool) → (live_in page == 0) ≡ empty → option_and_then (block_in slot) (if empty then None else Some (record page { is_flagged = flag })) ≡ get_or page.slots slot None
+    go true flag e = sym (none_left page.slots slot (eqb-true (live_in page) 0 e))
+    go false flag e = refl
 
 survivor-is : (cycle : ℕ) (o : Option Block) (x : Block) → option_and_then (survivor cycle) o ≡ Some x → (o ≡ Some x) × (x.stamp ≡ cycle)
 survivor-is cycle None x e = absurd (none-some x e)
@@ -150,7 +143,7 @@ swept-is cycle table place = go (page_at table (page_number place)) refl
             at_once : (q : ℕ) → q < place + 1 → (q < place) ⊎ (q ≡ place)
             at_once q below = elim (cases_lt q place) [ inl l ↦ inl l | inr g ↦ inr (omega arith) ]
         by_last true e = swept-page cycle table place page is (judged_page table (page_number place) (page_with (slot_number place) o page)) (judged-reads table (page_number place) (page_with (slot_number place) o page))
-            (λ p f. judged-length table (page_number place) (page_with (slot_number place) o page) p f ∙ same_length) (next_page place) passes
+            (λ p f. ap length (judged_page-is table (page_number place) (page_with (slot_number place) o page) p f).slots ∙ same_length) (next_page place) passes
           where
             last_slot : suc (slot_number place) ≡ length page.slots
             last_slot = eqb-true (suc (slot_number place)) (length page.slots) e

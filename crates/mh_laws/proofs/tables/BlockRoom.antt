@@ -5,12 +5,13 @@ use Rattle.std.proofs.lemmas.Option.{none-some, same_Some}
 use Rattle.std.proofs.Math.Nat.{mul-le-mul_right}
 use Rattle.std.proofs.lemmas.List.{length-set, length-replicate, set-get_or}
 use Rattle.mh_model.specs.Classes.{class_sizes, class_of, slots_in}
-use Rattle.mh_model.specs.Pages.{Page, Table, page_number, slot_number, page_at, block_in, block_at, live_in, page_with, with_block, page_for, with_taken, has_denser}
+use Rattle.mh_model.specs.Pages.{Page, Table, page_number, slot_number, page_at, block_in, block_at, page_with, with_block, page_for, with_taken}
 use Rattle.mh_model.specs.Table.{Block, is_forwarder}
 use Rattle.mh_model.specs.Collector.{survivor, is_last_slot, is_marked, judged_page, swept_page, swept_table}
 use Rattle.mh_model.specs.Bound.{IsRoomyPage, IsRoomy}
 use Rattle.mh_laws.proofs.Lists.{find-passes, get_or-set_either, none_at}
 use Rattle.mh_laws.proofs.placing.Places.{IsShaped, IsSlot}
+use Rattle.mh_laws.proofs.tables.PageSlots.{judged_page-is}
 use Rattle.mh_laws.specs.Costs.{IsSized}
 
 -- Pages ------------------------------------------------------------------------------------------
@@ -132,7 +133,7 @@ with_taken-roomy table size place block roomy class of_class fits = set-roomy ta
 
 -- Sweep and moves --------------------------------------------------------------------------------
 
-survivor-same : (cycle : ℕ) (block left : Block) → survivor cycle block ≡ Some left → block ≡ left
+pub survivor-same : (cycle : ℕ) (block left : Block) → survivor cycle block ≡ Some left → block ≡ left
 survivor-same cycle block left e = go (is_forwarder block || not (is_marked cycle block)) e
   where
     go : (b : Bool) → (if b then None else Some block) ≡ Some left → block ≡ left
@@ -140,14 +141,14 @@ survivor-same cycle block left e = go (is_forwarder block || not (is_marked cycl
     go false h = same_Some block left h
 
 judged-roomy : (table : Table Block) (number : ℕ) (page new : Page Block) → IsRoomyPage page → judged_page table number page ≡ Some new → IsRoomyPage new
-judged-roomy table number page new roomy e = go (live_in page == 0) e
-  where
-    flag : Bool
-    flag = nat_le (4 * live_in page) (length page.slots) && has_denser table number page.class_size
-
-    go : (b : Bool) → (if b then None else Some (record page { is_flagged = flag })) ≡ Some new → IsRoomyPage new
-    go true h = absurd (none-some new h)
-    go false h = subst IsRoomyPage (same_Some (record page { is_flagged = flag }) new h) (record { least = roomy.least; most = roomy.most; words = roomy.words; blocks = roomy.blocks })
+judged-roomy table number page new roomy e =
+    let judged = judged_page-is table number page new e in
+    record {
+      least = rw judged.class roomy.least;
+      most = rw judged.class roomy.most;
+      words = rw (judged.class, judged.slots) roomy.words;
+      blocks = λ slot block at. rw judged.class (roomy.blocks slot block (ap (λ slots. get_or slots slot None) (sym judged.slots) ∙ at));
+    }
 
 swept_page-roomy : (cycle : ℕ) (table : Table Block) (place : ℕ) (page new : Page Block) → IsRoomyPage page → swept_page cycle table place page ≡ Some new → IsRoomyPage new
 swept_page-roomy cycle table place page new roomy e = go (is_last_slot place page) e
