@@ -180,7 +180,7 @@ module _ (n : ℕ) (c : Collector) (h : IsSound n c) (p : ℕ) (z : Block) (plai
   pub has_none : size ≤ 60 → first_child (h.shapes z.birth) z.part ≡ None
   has_none few = child_is s z.part (h.parts p z plain.there).part (h.parts p z plain.there).is ∙ (head.plain (omega (arith, few, sum_is))).2
 
-  own_count : 60 < size → length z.references ≡ child_count size
+  pub own_count : 60 < size → length z.references ≡ child_count size
   own_count more = (h.parts p z plain.there).references ∙ (head.spine (omega (arith, more, sum_is))).0 ∙ ap child_count sum_is
 
   -- a block of the object, by its part
