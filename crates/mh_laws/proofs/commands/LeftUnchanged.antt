@@ -406,7 +406,7 @@ machine_after-pages config events =
 -- New objects ------------------------------------------------------------------------------------
 
 -- the answer to a new object, by its tests in order
-answer_to_new : (heap : HeapState) (who slot : ℕ) → (many ended bad large : Bool) → Option Made → Answer HeapState
+unfoldable pub answer_to_new : (heap : HeapState) (who slot : ℕ) → (many ended bad large : Bool) → Option Made → Answer HeapState
 answer_to_new heap who slot many ended bad large group =
     unless_refused (first_refusal ((many, TooManySessions) ∷ (ended, Ended) ∷ (bad, BadSlot) ∷ (large, TooLarge) ∷ (is_none group, HeapFull) ∷ [])) heap (done (unwrap_or (option_map (with_born heap (own_slot who slot)) group) heap))
 
