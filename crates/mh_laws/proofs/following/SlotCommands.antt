@@ -24,7 +24,7 @@ use Rattle.mh_laws.proofs.marking.BlockChanges.{resolve-live}
 use Rattle.mh_laws.proofs.snapshots.SessionCommands.{each_fails, not_null, has_reference, loaded_writable, field_held}
 use Rattle.mh_laws.proofs.snapshots.Barriers.{IsWritable, nothing_writable, root_writable, snapshot-with_root}
 use Rattle.mh_laws.proofs.showing.FoundBlocks.{first-found, tabulate-same}
-use Rattle.mh_laws.proofs.showing.ShadedTables.{with_shade-same, births-same, object_shown-same}
+use Rattle.mh_laws.proofs.showing.AlikeTables.{with_shade-alike, roots-alike, alike-shown}
 
 -- Lists ------------------------------------------------------------------------------------------
 
@@ -66,10 +66,10 @@ module _ (snapshot : World) (heap : HeapState) where
     where
       by_shade : (d : Collector) → d ≡ root_after c slot reference true → in_roots c.phase ≡ true → IsSound heap.next_birth d → ShowsRoot c (root_after c slot reference true) slot reference
       by_shade d is e sound =
-          let same = with_shade-same c (get_or c.slots slot None) in
+          let same = with_shade-alike c (get_or c.slots slot None) in
           record {
-            objects = λ birth. object_shown-same heap.next_birth heap.next_birth c (root_after c slot reference true) h.sound (subst (IsSound heap.next_birth) is sound) (roots_no_sweep c.phase e) refl same birth;
-            slots = births-same c.table (with_shade c (get_or c.slots slot None)).table same (set (with_shade c (get_or c.slots slot None)).slots slot reference) ∙ map-put (birth_named c.table) c.slots slot reference;
+            objects = alike-shown heap.next_birth heap.next_birth c (root_after c slot reference true) h.sound (subst (IsSound heap.next_birth) is sound) (roots_no_sweep c.phase e) (roots_no_sweep c.phase e) same;
+            slots = roots-alike c.table (with_shade c (get_or c.slots slot None)).table same (set (with_shade c (get_or c.slots slot None)).slots slot reference) ∙ map-put (birth_named c.table) c.slots slot reference;
           }
 
       go : (b : Bool) → in_roots c.phase ≡ b → IsSound heap.next_birth (with_root c slot reference) → ShowsRoot c (with_root c slot reference) slot reference
