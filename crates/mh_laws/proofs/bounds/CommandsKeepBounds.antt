@@ -16,9 +16,9 @@ use Rattle.mh_model.specs.Collector.{Collector, Marking, shade, marking_of, with
 use Rattle.mh_model.specs.Mutator.{HeapState, in_roots, in_roots_or_mark, before_field, with_root, with_roots_cleared, with_session_cleared, with_reference_stored, with_number_stored, field_of, number_field, new_group, with_born, heap_sight, heap_effect, mutator_step}
 use Rattle.mh_model.specs.Bound.{count_at, grey_weight, IsGreySound, IsMarkedIn}
 use Rattle.mh_laws.specs.NewObjects.{AreMade}
-use Rattle.mh_laws.proofs.placing.Places.{block_at-with_block_same, block_at-with_block_other, least_place-free, block_at-with_taken_other}
+use Rattle.mh_laws.proofs.placing.Places.{block_at-with_block_same, block_at-with_block_other, least_place-free, block_at-with_taken_other, block-slot}
 use Rattle.mh_laws.proofs.objects.Parts.{children_inside}
-use Rattle.mh_laws.proofs.objects.MadeGroups.{block_at-slot, length-words_of, made_parts-are, slots_in-class_of}
+use Rattle.mh_laws.proofs.objects.MadeGroups.{length-words_of, made_parts-are, slots_in-class_of}
 use Rattle.mh_laws.proofs.tables.BlockRoom.{IsClass, roomy-shaped, with_taken-roomy, class_of-is, class_of-fits}
 use Rattle.mh_laws.proofs.marking.GreyList.{Carries, carries_nothing, then_carries, grey_weight-same, all-map, class-with_taken, weight-with_taken, weight-marked, shade-carries, cycle-shade, change-carries, reference-carries}
 
@@ -137,7 +137,7 @@ module _ (grey : List ℕ) (cycle : ℕ) (all : List ℕ) where
             | inl same ↦
                 let here : block_at table place ≡ Some block = ap (block_at table) (sym same) ∙ is in (
                   linked_block all part block,
-                  ap (block_at linked) same ∙ block_at-with_block_same table place (option_map (linked_block all part) (block_at table place)) (block_at-slot table place block here) ∙ ap (option_map (linked_block all part)) here,
+                  ap (block_at linked) same ∙ block_at-with_block_same table place (option_map (linked_block all part) (block_at table place)) (block-slot table place block here) ∙ ap (option_map (linked_block all part)) here,
                   words ∙ sym (kept block here) ∙ size,
                 )
           ]

@@ -1,5 +1,5 @@
 -- A cycle ends in time: at every moment of a run what is left of it and the quanta that it has had are within its bounds.
-use Rattle.std.proofs.Common.{◌≡◌, ◌⊎◌, ℕ, zero, suc, ◌+◌, ◌-◌, ◌*◌, ◌/◌, ◌<◌, ◌≤◌, min, Bool, true, false, ◌||◌, nat_le, nat_lt, if◌then◌else◌, inl, inr, List, length, None, refl, sym, ap, ◌∙◌, subst, arith}
+use Rattle.std.proofs.Common.{◌≡◌, ◌⊎◌, ℕ, suc, ◌+◌, ◌-◌, ◌*◌, ◌/◌, ◌<◌, ◌≤◌, min, Bool, true, false, ◌||◌, nat_le, nat_lt, if◌then◌else◌, inl, inr, List, length, None, refl, sym, ap, ◌∙◌, subst, arith}
 use Rattle.std.proofs.Math.Nat.{le-div_iff_mul-le, suc-mul}
 use Rattle.std.proofs.lemmas.Bool.{cases_Bool, leb-true, ltb-true, ltb-false, true≢false, and_parts}
 use Rattle.std.proofs.lemmas.List.{length-replicate}
@@ -12,13 +12,13 @@ use Rattle.mh_model.specs.declared.config.Config.{Config}
 use Rattle.mh_model.specs.declared.cycle.Phase.{Phase}
 use Rattle.mh_model.specs.declared.cycle.Phase.TheVariants.{Idle, Roots, Mark, Sweep, Defrag}
 use Rattle.mh_model.specs.Pages.{free_pages}
-use Rattle.mh_model.specs.Collector.{Collector, Spending, first_collector, is_idle, cycle_start, is_start_due, with_count, quantum_start, step_cost, steps, quantum}
+use Rattle.mh_model.specs.Collector.{Collector, Spending, first_collector, is_idle, cycle_start, is_start_due, with_count, quantum_start, steps, quantum}
 use Rattle.mh_model.specs.Mutator.{HeapState, mutator_step}
 use Rattle.mh_model.specs.World.{says}
 use Rattle.mh_model.specs.Machine.{Machine, first_machine, quanta_left, with_collector, quantum_run, command_step, control_step, half_step, machine_after}
 use Rattle.mh_model.specs.Bound.{most_steps, most_units, most_quanta, IsRoomy, in_steps, in_units, steps_left, units_left, StageOf, IsUnderway, IsWithin, IsInBounds}
 use Rattle.mh_laws.specs.Bounds.{IsInTime, HasEnded, HasRun, CycleEndsWithinItsBound, left_of, QuantaLeftEndTheCycle, CollectorsStayInBounds}
-use Rattle.mh_laws.proofs.costs.Quanta.{steps-stop}
+use Rattle.mh_laws.proofs.costs.Quanta.{steps-idle}
 use Rattle.mh_laws.proofs.commands.LeftUnchanged.{mutator_step-course, steps-keeps}
 use Rattle.mh_laws.proofs.Lists.{none_at}
 use Rattle.mh_laws.proofs.bounds.CommandsKeepBounds.{mutator_step-carried}
@@ -139,11 +139,6 @@ pub record IsQuantum (config : Config) (old : Collector) (after : Spending) : Ty
   pub rest : is_idle after.collector.phase ≡ false → config.quantum ≤ after.units + 208
   pub cycle : old.cycle ≤ after.collector.cycle
   pub same : after.collector.cycle ≡ old.cycle → is_idle after.collector.phase ≡ false → (is_idle old.phase ≡ false) × (after.collector.quanta ≡ old.quanta + 1)
-
-steps-idle : (more left : ℕ) (has_moved : Bool) (collector : Collector) → is_idle collector.phase ≡ true → steps more left has_moved collector ≡ record { units = 0; collector = collector }
-unfolding steps
-steps-idle zero left has_moved collector idle = refl
-steps-idle (suc more) left has_moved collector idle = steps-stop more left has_moved collector (ap (λ b. b || nat_lt left (step_cost collector has_moved)) idle)
 
 quantum-idle : (config : Config) (collector : Collector) → IsInBounds config collector → is_idle collector.phase ≡ true → IsQuantum config collector (steps config.quantum config.quantum false collector)
 quantum-idle config collector bounds idle = subst (IsQuantum config collector) (sym (steps-idle config.quantum config.quantum false collector idle)) (record {

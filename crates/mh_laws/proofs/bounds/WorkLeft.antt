@@ -13,9 +13,10 @@ use Rattle.mh_model.specs.Bound.{IsRoomy, count_at, class_at, weight, IsGreySoun
 use Rattle.mh_laws.proofs.commands.LeftUnchanged.{shade-keeps, mark_first-keeps, step_in-keeps}
 use Rattle.mh_laws.proofs.moving.NextMove.{IsNextMove, next_move-is}
 use Rattle.mh_laws.proofs.placing.Places.{least_dense_place-page, block_at-with_taken_other}
-use Rattle.mh_laws.proofs.tables.BlockRoom.{IsClass, roomy-shaped, swept-roomy, with_taken-roomy, rewritten-roomy, get_or-below}
+use Rattle.mh_laws.proofs.tables.BlockRoom.{IsClass, roomy-shaped, swept-roomy, with_taken-roomy, rewritten-roomy}
 use Rattle.mh_laws.proofs.marking.GreyList.{Carries, MarksThrough, class-with_block, class-with_taken, mark_first-pays, cycle-mark_first}
 use Rattle.mh_laws.proofs.bounds.CommandsKeepBounds.{with_shade-carries}
+use Rattle.mh_laws.proofs.Lists.{below_length}
 
 -- What is left -----------------------------------------------------------------------------------
 
@@ -252,7 +253,7 @@ move_fits table place move roomy is =
     let page = is.page in
     let own = roomy.pages (page_number place) page is.in_use in
     let words : words_at table (page_number place) ≡ page.class_size = ap (λ p. unwrap_or (option_map (λ q. q.class_size) p) 0) is.in_use in
-    let inside : slot_number place < length page.slots = get_or-below page.slots (slot_number place) move.block is.there in
+    let inside : slot_number place < length page.slots = below_length page.slots (slot_number place) move.block is.there in
     let room : page.class_size * suc (slot_number place) ≤ page.class_size * length page.slots = mul-le-mul_left page.class_size inside in
     let split : page.class_size * suc (slot_number place) ≡ page.class_size * slot_number place + page.class_size = mul-suc page.class_size (slot_number place) in
     inr (sym is.class ∙ sym words, rw words (omega (arith, room, split, own.words)))

@@ -84,6 +84,12 @@ pub step_cost-bounded : (collector : Collector) (has_moved : Bool) → IsSized c
 unfolding step_cost
 step_cost-bounded collector has_moved sized = cost_in-bounded collector.phase collector has_moved sized
 
+-- no step is taken where no cycle runs
+pub steps-idle : (more left : ℕ) (has_moved : Bool) (collector : Collector) → is_idle collector.phase ≡ true → steps more left has_moved collector ≡ record { units = 0; collector = collector }
+unfolding steps
+steps-idle zero left has_moved collector idle = refl
+steps-idle (suc more) left has_moved collector idle = steps-stop more left has_moved collector (ap (λ b. b || nat_lt left (step_cost collector has_moved)) idle)
+
 -- The count of steps -----------------------------------------------------------------------------
 
 stops_at_nothing : (collector : Collector) (has_moved : Bool) (left : ℕ) → left ≡ 0 → (is_idle collector.phase || nat_lt left (step_cost collector has_moved)) ≡ false → ⊥

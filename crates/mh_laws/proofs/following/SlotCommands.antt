@@ -19,12 +19,13 @@ use Rattle.mh_model.specs.View.{in_sweep, birth_named, object_of, object_shown, 
 use Rattle.mh_model.specs.Invariant.{IsPlainAt, IsSound, KeepsSnapshot, IsKeeping}
 use Rattle.mh_laws.specs.Following.{has_no_place, Follows}
 use Rattle.mh_laws.proofs.showing.ObjectsShown.{read-tabulate}
-use Rattle.mh_laws.proofs.objects.JoinedFields.{shape_is, held_plain, laid, number_read, reference_read}
+use Rattle.mh_laws.proofs.objects.JoinedFields.{shape_is, laid, number_read, reference_read}
 use Rattle.mh_laws.proofs.marking.BlockChanges.{resolve-live}
 use Rattle.mh_laws.proofs.snapshots.SessionCommands.{each_fails, not_null, has_reference, loaded_writable, field_held}
 use Rattle.mh_laws.proofs.snapshots.Barriers.{IsWritable, nothing_writable, root_writable, snapshot-with_root}
 use Rattle.mh_laws.proofs.showing.FoundBlocks.{first-found, tabulate-same}
 use Rattle.mh_laws.proofs.showing.AlikeTables.{with_shade-alike, roots-alike, alike-shown}
+use Rattle.mh_laws.proofs.showing.SamePlainBlocks.{plain-held}
 
 -- Lists ------------------------------------------------------------------------------------------
 
@@ -245,7 +246,7 @@ module _ (heap : HeapState) (keeping : IsKeeping heap) where
   pub shown_plain : (p : ℕ) (z : Block) → IsPlainAt c p z → z.part ≡ 0 → object_at (heap_view heap) z.birth ≡ Some (object_of c.table z)
   shown_plain p z plain first =
       object_view z.birth (keeping.1.sound.births p z plain.there)
-      ∙ ap (option_map (object_of c.table)) (first-found heap.next_birth c keeping.1.sound z.birth p z (record { there = plain.there; held = held_plain c p z plain; birth_is = refl; first = first }))
+      ∙ ap (option_map (object_of c.table)) (first-found heap.next_birth c keeping.1.sound z.birth p z (record { there = plain.there; held = plain-held c p z plain; birth_is = refl; first = first }))
 
   pub at_root : (slot place : ℕ) → root_at heap slot ≡ Some place → (z : Block) × IsAtRoot slot place z
   at_root slot place e =

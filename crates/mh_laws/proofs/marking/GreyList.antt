@@ -11,8 +11,9 @@ use Rattle.mh_model.specs.Table.{Block, references_at, with_block_change, with_r
 use Rattle.mh_model.specs.Collector.{Marking, is_marked, with_grey, shade_block, shade, mark_reference, mark_references, mark_first}
 use Rattle.mh_laws.specs.GreyRoom.{IsSettled}
 use Rattle.mh_model.specs.Bound.{count_at, class_at, slot_weight, page_weight, table_weight, grey_weight, weight, IsGreySound, IsMarkedIn}
-use Rattle.mh_laws.proofs.placing.Places.{IsSlot, block_in-page_for, block_at-with_block_same, block_at-with_block_other}
-use Rattle.mh_laws.proofs.tables.BlockRoom.{rewritten-roomy, block-slot, get_or-below, with_block-none}
+use Rattle.mh_laws.proofs.placing.Places.{IsSlot, block_in-page_for, block_at-with_block_same, block_at-with_block_other, block-slot}
+use Rattle.mh_laws.proofs.tables.BlockRoom.{rewritten-roomy, with_block-none}
+use Rattle.mh_laws.proofs.Lists.{below_length}
 
 -- Weights ----------------------------------------------------------------------------------------
 
@@ -21,7 +22,7 @@ module _ (price : ℕ → ℕ) (cycle : ℕ) where
   weight-with_block table place content slot =
       let page = slot.page in
       let number = page_number place in
-      let inside : number < length table = get_or-below table number page slot.in_use in
+      let inside : number < length table = below_length table number page slot.in_use in
       let new : Option (Page Block) = option_map (page_with (slot_number place) content) (page_at table number) in
       let whole : table_weight price cycle (with_block table place content) + page_weight price cycle (page_at table number) ≡ table_weight price cycle table + page_weight price cycle new = sum_by-set (page_weight price cycle) table number new None inside in
       let part : sum_by (slot_weight price cycle) (set page.slots (slot_number place) content) + slot_weight price cycle (block_in (slot_number place) page) ≡ sum_by (slot_weight price cycle) page.slots + slot_weight price cycle content = sum_by-set (slot_weight price cycle) page.slots (slot_number place) content None slot.within in

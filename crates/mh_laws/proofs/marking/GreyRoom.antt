@@ -10,8 +10,8 @@ use Rattle.mh_model.specs.Table.{Block}
 use Rattle.mh_model.specs.Collector.{Collector}
 use Rattle.mh_model.specs.Bound.{IsMarkedIn, IsInBounds}
 use Rattle.mh_laws.specs.GreyRoom.{HasGreyRoom, GreyListHasRoom}
-use Rattle.mh_laws.proofs.tables.BlockRoom.{get_or-below}
 use Rattle.mh_laws.proofs.bounds.CyclesInTime.{run-stays, half-stays}
+use Rattle.mh_laws.proofs.Lists.{below_length}
 
 -- a place with a marked block is a place of the table
 marked-below : (table : Table Block) (cycle place : ℕ) → IsMarkedIn table cycle place → place < 64 * length table
@@ -19,7 +19,7 @@ marked-below table cycle place marked = go (page_at table (page_number place)) r
   where
     go : (page : Option (Page Block)) → page_at table (page_number place) ≡ page → option_map (λ (b : Block). b.stamp) (option_and_then (block_in (slot_number place)) page) ≡ Some cycle → place < 64 * length table
     go None at e = absurd (none-some cycle e)
-    go (Some page) at e = omega (arith, get_or-below table (page_number place) page at)
+    go (Some page) at e = omega (arith, below_length table (page_number place) page at)
 
 -- what holds of each place of a list
 listed : (P : ℕ → Type 0) (list : List ℕ) (place : ℕ) → AllByRecursion P list → list_any (λ other. place == other) list ≡ true → P place

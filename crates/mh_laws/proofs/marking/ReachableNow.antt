@@ -13,11 +13,11 @@ use Rattle.mh_model.specs.View.{in_sweep, arraylet_words, object_of, heap_view}
 use Rattle.mh_model.specs.Snapshot.{IsKept}
 use Rattle.mh_model.specs.Invariant.{HeapKeeps}
 use Rattle.mh_laws.proofs.worlds.Agreement.{Reachable-in}
-use Rattle.mh_laws.proofs.marking.BlockChanges.{within}
 use Rattle.mh_laws.proofs.marking.MarkSteps.{runs}
 use Rattle.mh_laws.proofs.showing.ObjectsShown.{named-back, refers-back}
 use Rattle.mh_laws.proofs.objects.JoinedFields.{an_arraylet, arraylet_count}
 use Rattle.mh_laws.proofs.snapshots.CycleStarts.{slot-view, shown_object}
+use Rattle.mh_laws.proofs.Lists.{below_length}
 
 marks_not_sweep : (phase : Phase) → in_roots_or_mark phase ≡ true → in_sweep phase ≡ false
 marks_not_sweep Idle m = refl
@@ -47,7 +47,7 @@ reachable_is_kept snapshot heap marks h birth (path, is_path) = Reachable-in (he
           | inr k ↦
               let (i, s, word_s, there_y) = k.1 in
               let count = arraylet_count heap.next_birth heap.collector h.sound p z plain first k.0 in
-              let a = an_arraylet heap.next_birth heap.collector h.sound p z plain first k.0 i (omega (arith, count, within (arraylet_words t₀ z) i s word_s)) in
+              let a = an_arraylet heap.next_birth heap.collector h.sound p z plain first k.0 i (omega (arith, count, below_length (arraylet_words t₀ z) i s word_s)) in
               let same_s : a.reference ≡ s = same_Some a.reference s (sym a.word ∙ word_s) in
               let same : a.block ≡ y = same_Some a.block y (sym a.leads.there ∙ ap (λ w. block_at t₀ (resolve t₀ w)) same_s ∙ there_y) in
               h.cycle.references marks (resolve t₀ s) y j r t there_y (ap (λ (w : Block). w.forward) (sym same) ∙ a.leads.original) (subst (IsKept snapshot heap.next_birth) (sym (ap (λ (w : Block). w.birth) (sym same) ∙ a.birth ∙ birth_z)) kept) word there_t

@@ -13,8 +13,8 @@ use Rattle.mh_model.specs.View.{in_sweep}
 use Rattle.mh_model.specs.Snapshot.{IsKept}
 use Rattle.mh_model.specs.Invariant.{IsIn, IsPlainAt, IsPartOf, IsUnflagged, in_defrag, IsSound, KeepsSnapshot, IsFinished}
 use Rattle.mh_laws.proofs.moving.NextMove.{next_move-is}
-use Rattle.mh_laws.proofs.placing.Places.{IsShaped, least_dense_place-page, block_at-with_block_same, block_at-with_block_other}
-use Rattle.mh_laws.proofs.marking.BlockChanges.{is_slot, resolve-live, pages-with_block}
+use Rattle.mh_laws.proofs.placing.Places.{IsShaped, least_dense_place-page, block_at-with_block_same, block_at-with_block_other, block-slot}
+use Rattle.mh_laws.proofs.marking.BlockChanges.{resolve-live, pages-with_block}
 use Rattle.mh_laws.proofs.marking.SameTable.{snapshot-turned}
 
 -- The move that a step makes ---------------------------------------------------------------------
@@ -90,7 +90,7 @@ module _ (snapshot : World) (n : ℕ) (c : Collector) (defrags : c.phase ≡ Def
   p_there = block_at-with_block_other c.table q p (Some b) apart ∙ is.there
 
   at_p : block_at table' p ≡ Some forwarder
-  at_p = ap (λ t. block_at t p) as_written ∙ block_at-with_block_same (with_block c.table q (Some b)) p (Some forwarder) (is_slot (with_block c.table q (Some b)) p b p_there)
+  at_p = ap (λ t. block_at t p) as_written ∙ block_at-with_block_same (with_block c.table q (Some b)) p (Some forwarder) (block-slot (with_block c.table q (Some b)) p b p_there)
 
   at_q : block_at table' q ≡ Some b
   at_q = ap (λ t. block_at t q) as_written ∙ block_at-with_block_other (with_block c.table q (Some b)) p q (Some forwarder) (λ e. apart (sym e)) ∙ block_at-with_block_same c.table q (Some b) (record { page = is.into; in_use = is.to; within = is.inside })

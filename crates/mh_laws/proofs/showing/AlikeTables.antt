@@ -9,10 +9,9 @@ use Rattle.mh_model.specs.Table.{Block, references_at, reference_at, resolve, ta
 use Rattle.mh_model.specs.Collector.{Collector, Marking, shade_place, shade, marking_of, with_shade}
 use Rattle.mh_model.specs.View.{in_sweep, block_named, blocks_named, birth_named, arraylet_words, field_blocks, object_of, object_shown}
 use Rattle.mh_model.specs.Invariant.{IsSound}
-use Rattle.mh_laws.proofs.marking.BlockChanges.{is_slot}
 use Rattle.mh_laws.proofs.marking.MarkSteps.{shade_place-is}
 use Rattle.mh_laws.proofs.showing.FoundBlocks.{IsShownAs, IsHeldIn, held_live, live_held, shown-same}
-use Rattle.mh_laws.proofs.placing.Places.{block_at-with_block_same, block_at-with_block_other}
+use Rattle.mh_laws.proofs.placing.Places.{block_at-with_block_same, block_at-with_block_other, block-slot}
 
 map-append : {X Y : Type 0} (f : X → Y) (xs ys : List X) → map f (xs ++ ys) ≡ map f xs ++ map f ys
 map-append f [] ys = refl
@@ -122,7 +121,7 @@ module _ (first : Table Block) where
   -- a block is put in the place of one that is bare the same
   pub alike-with_block : (table : Table Block) (p : ℕ) (b b' : Block) → block_at table p ≡ Some b → bare b' ≡ bare b → IsAlike table → IsAlike (with_block table p (Some b'))
   alike-with_block table p b b' there same alike place = elim (cases_eq place p) [
-    | inl here ↦ subst (λ q. option_map bare (block_at (with_block table p (Some b')) q) ≡ option_map bare (block_at first q)) (sym here) (ap (option_map bare) (block_at-with_block_same table p (Some b') (is_slot table p b there)) ∙ ap Some same ∙ ap (option_map bare) (sym there) ∙ alike p)
+    | inl here ↦ subst (λ q. option_map bare (block_at (with_block table p (Some b')) q) ≡ option_map bare (block_at first q)) (sym here) (ap (option_map bare) (block_at-with_block_same table p (Some b') (block-slot table p b there)) ∙ ap Some same ∙ ap (option_map bare) (sym there) ∙ alike p)
     | inr apart ↦ ap (option_map bare) (block_at-with_block_other table p place (Some b') apart) ∙ alike place
   ]
 

@@ -1,5 +1,5 @@
 -- What a kept heap shows is closed.
-use Rattle.std.proofs.Common.{◌≡◌, ℕ, ◌+◌, ◌<◌, Option, Some, None, option_map, is_some, IsSome, get_or, length, refl, sym, ap, ◌∙◌, subst, arith}
+use Rattle.std.proofs.Common.{◌≡◌, ℕ, ◌<◌, Option, Some, None, option_map, is_some, IsSome, get_or, length, refl, sym, ap, ◌∙◌, subst, arith}
 use Rattle.std.proofs.lemmas.Option.{none-some, same_Some}
 use Rattle.mh_model.specs.declared.shape.Shape.{Shape}
 use Rattle.mh_model.specs.World.{Object, IsClosed, object_at, slot_at, reference_of}
@@ -7,22 +7,16 @@ use Rattle.mh_model.specs.Pages.{block_at}
 use Rattle.mh_model.specs.Table.{Block, resolve, position_of}
 use Rattle.mh_model.specs.Collector.{Collector}
 use Rattle.mh_model.specs.Mutator.{HeapState}
-use Rattle.mh_model.specs.View.{block_of_birth, object_of, object_shown, heap_view}
+use Rattle.mh_model.specs.View.{block_of_birth, object_of, heap_view}
 use Rattle.mh_model.specs.Invariant.{IsPlainAt, IsSound, IsKeeping}
 use Rattle.mh_laws.proofs.Lists.{below_length}
 use Rattle.mh_laws.proofs.marking.BlockChanges.{resolve-live}
 use Rattle.mh_laws.proofs.objects.Headers.{flat_of}
 use Rattle.mh_laws.proofs.objects.JoinedFields.{shape_is, laid, has_fields, reference_read}
-use Rattle.mh_laws.proofs.showing.ObjectsShown.{named-back, tabulate-read}
+use Rattle.mh_laws.proofs.showing.ObjectsShown.{named-back}
 use Rattle.mh_laws.proofs.showing.FoundBlocks.{found-first, first-found}
 use Rattle.mh_laws.proofs.showing.SamePlainBlocks.{plain-held, held-plain}
-use Rattle.mh_laws.proofs.snapshots.CycleStarts.{object-view, slot-view}
-
-object-back : (heap : HeapState) (birth : ℕ) (object : Object) → object_at (heap_view heap) birth ≡ Some object → object_shown heap.collector birth ≡ Some object
-unfolding heap_view
-object-back heap birth object is =
-    let e : 0 + birth ≡ birth = omega arith in
-    ap (object_shown heap.collector) (sym e) ∙ tabulate-read (object_shown heap.collector) 0 heap.next_birth birth object is
+use Rattle.mh_laws.proofs.snapshots.CycleStarts.{object-view, slot-view, view-shown}
 
 module _ (heap : HeapState) (keeping : IsKeeping heap) where
   abbrev c : Collector
@@ -73,7 +67,7 @@ module _ (heap : HeapState) (keeping : IsKeeping heap) where
 
       go : (o : Option Object) → object_at (heap_view heap) birth ≡ o → reference_of o field ≡ Some target → IsSome (object_at (heap_view heap) target)
       go None at e = absurd (none-some target e)
-      go (Some object) at e = by object (block_of_birth c birth) refl (object-back heap birth object at) e
+      go (Some object) at e = by object (block_of_birth c birth) refl (view-shown heap birth object at) e
 
   pub closed-view : IsClosed (heap_view heap)
   closed-view = record { slots = slots-there; references = references-there }

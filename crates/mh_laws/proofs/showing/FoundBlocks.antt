@@ -9,8 +9,8 @@ use Rattle.mh_model.specs.Table.{Block, is_forwarder}
 use Rattle.mh_model.specs.Collector.{Collector}
 use Rattle.mh_model.specs.View.{in_sweep, is_held, block_of_birth, object_of, object_shown}
 use Rattle.mh_model.specs.Invariant.{IsSound}
-use Rattle.mh_laws.proofs.marking.BlockChanges.{within}
 use Rattle.mh_laws.proofs.showing.ObjectsShown.{first_block-is, first_block-some}
+use Rattle.mh_laws.proofs.Lists.{below_length}
 
 -- a held part 0 of a birth is at a place
 pub record IsFirstAt (c : Collector) (birth place : ℕ) (block : Block) : Type 0 where
@@ -36,7 +36,7 @@ module _ (n : ℕ) (c : Collector) (h : IsSound n c) where
     where
       by_page : (content : Option (Page Block)) → page_at c.table m ≡ content → option_and_then (block_in s) content ≡ Some y → s < 64
       by_page None is f = absurd (none-some y f)
-      by_page (Some page) is f = omega (arith, h.narrow m page is, within page.slots s y f)
+      by_page (Some page) is f = omega (arith, h.narrow m page is, below_length page.slots s y f)
 
   -- what the search finds is at a place
   pub found-first : (birth : ℕ) (y : Block) → block_of_birth c birth ≡ Some y → (place : ℕ) × IsFirstAt c birth place y

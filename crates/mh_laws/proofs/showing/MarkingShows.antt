@@ -1,8 +1,6 @@
 -- The steps of the collector change nothing of what the heap shows.
 use Rattle.std.proofs.Common.{◌≡◌, ℕ, zero, suc, ◌+◌, true, false, inl, List, [], ◌∷◌, get_or, set, map, Option, Some, None, option_map, unwrap_or, refl, sym, ap, ◌∙◌, subst, arith}
-use Rattle.std.proofs.lemmas.Bool.{false≢true}
-use Rattle.mh_model.specs.declared.cycle.Phase.{Phase}
-use Rattle.mh_model.specs.declared.cycle.Phase.TheVariants.{Idle, Roots, Mark, Sweep, Defrag}
+use Rattle.mh_model.specs.declared.cycle.Phase.TheVariants.{Roots}
 use Rattle.mh_model.specs.World.{Object, World}
 use Rattle.mh_model.specs.Pages.{Table, block_at, with_block}
 use Rattle.mh_model.specs.Table.{Block, references_at, with_reference_at, resolve, target_of}
@@ -10,7 +8,7 @@ use Rattle.mh_model.specs.Collector.{Collector, Marking, mark_reference, mark_re
 use Rattle.mh_model.specs.Mutator.{HeapState, in_roots_or_mark}
 use Rattle.mh_model.specs.View.{in_sweep, birth_named, object_shown, heap_view}
 use Rattle.mh_model.specs.Invariant.{IsIn, IsPlainAt, IsSound, KeepsSnapshot, HeapKeeps}
-use Rattle.mh_laws.proofs.marking.BlockChanges.{resolve-live, not_sweep}
+use Rattle.mh_laws.proofs.marking.BlockChanges.{resolve-live, not_sweep, no_sweep}
 use Rattle.mh_laws.proofs.marking.MarkSteps.{leads, snapshot-mark_step, snapshot-roots_step}
 use Rattle.mh_laws.proofs.showing.FoundBlocks.{tabulate-same}
 use Rattle.mh_laws.proofs.showing.AlikeTables.{bare, IsAlike, resolve-alike, roots-alike, alike-with_block, alike-forth, alike-shade, read-map, alike-shown, with_shade-alike}
@@ -26,7 +24,7 @@ same-view heap d objects slots =
     ∙ ap {A = List (Option ℕ)} (λ xs. record { config = heap.config; objects = (heap_view heap).objects; slots = xs; ended = heap.ended }) slots
 
 -- two states of which no one is in the sweep, with alike tables
-alike-view : (snapshot : World) (heap : HeapState) (d : Collector) → in_sweep heap.collector.phase ≡ false → in_sweep d.phase ≡ false → HeapKeeps snapshot heap → KeepsSnapshot snapshot heap.next_birth d → d.slots ≡ heap.collector.slots
+pub alike-view : (snapshot : World) (heap : HeapState) (d : Collector) → in_sweep heap.collector.phase ≡ false → in_sweep d.phase ≡ false → HeapKeeps snapshot heap → KeepsSnapshot snapshot heap.next_birth d → d.slots ≡ heap.collector.slots
     → IsAlike heap.collector.table d.table → heap_view (record heap { collector = d }) ≡ heap_view heap
 alike-view snapshot heap d no_sweep no_sweep' h k slots alike =
     same-view
@@ -72,13 +70,6 @@ module _ (first : Table Block) where
         (suc index)
         (λ k. let e : suc index + k ≡ index + suc k = omega arith in ap (λ i. get_or b.references i None) e ∙ ahead (suc k))
         (alike-shade first (record m { table = with_reference_at m.table g index (target_of m.table o) }) (target_of m.table o) (alike-stored m.table index o read alike))
-
-no_sweep : (phase : Phase) → in_roots_or_mark phase ≡ true → in_sweep phase ≡ false
-no_sweep Idle m = refl
-no_sweep Roots m = refl
-no_sweep Mark m = refl
-no_sweep Sweep m = absurd (false≢true m)
-no_sweep Defrag m = refl
 
 -- a mark step leaves an alike table
 alike-mark_step : (n : ℕ) (c : Collector) → in_roots_or_mark c.phase ≡ true → IsSound n c → IsAlike c.table (mark_step (marking_of c)).table

@@ -1,5 +1,5 @@
 -- Steps of the collector and quanta: a view that agrees with a world agrees with it after them.
-use Rattle.std.proofs.Common.{◌≡◌, ℕ, ◌+◌, ◌<◌, ◌==◌, if◌then◌else◌, Bool, true, false, List, [], ◌∷◌, Option, Some, None, option_map, IsSome, refl, sym, ap, ◌∙◌, subst, arith, eqb-true}
+use Rattle.std.proofs.Common.{◌≡◌, ℕ, ◌<◌, ◌==◌, if◌then◌else◌, Bool, true, false, List, [], ◌∷◌, Option, Some, None, option_map, IsSome, refl, sym, ap, ◌∙◌, subst, arith, eqb-true}
 use Rattle.std.proofs.lemmas.Bool.{false≢true}
 use Rattle.std.proofs.lemmas.Option.{none-some, same_Some}
 use Rattle.std.proofs.lemmas.List.{get_or_past}
@@ -17,8 +17,7 @@ use Rattle.mh_laws.proofs.marking.BlockChanges.{not_sweep}
 use Rattle.mh_laws.proofs.marking.MarkSteps.{snapshot-roots_step, snapshot-mark_step}
 use Rattle.mh_laws.proofs.sweeping.SweepSteps.{snapshot-sweeping, snapshot-after_mark, snapshot-sweep_step, snapshot-after_sweep}
 use Rattle.mh_laws.proofs.moving.MoveSteps.{snapshot-defrag_step, snapshot-cycle_end}
-use Rattle.mh_laws.proofs.showing.ObjectsShown.{tabulate-read}
-use Rattle.mh_laws.proofs.snapshots.CycleStarts.{births-view, object-view}
+use Rattle.mh_laws.proofs.snapshots.CycleStarts.{births-view, object-view, view-shown}
 use Rattle.mh_laws.proofs.marking.ReachableNow.{reachable_is_kept}
 use Rattle.mh_laws.proofs.snapshots.AgreeingWorlds.{reachable-view}
 use Rattle.mh_laws.proofs.showing.FoundBlocks.{IsFirstAt, held_live, found-first, first-found}
@@ -28,10 +27,6 @@ use Rattle.mh_laws.proofs.showing.SweepShows.{view-sweep_step}
 use Rattle.mh_laws.proofs.showing.MovesShow.{view-defrag_step}
 
 -- Reading a view ---------------------------------------------------------------------------------
-
-view-shown : (heap : HeapState) (birth : ℕ) (object : Object) → object_at (heap_view heap) birth ≡ Some object → object_shown heap.collector birth ≡ Some object
-unfolding heap_view
-view-shown heap birth object e = let k : birth ≡ 0 + birth = omega arith in ap (object_shown heap.collector) k ∙ tabulate-read (object_shown heap.collector) 0 heap.next_birth birth object e
 
 shown-block : (c : Collector) (birth : ℕ) (object : Object) → object_shown c birth ≡ Some object → (y : Block) × (block_of_birth c birth ≡ Some y) × (object_of c.table y ≡ object)
 shown-block c birth object e = go (block_of_birth c birth) refl e

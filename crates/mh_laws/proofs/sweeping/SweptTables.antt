@@ -7,7 +7,7 @@ use Rattle.mh_model.specs.Pages.{Page, Table, page_number, slot_number, page_at,
 use Rattle.mh_model.specs.Table.{Block, is_forwarder}
 use Rattle.mh_model.specs.Collector.{is_marked, next_page, is_last_slot, next_place, survivor, judged_page, swept_page, swept_table}
 use Rattle.mh_laws.proofs.tables.PageSlots.{judged_page-is}
-use Rattle.mh_laws.proofs.marking.BlockChanges.{within}
+use Rattle.mh_laws.proofs.Lists.{below_length}
 
 -- What a sweep step leaves: nothing but blocks that were there, at its place only a marked one that is no forwarder, and each such block
 pub record IsSwept (cycle : ℕ) (table : Table Block) (place : ℕ) (table' : Table Block) (place' : ℕ) : Type 0 where
@@ -75,7 +75,7 @@ module _ (cycle : ℕ) (table : Table Block) (place : ℕ) (page : Page Block) (
   left = option_and_then (survivor cycle) (block_in (slot_number place) page)
 
   inside : page_number place < length table
-  inside = within table (page_number place) page is
+  inside = below_length table (page_number place) page is
 
   module _ (new : Option (Page Block)) (reads : (slot : ℕ) → option_and_then (block_in slot) new ≡ get_or (set page.slots (slot_number place) left) slot None)
       (size : (p : Page Block) → new ≡ Some p → length p.slots ≡ length page.slots) (place' : ℕ) (passes : (q : ℕ) (x : Block) → block_at (set table (page_number place) new) q ≡ Some x → q < place' → (q < place) ⊎ (q ≡ place)) where
@@ -98,7 +98,7 @@ module _ (cycle : ℕ) (table : Table Block) (place : ℕ) (page : Page Block) (
     survived x e =
         let f : get_or (set page.slots (slot_number place) left) (slot_number place) None ≡ Some x = sym now ∙ e in
         let same_length : length (set page.slots (slot_number place) left) ≡ length page.slots = length-set _ _ _ in
-        let inside_page : slot_number place < length page.slots = omega (arith, same_length, within (set page.slots (slot_number place) left) (slot_number place) x f) in
+        let inside_page : slot_number place < length page.slots = omega (arith, same_length, below_length (set page.slots (slot_number place) left) (slot_number place) x f) in
         let (old, stamp) = survivor-is cycle (block_in (slot_number place) page) x (sym (get_or-set_same page.slots (slot_number place) left None inside_page) ∙ f) in
         (before ∙ old, stamp)
 
@@ -112,7 +112,7 @@ module _ (cycle : ℕ) (table : Table Block) (place : ℕ) (page : Page Block) (
       kept = λ q x e s live. elim (cases_eq q place) [
         | inl same ↦
             let old : block_in (slot_number place) page ≡ Some x = sym before ∙ ap (block_at table) (sym same) ∙ e in
-            ap (block_at (set table (page_number place) new)) same ∙ now ∙ get_or-set_same page.slots (slot_number place) left None (within page.slots (slot_number place) x old) ∙ ap (option_and_then (survivor cycle)) old ∙ survivor-kept cycle x s live
+            ap (block_at (set table (page_number place) new)) same ∙ now ∙ get_or-set_same page.slots (slot_number place) left None (below_length page.slots (slot_number place) x old) ∙ ap (option_and_then (survivor cycle)) old ∙ survivor-kept cycle x s live
         | inr apart ↦ other q apart ∙ e
       ];
       passed = passes;
@@ -149,7 +149,7 @@ swept-is cycle table place = go (page_at table (page_number place)) refl
             last_slot = eqb-true (suc (slot_number place)) (length page.slots) e
 
             inside_table : page_number place < length table
-            inside_table = within table (page_number place) page is
+            inside_table = below_length table (page_number place) page is
 
             passes : (q : ℕ) (x : Block) → block_at (set table (page_number place) (judged_page table (page_number place) (page_with (slot_number place) o page))) q ≡ Some x → q < next_page place → (q < place) ⊎ (q ≡ place)
             passes q x f below = elim (cases_order q place) [
@@ -162,6 +162,6 @@ swept-is cycle table place = go (page_at table (page_number place)) refl
                     let read : get_or (set page.slots (slot_number place) o) (slot_number q) None ≡ Some x =
                     sym (judged-reads table (page_number place) (page_with (slot_number place) o page) (slot_number q))
                     ∙ ap (option_and_then (block_in (slot_number q))) (sym (get_or-set_same table (page_number place) new None inside_table)) ∙ ap (λ n. option_and_then (block_in (slot_number q)) (page_at (set table (page_number place) new) n)) (sym here) ∙ f in
-                    absurd (omega (arith, last_slot, same_length, within (set page.slots (slot_number place) o) (slot_number q) x read))
+                    absurd (omega (arith, last_slot, same_length, below_length (set page.slots (slot_number place) o) (slot_number q) x read))
               ]
             ]

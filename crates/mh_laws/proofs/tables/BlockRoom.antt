@@ -1,5 +1,5 @@
 -- The words of a page: its slots have room for the blocks of its class, and each block fits its slot.
-use Rattle.std.proofs.Common.{◌≡◌, ℕ, zero, suc, ◌+◌, ◌*◌, ◌<◌, ◌≤◌, ◌==◌, ◌||◌, ◌&&◌, not, Bool, true, false, nat_le, if◌then◌else◌, inl, inr, List, [], ◌∷◌, length, get_or, set, Option, Some, None, option_map, option_and_then, unwrap_or, find, refl, sym, ap, ◌∙◌, subst, arith}
+use Rattle.std.proofs.Common.{◌≡◌, ℕ, ◌+◌, ◌*◌, ◌≤◌, ◌==◌, ◌||◌, ◌&&◌, not, Bool, true, false, nat_le, if◌then◌else◌, inl, inr, List, [], ◌∷◌, length, get_or, set, Option, Some, None, option_map, option_and_then, unwrap_or, find, refl, sym, ap, ◌∙◌, subst, arith}
 use Rattle.std.proofs.lemmas.Bool.{and_parts, leb-true}
 use Rattle.std.proofs.lemmas.Option.{none-some, same_Some}
 use Rattle.std.proofs.Math.Nat.{mul-le-mul_right}
@@ -10,7 +10,7 @@ use Rattle.mh_model.specs.Table.{Block, is_forwarder}
 use Rattle.mh_model.specs.Collector.{survivor, is_last_slot, is_marked, judged_page, swept_page, swept_table}
 use Rattle.mh_model.specs.Bound.{IsRoomyPage, IsRoomy}
 use Rattle.mh_laws.proofs.Lists.{find-passes, get_or-set_either, none_at}
-use Rattle.mh_laws.proofs.placing.Places.{IsShaped, IsSlot}
+use Rattle.mh_laws.proofs.placing.Places.{IsShaped}
 use Rattle.mh_laws.proofs.tables.PageSlots.{judged_page-is}
 use Rattle.mh_laws.specs.Costs.{IsSized}
 
@@ -177,20 +177,6 @@ swept-roomy cycle table place roomy = set-roomy table (page_number place) _ room
     go : (content : Option (Page Block)) (new : Page Block) → page_at table (page_number place) ≡ content → option_and_then (swept_page cycle table place) content ≡ Some new → IsRoomyPage new
     go None new at e = absurd (none-some new e)
     go (Some page) new at e = swept_page-roomy cycle table place page new (roomy.pages (page_number place) page at) e
-
--- what is read from a list is in it
-pub get_or-below : {X : Type 0} (xs : List (Option X)) (index : ℕ) (x : X) → get_or xs index None ≡ Some x → index < length xs
-get_or-below [] index x e = absurd (none-some x e)
-get_or-below (y ∷ xs) zero x e = omega arith
-get_or-below (y ∷ xs) (suc index) x e = omega (arith, get_or-below xs index x e)
-
--- a block lies in a slot of a page in use
-pub block-slot : (table : Table Block) (place : ℕ) (block : Block) → block_at table place ≡ Some block → IsSlot table place
-block-slot table place block e = go (page_at table (page_number place)) refl e
-  where
-    go : (content : Option (Page Block)) → page_at table (page_number place) ≡ content → option_and_then (block_in (slot_number place)) content ≡ Some block → IsSlot table place
-    go None at h = absurd (none-some block h)
-    go (Some page) at h = record { page = page; in_use = at; within = get_or-below page.slots (slot_number place) block h }
 
 set_same : {X : Type 0} (xs : List (Option X)) (index : ℕ) (x : Option X) → get_or xs index None ≡ x → set xs index x ≡ xs
 set_same xs index x e = ap (λ y. set xs index y) (sym e) ∙ set-get_or xs index None
