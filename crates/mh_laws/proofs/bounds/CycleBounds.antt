@@ -9,7 +9,7 @@ use Rattle.mh_model.specs.declared.cycle.Phase.{Phase}
 use Rattle.mh_model.specs.declared.cycle.Phase.TheVariants.{Idle, Roots, Mark, Sweep, Defrag}
 use Rattle.mh_model.specs.Pages.{Page, Table, page_number, slot_number, page_at, block_in}
 use Rattle.mh_model.specs.Table.{Block}
-use Rattle.mh_model.specs.Collector.{Collector, Spending, Move, is_marked, next_move, with_move, move_cost, after_mark, cost_in, step_cost, is_moving_in, is_moving, step_in, is_past, with_phase, cycle_end, phase_after, collector_step, is_idle, is_start_due, cycle_start, with_count, quantum_start, steps, quantum}
+use Rattle.mh_model.specs.Collector.{Collector, Spending, Move, is_marked, next_move, with_move, move_cost, after_mark, cost_in, step_cost, is_moving_in, is_moving, step_in, is_past, with_phase, cycle_end, phase_after, collector_step, is_idle, quantum_start, steps, quantum}
 use Rattle.mh_model.specs.Mutator.{in_roots_or_mark}
 use Rattle.mh_model.specs.Bound.{IsRoomyPage, IsRoomy, class_at, slot_weight, page_weight, table_weight, in_steps, in_units, words_at, movable, movable_words, steps_left, units_left, StageOf, IsUnderway}
 use Rattle.mh_laws.proofs.costs.Quanta.{steps-stop, steps-go, step_cost-positive, step_cost-bounded}
@@ -17,6 +17,7 @@ use Rattle.mh_laws.specs.Commands.{IsOnCourse}
 use Rattle.mh_laws.proofs.tables.BlockRoom.{few_slots, roomy-sized}
 use Rattle.mh_laws.proofs.bounds.CommandsKeepBounds.{Carried}
 use Rattle.mh_laws.proofs.bounds.WorkLeft.{collector_step-paid}
+use Rattle.mh_laws.proofs.costs.QuantumStarts.{begins}
 
 -- Commands ---------------------------------------------------------------------------------------
 
@@ -235,19 +236,13 @@ pub quantum-number : (config : Config) (collector : Collector) → (collector.cy
 unfolding quantum
 quantum-number config collector =
     let same = steps-number config.quantum config.quantum false (quantum_start config collector) in
-    let (low, high) = by_start (is_start_due config collector) in
-    (omega (arith, same, low), omega (arith, same, high))
-  where
-    by_count : (c : Collector) → (with_count c).cycle ≡ c.cycle
-    by_count c = go (is_idle c.phase)
-      where
-        go : (idle : Bool) → (if idle then c else record c { quanta = c.quanta + 1 }).cycle ≡ c.cycle
-        go true = refl
-        go false = refl
-
-    by_start : (due : Bool) → (collector.cycle ≤ (with_count (if due then cycle_start collector else collector)).cycle) × ((with_count (if due then cycle_start collector else collector)).cycle ≤ collector.cycle + 1)
-    by_start true = let e = by_count (cycle_start collector) in (omega (arith, e), omega (arith, e))
-    by_start false = let e = by_count collector in (omega (arith, e), omega (arith, e))
+    elim (begins config collector).case [
+      | inl starts ↦ let e = ap (λ c. c.cycle) starts.2 in (omega (arith, same, e), omega (arith, same, e))
+      | inr other ↦ elim other [
+        | inl runs ↦ let e = ap (λ c. c.cycle) runs.1 in (omega (arith, same, e), omega (arith, same, e))
+        | inr rests ↦ let e = ap (λ c. c.cycle) rests.2 in (omega (arith, same, e), omega (arith, same, e))
+      ]
+    ]
 
 -- The start of a cycle ---------------------------------------------------------------------------
 

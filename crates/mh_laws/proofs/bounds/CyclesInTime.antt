@@ -1,5 +1,5 @@
 -- A cycle ends in time: at every moment of a run what is left of it and the quanta that it has had are within its bounds.
-use Rattle.std.proofs.Common.{◌≡◌, ◌⊎◌, ℕ, suc, ◌+◌, ◌-◌, ◌*◌, ◌/◌, ◌<◌, ◌≤◌, min, Bool, true, false, ◌||◌, nat_le, nat_lt, if◌then◌else◌, inl, inr, List, length, None, refl, sym, ap, ◌∙◌, subst, arith}
+use Rattle.std.proofs.Common.{◌≡◌, ◌⊎◌, ℕ, suc, ◌+◌, ◌-◌, ◌*◌, ◌/◌, ◌<◌, ◌≤◌, min, Bool, true, false, nat_le, nat_lt, if◌then◌else◌, inl, inr, List, length, None, refl, sym, ap, ◌∙◌, subst, arith}
 use Rattle.std.proofs.Math.Nat.{le-div_iff_mul-le, suc-mul}
 use Rattle.std.proofs.lemmas.Bool.{cases_Bool, leb-true, ltb-true, ltb-false, true≢false, and_parts}
 use Rattle.std.proofs.lemmas.List.{length-replicate}
@@ -11,8 +11,7 @@ use Rattle.mh_model.specs.declared.reply.Reply.TheVariants as reply
 use Rattle.mh_model.specs.declared.config.Config.{Config}
 use Rattle.mh_model.specs.declared.cycle.Phase.{Phase}
 use Rattle.mh_model.specs.declared.cycle.Phase.TheVariants.{Idle, Roots, Mark, Sweep, Defrag}
-use Rattle.mh_model.specs.Pages.{free_pages}
-use Rattle.mh_model.specs.Collector.{Collector, Spending, first_collector, is_idle, cycle_start, is_start_due, with_count, quantum_start, steps, quantum}
+use Rattle.mh_model.specs.Collector.{Collector, Spending, first_collector, is_idle, cycle_start, quantum_start, steps, quantum}
 use Rattle.mh_model.specs.Mutator.{HeapState, mutator_step}
 use Rattle.mh_model.specs.World.{says}
 use Rattle.mh_model.specs.Machine.{Machine, first_machine, quanta_left, with_collector, quantum_run, command_step, control_step, half_step, machine_after}
@@ -25,6 +24,7 @@ use Rattle.mh_laws.proofs.bounds.CommandsKeepBounds.{mutator_step-carried}
 use Rattle.mh_laws.proofs.bounds.WorkLeft.{none_grey, steps_left-positive}
 use Rattle.mh_laws.proofs.bounds.CycleBounds.{carried-leaves, Spends, steps-spend, steps-some, KeepsCount, steps-count, page-in_steps, page-in_units, table-bounded}
 use Rattle.mh_laws.proofs.runs.EveryMoment.{config-mutator_step, half_step-keeps, machine_after-keeps}
+use Rattle.mh_laws.proofs.costs.QuantumStarts.{begins}
 
 -- a configuration has a page, and its quanta at least 209 units
 pub config-pages : (config : Config) → 0 < config.pages
@@ -64,7 +64,7 @@ cycle_start-fresh config collector bounds =
       units = omega (arith, marking_units, bounds.pages);
     }
 
-cycle_start-started : (config : Config) (collector : Collector) → IsInBounds config collector → is_idle collector.phase ≡ true → IsStarted config collector (with_count (cycle_start collector))
+cycle_start-started : (config : Config) (collector : Collector) → IsInBounds config collector → is_idle collector.phase ≡ true → IsStarted config collector (record (cycle_start collector) { quanta = 1 })
 cycle_start-started config collector bounds idle =
     let fresh = cycle_start-fresh config collector bounds in
     record {
@@ -122,16 +122,10 @@ with_count-started config collector bounds runs =
 
 -- a quantum begins with a cycle that runs, or leaves an idle collector as it is
 quantum_start-started : (config : Config) (collector : Collector) → IsInBounds config collector → ((is_idle collector.phase ≡ true) × (quantum_start config collector ≡ collector)) ⊎ IsStarted config collector (quantum_start config collector)
-quantum_start-started config collector bounds = go (is_start_due config collector) refl
-  where
-    counted : (idle : Bool) → is_idle collector.phase ≡ idle
-        → ((is_idle collector.phase ≡ true) × ((if idle then collector else record collector { quanta = collector.quanta + 1 }) ≡ collector)) ⊎ IsStarted config collector (if idle then collector else record collector { quanta = collector.quanta + 1 })
-    counted true e = inl (e, refl)
-    counted false e = inr (with_count-started config collector bounds e)
-
-    go : (due : Bool) → is_start_due config collector ≡ due → ((is_idle collector.phase ≡ true) × (with_count (if due then cycle_start collector else collector) ≡ collector)) ⊎ IsStarted config collector (with_count (if due then cycle_start collector else collector))
-    go true e = inr (cycle_start-started config collector bounds (and_parts (is_idle collector.phase) (collector.is_asked || nat_le (free_pages collector.table) config.trigger) e).0)
-    go false e = counted (is_idle collector.phase) refl
+quantum_start-started config collector bounds = elim (begins config collector).case [
+  | inl starts ↦ inr (subst (IsStarted config collector) (sym starts.2) (cycle_start-started config collector bounds (ap is_idle starts.1)))
+  | inr other ↦ elim other [ inl runs ↦ inr (subst (IsStarted config collector) (sym runs.1) (with_count-started config collector bounds runs.0)) | inr rests ↦ inl (ap is_idle rests.1, rests.2) ]
+]
 
 -- What a quantum leaves: the bounds, one quantum more of the same cycle while it runs, and little that was not spent
 pub record IsQuantum (config : Config) (old : Collector) (after : Spending) : Type 0 where

@@ -16,7 +16,7 @@ use Rattle.mh_model.specs.World.{Answer, most_fields, own_slot, board_slot, firs
 use Rattle.mh_model.specs.Classes.{Part, class_of, part_words, parts, slots_in, is_class_size}
 use Rattle.mh_model.specs.Pages.{Page, Table, page_number, slot_number, page_at, block_in, block_at, least_place, page_with, with_taken, HasItsSlots}
 use Rattle.mh_model.specs.Table.{Block, IsWithinLimits, HasSmallBlocks, number_index, Made, MadeParts, Position, references_at, with_reference_at, resolve, target_of, new_block, made_in_class, made_parts, with_block_change, linked_block, linked_parts, group_of, made_group, reference_in}
-use Rattle.mh_model.specs.Collector.{Collector, first_collector, Marking, is_marked, with_grey, shade_block, shade, mark_reference, mark_references, mark_first, is_last_slot, survivor, judged_page, swept_page, swept_table, next_move, Move, with_move, with_phase, with_shade, marking_of, after_mark, is_past, step_in, phase_after, collector_step, step_cost, is_moving, is_idle, is_start_due, cycle_start, cycle_end, with_count, quantum_start, Spending, steps, quantum}
+use Rattle.mh_model.specs.Collector.{Collector, first_collector, Marking, is_marked, with_grey, shade_block, shade, mark_reference, mark_references, mark_first, is_last_slot, survivor, judged_page, swept_page, swept_table, next_move, Move, with_move, with_phase, with_shade, marking_of, after_mark, is_past, step_in, phase_after, collector_step, step_cost, is_moving, is_idle, cycle_end, quantum_start, Spending, steps, quantum}
 use Rattle.mh_model.specs.Mutator.{HeapState, in_roots, in_roots_or_mark, before_field, with_root, with_roots_cleared, with_session_cleared, with_reference_stored, with_number_stored, field_of, number_field, new_group, with_born, heap_sight, heap_effect, mutator_step}
 use Rattle.mh_model.specs.Machine.{Machine, first_machine, with_collector, quantum_run, command_step, machine_after}
 use Rattle.mh_laws.specs.Tables.{KeepsItsPages, EventKeeps, HasItsPages}
@@ -28,6 +28,7 @@ use Rattle.mh_laws.proofs.costs.Quanta.{steps-stop, steps-go}
 use Rattle.mh_laws.proofs.moving.NextMove.{IsNextMove, next_move-is}
 use Rattle.mh_laws.proofs.objects.Parts.{some_parts, few_fields, small_parts}
 use Rattle.mh_laws.proofs.tables.BlockRoom.{class_of-is, class_of-fits, survivor-same}
+use Rattle.mh_laws.proofs.costs.QuantumStarts.{begins}
 
 -- Tables -----------------------------------------------------------------------------------------
 
@@ -343,16 +344,11 @@ steps-keeps (suc more) left has_moved collector = elim (cases_Bool (is_idle coll
       (keeps_then collector.table (collector_step collector).table rest.collector.table (collector_step-keeps collector) (steps-keeps more (left - step_cost collector has_moved) (has_moved || is_moving collector) (collector_step collector)))
 ]
 
-table-with_count : (collector : Collector) → (with_count collector).table ≡ collector.table
-table-with_count collector = go (is_idle collector.phase)
-  where
-    go : (idle : Bool) → (if idle then collector else record collector { quanta = collector.quanta + 1 }).table ≡ collector.table
-    go true = refl
-    go false = refl
-
 table-quantum_start : (config : Config) (collector : Collector) → (quantum_start config collector).table ≡ collector.table
-table-quantum_start config collector =
-    table-with_count (if is_start_due config collector then cycle_start collector else collector) ∙ table-if (is_start_due config collector) collector (cycle_start collector) refl
+table-quantum_start config collector = elim (begins config collector).case [
+  | inl starts ↦ ap (λ c. c.table) starts.2
+  | inr other ↦ elim other [ inl runs ↦ ap (λ c. c.table) runs.1 | inr rests ↦ ap (λ c. c.table) rests.2 ]
+]
 
 -- and so does a quantum
 pub quantum-keeps : (config : Config) (collector : Collector) → KeepsItsPages collector.table (quantum config collector).collector.table

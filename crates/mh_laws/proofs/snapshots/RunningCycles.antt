@@ -1,36 +1,28 @@
 -- Quanta that start a cycle or none, events, and every moment of a run: some world is the snapshot of the running cycle.
-use Rattle.std.proofs.Common.{◌≡◌, ℕ, ◌+◌, ◌≤◌, if◌then◌else◌, true, false, inl, inr, List, Some, option_and_then, refl, sym, ap, ◌∙◌, subst, arith}
+use Rattle.std.proofs.Common.{◌≡◌, ℕ, ◌≤◌, true, false, inl, inr, List, Some, option_and_then, refl, sym, ap, ◌∙◌, subst, arith}
 use Rattle.std.proofs.lemmas.Bool.{false≢true, cases_Bool}
 use Rattle.std.proofs.lemmas.Option.{none-some}
 use Rattle.mh_model.specs.declared.config.Config.{Config}
 use Rattle.mh_model.specs.declared.command.Command.{Command}
 use Rattle.mh_model.specs.declared.command.Event.{Event}
-use Rattle.mh_model.specs.declared.cycle.Phase.{Phase}
-use Rattle.mh_model.specs.declared.cycle.Phase.TheVariants.{Idle, Roots, Mark, Sweep, Defrag}
+use Rattle.mh_model.specs.declared.cycle.Phase.TheVariants.{Idle}
 use Rattle.mh_model.specs.World.{World, births, first_world}
 use Rattle.mh_model.specs.Pages.{page_number, slot_number, block_in, block_at}
 use Rattle.mh_model.specs.Table.{Block, resolve}
-use Rattle.mh_model.specs.Collector.{Collector, first_collector, is_idle, is_start_due, cycle_start, with_count, quantum_start, steps, quantum}
+use Rattle.mh_model.specs.Collector.{Collector, first_collector, is_idle, is_start_due, cycle_start, quantum_start, quantum}
 use Rattle.mh_model.specs.Mutator.{HeapState, first_heap, in_roots_or_mark}
 use Rattle.mh_model.specs.Machine.{Machine, first_machine, with_collector, quantum_run, command_step, half_step, machine_after}
 use Rattle.mh_model.specs.View.{in_sweep, heap_view}
 use Rattle.mh_model.specs.Invariant.{IsSound, KeepsSnapshot, Continues, IsLinked, IsKeeping}
 use Rattle.mh_laws.specs.Snapshots.{MomentsKeepASnapshot}
 use Rattle.mh_laws.proofs.Lists.{none_at}
-use Rattle.mh_laws.proofs.costs.Quanta.{steps-idle}
 use Rattle.mh_laws.proofs.runs.EveryMoment.{half_step-keeps, machine_after-keeps}
 use Rattle.mh_laws.proofs.marking.MarkSteps.{leads}
 use Rattle.mh_laws.proofs.snapshots.CycleSteps.{continues-steps, continues-quantum, snapshot-counted}
 use Rattle.mh_laws.proofs.snapshots.SessionCommands.{snapshot-mutator_step}
 use Rattle.mh_laws.proofs.snapshots.CycleStarts.{snapshot-started}
 use Rattle.mh_laws.proofs.showing.SamePlainBlocks.{plain-held, held-plain}
-
-pub idle_is : (phase : Phase) → is_idle phase ≡ true → phase ≡ Idle
-idle_is Idle e = refl
-idle_is Roots e = absurd (false≢true e)
-idle_is Mark e = absurd (false≢true e)
-idle_is Sweep e = absurd (false≢true e)
-idle_is Defrag e = absurd (false≢true e)
+use Rattle.mh_laws.proofs.costs.QuantumStarts.{idle_is, quantum-rests, begins}
 
 -- where no cycle runs, a sound state keeps any snapshot
 pub snapshot-idle : (snapshot : World) (n : ℕ) (c : Collector) → c.phase ≡ Idle → births snapshot ≤ n → IsSound n c → KeepsSnapshot snapshot n c
@@ -50,16 +42,16 @@ snapshot-idle snapshot n c idle before sound = record {
 -- A quantum that starts a cycle keeps what is reachable in the view at its entry, or ends the cycle with just that and what is born since
 pub continues-start : (heap : HeapState) → heap.collector.phase ≡ Idle → is_start_due heap.config heap.collector ≡ true → IsSound heap.next_birth heap.collector → Continues (heap_view heap) heap.next_birth (quantum heap.config heap.collector).collector
 unfolding quantum
-continues-start heap idle due sound = continues-steps (heap_view heap) heap.next_birth heap.config.quantum heap.config.quantum false (quantum_start heap.config heap.collector)
-    (subst (λ b. Continues (heap_view heap) heap.next_birth (with_count (if b then cycle_start heap.collector else heap.collector))) (sym due) (record {
-      keeps = snapshot-counted (heap_view heap) heap.next_birth (cycle_start heap.collector) false ((cycle_start heap.collector).quanta + 1) (snapshot-started heap (ap in_sweep idle) sound);
-      ends = λ i. absurd (false≢true i);
-    }))
-
--- A quantum where no cycle runs and none is due changes nothing
-pub quantum-rests : (config : Config) (c : Collector) → is_idle c.phase ≡ true → is_start_due config c ≡ false → (quantum config c).collector ≡ c
-unfolding quantum steps
-quantum-rests config c idle rests = ap (λ b. (steps config.quantum config.quantum false (with_count (if b then cycle_start c else c))).collector) rests ∙ ap (λ b. (steps config.quantum config.quantum false (if b then c else record c { quanta = c.quanta + 1 })).collector) idle ∙ ap (λ s. s.collector) (steps-idle config.quantum config.quantum false c idle)
+continues-start heap idle due sound = continues-steps (heap_view heap) heap.next_birth heap.config.quantum heap.config.quantum false (quantum_start heap.config heap.collector) started
+  where
+    started : Continues (heap_view heap) heap.next_birth (quantum_start heap.config heap.collector)
+    started = elim (begins heap.config heap.collector).case [
+      | inl starts ↦ subst (Continues (heap_view heap) heap.next_birth) (sym starts.2) (record {
+        keeps = snapshot-counted (heap_view heap) heap.next_birth (cycle_start heap.collector) false 1 (snapshot-started heap (ap in_sweep idle) sound);
+        ends = λ i. absurd (false≢true i);
+      })
+      | inr other ↦ elim other [ inl runs ↦ absurd (false≢true (sym runs.0 ∙ ap is_idle idle)) | inr rests ↦ absurd (false≢true (sym rests.0 ∙ due)) ]
+    ]
 
 -- A quantum leaves some snapshot kept
 pub keeping-quantum : (heap : HeapState) → IsKeeping heap → IsKeeping (record heap { collector = (quantum heap.config heap.collector).collector })

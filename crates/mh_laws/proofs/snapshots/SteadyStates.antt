@@ -1,9 +1,8 @@
 -- A state that keeps some snapshot keeps one after each start, step, quantum, asking and command.
-use Rattle.std.proofs.Common.{◌≡◌, ◌+◌, ◌||◌, nat_le, if◌then◌else◌, inl, inr, Bool, true, false, [], sym, ap, subst}
-use Rattle.std.proofs.lemmas.Bool.{cases_Bool, and_parts}
+use Rattle.std.proofs.Common.{◌+◌, inl, inr, true, false, [], sym, ap, subst}
+use Rattle.std.proofs.lemmas.Bool.{cases_Bool}
 use Rattle.mh_model.specs.declared.config.Config.{Config}
-use Rattle.mh_model.specs.Pages.{free_pages}
-use Rattle.mh_model.specs.Collector.{Collector, is_idle, is_start_due, cycle_start, with_count, quantum_start, quantum, collector_step}
+use Rattle.mh_model.specs.Collector.{Collector, is_idle, cycle_start, quantum_start, quantum, collector_step}
 use Rattle.mh_model.specs.Mutator.{HeapState}
 use Rattle.mh_model.specs.View.{in_sweep, heap_view}
 use Rattle.mh_model.specs.Invariant.{IsSteady}
@@ -12,22 +11,15 @@ use Rattle.mh_laws.proofs.bounds.StepsOfACycle.{step-idle}
 use Rattle.mh_laws.proofs.snapshots.CycleStarts.{snapshot-started}
 use Rattle.mh_laws.proofs.snapshots.CycleSteps.{continues-collector_step, snapshot-counted}
 use Rattle.mh_laws.proofs.snapshots.SessionCommands.{snapshot-mutator_step}
-use Rattle.mh_laws.proofs.snapshots.RunningCycles.{idle_is, keeping-quantum, keeping-first}
-
-counted : (c : Collector) (idle : Bool) → IsSteady c → IsSteady (if idle then c else record c { quanta = c.quanta + 1 })
-counted c true steady = steady
-counted c false (snapshot, n, keeps) = (snapshot, n, snapshot-counted snapshot n c c.is_asked (c.quanta + 1) keeps)
-
-started : (config : Config) (c : Collector) → is_start_due config c ≡ true → IsSteady c → IsSteady (with_count (cycle_start c))
-started config c due (snapshot, n, keeps) =
-    let heap : HeapState = record { config = config; collector = c; next_birth = n; ended = [] } in
-    let idle : is_idle c.phase ≡ true = (and_parts (is_idle c.phase) (c.is_asked || nat_le (free_pages c.table) config.trigger) due).0 in
-    (heap_view heap, n, snapshot-counted (heap_view heap) n (cycle_start c) false ((cycle_start c).quanta + 1) (snapshot-started heap (ap in_sweep (idle_is c.phase idle)) keeps.sound))
+use Rattle.mh_laws.proofs.snapshots.RunningCycles.{keeping-quantum, keeping-first}
+use Rattle.mh_laws.proofs.costs.QuantumStarts.{begins}
 
 start-steady : (config : Config) (c : Collector) → IsSteady c → IsSteady (quantum_start config c)
-start-steady config c steady = elim (cases_Bool (is_start_due config c)) [
-  | inl due ↦ subst (λ b. IsSteady (with_count (if b then cycle_start c else c))) (sym due) (started config c due steady)
-  | inr rests ↦ subst (λ b. IsSteady (with_count (if b then cycle_start c else c))) (sym rests) (counted c (is_idle c.phase) steady)
+start-steady config c (snapshot, n, keeps) = elim (begins config c).case [
+  | inl starts ↦
+      let heap : HeapState = record { config = config; collector = c; next_birth = n; ended = [] } in
+      subst IsSteady (sym starts.2) (heap_view heap, n, snapshot-counted (heap_view heap) n (cycle_start c) false 1 (snapshot-started heap (ap in_sweep starts.1) keeps.sound))
+  | inr other ↦ elim other [ inl runs ↦ subst IsSteady (sym runs.1) (snapshot, n, snapshot-counted snapshot n c c.is_asked (c.quanta + 1) keeps) | inr rests ↦ subst IsSteady (sym rests.2) (snapshot, n, keeps) ]
 ]
 
 quantum-steady : (config : Config) (c : Collector) → IsSteady c → IsSteady (quantum config c).collector
