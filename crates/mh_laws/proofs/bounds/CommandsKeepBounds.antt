@@ -5,8 +5,6 @@ use Rattle.std.proofs.lemmas.List.{length-replicate}
 use Rattle.std.proofs.lemmas.Option.{none-some, same_Some}
 use Rattle.mh_model.specs.declared.command.Command.{Command}
 use Rattle.mh_model.specs.declared.command.Command.TheVariants as command
-use Rattle.mh_model.specs.declared.cycle.Phase.{Phase}
-use Rattle.mh_model.specs.declared.cycle.Phase.TheVariants.{Idle, Roots, Mark, Sweep, Defrag}
 use Rattle.mh_model.specs.declared.reply.Refusal.{Refusal}
 use Rattle.mh_model.specs.World.{own_slot, board_slot, refusal, unless_refused}
 use Rattle.mh_model.specs.Classes.{Part, class_of, part_words, parts}
@@ -21,6 +19,7 @@ use Rattle.mh_laws.proofs.objects.Parts.{children_inside}
 use Rattle.mh_laws.proofs.objects.MadeGroups.{length-words_of, made_parts-are, slots_in-class_of}
 use Rattle.mh_laws.proofs.tables.BlockRoom.{IsClass, roomy-shaped, with_taken-roomy, class_of-is, class_of-fits}
 use Rattle.mh_laws.proofs.marking.GreyList.{Carries, carries_nothing, then_carries, grey_weight-same, all-map, class-with_taken, weight-with_taken, weight-marked, shade-carries, cycle-shade, change-carries, reference-carries}
+use Rattle.mh_laws.proofs.marking.BlockChanges.{roots_mark}
 
 -- New objects ------------------------------------------------------------------------------------
 
@@ -172,13 +171,6 @@ pub record Carried (old new : Collector) : Type 0 where
 carried_nothing : (collector : Collector) → IsGreySound (marking_of collector) → Carried collector collector
 carried_nothing collector sound = record { carries = carries_nothing (marking_of collector) sound; grey = λ outside. refl }
 
-roots_or_mark : (phase : Phase) → in_roots phase ≡ true → in_roots_or_mark phase ≡ true
-roots_or_mark Roots e = refl
-roots_or_mark Mark e = refl
-roots_or_mark Idle e = e
-roots_or_mark Sweep e = e
-roots_or_mark Defrag e = e
-
 -- shading by a collector
 pub with_shade-carries : (collector : Collector) (reference : Option ℕ) → IsGreySound (marking_of collector) → Carries (marking_of collector) (marking_of (with_shade collector reference))
 with_shade-carries collector reference sound =
@@ -192,7 +184,7 @@ shaded_if-carried false collector reference inside sound = carried_nothing colle
 
 with_root-carried : (collector : Collector) (slot : ℕ) (reference : Option ℕ) → IsGreySound (marking_of collector) → Carried collector (with_root collector slot reference)
 with_root-carried collector slot reference sound =
-    let shaded = shaded_if-carried (in_roots collector.phase) collector (get_or collector.slots slot None) (roots_or_mark collector.phase) sound in
+    let shaded = shaded_if-carried (in_roots collector.phase) collector (get_or collector.slots slot None) (roots_mark collector.phase) sound in
     let carries = shaded.carries in
     record { carries = record { sound = record { roomy = carries.sound.roomy; once = carries.sound.once; marked = carries.sound.marked }; longer = carries.longer; settled = λ place s. let t = carries.settled place s in record { marked = t.marked; apart = t.apart }; lighter = carries.lighter; classes = carries.classes }; grey = shaded.grey }
 

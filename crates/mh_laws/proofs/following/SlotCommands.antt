@@ -4,8 +4,6 @@ use Rattle.std.proofs.lemmas.Bool.{false≢true, leb-false}
 use Rattle.std.proofs.lemmas.Option.{none-some, same_Some}
 use Rattle.mh_model.specs.declared.command.Command.{Command}
 use Rattle.mh_model.specs.declared.command.Command.TheVariants as command
-use Rattle.mh_model.specs.declared.cycle.Phase.{Phase}
-use Rattle.mh_model.specs.declared.cycle.Phase.TheVariants.{Idle, Roots, Mark, Sweep, Defrag}
 use Rattle.mh_model.specs.declared.reply.Refusal.{Refusal}
 use Rattle.mh_model.specs.declared.reply.Reply.TheVariants as reply
 use Rattle.mh_model.specs.declared.reply.Refusal.TheVariants.{BadSlot, Null, NoField, Ended, TooManySessions}
@@ -15,12 +13,12 @@ use Rattle.mh_model.specs.Pages.{block_at}
 use Rattle.mh_model.specs.Table.{resolve, Block, target_of, position_of, reference_in, number_in, loaded_reference}
 use Rattle.mh_model.specs.Collector.{Collector, with_shade}
 use Rattle.mh_model.specs.Mutator.{HeapState, in_roots, with_root, with_roots_cleared, with_session_cleared, root_at, shape_at, heap_sight, heap_effect, mutator_step, field_of, number_field}
-use Rattle.mh_model.specs.View.{in_sweep, birth_named, object_of, object_shown, heap_view}
+use Rattle.mh_model.specs.View.{birth_named, object_of, object_shown, heap_view}
 use Rattle.mh_model.specs.Invariant.{IsPlainAt, IsSound, KeepsSnapshot, IsKeeping}
 use Rattle.mh_laws.specs.Following.{has_no_place, Follows}
 use Rattle.mh_laws.proofs.showing.ObjectsShown.{read-tabulate}
 use Rattle.mh_laws.proofs.objects.JoinedFields.{shape_is, laid, number_read, reference_read}
-use Rattle.mh_laws.proofs.marking.BlockChanges.{resolve-live}
+use Rattle.mh_laws.proofs.marking.BlockChanges.{resolve-live, roots_mark, no_sweep}
 use Rattle.mh_laws.proofs.snapshots.SessionCommands.{each_fails, not_null, has_reference, loaded_writable, field_held}
 use Rattle.mh_laws.proofs.snapshots.Barriers.{IsWritable, nothing_writable, root_writable, snapshot-with_root}
 use Rattle.mh_laws.proofs.showing.FoundBlocks.{first-found, tabulate-same}
@@ -40,13 +38,6 @@ map-read f none (x ∷ xs) zero = refl
 map-read f none (x ∷ xs) (suc i) = map-read f none xs i
 
 -- Roots ------------------------------------------------------------------------------------------
-
-roots_no_sweep : (phase : Phase) → in_roots phase ≡ true → in_sweep phase ≡ false
-roots_no_sweep Idle m = refl
-roots_no_sweep Roots m = refl
-roots_no_sweep Mark m = refl
-roots_no_sweep Sweep m = absurd (false≢true m)
-roots_no_sweep Defrag m = refl
 
 -- what a collector shows: its objects, and the births at its roots
 abbrev pub births_at : Collector → List (Option ℕ)
@@ -69,7 +60,7 @@ module _ (snapshot : World) (heap : HeapState) where
       by_shade d is e sound =
           let same = with_shade-alike c (get_or c.slots slot None) in
           record {
-            objects = alike-shown heap.next_birth heap.next_birth c (root_after c slot reference true) h.sound (subst (IsSound heap.next_birth) is sound) (roots_no_sweep c.phase e) (roots_no_sweep c.phase e) same;
+            objects = alike-shown heap.next_birth heap.next_birth c (root_after c slot reference true) h.sound (subst (IsSound heap.next_birth) is sound) (no_sweep c.phase (roots_mark c.phase e)) (no_sweep c.phase (roots_mark c.phase e)) same;
             slots = roots-alike c.table (with_shade c (get_or c.slots slot None)).table same (set (with_shade c (get_or c.slots slot None)).slots slot reference) ∙ map-put (birth_named c.table) c.slots slot reference;
           }
 

@@ -11,7 +11,7 @@ use Rattle.mh_model.specs.Classes.{parts}
 use Rattle.mh_model.specs.Pages.{Page, Table, page_number, slot_number, page_at, block_at, page_with, with_block}
 use Rattle.mh_model.specs.Table.{Block, resolve}
 use Rattle.mh_model.specs.Collector.{Collector, is_idle}
-use Rattle.mh_model.specs.Mutator.{in_roots_or_mark}
+use Rattle.mh_model.specs.Mutator.{in_roots_or_mark, in_roots}
 use Rattle.mh_model.specs.View.{in_sweep}
 use Rattle.mh_model.specs.Paths.{Reachable}
 use Rattle.mh_model.specs.Snapshot.{IsKept}
@@ -38,6 +38,17 @@ no_sweep Roots m = refl
 no_sweep Mark m = refl
 no_sweep Sweep m = absurd (false≢true m)
 no_sweep Defrag m = refl
+
+pub roots_mark : (phase : Phase) → in_roots phase ≡ true → in_roots_or_mark phase ≡ true
+roots_mark Idle m = absurd (false≢true m)
+roots_mark Roots m = refl
+roots_mark Mark m = absurd (false≢true m)
+roots_mark Sweep m = absurd (false≢true m)
+roots_mark Defrag m = absurd (false≢true m)
+
+-- outside the sweep what is no forwarder is plain
+pub live_plain : (c : Collector) → in_sweep c.phase ≡ false → (q : ℕ) (x : Block) → block_at c.table q ≡ Some x → x.forward ≡ None → IsPlainAt c q x
+live_plain c out q x there live = record { there = there; original = live; surviving = λ s. absurd (false≢true (sym out ∙ s)) }
 
 -- the change of a page in one slot, with the number of its slots and its flag
 pub pages-with_block : (table : Table Block) (place : ℕ) (content : Option Block) (number : ℕ) (page : Page Block) → page_at (with_block table place content) number ≡ Some page

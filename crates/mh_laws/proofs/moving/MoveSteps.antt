@@ -14,7 +14,7 @@ use Rattle.mh_model.specs.Snapshot.{IsKept}
 use Rattle.mh_model.specs.Invariant.{IsIn, IsPlainAt, IsPartOf, IsUnflagged, in_defrag, IsSound, KeepsSnapshot, IsFinished}
 use Rattle.mh_laws.proofs.moving.NextMove.{next_move-is}
 use Rattle.mh_laws.proofs.placing.Places.{IsShaped, least_dense_place-page, block_at-with_block_same, block_at-with_block_other, block-slot}
-use Rattle.mh_laws.proofs.marking.BlockChanges.{resolve-live, pages-with_block}
+use Rattle.mh_laws.proofs.marking.BlockChanges.{resolve-live, pages-with_block, live_plain}
 use Rattle.mh_laws.proofs.marking.SameTable.{snapshot-turned}
 
 -- The move that a step makes ---------------------------------------------------------------------
@@ -181,9 +181,6 @@ module _ (snapshot : World) (n : ℕ) (c : Collector) (defrags : c.phase ≡ Def
     | inr not_here ↦ (x, at_other x not_here (not_q x y e) ∙ e)
   ]
 
-  plain_of : (x : ℕ) (y : Block) → block_at c.table x ≡ Some y → y.forward ≡ None → IsPlainAt c x y
-  plain_of x y e live = record { there = e; original = live; surviving = λ s. absurd (false≢true (ap in_sweep (sym defrags) ∙ s)) }
-
   plain_then : (x : ℕ) (y : Block) → block_at table' x ≡ Some y → y.forward ≡ None → IsPlainAt moved x y
   plain_then x y e live = record { there = e; original = live; surviving = λ s. absurd (false≢true s) }
 
@@ -206,11 +203,11 @@ module _ (snapshot : World) (n : ℕ) (c : Collector) (defrags : c.phase ≡ Def
         (y, plain_then r y (ap (block_at table') (sym to) ∙ there) plain.original, first);
     fields = λ x y plain flat i r e.
         let (place, there, k) = live_from x y plain.there plain.original in
-        let (z, plain', first) = h.sound.fields place y (plain_of place y there plain.original) flat i r e in
+        let (z, plain', first) = h.sound.fields place y (live_plain c (ap in_sweep defrags) place y there plain.original) flat i r e in
         (z, plain_then (resolve table' r) z (follows r z plain'.there plain'.original) plain'.original, first);
     spines = λ x y child plain spine i below.
         let (place, there, k) = live_from x y plain.there plain.original in
-        let (r, e, (z, plain', birth, part)) = h.sound.spines place y child (plain_of place y there plain.original) spine i below in
+        let (r, e, (z, plain', birth, part)) = h.sound.spines place y child (live_plain c (ap in_sweep defrags) place y there plain.original) spine i below in
         (r, e, (z, plain_then (resolve table' r) z (follows r z plain'.there plain'.original) plain'.original, birth, part));
     grey = λ x k. absurd (subst (IsIn x) (h.sound.quiet (ap in_roots_or_mark defrags)) k);
     quiet = λ no. h.sound.quiet (ap in_roots_or_mark defrags);

@@ -12,7 +12,7 @@ use Rattle.mh_model.specs.Collector.{Collector, cycle_start}
 use Rattle.mh_model.specs.Mutator.{HeapState}
 use Rattle.mh_model.specs.View.{in_sweep, block_of_birth, birth_named, arraylet_words, object_of, object_shown, heap_view}
 use Rattle.mh_model.specs.Invariant.{IsPlainAt, IsPartOf, first_child, IsSound, IsMarkedAt, IsPromised, IsWhole, KeepsSnapshot}
-use Rattle.mh_laws.proofs.marking.BlockChanges.{resolve-live}
+use Rattle.mh_laws.proofs.marking.BlockChanges.{resolve-live, live_plain}
 use Rattle.mh_laws.proofs.objects.Parts.{later_part, IsChild, parent_of, child_is}
 use Rattle.mh_laws.proofs.objects.Headers.{header_is}
 use Rattle.mh_laws.proofs.objects.JoinedFields.{has_children, has_none, an_arraylet, arraylet_count}
@@ -50,7 +50,7 @@ module _ (heap : HeapState) (no_sweep : in_sweep heap.collector.phase ≡ false)
   view = heap_view heap
 
   pub plain_of : (q : ℕ) (x : Block) → block_at t₀ q ≡ Some x → x.forward ≡ None → IsPlainAt c q x
-  plain_of q x there live = record { there = there; original = live; surviving = λ s. absurd (false≢true (sym no_sweep ∙ s)) }
+  plain_of = live_plain heap.collector no_sweep
 
   plain_then : (q : ℕ) (x : Block) → IsPlainAt c q x → IsPlainAt started q x
   plain_then q x plain = record { there = plain.there; original = plain.original; surviving = λ s. absurd (false≢true s) }
