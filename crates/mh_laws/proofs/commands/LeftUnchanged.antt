@@ -1,5 +1,5 @@
 -- What commands, steps, quanta and events leave as it was: the collector's course, the pages, and the heap of a refused command.
-use Rattle.std.proofs.Common.{◌≡◌, ℕ, zero, suc, ◌+◌, ◌-◌, ◌==◌, nat_lt, nat_le, Bool, true, false, ◌||◌, if◌then◌else◌, inl, inr, Option, Some, None, is_none, option_and_then, option_map, unwrap_or, List, [], ◌∷◌, length, get_or, set, slice_get, ◌<◌, ◌≤◌, refl, sym, ap, ◌∙◌, subst, arith}
+use Rattle.std.proofs.Common.{◌≡◌, ℕ, zero, suc, ◌+◌, ◌-◌, ◌==◌, nat_lt, Bool, true, false, ◌||◌, if◌then◌else◌, inl, inr, Option, Some, None, option_and_then, option_map, unwrap_or, List, [], ◌∷◌, length, get_or, set, slice_get, ◌<◌, ◌≤◌, refl, sym, ap, ◌∙◌, subst, arith}
 use Rattle.std.proofs.lemmas.Bool.{cases_Bool}
 use Rattle.std.proofs.lemmas.List.{length-replicate, length-set}
 use Rattle.std.proofs.lemmas.Option.{none-some, same_Some}
@@ -10,9 +10,8 @@ use Rattle.mh_model.specs.declared.config.Config.{Config}
 use Rattle.mh_model.specs.declared.cycle.Phase.{Phase}
 use Rattle.mh_model.specs.declared.cycle.Phase.TheVariants.{Idle, Roots, Mark, Sweep, Defrag}
 use Rattle.mh_model.specs.declared.reply.Refusal.{Refusal}
-use Rattle.mh_model.specs.declared.reply.Refusal.TheVariants.{BadSlot, TooLarge, HeapFull, Ended, TooManySessions}
 use Rattle.mh_model.specs.declared.reply.Reply.TheVariants as reply
-use Rattle.mh_model.specs.World.{Answer, most_fields, own_slot, board_slot, first_refusal, is_bad, refusal, never_full, done, unless_refused}
+use Rattle.mh_model.specs.World.{own_slot, board_slot, refusal, unless_refused}
 use Rattle.mh_model.specs.Classes.{Part, class_of, part_words, parts, slots_in, is_class_size}
 use Rattle.mh_model.specs.Pages.{Page, Table, page_number, slot_number, page_at, block_in, block_at, least_place, page_with, with_taken, HasItsSlots}
 use Rattle.mh_model.specs.Table.{Block, IsWithinLimits, HasSmallBlocks, number_index, Made, MadeParts, Position, references_at, with_reference_at, resolve, target_of, new_block, made_in_class, made_parts, with_block_change, linked_block, linked_parts, group_of, made_group, reference_in}
@@ -20,7 +19,7 @@ use Rattle.mh_model.specs.Collector.{Collector, first_collector, Marking, is_mar
 use Rattle.mh_model.specs.Mutator.{HeapState, in_roots, in_roots_or_mark, before_field, with_root, with_roots_cleared, with_session_cleared, with_reference_stored, with_number_stored, field_of, number_field, new_group, with_born, heap_sight, heap_effect, mutator_step}
 use Rattle.mh_model.specs.Machine.{Machine, first_machine, with_collector, quantum_run, command_step, machine_after}
 use Rattle.mh_laws.specs.Tables.{KeepsItsPages, EventKeeps, HasItsPages}
-use Rattle.mh_laws.specs.Commands.{IsOnCourse, IsBorn}
+use Rattle.mh_laws.specs.Commands.{IsOnCourse}
 use Rattle.mh_laws.proofs.Lists.{none_at}
 use Rattle.mh_laws.proofs.tables.PageSlots.{IsSmallPage, class_of-class_size, judged_page-is, page_with-slots, page_with-small, small_page, small_block, same_limits, keeps_same, keeps_then, set-keeps, with_block-slots, with_block-limits, with_block-keeps, change-keeps, with_taken-keeps}
 use Rattle.mh_laws.proofs.runs.EveryMoment.{half_step-keeps, event_step-keeps, machine_after-keeps}
@@ -398,52 +397,3 @@ machine_after-pages config events =
     let table : Table Block = (first_collector config).table in
     let kept = machine_after-keeps (Keeps table) (by_command table) (by_quantum table) (by_asking table) events (first_machine config) (keeps_same table) in
     record { pages = kept.pages ∙ first.pages; slots = kept.slots first.slots; limits = kept.limits first.limits }
-
--- New objects ------------------------------------------------------------------------------------
-
--- the answer to a new object, by its tests in order
-unfoldable pub answer_to_new : (heap : HeapState) (who slot : ℕ) → (many ended bad large : Bool) → Option Made → Answer HeapState
-answer_to_new heap who slot many ended bad large group =
-    unless_refused (first_refusal ((many, TooManySessions) ∷ (ended, Ended) ∷ (bad, BadSlot) ∷ (large, TooLarge) ∷ (is_none group, HeapFull) ∷ [])) heap (done (unwrap_or (option_map (with_born heap (own_slot who slot)) group) heap))
-
--- A new object is answered by a full heap only where some part has no place
-pub new-full : (heap : HeapState) (who slot references numbers : ℕ) → (mutator_step heap who (command.New slot references numbers)).reply ≡ reply.Refused HeapFull → new_group heap references numbers ≡ None
-unfolding mutator_step heap_effect answer_to_new
-new-full heap who slot references numbers e = go (nat_le 8 who) (get_or heap.ended who false) (is_bad slot) (nat_lt (most_fields heap.config) (references + numbers)) (new_group heap references numbers) e
-  where
-    go : (many ended bad large : Bool) (group : Option Made) → (answer_to_new heap who slot many ended bad large group).reply ≡ reply.Refused HeapFull → group ≡ None
-    go true ended bad large group h = cc
-    go false true bad large group h = cc
-    go false false true large group h = cc
-    go false false false true group h = cc
-    go false false false false None h = refl
-    go false false false false (Some made) h = cc
-
--- and where nothing else refuses it, by each heap that has none
-pub full-new : (heap : HeapState) (who slot references numbers : ℕ) → refusal (record (heap_sight heap) { is_full = never_full }) who (command.New slot references numbers) ≡ None → new_group heap references numbers ≡ None
-    → (mutator_step heap who (command.New slot references numbers)).reply ≡ reply.Refused HeapFull
-unfolding mutator_step heap_effect answer_to_new
-full-new heap who slot references numbers e none = go (nat_le 8 who) (get_or heap.ended who false) (is_bad slot) (nat_lt (most_fields heap.config) (references + numbers)) (new_group heap references numbers) e none
-  where
-    go : (many ended bad large : Bool) (group : Option Made) → first_refusal ((many, TooManySessions) ∷ (ended, Ended) ∷ (bad, BadSlot) ∷ (large, TooLarge) ∷ (false, HeapFull) ∷ []) ≡ None → group ≡ None
-        → (answer_to_new heap who slot many ended bad large group).reply ≡ reply.Refused HeapFull
-    go true ended bad large group h is = cc
-    go false true bad large group h is = cc
-    go false false true large group h is = cc
-    go false false false true group h is = cc
-    go false false false false None h is = refl
-    go false false false false (Some made) h is = cc
-
--- and where it is done, its parts were made
-pub new-done : (heap : HeapState) (who slot references numbers : ℕ) → (mutator_step heap who (command.New slot references numbers)).reply ≡ reply.Done → IsBorn heap who slot references numbers
-unfolding mutator_step heap_effect answer_to_new
-new-done heap who slot references numbers e = go (nat_le 8 who) (get_or heap.ended who false) (is_bad slot) (nat_lt (most_fields heap.config) (references + numbers)) (new_group heap references numbers) refl e refl
-  where
-    go : (many ended bad large : Bool) (group : Option Made) → new_group heap references numbers ≡ group → (answer_to_new heap who slot many ended bad large group).reply ≡ reply.Done
-        → (mutator_step heap who (command.New slot references numbers)).state ≡ (answer_to_new heap who slot many ended bad large group).state → IsBorn heap who slot references numbers
-    go true ended bad large group is h same = cc
-    go false true bad large group is h same = cc
-    go false false true large group is h same = cc
-    go false false false true group is h same = cc
-    go false false false false None is h same = cc
-    go false false false false (Some made) is h same = record { made = made; group = is; state = same }

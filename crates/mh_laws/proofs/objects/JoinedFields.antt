@@ -152,9 +152,6 @@ module _ (n : ℕ) (c : Collector) (h : IsSound n c) (p : ℕ) (z : Block) (plai
   abbrev size : ℕ
   size = z.header.references + z.header.numbers
 
-  part_z : IsPartOf s z
-  part_z = h.parts p z plain.there
-
   head : IsFirst s.references s.numbers (h.parts p z plain.there).part
   head = first_is n c h p z plain.there first
 

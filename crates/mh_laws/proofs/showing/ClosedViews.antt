@@ -14,9 +14,9 @@ use Rattle.mh_laws.proofs.marking.BlockChanges.{resolve-live}
 use Rattle.mh_laws.proofs.objects.Headers.{flat_of}
 use Rattle.mh_laws.proofs.objects.JoinedFields.{shape_is, laid, has_fields, reference_read}
 use Rattle.mh_laws.proofs.showing.ObjectsShown.{named-back}
-use Rattle.mh_laws.proofs.showing.FoundBlocks.{found-first, first-found}
+use Rattle.mh_laws.proofs.showing.FoundBlocks.{found-first}
 use Rattle.mh_laws.proofs.showing.SamePlainBlocks.{plain-held, held-plain}
-use Rattle.mh_laws.proofs.snapshots.CycleStarts.{object-view, slot-view, view-shown}
+use Rattle.mh_laws.proofs.snapshots.CycleStarts.{slot-view, view-shown, first-view}
 
 module _ (heap : HeapState) (keeping : IsKeeping heap) where
   abbrev c : Collector
@@ -27,9 +27,7 @@ module _ (heap : HeapState) (keeping : IsKeeping heap) where
 
   -- the object of a plain part 0 is shown
   shown-there : (place : ℕ) (z : Block) → IsPlainAt c place z → z.part ≡ 0 → IsSome (object_at (heap_view heap) z.birth)
-  shown-there place z plain first =
-      let found = first-found heap.next_birth c h z.birth place z (record { there = plain.there; held = plain-held c place z plain; birth_is = refl; first = first }) in
-      ap is_some (object-view heap z.birth (h.births place z plain.there) ∙ ap (option_map (object_of c.table)) found)
+  shown-there place z plain first = ap is_some (first-view heap h z.birth place z (record { there = plain.there; held = plain-held c place z plain; birth_is = refl; first = first }))
 
   -- a reference that leads to an object names one that is shown
   named-there : (reference birth : ℕ) (t : Block) → block_at c.table (resolve c.table reference) ≡ Some t → t.birth ≡ birth → (z : Block) → IsPlainAt c (resolve c.table reference) z → z.part ≡ 0 → IsSome (object_at (heap_view heap) birth)

@@ -16,7 +16,7 @@ use Rattle.mh_laws.proofs.marking.BlockChanges.{resolve-live, live_plain}
 use Rattle.mh_laws.proofs.objects.Parts.{later_part, IsChild, parent_of, child_is}
 use Rattle.mh_laws.proofs.objects.Headers.{header_is}
 use Rattle.mh_laws.proofs.objects.JoinedFields.{has_children, has_none, an_arraylet, arraylet_count}
-use Rattle.mh_laws.proofs.showing.FoundBlocks.{live_held, first-found}
+use Rattle.mh_laws.proofs.showing.FoundBlocks.{live_held, first-found, IsFirstAt}
 use Rattle.mh_laws.proofs.showing.ObjectsShown.{read-tabulate, IsFieldBlock, named-back, named-forth, refers-back, refers-forth, tabulate-read}
 use Rattle.mh_laws.proofs.Lists.{below_length, length-tabulate}
 
@@ -35,6 +35,11 @@ object-view heap birth below = let e : 0 + birth ≡ birth = omega arith in read
 pub view-shown : (heap : HeapState) (birth : ℕ) (object : Object) → object_at (heap_view heap) birth ≡ Some object → object_shown heap.collector birth ≡ Some object
 unfolding heap_view
 view-shown heap birth object e = let k : birth ≡ 0 + birth = omega arith in ap (object_shown heap.collector) k ∙ tabulate-read (object_shown heap.collector) 0 heap.next_birth birth object e
+
+-- the object of a held part 0 is shown
+pub first-view : (heap : HeapState) → IsSound heap.next_birth heap.collector → (birth p : ℕ) (z : Block) → IsFirstAt heap.collector birth p z → object_at (heap_view heap) birth ≡ Some (object_of heap.collector.table z)
+first-view heap h birth p z at =
+    object-view heap birth (subst (λ b. b < heap.next_birth) at.birth_is (h.births p z at.there)) ∙ ap (option_map (object_of heap.collector.table)) (first-found heap.next_birth heap.collector h birth p z at)
 
 module _ (heap : HeapState) (no_sweep : in_sweep heap.collector.phase ≡ false) (h : IsSound heap.next_birth heap.collector) where
   abbrev c : Collector
