@@ -1,1 +1,2 @@
 pub mod LeftUnchanged
+pub mod CommandAnswers

@@ -1,1 +1,2 @@
 pub mod Quanta
+pub mod QuantumStarts

@@ -1,1 +1,2 @@
 pub mod MoveSteps
+pub mod NextMove

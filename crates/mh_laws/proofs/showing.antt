@@ -7,4 +7,4 @@ pub mod SweepShows
 pub mod MovesShow
 pub mod StepsShow
 pub mod QuantaShow
-pub mod ShadedTables
+pub mod ClosedViews

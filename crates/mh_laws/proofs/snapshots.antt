@@ -6,3 +6,4 @@ pub mod CycleStarts
 pub mod RunningCycles
 pub mod AgreeingWorlds
 pub mod BarrierLaws
+pub mod SteadyStates

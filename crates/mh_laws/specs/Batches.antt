@@ -1,10 +1,9 @@
 -- Marking by batches: what a front of the grey list refers to is found at once, and then written back and shaded block by block.
-use Rattle.std.specs.Prelude.{◌≡◌, ◌⊎◌, ℕ, zero, suc, ◌+◌, ◌-◌, ◌<◌, ◌≤◌, nat_le, if◌then◌else◌, Bool, Option, List, [], ◌∷◌, ◌++◌, length}
-use Rattle.std.specs.List.{sum_by}
+use Rattle.std.specs.Prelude.{◌≡◌, ◌⊎◌, ℕ, zero, suc, ◌+◌, ◌-◌, ◌<◌, ◌≤◌, Bool, List, [], ◌++◌, length}
 use Rattle.mh_model.specs.declared.cycle.Phase.TheVariants.{Mark}
 use Rattle.mh_model.specs.Pages.{Table}
-use Rattle.mh_model.specs.Table.{Block, with_reference_at, found_in}
-use Rattle.mh_model.specs.Collector.{Collector, Marking, shade, mark_step, mark_cost, first_mark_cost, marking_of, with_marking, after_mark, with_units, steps}
+use Rattle.mh_model.specs.Table.{Block}
+use Rattle.mh_model.specs.Collector.{Collector, Marking, mark_step, first_mark_cost, with_units, steps}
 use Rattle.mh_model.specs.Batches.{NoneTwice, batch_cost, batch_marked, after_batch, longest_front}
 
 -- so many mark steps

@@ -1,20 +1,21 @@
 -- What commands of sessions leave as it was.
-use Rattle.std.specs.Prelude.{◌≡◌, ℕ, Some, None, length}
+use Rattle.std.specs.Prelude.{◌≡◌, ℕ, ◌+◌, ◌-◌, ◌<◌, true, Some, None, length, set}
 use Rattle.mh_model.specs.declared.command.Command.{Command}
 use Rattle.mh_model.specs.declared.command.Command.TheVariants as command
 use Rattle.mh_model.specs.declared.reply.Refusal.{Refusal}
 use Rattle.mh_model.specs.declared.reply.Refusal.TheVariants.{HeapFull}
 use Rattle.mh_model.specs.declared.reply.Reply.TheVariants as reply
-use Rattle.mh_model.specs.World.{own_slot, refusal, never_full}
-use Rattle.mh_model.specs.Table.{Made}
+use Rattle.mh_model.specs.World.{own_slot, refusal, never_full, done, says}
+use Rattle.mh_model.specs.Table.{HasSmallBlocks, Made}
 use Rattle.mh_model.specs.Collector.{Collector}
-use Rattle.mh_model.specs.Mutator.{HeapState, new_group, with_born, heap_sight, mutator_step}
+use Rattle.mh_model.specs.Mutator.{HeapState, with_root, with_roots_cleared, new_group, with_born, heap_sight, heap_effect, mutator_step}
 use Rattle.mh_model.specs.Pages.{HaveTheirSlots}
 
 -- a collector on the same course: only blocks, slots and the grey list may differ
 pub record IsOnCourse (old new : Collector) : Type 0 where
   pub pages : length new.table ≡ length old.table
   pub slots : HaveTheirSlots old.table → HaveTheirSlots new.table
+  pub limits : HasSmallBlocks old.table → HasSmallBlocks new.table
   pub phase : new.phase ≡ old.phase
   pub cursor : new.cursor ≡ old.cursor
   pub cycle : new.cycle ≡ old.cycle
@@ -47,3 +48,13 @@ NoPlaceIsAFullHeap = (heap : HeapState) (who slot references numbers : ℕ) → 
 -- A new object that is answered as done is born with all its parts
 abbrev pub DoneIsBorn : Type 0
 DoneIsBorn = (heap : HeapState) (who slot references numbers : ℕ) → (mutator_step heap who (command.New slot references numbers)).reply ≡ reply.Done → IsBorn heap who slot references numbers
+
+-- A command that a test refuses answers the refusal and changes nothing, and one that none refuses has its effect: a new object that has a place is born, and a session's end empties its slots in order
+pub record CommandsAreAnswered : Type 0 where
+  pub refused : (heap : HeapState) (who : ℕ) (command : Command) (refused : Refusal) → refusal (heap_sight heap) who command ≡ Some refused → mutator_step heap who command ≡ says (reply.Refused refused) heap
+  pub taken : (heap : HeapState) (who : ℕ) (command : Command) → refusal (heap_sight heap) who command ≡ None → mutator_step heap who command ≡ heap_effect heap who command
+  pub born : (heap : HeapState) (who slot references numbers : ℕ) (made : Made) → refusal (record (heap_sight heap) { is_full = never_full }) who (command.New slot references numbers) ≡ None → new_group heap references numbers ≡ Some made
+      → mutator_step heap who (command.New slot references numbers) ≡ done (with_born heap (own_slot who slot) made)
+  pub ended : (heap : HeapState) (who : ℕ) → refusal (heap_sight heap) who command.End ≡ None
+      → mutator_step heap who command.End ≡ done (record heap { collector = with_roots_cleared heap.collector (own_slot who 0) 16; ended = set heap.ended who true })
+  pub emptied : (collector : Collector) (slot end : ℕ) → slot < end → with_roots_cleared collector slot (end - slot) ≡ with_roots_cleared (with_root collector slot None) (slot + 1) (end - (slot + 1))

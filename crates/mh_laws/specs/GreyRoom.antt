@@ -1,17 +1,12 @@
 -- The grey list has room: no place stands twice in it, and each holds a marked block.
-use Rattle.std.specs.Prelude.{◌≡◌, ◌≢◌, ℕ, ◌*◌, ◌==◌, ◌≤◌, Some, option_map, List, length}
-use Rattle.std.specs.List.{AllByRecursion, IsDistinct}
+use Rattle.std.specs.Prelude.{◌≢◌, ℕ, ◌*◌, ◌≤◌, List, length}
+use Rattle.std.specs.List.{AllByRecursion}
 use Rattle.mh_model.specs.declared.command.Event.{Event}
 use Rattle.mh_model.specs.declared.config.Config.{Config}
-use Rattle.mh_model.specs.Pages.{Table, block_at}
-use Rattle.mh_model.specs.Table.{Block}
 use Rattle.mh_model.specs.Collector.{Collector, Marking}
 use Rattle.mh_model.specs.Machine.{first_machine, half_step, machine_after}
 use Rattle.mh_model.specs.Batches.{NoneTwice}
-
--- the block at a place is marked in a cycle
-abbrev pub IsMarkedIn : Table Block → ℕ → ℕ → Type 0
-IsMarkedIn table cycle place = option_map (λ block. block.stamp) (block_at table place) ≡ Some cycle
+use Rattle.mh_model.specs.Bound.{IsMarkedIn}
 
 -- a place holds a marked block, and isn't in the grey list
 pub record IsSettled (marking : Marking) (place : ℕ) : Type 0 where

@@ -1,6 +1,6 @@
 -- Where a block of a class finds a place.
 use Rattle.std.specs.Prelude.{◌≡◌, ◌⊎◌, ◌↔◌, ◌<◌, ◌+◌, ℕ, false, IsTrue, IsSome, is_none, Option, Some, None, List, length, get_or}
-use Rattle.mh_model.specs.Pages.{Page, Table, page_number, slot_number, page_at, block_in, block_at, live_in, is_dense, is_sparse, open_slot, fresh_slot, least_dense_place, least_place, page_with, page_for, with_taken, with_released, HaveTheirSlots, IsFreeFor}
+use Rattle.mh_model.specs.Pages.{Page, Table, page_number, slot_number, page_at, block_in, live_in, is_dense, is_sparse, open_slot, fresh_slot, least_dense_place, least_place, page_with, with_taken, with_released, HaveTheirSlots, IsFreeFor}
 use Rattle.mh_model.specs.Table.{Block}
 use Rattle.mh_model.specs.Classes.{is_class_size}
 

@@ -1,12 +1,12 @@
 -- The laws of what a heap shows while it is collected: it changes only where the sweep begins, and then what is reachable stays.
 use Rattle.std.specs.Prelude.{◌≡◌, ℕ, true, false, []}
 use Rattle.mh_model.specs.declared.cycle.Phase.TheVariants.{Roots, Sweep, Defrag}
-use Rattle.mh_model.specs.World.{World}
+use Rattle.mh_model.specs.World.{World, IsClosed}
 use Rattle.mh_model.specs.Paths.{Agrees}
 use Rattle.mh_model.specs.Collector.{mark_step, marking_of, with_marking, roots_step, with_phase, sweep_step, defrag_step, is_past, cycle_end, collector_step, is_idle, quantum}
 use Rattle.mh_model.specs.Mutator.{HeapState, in_roots_or_mark}
 use Rattle.mh_model.specs.View.{heap_view}
-use Rattle.mh_model.specs.Invariant.{IsFromRoot, HeapKeeps}
+use Rattle.mh_model.specs.Invariant.{IsFromRoot, HeapKeeps, IsKeeping}
 
 -- A mark step
 abbrev pub MarkingShowsTheSame : Type 0
@@ -44,3 +44,7 @@ StepsKeepTheView = (snapshot world : World) (heap : HeapState) → is_idle heap.
 -- Each quantum, in a running cycle or not
 abbrev pub QuantaKeepTheView : Type 0
 QuantaKeepTheView = (snapshot world : World) (heap : HeapState) → HeapKeeps snapshot heap → Agrees (heap_view heap) world → Agrees (heap_view (record heap { collector = (quantum heap.config heap.collector).collector })) world
+
+-- What a kept heap shows is closed: what a slot or a reference names is there
+abbrev pub KeptViewsAreClosed : Type 0
+KeptViewsAreClosed = (heap : HeapState) → IsKeeping heap → IsClosed (heap_view heap)

@@ -1,18 +1,18 @@
--- Tables whose pages have the slots of their classes.
-use Rattle.std.specs.Prelude.{◌≡◌, ℕ, ◌==◌, Bool, IsTrue, Some, List, length}
-use Rattle.std.specs.List.{list_any}
+-- Tables whose pages have the slots of their classes, and blocks within the limits of objects.
+use Rattle.std.specs.Prelude.{◌≡◌, ℕ, ◌*◌, ◌<◌, Some, List, length}
 use Rattle.mh_model.specs.declared.config.Config.{Config}
 use Rattle.mh_model.specs.declared.command.Event.{Event}
-use Rattle.mh_model.specs.Classes.{class_sizes, slots_in}
-use Rattle.mh_model.specs.Pages.{Page, Table, page_at, HaveTheirSlots}
-use Rattle.mh_model.specs.Table.{Block}
+use Rattle.mh_model.specs.Pages.{Page, Table, page_number, slot_number, page_at, block_in, block_at, HaveTheirSlots}
+use Rattle.mh_model.specs.Classes.{parts}
+use Rattle.mh_model.specs.Table.{Block, IsWithinLimits, HasSmallBlocks, Made, made_group}
 use Rattle.mh_model.specs.Collector.{Collector, first_collector, collector_step, quantum}
 use Rattle.mh_model.specs.Machine.{Machine, first_machine, half_step, event_step, machine_after}
 
--- as many pages, each in use with the slots of its class where that was so before
+-- as many pages, each in use with the slots of its class where that was so before, and each block within the limits of objects where that was so
 pub record KeepsItsPages (old new : Table Block) : Type 0 where
   pub pages : length new ≡ length old
   pub slots : HaveTheirSlots old → HaveTheirSlots new
+  pub limits : HasSmallBlocks old → HasSmallBlocks new
 
 -- A step of the collector keeps the pages
 abbrev pub StepKeepsThePages : Type 0
@@ -31,10 +31,15 @@ pub record EventKeeps (machine : Machine) (event : Event) : Type 0 where
 abbrev pub EventKeepsThePages : Type 0
 EventKeepsThePages = (machine : Machine) (event : Event) → EventKeeps machine event
 
--- a table has the pages that are configured, and each in use has the slots of its class
+-- Making an object keeps the pages
+abbrev pub MakingKeepsThePages : Type 0
+MakingKeepsThePages = (table : Table Block) (birth stamp references numbers : ℕ) (made : Made) → made_group table birth stamp (parts references numbers) ≡ Some made → KeepsItsPages table made.table
+
+-- a table has the pages that are configured, each in use has the slots of its class, and blocks are within the limits of objects
 pub record HasItsPages (config : Config) (table : Table Block) : Type 0 where
   pub pages : length table ≡ config.pages
   pub slots : HaveTheirSlots table
+  pub limits : HasSmallBlocks table
 
 -- The first table has its pages
 abbrev pub FirstTableHasItsPages : Type 0
@@ -43,3 +48,9 @@ FirstTableHasItsPages = (config : Config) → HasItsPages config (first_collecto
 -- After every list of events the machine's table has its pages
 abbrev pub EveryTableHasItsPages : Type 0
 EveryTableHasItsPages = (config : Config) (events : List Event) → HasItsPages config (machine_after (first_machine config) events).heap.collector.table
+
+-- A block is at a place of the table, in a page in use, and in a table of small blocks within the limits
+pub record BlocksAreInPages : Type 0 where
+  pub below : (table : Table Block) (place : ℕ) (block : Block) → block_at table place ≡ Some block → place < 64 * length table
+  pub page : (table : Table Block) (place : ℕ) (block : Block) → block_at table place ≡ Some block → (page : Page Block) × (page_at table (page_number place) ≡ Some page) × (block_in (slot_number place) page ≡ Some block) × (slot_number place < length page.slots)
+  pub limits : (table : Table Block) (place : ℕ) (block : Block) → HasSmallBlocks table → block_at table place ≡ Some block → IsWithinLimits block

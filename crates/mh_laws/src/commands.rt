@@ -1,5 +1,5 @@
 //! Laws of the commands of sessions.
-ghost use Rattle.mh_laws.specs.Commands.{CommandKeepsTheCourse, RefusalLeavesTheHeap, FullHeapHasNoPlace, NoPlaceIsAFullHeap, DoneIsBorn};
+ghost use Rattle.mh_laws.specs.Commands.{CommandKeepsTheCourse, RefusalLeavesTheHeap, FullHeapHasNoPlace, NoPlaceIsAFullHeap, DoneIsBorn, CommandsAreAnswered};
 
 /// A command changes no phase, cursor, cycle number, asking or quanta, and keeps the pages and their slots.
 pub fn command_keeps_the_course()
@@ -24,4 +24,9 @@ pub fn no_place_is_a_full_heap()
 /// A new object that is answered as done is born with all its parts.
 pub fn done_is_born()
     ensures { DoneIsBorn }
+{}
+
+/// A command that a test refuses changes nothing, and one that none refuses has its effect.
+pub fn commands_are_answered()
+    ensures { CommandsAreAnswered }
 {}

@@ -8,6 +8,7 @@ pub mod beside_the_world;
 pub mod bounds;
 pub mod commands;
 pub mod costs;
+pub mod fields;
 pub mod following;
 pub mod grey_room;
 pub mod new_objects;

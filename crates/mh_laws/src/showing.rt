@@ -1,5 +1,5 @@
 //! Laws of what a heap shows while it is collected.
-ghost use Rattle.mh_laws.specs.Showing.{MarkingShowsTheSame, RootsShowTheSame, SweepShowsTheSame, MovesShowTheSame, SweepBeginsWithTheReachable, SweepEndsShowingTheSame, CyclesEndShowingTheSame, StepsKeepTheView, QuantaKeepTheView};
+ghost use Rattle.mh_laws.specs.Showing.{MarkingShowsTheSame, RootsShowTheSame, SweepShowsTheSame, MovesShowTheSame, SweepBeginsWithTheReachable, SweepEndsShowingTheSame, CyclesEndShowingTheSame, StepsKeepTheView, QuantaKeepTheView, KeptViewsAreClosed};
 
 /// A mark step changes nothing of what the heap shows.
 pub fn marking_shows_the_same()
@@ -44,4 +44,9 @@ pub fn steps_keep_the_view()
 /// After each quantum, what the heap shows agrees with the world that it agreed with before.
 pub fn quanta_keep_the_view()
     ensures { QuantaKeepTheView }
+{}
+
+/// What a kept heap shows is closed.
+pub fn kept_views_are_closed()
+    ensures { KeptViewsAreClosed }
 {}

@@ -1,5 +1,5 @@
 //! Laws of snapshots: what steps, quanta and commands keep of a running cycle.
-ghost use Rattle.mh_laws.specs.Snapshots.{ShadingKeepsTheSnapshot, MarkingKeepsTheSnapshot, MarkingEndsWithAllMarked, SweepLeavesWhatIsKept, StepsKeepTheSnapshot, QuantaKeepTheSnapshot, CommandsKeepTheSnapshot, CyclesStartFromTheView, CyclesStartFromTheWorld, MomentsKeepASnapshot, EndedCyclesAreExact, ReachableIsKept};
+ghost use Rattle.mh_laws.specs.Snapshots.{ShadingKeepsTheSnapshot, MarkingKeepsTheSnapshot, MarkingEndsWithAllMarked, SweepLeavesWhatIsKept, StepsKeepTheSnapshot, QuantaKeepTheSnapshot, CommandsKeepTheSnapshot, CyclesStartFromTheView, CyclesStartFromTheWorld, MomentsKeepASnapshot, EndedCyclesAreExact, ReachableIsKept, CollectorsStaySteady, HeapsStayKept};
 
 /// Shading a root keeps what a running cycle has promised.
 pub fn shading_keeps_the_snapshot()
@@ -59,4 +59,14 @@ pub fn ended_cycles_are_exact()
 /// While blocks are marked, what is reachable now is kept by the running cycle.
 pub fn reachable_is_kept()
     ensures { ReachableIsKept }
+{}
+
+/// A collector that keeps some snapshot still does at the start of a quantum, after a quantum and after each step.
+pub fn collectors_stay_steady()
+    ensures { CollectorsStaySteady }
+{}
+
+/// The first heap keeps a snapshot, and each command, each asking for a cycle and each quantum leaves one kept.
+pub fn heaps_stay_kept()
+    ensures { HeapsStayKept }
 {}

@@ -1,5 +1,5 @@
 //! Laws of tables and the slots of their pages.
-ghost use Rattle.mh_laws.specs.Tables.{FirstTableHasItsPages, StepKeepsThePages, QuantumKeepsThePages, EventKeepsThePages, EveryTableHasItsPages};
+ghost use Rattle.mh_laws.specs.Tables.{FirstTableHasItsPages, StepKeepsThePages, QuantumKeepsThePages, EventKeepsThePages, EveryTableHasItsPages, MakingKeepsThePages, BlocksAreInPages};
 
 /// The first table has as many pages as are configured.
 pub fn first_table_has_its_pages()
@@ -24,4 +24,14 @@ pub fn event_keeps_the_pages()
 /// After every list of events the table has the pages that are configured, and each in use has the slots of its class.
 pub fn every_table_has_its_pages()
     ensures { EveryTableHasItsPages }
+{}
+
+/// Making an object keeps the pages and their slots, and blocks within the limits of objects.
+pub fn making_keeps_the_pages()
+    ensures { MakingKeepsThePages }
+{}
+
+/// A block is at a place of the table, in a page in use.
+pub fn blocks_are_in_pages()
+    ensures { BlocksAreInPages }
 {}

@@ -5,8 +5,6 @@ use Rattle.std.proofs.lemmas.List.{length-replicate}
 use Rattle.std.proofs.lemmas.Option.{none-some, same_Some}
 use Rattle.mh_model.specs.declared.command.Command.{Command}
 use Rattle.mh_model.specs.declared.command.Command.TheVariants as command
-use Rattle.mh_model.specs.declared.cycle.Phase.{Phase}
-use Rattle.mh_model.specs.declared.cycle.Phase.TheVariants.{Idle, Roots, Mark, Sweep, Defrag}
 use Rattle.mh_model.specs.declared.reply.Refusal.{Refusal}
 use Rattle.mh_model.specs.World.{own_slot, board_slot, refusal, unless_refused}
 use Rattle.mh_model.specs.Classes.{Part, class_of, part_words, parts}
@@ -14,13 +12,14 @@ use Rattle.mh_model.specs.Pages.{Table, block_at, least_place, with_taken, IsFre
 use Rattle.mh_model.specs.Table.{Block, Made, MadeParts, Position, new_block, made_in_class, made_part, made_parts, with_block_change, words_of, linked_block, linked_parts, group_of, made_group, reference_in}
 use Rattle.mh_model.specs.Collector.{Collector, Marking, shade, marking_of, with_shade}
 use Rattle.mh_model.specs.Mutator.{HeapState, in_roots, in_roots_or_mark, before_field, with_root, with_roots_cleared, with_session_cleared, with_reference_stored, with_number_stored, field_of, number_field, new_group, with_born, heap_sight, heap_effect, mutator_step}
-use Rattle.mh_laws.specs.GreyRoom.{IsMarkedIn}
+use Rattle.mh_model.specs.Bound.{count_at, grey_weight, IsGreySound, IsMarkedIn}
 use Rattle.mh_laws.specs.NewObjects.{AreMade}
-use Rattle.mh_laws.proofs.placing.Places.{block_at-with_block_same, block_at-with_block_other, least_place-free, block_at-with_taken_other}
+use Rattle.mh_laws.proofs.placing.Places.{block_at-with_block_same, block_at-with_block_other, least_place-free, block_at-with_taken_other, block-slot}
 use Rattle.mh_laws.proofs.objects.Parts.{children_inside}
-use Rattle.mh_laws.proofs.objects.MadeGroups.{block_at-slot, length-words_of, made_parts-are, slots_in-class_of}
+use Rattle.mh_laws.proofs.objects.MadeGroups.{length-words_of, made_parts-are, slots_in-class_of}
 use Rattle.mh_laws.proofs.tables.BlockRoom.{IsClass, roomy-shaped, with_taken-roomy, class_of-is, class_of-fits}
-use Rattle.mh_laws.proofs.marking.GreyList.{IsGreySound, Carries, carries_nothing, then_carries, grey_weight, grey_weight-same, all-map, count_at, class-with_taken, weight-with_taken, weight-marked, shade-carries, cycle-shade, change-carries, reference-carries}
+use Rattle.mh_laws.proofs.marking.GreyList.{Carries, carries_nothing, then_carries, grey_weight-same, all-map, class-with_taken, weight-with_taken, weight-marked, shade-carries, cycle-shade, change-carries, reference-carries}
+use Rattle.mh_laws.proofs.marking.BlockChanges.{roots_mark}
 
 -- New objects ------------------------------------------------------------------------------------
 
@@ -137,7 +136,7 @@ module _ (grey : List ℕ) (cycle : ℕ) (all : List ℕ) where
             | inl same ↦
                 let here : block_at table place ≡ Some block = ap (block_at table) (sym same) ∙ is in (
                   linked_block all part block,
-                  ap (block_at linked) same ∙ block_at-with_block_same table place (option_map (linked_block all part) (block_at table place)) (block_at-slot table place block here) ∙ ap (option_map (linked_block all part)) here,
+                  ap (block_at linked) same ∙ block_at-with_block_same table place (option_map (linked_block all part) (block_at table place)) (block-slot table place block here) ∙ ap (option_map (linked_block all part)) here,
                   words ∙ sym (kept block here) ∙ size,
                 )
           ]
@@ -172,13 +171,6 @@ pub record Carried (old new : Collector) : Type 0 where
 carried_nothing : (collector : Collector) → IsGreySound (marking_of collector) → Carried collector collector
 carried_nothing collector sound = record { carries = carries_nothing (marking_of collector) sound; grey = λ outside. refl }
 
-roots_or_mark : (phase : Phase) → in_roots phase ≡ true → in_roots_or_mark phase ≡ true
-roots_or_mark Roots e = refl
-roots_or_mark Mark e = refl
-roots_or_mark Idle e = e
-roots_or_mark Sweep e = e
-roots_or_mark Defrag e = e
-
 -- shading by a collector
 pub with_shade-carries : (collector : Collector) (reference : Option ℕ) → IsGreySound (marking_of collector) → Carries (marking_of collector) (marking_of (with_shade collector reference))
 with_shade-carries collector reference sound =
@@ -192,7 +184,7 @@ shaded_if-carried false collector reference inside sound = carried_nothing colle
 
 with_root-carried : (collector : Collector) (slot : ℕ) (reference : Option ℕ) → IsGreySound (marking_of collector) → Carried collector (with_root collector slot reference)
 with_root-carried collector slot reference sound =
-    let shaded = shaded_if-carried (in_roots collector.phase) collector (get_or collector.slots slot None) (roots_or_mark collector.phase) sound in
+    let shaded = shaded_if-carried (in_roots collector.phase) collector (get_or collector.slots slot None) (roots_mark collector.phase) sound in
     let carries = shaded.carries in
     record { carries = record { sound = record { roomy = carries.sound.roomy; once = carries.sound.once; marked = carries.sound.marked }; longer = carries.longer; settled = λ place s. let t = carries.settled place s in record { marked = t.marked; apart = t.apart }; lighter = carries.lighter; classes = carries.classes }; grey = shaded.grey }
 

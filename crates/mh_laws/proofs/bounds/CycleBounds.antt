@@ -4,18 +4,20 @@ use Rattle.std.specs.List.{sum_by}
 use Rattle.std.proofs.Math.Nat.{mul-suc}
 use Rattle.std.proofs.lemmas.Bool.{cases_Bool, ltb-true, ltb-false, true≢false, or_parts}
 use Rattle.std.proofs.lemmas.List.Sums.{sum_by-cons}
+use Rattle.mh_model.specs.declared.config.Config.{Config}
 use Rattle.mh_model.specs.declared.cycle.Phase.{Phase}
 use Rattle.mh_model.specs.declared.cycle.Phase.TheVariants.{Idle, Roots, Mark, Sweep, Defrag}
 use Rattle.mh_model.specs.Pages.{Page, Table, page_number, slot_number, page_at, block_in}
 use Rattle.mh_model.specs.Table.{Block}
-use Rattle.mh_model.specs.Collector.{Collector, Spending, Move, is_marked, next_move, with_move, move_cost, after_mark, cost_in, step_cost, is_moving_in, is_moving, step_in, is_past, with_phase, cycle_end, phase_after, collector_step, is_idle, steps}
+use Rattle.mh_model.specs.Collector.{Collector, Spending, Move, is_marked, next_move, with_move, move_cost, after_mark, cost_in, step_cost, is_moving_in, is_moving, step_in, is_past, with_phase, cycle_end, phase_after, collector_step, is_idle, quantum_start, steps, quantum}
 use Rattle.mh_model.specs.Mutator.{in_roots_or_mark}
+use Rattle.mh_model.specs.Bound.{IsRoomyPage, IsRoomy, class_at, slot_weight, page_weight, table_weight, in_steps, in_units, words_at, movable, movable_words, steps_left, units_left, StageOf, IsUnderway}
 use Rattle.mh_laws.proofs.costs.Quanta.{steps-stop, steps-go, step_cost-positive, step_cost-bounded}
 use Rattle.mh_laws.specs.Commands.{IsOnCourse}
-use Rattle.mh_laws.proofs.tables.BlockRoom.{IsRoomy, IsRoomyPage, few_slots, roomy-sized}
-use Rattle.mh_laws.proofs.marking.GreyList.{slot_weight, page_weight, table_weight, class_at}
+use Rattle.mh_laws.proofs.tables.BlockRoom.{few_slots, roomy-sized}
 use Rattle.mh_laws.proofs.bounds.CommandsKeepBounds.{Carried}
-use Rattle.mh_laws.proofs.bounds.WorkLeft.{in_steps, in_units, words_at, movable, movable_words, steps_left, units_left, StageOf, IsUnderway, collector_step-paid}
+use Rattle.mh_laws.proofs.bounds.WorkLeft.{collector_step-paid}
+use Rattle.mh_laws.proofs.costs.QuantumStarts.{begins}
 
 -- Commands ---------------------------------------------------------------------------------------
 
@@ -216,6 +218,31 @@ steps-count (suc more) left has_moved collector none = elim (cases_Bool (is_idle
       let rest = steps-count more (left - step_cost collector has_moved) (has_moved || is_moving collector) (collector_step collector) one.ended in
       rw (steps-go more left has_moved collector goes) (then_count collector (collector_step collector) _ runs one rest.1 rest.0, λ r. runs)
 ]
+
+-- steps leave the cycle's number
+steps-number : (more left : ℕ) (has_moved : Bool) (collector : Collector) → (steps more left has_moved collector).collector.cycle ≡ collector.cycle
+unfolding steps
+steps-number zero left has_moved collector = refl
+steps-number (suc more) left has_moved collector = elim (cases_Bool (is_idle collector.phase || nat_lt left (step_cost collector has_moved))) [
+  | inl stops ↦ rw (steps-stop more left has_moved collector stops) refl
+  | inr goes ↦
+      let (runs, long) = or_parts (is_idle collector.phase) (nat_lt left (step_cost collector has_moved)) goes in
+      let rest = steps-number more (left - step_cost collector has_moved) (has_moved || is_moving collector) (collector_step collector) in
+      rw (steps-go more left has_moved collector goes) (rest ∙ (collector_step-count collector runs).cycle)
+]
+
+-- and a quantum raises it where it starts a cycle
+pub quantum-number : (config : Config) (collector : Collector) → (collector.cycle ≤ (quantum config collector).collector.cycle) × ((quantum config collector).collector.cycle ≤ collector.cycle + 1)
+unfolding quantum
+quantum-number config collector =
+    let same = steps-number config.quantum config.quantum false (quantum_start config collector) in
+    elim (begins config collector).case [
+      | inl starts ↦ let e = ap (λ c. c.cycle) starts.2 in (omega (arith, same, e), omega (arith, same, e))
+      | inr other ↦ elim other [
+        | inl runs ↦ let e = ap (λ c. c.cycle) runs.1 in (omega (arith, same, e), omega (arith, same, e))
+        | inr rests ↦ let e = ap (λ c. c.cycle) rests.2 in (omega (arith, same, e), omega (arith, same, e))
+      ]
+    ]
 
 -- The start of a cycle ---------------------------------------------------------------------------
 

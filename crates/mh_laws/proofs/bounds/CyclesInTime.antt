@@ -1,5 +1,5 @@
 -- A cycle ends in time: at every moment of a run what is left of it and the quanta that it has had are within its bounds.
-use Rattle.std.proofs.Common.{◌≡◌, ◌⊎◌, ℕ, zero, suc, ◌+◌, ◌-◌, ◌*◌, ◌/◌, ◌<◌, ◌≤◌, min, Bool, true, false, ◌||◌, nat_le, nat_lt, if◌then◌else◌, inl, inr, List, length, None, refl, sym, ap, ◌∙◌, subst, arith}
+use Rattle.std.proofs.Common.{◌≡◌, ◌⊎◌, ℕ, suc, ◌+◌, ◌-◌, ◌*◌, ◌/◌, ◌<◌, ◌≤◌, min, Bool, true, false, nat_le, nat_lt, if◌then◌else◌, inl, inr, List, length, None, refl, sym, ap, ◌∙◌, subst, arith}
 use Rattle.std.proofs.Math.Nat.{le-div_iff_mul-le, suc-mul}
 use Rattle.std.proofs.lemmas.Bool.{cases_Bool, leb-true, ltb-true, ltb-false, true≢false, and_parts}
 use Rattle.std.proofs.lemmas.List.{length-replicate}
@@ -11,21 +11,20 @@ use Rattle.mh_model.specs.declared.reply.Reply.TheVariants as reply
 use Rattle.mh_model.specs.declared.config.Config.{Config}
 use Rattle.mh_model.specs.declared.cycle.Phase.{Phase}
 use Rattle.mh_model.specs.declared.cycle.Phase.TheVariants.{Idle, Roots, Mark, Sweep, Defrag}
-use Rattle.mh_model.specs.Pages.{free_pages}
-use Rattle.mh_model.specs.Collector.{Collector, Spending, first_collector, is_idle, cycle_start, is_start_due, with_count, quantum_start, step_cost, steps, quantum}
+use Rattle.mh_model.specs.Collector.{Collector, Spending, first_collector, is_idle, cycle_start, quantum_start, steps, quantum}
 use Rattle.mh_model.specs.Mutator.{HeapState, mutator_step}
 use Rattle.mh_model.specs.World.{says}
-use Rattle.mh_model.specs.Machine.{Machine, first_machine, with_collector, quantum_run, command_step, control_step, half_step, machine_after}
-use Rattle.mh_model.specs.Bound.{most_steps, most_units, most_quanta}
-use Rattle.mh_laws.specs.Bounds.{IsInTime, HasEnded, HasRun, CycleEndsWithinItsBound, left_of, QuantaLeftEndTheCycle}
-use Rattle.mh_laws.proofs.costs.Quanta.{steps-stop}
+use Rattle.mh_model.specs.Machine.{Machine, first_machine, quanta_left, with_collector, quantum_run, command_step, control_step, half_step, machine_after}
+use Rattle.mh_model.specs.Bound.{most_steps, most_units, most_quanta, IsRoomy, in_steps, in_units, steps_left, units_left, StageOf, IsUnderway, IsWithin, IsInBounds}
+use Rattle.mh_laws.specs.Bounds.{IsInTime, HasEnded, HasRun, CycleEndsWithinItsBound, left_of, QuantaLeftEndTheCycle, CollectorsStayInBounds}
+use Rattle.mh_laws.proofs.costs.Quanta.{steps-idle}
 use Rattle.mh_laws.proofs.commands.LeftUnchanged.{mutator_step-course, steps-keeps}
 use Rattle.mh_laws.proofs.Lists.{none_at}
-use Rattle.mh_laws.proofs.tables.BlockRoom.{IsRoomy}
 use Rattle.mh_laws.proofs.bounds.CommandsKeepBounds.{mutator_step-carried}
-use Rattle.mh_laws.proofs.bounds.WorkLeft.{in_steps, in_units, steps_left, units_left, StageOf, IsUnderway, none_grey, steps_left-positive}
+use Rattle.mh_laws.proofs.bounds.WorkLeft.{none_grey, steps_left-positive}
 use Rattle.mh_laws.proofs.bounds.CycleBounds.{carried-leaves, Spends, steps-spend, steps-some, KeepsCount, steps-count, page-in_steps, page-in_units, table-bounded}
 use Rattle.mh_laws.proofs.runs.EveryMoment.{config-mutator_step, half_step-keeps, machine_after-keeps}
+use Rattle.mh_laws.proofs.costs.QuantumStarts.{begins}
 
 -- a configuration has a page, and its quanta at least 209 units
 pub config-pages : (config : Config) → 0 < config.pages
@@ -36,18 +35,6 @@ config-quantum config =
     let rest = (and_parts (nat_le 1 config.pages) _ config.in_limits).1 in
     let rest' = (and_parts (nat_le config.pages 4096) _ rest).1 in
     leb-true 209 config.quantum (and_parts (nat_le 209 config.quantum) _ rest').0
-
--- so many quanta and what is left are within the bounds of a cycle
-pub record IsWithin (config : Config) (quanta steps units : ℕ) : Type 0 where
-  pub by_steps : quanta + steps ≤ most_steps config
-  pub by_units : 353 ≤ config.quantum → quanta * (config.quantum - 352) + units ≤ most_units config
-
--- A collector within the bounds of its cycle
-pub record InBounds (config : Config) (collector : Collector) : Type 0 where
-  pub pages : length collector.table ≡ config.pages
-  pub under : IsUnderway collector
-  pub idle : is_idle collector.phase ≡ true → collector.quanta ≡ 0
-  pub within : IsWithin config collector.quanta (steps_left collector.phase collector) (units_left collector.phase collector)
 
 -- a collector as its first quantum's or next quantum's steps begin: one quantum more is counted than was paid for
 record IsStarted (config : Config) (old new : Collector) : Type 0 where
@@ -65,7 +52,7 @@ pub record IsFresh (config : Config) (collector : Collector) : Type 0 where
   pub steps : steps_left collector.phase collector ≤ most_steps config
   pub units : units_left collector.phase collector ≤ most_units config
 
-pub cycle_start-fresh : (config : Config) (collector : Collector) → InBounds config collector → IsFresh config (cycle_start collector)
+pub cycle_start-fresh : (config : Config) (collector : Collector) → IsInBounds config collector → IsFresh config (cycle_start collector)
 cycle_start-fresh config collector bounds =
     let new : Collector = cycle_start collector in
     let roomy : IsRoomy collector.table = (bounds.under).sound.roomy in
@@ -77,7 +64,7 @@ cycle_start-fresh config collector bounds =
       units = omega (arith, marking_units, bounds.pages);
     }
 
-cycle_start-started : (config : Config) (collector : Collector) → InBounds config collector → is_idle collector.phase ≡ true → IsStarted config collector (with_count (cycle_start collector))
+cycle_start-started : (config : Config) (collector : Collector) → IsInBounds config collector → is_idle collector.phase ≡ true → IsStarted config collector (record (cycle_start collector) { quanta = 1 })
 cycle_start-started config collector bounds idle =
     let fresh = cycle_start-fresh config collector bounds in
     record {
@@ -119,7 +106,7 @@ module _ (collector : Collector) (quanta : ℕ) (is_asked : Bool) where
   units-recounted Sweep = refl
   units-recounted Defrag = refl
 
-with_count-started : (config : Config) (collector : Collector) → InBounds config collector → is_idle collector.phase ≡ false → IsStarted config collector (record collector { quanta = collector.quanta + 1 })
+with_count-started : (config : Config) (collector : Collector) → IsInBounds config collector → is_idle collector.phase ≡ false → IsStarted config collector (record collector { quanta = collector.quanta + 1 })
 with_count-started config collector bounds runs =
     let more : ℕ = collector.quanta + 1 in
     let asked : Bool = collector.is_asked in
@@ -134,31 +121,20 @@ with_count-started config collector bounds runs =
     }
 
 -- a quantum begins with a cycle that runs, or leaves an idle collector as it is
-quantum_start-started : (config : Config) (collector : Collector) → InBounds config collector → ((is_idle collector.phase ≡ true) × (quantum_start config collector ≡ collector)) ⊎ IsStarted config collector (quantum_start config collector)
-quantum_start-started config collector bounds = go (is_start_due config collector) refl
-  where
-    counted : (idle : Bool) → is_idle collector.phase ≡ idle
-        → ((is_idle collector.phase ≡ true) × ((if idle then collector else record collector { quanta = collector.quanta + 1 }) ≡ collector)) ⊎ IsStarted config collector (if idle then collector else record collector { quanta = collector.quanta + 1 })
-    counted true e = inl (e, refl)
-    counted false e = inr (with_count-started config collector bounds e)
-
-    go : (due : Bool) → is_start_due config collector ≡ due → ((is_idle collector.phase ≡ true) × (with_count (if due then cycle_start collector else collector) ≡ collector)) ⊎ IsStarted config collector (with_count (if due then cycle_start collector else collector))
-    go true e = inr (cycle_start-started config collector bounds (and_parts (is_idle collector.phase) (collector.is_asked || nat_le (free_pages collector.table) config.trigger) e).0)
-    go false e = counted (is_idle collector.phase) refl
+quantum_start-started : (config : Config) (collector : Collector) → IsInBounds config collector → ((is_idle collector.phase ≡ true) × (quantum_start config collector ≡ collector)) ⊎ IsStarted config collector (quantum_start config collector)
+quantum_start-started config collector bounds = elim (begins config collector).case [
+  | inl starts ↦ inr (subst (IsStarted config collector) (sym starts.2) (cycle_start-started config collector bounds (ap is_idle starts.1)))
+  | inr other ↦ elim other [ inl runs ↦ inr (subst (IsStarted config collector) (sym runs.1) (with_count-started config collector bounds runs.0)) | inr rests ↦ inl (ap is_idle rests.1, rests.2) ]
+]
 
 -- What a quantum leaves: the bounds, one quantum more of the same cycle while it runs, and little that was not spent
 pub record IsQuantum (config : Config) (old : Collector) (after : Spending) : Type 0 where
-  pub bounds : InBounds config after.collector
+  pub bounds : IsInBounds config after.collector
   pub rest : is_idle after.collector.phase ≡ false → config.quantum ≤ after.units + 208
   pub cycle : old.cycle ≤ after.collector.cycle
   pub same : after.collector.cycle ≡ old.cycle → is_idle after.collector.phase ≡ false → (is_idle old.phase ≡ false) × (after.collector.quanta ≡ old.quanta + 1)
 
-steps-idle : (more left : ℕ) (has_moved : Bool) (collector : Collector) → is_idle collector.phase ≡ true → steps more left has_moved collector ≡ record { units = 0; collector = collector }
-unfolding steps
-steps-idle zero left has_moved collector idle = refl
-steps-idle (suc more) left has_moved collector idle = steps-stop more left has_moved collector (ap (λ b. b || nat_lt left (step_cost collector has_moved)) idle)
-
-quantum-idle : (config : Config) (collector : Collector) → InBounds config collector → is_idle collector.phase ≡ true → IsQuantum config collector (steps config.quantum config.quantum false collector)
+quantum-idle : (config : Config) (collector : Collector) → IsInBounds config collector → is_idle collector.phase ≡ true → IsQuantum config collector (steps config.quantum config.quantum false collector)
 quantum-idle config collector bounds idle = subst (IsQuantum config collector) (sym (steps-idle config.quantum config.quantum false collector idle)) (record {
   bounds = bounds;
   rest = λ runs. absurd (true≢false (sym idle ∙ runs));
@@ -215,7 +191,7 @@ quantum-started config old new started =
     }
 
 -- A quantum keeps a cycle within its bounds
-pub quantum-in_bounds : (config : Config) (collector : Collector) → InBounds config collector → IsQuantum config collector (quantum config collector)
+pub quantum-in_bounds : (config : Config) (collector : Collector) → IsInBounds config collector → IsQuantum config collector (quantum config collector)
 unfolding quantum
 quantum-in_bounds config collector bounds = elim (quantum_start-started config collector bounds) [
   | inl same ↦ subst (λ c. IsQuantum config collector (steps config.quantum config.quantum false c)) (sym same.1) (quantum-idle config collector bounds same.0)
@@ -224,7 +200,7 @@ quantum-in_bounds config collector bounds = elim (quantum_start-started config c
 
 -- Runs -------------------------------------------------------------------------------------------
 
-command-in_bounds : (config : Config) (heap : HeapState) (who : ℕ) (command : Command) → InBounds config heap.collector → InBounds config (mutator_step heap who command).state.collector
+command-in_bounds : (config : Config) (heap : HeapState) (who : ℕ) (command : Command) → IsInBounds config heap.collector → IsInBounds config (mutator_step heap who command).state.collector
 command-in_bounds config heap who command bounds =
     let old : Collector = heap.collector in
     let new : Collector = (mutator_step heap who command).state.collector in
@@ -237,7 +213,7 @@ command-in_bounds config heap who command bounds =
       within = rw course.quanta (record { by_steps = omega (arith, leaves.steps, (bounds.within).by_steps); by_units = λ large. omega (arith, leaves.units, (bounds.within).by_units large) });
     }
 
-first-in_bounds : (config : Config) → InBounds config (first_collector config)
+first-in_bounds : (config : Config) → IsInBounds config (first_collector config)
 first-in_bounds config =
     let pages : length (first_collector config).table ≡ config.pages = length-replicate config.pages None in
     record {
@@ -247,7 +223,7 @@ first-in_bounds config =
       within = record { by_steps = omega arith; by_units = λ large. omega arith };
     }
 
-asked-in_bounds : (config : Config) (collector : Collector) → InBounds config collector → InBounds config (record collector { is_asked = true })
+asked-in_bounds : (config : Config) (collector : Collector) → IsInBounds config collector → IsInBounds config (record collector { is_asked = true })
 asked-in_bounds config collector bounds = record {
   pages = bounds.pages;
   under = under-recounted collector collector.quanta true bounds.under;
@@ -258,10 +234,58 @@ asked-in_bounds config collector bounds = record {
   };
 }
 
+-- In time ----------------------------------------------------------------------------------------
+
+fewer-than_most : (config : Config) (collector : Collector) → IsInBounds config collector → is_idle collector.phase ≡ false → collector.quanta < most_quanta config
+fewer-than_most config collector bounds runs =
+    let by_steps : collector.quanta < most_steps config = omega (arith, (bounds.within).by_steps, steps_left-positive collector bounds.under runs) in
+    go (nat_le 353 config.quantum) refl by_steps
+  where
+    go : (large : Bool) → nat_le 353 config.quantum ≡ large → collector.quanta < most_steps config → collector.quanta < (if large then min (most_steps config) (most_units config / (config.quantum - 352) + 1) else most_steps config)
+    go false e by_steps = by_steps
+    go true e by_steps =
+        let large : 353 ≤ config.quantum = leb-true 353 config.quantum e in
+        let room : collector.quanta * (config.quantum - 352) ≤ most_units config = omega (arith, (bounds.within).by_units large) in
+        let positive : 0 < config.quantum - 352 = omega arith in
+        let divided : collector.quanta ≤ most_units config / (config.quantum - 352) = (le-div_iff_mul-le positive).1 room in
+        omega arith
+
+in_time : (config : Config) (collector : Collector) → IsInBounds config collector → IsInTime config collector
+in_time config collector bounds = record { running = fewer-than_most config collector bounds; idle = bounds.idle }
+
+most_quanta-few : (config : Config) → most_quanta config ≤ 786576
+most_quanta-few config = go (nat_le 353 config.quantum)
+  where
+    pages : config.pages ≤ 4096
+    pages = leb-true config.pages 4096 (and_parts (nat_le config.pages 4096) _ (and_parts (nat_le 1 config.pages) _ config.in_limits).1).0
+
+    go : (large : Bool) → (if large then min (most_steps config) (most_units config / (config.quantum - 352) + 1) else most_steps config) ≤ 786576
+    go true = omega (arith, pages)
+    go false = omega (arith, pages)
+
+count-most : (config : Config) (collector : Collector) → IsInBounds config collector → collector.quanta ≤ most_quanta config
+count-most config collector bounds = elim (cases_Bool (is_idle collector.phase)) [ inl idle ↦ omega (arith, bounds.idle idle) | inr runs ↦ omega (arith, fewer-than_most config collector bounds runs) ]
+
+quanta_left-some : (config : Config) (collector : Collector) → IsInBounds config collector → is_idle collector.phase ≡ false → 1 ≤ quanta_left config collector
+quanta_left-some config collector bounds runs = subst (λ idle. 1 ≤ (if idle then 0 else most_quanta config - collector.quanta)) (sym runs) (omega (arith, fewer-than_most config collector bounds runs))
+
+-- A collector stays within the bounds of its cycle
+pub collectors-in_bounds : CollectorsStayInBounds
+collectors-in_bounds = record {
+  first = first-in_bounds;
+  commands = command-in_bounds;
+  asking = asked-in_bounds;
+  quanta = λ config collector bounds. (quantum-in_bounds config collector bounds).bounds;
+  in_time = in_time;
+  count = count-most;
+  few = most_quanta-few;
+  left = quanta_left-some;
+}
+
 -- a machine of this configuration within the bounds of its cycle
 pub record StaysInBounds (config : Config) (machine : Machine) : Type 0 where
   pub config_is : machine.heap.config ≡ config
-  pub bounds : InBounds config machine.heap.collector
+  pub bounds : IsInBounds config machine.heap.collector
 
 module _ (config : Config) where
   pub by_command : (machine : Machine) (who : ℕ) (command : Command) → StaysInBounds config machine → StaysInBounds config (command_step machine who command).state
@@ -285,25 +309,6 @@ module _ (config : Config) where
 
   pub half-stays : (events : List Event) (event : Event) → StaysInBounds config (half_step (machine_after (first_machine config) events) event)
   half-stays events event = half_step-keeps (StaysInBounds config) by_command by_quantum by_asking (machine_after (first_machine config) events) event (run-stays events)
-
-  -- In time ----------------------------------------------------------------------------------------
-
-  fewer-than_most : (collector : Collector) → InBounds config collector → is_idle collector.phase ≡ false → collector.quanta < most_quanta config
-  fewer-than_most collector bounds runs =
-      let by_steps : collector.quanta < most_steps config = omega (arith, (bounds.within).by_steps, steps_left-positive collector bounds.under runs) in
-      go (nat_le 353 config.quantum) refl by_steps
-    where
-      go : (large : Bool) → nat_le 353 config.quantum ≡ large → collector.quanta < most_steps config → collector.quanta < (if large then min (most_steps config) (most_units config / (config.quantum - 352) + 1) else most_steps config)
-      go false e by_steps = by_steps
-      go true e by_steps =
-          let large : 353 ≤ config.quantum = leb-true 353 config.quantum e in
-          let room : collector.quanta * (config.quantum - 352) ≤ most_units config = omega (arith, (bounds.within).by_units large) in
-          let positive : 0 < config.quantum - 352 = omega arith in
-          let divided : collector.quanta ≤ most_units config / (config.quantum - 352) = (le-div_iff_mul-le positive).1 room in
-          omega arith
-
-  in_time : (collector : Collector) → InBounds config collector → IsInTime config collector
-  in_time collector bounds = record { running = fewer-than_most collector bounds; idle = bounds.idle }
 
   -- so many quanta of a cycle were run since a machine, or the cycle has ended
   record IsLater (machine later : Machine) : Type 0 where
@@ -349,7 +354,7 @@ module _ (config : Config) where
       | inl more ↦ inl (ltb-true (first.heap.collector).cycle (later.heap.collector).cycle more)
       | inr same ↦
           let equal : (later.heap.collector).cycle ≡ (first.heap.collector).cycle = omega (arith, ltb-false (first.heap.collector).cycle (later.heap.collector).cycle same, is.cycle) in
-          absurd (omega (arith, run, is.same equal runs, fewer-than_most later.heap.collector (is.stays).bounds runs))
+          absurd (omega (arith, run, is.same equal runs, fewer-than_most config later.heap.collector (is.stays).bounds runs))
     ]
   ]
 
@@ -381,8 +386,7 @@ cycle_tells = record {
   none = λ machine idle. ap (λ b. if b then 0 else most_quanta machine.heap.config - machine.heap.collector.quanta) idle;
   some = λ config events runs.
       let stays = run-stays config events in
-      let left = quanta_left-running config (machine_after (first_machine config) events) stays.config_is runs in
-      omega (arith, left, fewer-than_most config _ stays.bounds runs);
+      subst (λ c. 1 ≤ quanta_left c (machine_after (first_machine config) events).heap.collector) (sym stays.config_is) (quanta_left-some config _ stays.bounds runs);
   ends = λ config events more runs run.
       let machine = machine_after (first_machine config) events in
       let left = quanta_left-running config machine (run-stays config events).config_is runs in

@@ -6,16 +6,16 @@ use Rattle.mh_model.specs.declared.cycle.Phase.{Phase}
 use Rattle.mh_model.specs.declared.cycle.Phase.TheVariants.{Idle, Roots, Mark, Sweep, Defrag}
 use Rattle.mh_model.specs.Collector.{Collector, cycle_start, cost_in, step_in, phase_after, collector_step, is_idle}
 use Rattle.mh_model.specs.Mutator.{HeapState, mutator_step}
-use Rattle.mh_model.specs.Bound.{most_steps, most_units}
+use Rattle.mh_model.specs.Bound.{most_steps, most_units, steps_left, units_left, IsUnderway, IsInBounds}
 use Rattle.mh_laws.specs.Deeds.{Deed, Step, Perform, with_step, heap_after, step_count, cost_of, with_cycle, CycleTakesBoundedSteps}
 use Rattle.mh_laws.proofs.commands.LeftUnchanged.{mutator_step-course}
 use Rattle.mh_laws.proofs.bounds.CommandsKeepBounds.{mutator_step-carried}
-use Rattle.mh_laws.proofs.bounds.WorkLeft.{steps_left, units_left, IsUnderway, steps_left-positive, collector_step-paid}
+use Rattle.mh_laws.proofs.bounds.WorkLeft.{steps_left-positive, collector_step-paid}
 use Rattle.mh_laws.proofs.bounds.CycleBounds.{carried-leaves}
-use Rattle.mh_laws.proofs.bounds.CyclesInTime.{InBounds, IsFresh, cycle_start-fresh, idle-left, half-stays}
+use Rattle.mh_laws.proofs.bounds.CyclesInTime.{IsFresh, cycle_start-fresh, idle-left, half-stays}
 
 -- a step of an idle collector does nothing, and costs nothing
-step-idle : (collector : Collector) → is_idle collector.phase ≡ true → (collector_step collector ≡ collector) × (cost_in collector.phase collector true ≡ 0)
+pub step-idle : (collector : Collector) → is_idle collector.phase ≡ true → (collector_step collector ≡ collector) × (cost_in collector.phase collector true ≡ 0)
 unfolding collector_step
 step-idle collector idle = go collector.phase idle
   where
@@ -67,7 +67,7 @@ deeds-took (Perform who command ∷ deeds) heap under =
     let rest = deeds-took deeds new leaves.under in
     record { under = rest.under; steps = λ running. omega (arith, leaves.steps, rest.steps running); units = omega (arith, leaves.units, rest.units) }
 
-module _ (config : Config) (heap : HeapState) (bounds : InBounds config heap.collector) (deeds : List Deed) where
+module _ (config : Config) (heap : HeapState) (bounds : IsInBounds config heap.collector) (deeds : List Deed) where
   abbrev fresh : IsFresh config (cycle_start heap.collector)
   fresh = cycle_start-fresh config heap.collector bounds
 

@@ -3,67 +3,22 @@ use Rattle.std.proofs.Common.{length-set, ◌≡◌, ◌≢◌, ◌⊎◌, ℕ, 
 use Rattle.std.specs.List.{AllByRecursion, IsDistinct}
 use Rattle.std.proofs.Math.Nat.{mul-div-le, mul-le-mul_left, mul-suc}
 use Rattle.std.proofs.lemmas.Bool.{leb-false, ltb-true, ltb-false, true≢false, eq-eqb}
-use Rattle.std.proofs.lemmas.Option.{none-some, same_Some}
+use Rattle.std.proofs.lemmas.Option.{none-some}
 use Rattle.mh_model.specs.declared.cycle.Phase.{Phase}
 use Rattle.mh_model.specs.declared.cycle.Phase.TheVariants.{Idle, Roots, Mark, Sweep, Defrag}
-use Rattle.mh_model.specs.Pages.{Page, Table, page_number, slot_number, page_at, block_in, block_at, least_dense_place, page_for, with_taken}
-use Rattle.mh_model.specs.Table.{Block, is_forwarder}
-use Rattle.mh_model.specs.Collector.{Collector, Marking, Move, marking_of, with_marking, with_phase, with_shade, mark_first, first_mark_cost, next_page, next_place, is_last_slot, if_flagged, flagged_page, move_of, next_move, moved_table, move_cost, with_move, after_mark, is_past, cycle_end, step_in, phase_after, collector_step, cost_in, is_idle}
+use Rattle.mh_model.specs.Pages.{Page, Table, page_number, slot_number, page_at, block_in, block_at, page_for, with_taken}
+use Rattle.mh_model.specs.Table.{Block}
+use Rattle.mh_model.specs.Collector.{Collector, Marking, Move, marking_of, with_marking, with_phase, with_shade, mark_first, first_mark_cost, next_page, next_place, is_last_slot, flagged_page, next_move, moved_table, move_cost, with_move, after_mark, is_past, cycle_end, step_in, phase_after, collector_step, cost_in, is_idle}
+use Rattle.mh_model.specs.Bound.{IsRoomy, count_at, class_at, weight, IsGreySound, in_steps, in_units, words_at, movable, movable_words, steps_left, units_left, StageOf, IsUnderway}
 use Rattle.mh_laws.proofs.commands.LeftUnchanged.{shade-keeps, mark_first-keeps, step_in-keeps}
+use Rattle.mh_laws.proofs.moving.NextMove.{IsNextMove, next_move-is}
 use Rattle.mh_laws.proofs.placing.Places.{least_dense_place-page, block_at-with_taken_other}
-use Rattle.mh_laws.proofs.tables.BlockRoom.{IsRoomy, IsClass, roomy-shaped, swept-roomy, with_taken-roomy, rewritten-roomy, get_or-below}
-use Rattle.mh_laws.proofs.marking.GreyList.{IsGreySound, Carries, MarksThrough, weight, class_at, count_at, class-with_block, class-with_taken, mark_first-pays, cycle-mark_first}
+use Rattle.mh_laws.proofs.tables.BlockRoom.{IsClass, roomy-shaped, swept-roomy, with_taken-roomy, rewritten-roomy}
+use Rattle.mh_laws.proofs.marking.GreyList.{Carries, MarksThrough, class-with_block, class-with_taken, mark_first-pays, cycle-mark_first}
 use Rattle.mh_laws.proofs.bounds.CommandsKeepBounds.{with_shade-carries}
+use Rattle.mh_laws.proofs.Lists.{below_length}
 
 -- What is left -----------------------------------------------------------------------------------
-
--- marking a block is one step, and as many units as it has references and one more
-abbrev pub in_steps : ℕ → ℕ
-in_steps references = 1
-
-abbrev pub in_units : ℕ → ℕ
-in_units references = 1 + references
-
--- the class of a page, and 0 where it is free
-abbrev pub words_at : Table Block → ℕ → ℕ
-words_at table number = unwrap_or (class_at table number) 0
-
--- how many words may still be moved: 256 of each page after this one, and those of the slots from the cursor on
-abbrev pub movable : ℕ → ℕ → ℕ → ℕ → ℕ
-movable pages page slot words = 256 * (pages - suc page) + (256 - words * slot)
-
-abbrev pub movable_words : Collector → ℕ
-movable_words collector = movable (length collector.table) (page_number collector.cursor) (slot_number collector.cursor) (words_at collector.table (page_number collector.cursor))
-
--- how many steps the cycle may still take
-abbrev pub steps_left : Phase → Collector → ℕ
-steps_left Idle collector = 0
-steps_left Roots collector = (144 - collector.cursor) + weight in_steps (marking_of collector) + 128 * length collector.table
-steps_left Mark collector = weight in_steps (marking_of collector) + 128 * length collector.table
-steps_left Sweep collector = (64 * length collector.table - collector.cursor) + 64 * length collector.table
-steps_left Defrag collector = 64 * length collector.table - collector.cursor
-
--- how many units it may still spend, without the charge for slots
-abbrev pub units_left : Phase → Collector → ℕ
-units_left Idle collector = 0
-units_left Roots collector = 2 * (144 - collector.cursor) + weight in_units (marking_of collector) + 384 * length collector.table
-units_left Mark collector = weight in_units (marking_of collector) + 384 * length collector.table
-units_left Sweep collector = (64 * length collector.table - collector.cursor) + 320 * length collector.table
-units_left Defrag collector = (64 * length collector.table - collector.cursor) + movable_words collector
-
--- where a phase stands: its cursor in range, and the grey list empty outside the roots and marking
-abbrev pub StageOf : Phase → Collector → Type 0
-StageOf Idle collector = collector.grey ≡ []
-StageOf Roots collector = collector.cursor < 144
-StageOf Mark collector = 0 < length collector.grey
-StageOf Sweep collector = (collector.grey ≡ []) × (collector.cursor < 64 * length collector.table)
-StageOf Defrag collector = (collector.grey ≡ []) × (collector.cursor < 64 * length collector.table)
-
--- a collector on its way through a cycle, or between two
-pub record IsUnderway (collector : Collector) : Type 0 where
-  pub some_page : 0 < length collector.table
-  pub sound : IsGreySound (marking_of collector)
-  pub stage : StageOf collector.phase collector
 
 -- A running cycle has a step left
 pub steps_left-positive : (collector : Collector) → IsUnderway collector → is_idle collector.phase ≡ false → 0 < steps_left collector.phase collector
@@ -222,37 +177,8 @@ sweep-paid collector phase some sound (none, inside) = go (is_past new.table new
 
 -- Moves ------------------------------------------------------------------------------------------
 
--- a move is of a block of a page in use, to a place that the first tier gives for its class
-pub record IsMoveInClass (table : Table Block) (place : ℕ) (move : Move) : Type 0 where
-  pub page : Page Block
-  pub in_use : page_at table (page_number place) ≡ Some page
-  pub there : block_in (slot_number place) page ≡ Some move.block
-  pub class : page.class_size ≡ move.class_size
-  pub target : least_dense_place table move.class_size ≡ Some move.target
-
-next_move-is : (table : Table Block) (place : ℕ) (move : Move) → next_move table place ≡ Some move → IsMoveInClass table place move
-next_move-is table place move is = by_page (page_at table (page_number place)) refl is
-  where
-    by_target : (page : Page Block) (block : Block) → page_at table (page_number place) ≡ Some page → block_in (slot_number place) page ≡ Some block → (forwards : Bool) (target : Option ℕ) → least_dense_place table page.class_size ≡ target
-        → (if forwards then None else option_map (λ t. record { block = block; class_size = page.class_size; target = t }) target) ≡ Some move → IsMoveInClass table place move
-    by_target page block at in_slot true target found e = absurd (none-some move e)
-    by_target page block at in_slot false None found e = absurd (none-some move e)
-    by_target page block at in_slot false (Some t) found e = subst (IsMoveInClass table place) (same_Some (record { block = block; class_size = page.class_size; target = t }) move e) (record { page = page; in_use = at; there = in_slot; class = refl; target = found })
-
-    by_block : (page : Page Block) → page_at table (page_number place) ≡ Some page → (block : Option Block) → block_in (slot_number place) page ≡ block → option_and_then (move_of table page) block ≡ Some move → IsMoveInClass table place move
-    by_block page at None in_slot e = absurd (none-some move e)
-    by_block page at (Some block) in_slot e = by_target page block at in_slot (is_forwarder block) (least_dense_place table page.class_size) refl e
-
-    by_flag : (page : Page Block) → page_at table (page_number place) ≡ Some page → (flag : Bool) → option_and_then (λ p. option_and_then (move_of table p) (block_in (slot_number place) p)) (if flag then Some page else None) ≡ Some move → IsMoveInClass table place move
-    by_flag page at true e = by_block page at (block_in (slot_number place) page) refl e
-    by_flag page at false e = absurd (none-some move e)
-
-    by_page : (page : Option (Page Block)) → page_at table (page_number place) ≡ page → option_and_then (λ p. option_and_then (move_of table p) (block_in (slot_number place) p)) (option_and_then if_flagged page) ≡ Some move → IsMoveInClass table place move
-    by_page None at e = absurd (none-some move e)
-    by_page (Some page) at e = by_flag page at page.is_flagged e
-
 -- a move leaves pages roomy, and their classes
-pub moved-roomy : (table : Table Block) (place : ℕ) (move : Move) → IsRoomy table → IsMoveInClass table place move → IsRoomy (moved_table table place move)
+pub moved-roomy : (table : Table Block) (place : ℕ) (move : Move) → IsRoomy table → IsNextMove table place move → IsRoomy (moved_table table place move)
 moved-roomy table place move roomy is =
     let (page, in_use, of_class, unflagged, empty) = least_dense_place-page table move.class_size (roomy-shaped table roomy) move.target is.target in
     let own = roomy.pages (page_number place) is.page is.in_use in
@@ -322,12 +248,12 @@ defrag_after-paid collector new used phase some pages none roomy class fits next
           units_paid = subst (λ p. units_left p new + (1 + used) ≤ units_left Defrag collector) (sym phase) (omega (arith, pages, next.further, inside', less'));
         }
 
-move_fits : (table : Table Block) (place : ℕ) (move : Move) → IsRoomy table → IsMoveInClass table place move → FitsPage (slot_number place) (words_at table (page_number place)) move.class_size
+move_fits : (table : Table Block) (place : ℕ) (move : Move) → IsRoomy table → IsNextMove table place move → FitsPage (slot_number place) (words_at table (page_number place)) move.class_size
 move_fits table place move roomy is =
     let page = is.page in
     let own = roomy.pages (page_number place) page is.in_use in
     let words : words_at table (page_number place) ≡ page.class_size = ap (λ p. unwrap_or (option_map (λ q. q.class_size) p) 0) is.in_use in
-    let inside : slot_number place < length page.slots = get_or-below page.slots (slot_number place) move.block is.there in
+    let inside : slot_number place < length page.slots = below_length page.slots (slot_number place) move.block is.there in
     let room : page.class_size * suc (slot_number place) ≤ page.class_size * length page.slots = mul-le-mul_left page.class_size inside in
     let split : page.class_size * suc (slot_number place) ≡ page.class_size * slot_number place + page.class_size = mul-suc page.class_size (slot_number place) in
     inr (sym is.class ∙ sym words, rw words (omega (arith, room, split, own.words)))

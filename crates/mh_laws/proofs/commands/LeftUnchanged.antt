@@ -1,7 +1,7 @@
 -- What commands, steps, quanta and events leave as it was: the collector's course, the pages, and the heap of a refused command.
-use Rattle.std.proofs.Common.{◌≡◌, ℕ, zero, suc, ◌+◌, ◌-◌, ◌*◌, ◌==◌, nat_lt, nat_le, Bool, true, false, ◌&&◌, ◌||◌, if◌then◌else◌, inl, inr, Option, Some, None, is_none, option_and_then, option_map, unwrap_or, List, [], ◌∷◌, length, get_or, refl, sym, ◌∙◌, subst}
+use Rattle.std.proofs.Common.{◌≡◌, ℕ, zero, suc, ◌+◌, ◌-◌, ◌==◌, nat_lt, Bool, true, false, ◌||◌, if◌then◌else◌, inl, inr, Option, Some, None, option_and_then, option_map, unwrap_or, List, [], ◌∷◌, length, get_or, set, slice_get, ◌<◌, ◌≤◌, refl, sym, ap, ◌∙◌, subst, arith}
 use Rattle.std.proofs.lemmas.Bool.{cases_Bool}
-use Rattle.std.proofs.lemmas.List.{length-replicate}
+use Rattle.std.proofs.lemmas.List.{length-replicate, length-set}
 use Rattle.std.proofs.lemmas.Option.{none-some, same_Some}
 use Rattle.mh_model.specs.declared.command.Command.{Command}
 use Rattle.mh_model.specs.declared.command.Command.TheVariants as command
@@ -10,35 +10,38 @@ use Rattle.mh_model.specs.declared.config.Config.{Config}
 use Rattle.mh_model.specs.declared.cycle.Phase.{Phase}
 use Rattle.mh_model.specs.declared.cycle.Phase.TheVariants.{Idle, Roots, Mark, Sweep, Defrag}
 use Rattle.mh_model.specs.declared.reply.Refusal.{Refusal}
-use Rattle.mh_model.specs.declared.reply.Refusal.TheVariants.{BadSlot, TooLarge, HeapFull, Ended, TooManySessions}
 use Rattle.mh_model.specs.declared.reply.Reply.TheVariants as reply
-use Rattle.mh_model.specs.World.{Answer, most_fields, own_slot, board_slot, first_refusal, is_bad, refusal, never_full, done, unless_refused}
-use Rattle.mh_model.specs.Classes.{Part, class_of, part_words, parts, is_class_size}
-use Rattle.mh_model.specs.Pages.{Page, Table, page_number, slot_number, page_at, block_in, block_at, live_in, least_place, page_with, with_taken, has_denser, HasItsSlots, HaveTheirSlots}
-use Rattle.mh_model.specs.Table.{Block, Made, MadeParts, Position, references_at, with_reference_at, resolve, target_of, new_block, made_in_class, made_parts, with_block_change, linked_block, linked_parts, group_of, made_group, reference_in}
-use Rattle.mh_model.specs.Collector.{Collector, first_collector, Marking, is_marked, with_grey, shade_block, shade, mark_reference, mark_references, mark_first, is_last_slot, survivor, judged_page, swept_page, swept_table, next_move, Move, moved_table, with_move, with_phase, with_shade, marking_of, after_mark, is_past, step_in, phase_after, collector_step, step_cost, is_moving, is_idle, is_start_due, cycle_start, cycle_end, with_count, quantum_start, Spending, steps, quantum}
+use Rattle.mh_model.specs.World.{own_slot, board_slot, refusal, unless_refused}
+use Rattle.mh_model.specs.Classes.{Part, class_of, part_words, parts, slots_in, is_class_size}
+use Rattle.mh_model.specs.Pages.{Page, Table, page_number, slot_number, page_at, block_in, block_at, least_place, page_with, with_taken, HasItsSlots}
+use Rattle.mh_model.specs.Table.{Block, IsWithinLimits, HasSmallBlocks, number_index, Made, MadeParts, Position, references_at, with_reference_at, resolve, target_of, new_block, made_in_class, made_parts, with_block_change, linked_block, linked_parts, group_of, made_group, reference_in}
+use Rattle.mh_model.specs.Collector.{Collector, first_collector, Marking, is_marked, with_grey, shade_block, shade, mark_reference, mark_references, mark_first, is_last_slot, survivor, judged_page, swept_page, swept_table, next_move, Move, with_move, with_phase, with_shade, marking_of, after_mark, is_past, step_in, phase_after, collector_step, step_cost, is_moving, is_idle, cycle_end, quantum_start, Spending, steps, quantum}
 use Rattle.mh_model.specs.Mutator.{HeapState, in_roots, in_roots_or_mark, before_field, with_root, with_roots_cleared, with_session_cleared, with_reference_stored, with_number_stored, field_of, number_field, new_group, with_born, heap_sight, heap_effect, mutator_step}
 use Rattle.mh_model.specs.Machine.{Machine, first_machine, with_collector, quantum_run, command_step, machine_after}
 use Rattle.mh_laws.specs.Tables.{KeepsItsPages, EventKeeps, HasItsPages}
-use Rattle.mh_laws.specs.Commands.{IsOnCourse, IsBorn}
+use Rattle.mh_laws.specs.Commands.{IsOnCourse}
 use Rattle.mh_laws.proofs.Lists.{none_at}
-use Rattle.mh_laws.proofs.tables.PageSlots.{class_of-class_size, page_with-slots, keeps_same, keeps_then, set-keeps, with_block-keeps, with_taken-keeps}
+use Rattle.mh_laws.proofs.tables.PageSlots.{IsSmallPage, class_of-class_size, judged_page-is, page_with-slots, page_with-small, small_page, small_block, same_limits, keeps_same, keeps_then, set-keeps, with_block-slots, with_block-limits, with_block-keeps, change-keeps, with_taken-keeps}
 use Rattle.mh_laws.proofs.runs.EveryMoment.{half_step-keeps, event_step-keeps, machine_after-keeps}
-use Rattle.mh_laws.proofs.costs.Quanta.{next_move-class, steps-stop, steps-go}
+use Rattle.mh_laws.proofs.costs.Quanta.{steps-stop, steps-go}
+use Rattle.mh_laws.proofs.moving.NextMove.{IsNextMove, next_move-is}
+use Rattle.mh_laws.proofs.objects.Parts.{some_parts, few_fields, small_parts}
+use Rattle.mh_laws.proofs.tables.BlockRoom.{class_of-is, class_of-fits, survivor-same}
+use Rattle.mh_laws.proofs.costs.QuantumStarts.{begins}
 
 -- Tables -----------------------------------------------------------------------------------------
 
-shade_block-keeps : (marking : Marking) (place : ℕ) (block : Option Block) → KeepsItsPages marking.table (shade_block marking place block).table
-shade_block-keeps marking place None = keeps_same marking.table
-shade_block-keeps marking place (Some block) = go (is_marked marking.cycle block)
+shade_block-keeps : (marking : Marking) (place : ℕ) (block : Option Block) → block_at marking.table place ≡ block → KeepsItsPages marking.table (shade_block marking place block).table
+shade_block-keeps marking place None at = keeps_same marking.table
+shade_block-keeps marking place (Some block) at = go (is_marked marking.cycle block)
   where
     go : (marked : Bool) → KeepsItsPages marking.table (if marked then marking else with_grey marking place block).table
     go true = keeps_same marking.table
-    go false = with_block-keeps marking.table place _
+    go false = with_block-keeps marking.table place _ (λ small new e. subst IsWithinLimits (same_Some (record block { stamp = marking.cycle }) new e) (same_limits block (record block { stamp = marking.cycle }) refl refl (small_block marking.table place block small at)))
 
 pub shade-keeps : (marking : Marking) (reference : Option ℕ) → KeepsItsPages marking.table (shade marking reference).table
 shade-keeps marking None = keeps_same marking.table
-shade-keeps marking (Some place) = shade_block-keeps marking (resolve marking.table place) (block_at marking.table (resolve marking.table place))
+shade-keeps marking (Some place) = shade_block-keeps marking (resolve marking.table place) (block_at marking.table (resolve marking.table place)) refl
 
 mark_references-keeps : (marking : Marking) (place index : ℕ) (references : List (Option ℕ)) → KeepsItsPages marking.table (mark_references marking place index references).table
 mark_references-keeps marking place index [] = keeps_same marking.table
@@ -47,17 +50,27 @@ mark_references-keeps marking place index (reference ∷ references) =
     let written : Table Block = with_reference_at marking.table place index target in
     let next : Marking = mark_reference marking place index reference in
     keeps_then marking.table next.table (mark_references next place (suc index) references).table
-    (keeps_then marking.table written next.table (with_block-keeps marking.table place _) (shade-keeps (record marking { table = written }) target))
+    (keeps_then marking.table written next.table (change-keeps marking.table place _ (λ block. (refl, refl))) (shade-keeps (record marking { table = written }) target))
     (mark_references-keeps next place (suc index) references)
 
 pub mark_first-keeps : (marking : Marking) (grey : List ℕ) → KeepsItsPages marking.table (mark_first marking grey).table
 mark_first-keeps marking [] = keeps_same marking.table
 mark_first-keeps marking (place ∷ grey) = mark_references-keeps (record marking { grey = grey }) place 0 (references_at marking.table place)
 
-made_parts-keeps : (parts : List Part) (table : Table Block) (birth stamp index : ℕ) (made : MadeParts) → made_parts table birth stamp index parts ≡ Some made → KeepsItsPages table made.table
-made_parts-keeps [] table birth stamp index made e = subst (λ m. KeepsItsPages table m.table) (same_Some (record { places = []; table = table }) made e) (keeps_same table)
-made_parts-keeps (part ∷ after) table birth stamp index made e = by_class (class_of (part_words part)) refl e (λ t. made_parts-keeps after t birth stamp (suc index))
+-- the parts from this number on are within the limits
+abbrev AreSmallParts : ℕ → List Part → Type 0
+AreSmallParts index parts = (i : ℕ) (part : Part) → slice_get parts i ≡ Some part → (part.header.references + part.header.numbers ≤ 216000) × (index + i < 3661)
+
+made_parts-keeps : (parts : List Part) (table : Table Block) (birth stamp index : ℕ) (made : MadeParts) → AreSmallParts index parts → made_parts table birth stamp index parts ≡ Some made → KeepsItsPages table made.table
+made_parts-keeps [] table birth stamp index made few e = subst (λ m. KeepsItsPages table m.table) (same_Some (record { places = []; table = table }) made e) (keeps_same table)
+made_parts-keeps (part ∷ after) table birth stamp index made few e = by_class (class_of (part_words part)) refl e (λ t m. made_parts-keeps after t birth stamp (suc index) m later)
   where
+    later : AreSmallParts (suc index) after
+    later i next at = let (fields, number) = few (suc i) next at in (fields, omega (arith, number))
+
+    here : IsWithinLimits (new_block birth stamp index part)
+    here = let (fields, number) = few 0 part refl in record { fields = fields; part = omega (arith, number) }
+
     block : Block
     block = new_block birth stamp index part
 
@@ -75,7 +88,7 @@ made_parts-keeps (part ∷ after) table birth stamp index made e = by_class (cla
     by_place size is None h more = absurd (none-some made h)
     by_place size is (Some p) h more =
         let first : Made = record { place = p; table = with_taken table size p block } in
-        keeps_then table first.table made.table (with_taken-keeps table size p block (λ shaped. class_of-class_size (part_words part) size is)) (by_rest first (made_parts first.table birth stamp (suc index) after) refl h (more first.table))
+        keeps_then table first.table made.table (with_taken-keeps table size p block (λ shaped. class_of-class_size (part_words part) size is) (λ small. here)) (by_rest first (made_parts first.table birth stamp (suc index) after) refl h (more first.table))
 
     by_class : (size : Option ℕ) → class_of (part_words part) ≡ size → option_and_then rest_of (option_and_then (made_in_class table block) size) ≡ Some made
         → ((t : Table Block) (m : MadeParts) → made_parts t birth stamp (suc index) after ≡ Some m → KeepsItsPages t m.table) → KeepsItsPages table made.table
@@ -87,31 +100,54 @@ linked_parts-keeps all [] parts table = keeps_same table
 linked_parts-keeps all (place ∷ places) [] table = keeps_same table
 linked_parts-keeps all (place ∷ places) (part ∷ parts) table =
     let one : Table Block = with_block_change table place (linked_block all part) in
-    keeps_then table one (linked_parts all one places parts) (with_block-keeps table place _) (linked_parts-keeps all places parts one)
+    keeps_then table one (linked_parts all one places parts) (change-keeps table place _ (λ block. (refl, refl))) (linked_parts-keeps all places parts one)
 
 group_of-keeps : (table : Table Block) (places : List ℕ) (parts : List Part) (made : Made) → group_of table places parts ≡ Some made → KeepsItsPages table made.table
 group_of-keeps table [] parts made e = absurd (none-some made e)
 group_of-keeps table (place ∷ places) parts made e =
     subst (λ m. KeepsItsPages table m.table) (same_Some (record { place = place; table = linked_parts (place ∷ places) table (place ∷ places) parts }) made e) (linked_parts-keeps (place ∷ places) (place ∷ places) parts table)
 
--- making an object keeps the pages
-pub made_group-keeps : (table : Table Block) (birth stamp : ℕ) (parts : List Part) (made : Made) → made_group table birth stamp parts ≡ Some made → KeepsItsPages table made.table
-made_group-keeps table birth stamp parts made e = go (made_parts table birth stamp 0 parts) refl e
+-- an object that is made isn't too large, for its first part has a class
+made_parts-class : (part : Part) (after : List Part) (table : Table Block) (birth stamp index : ℕ) (made : MadeParts) → made_parts table birth stamp index (part ∷ after) ≡ Some made → part_words part ≤ 64
+made_parts-class part after table birth stamp index made e = go (class_of (part_words part)) refl e
   where
-    go : (all : Option MadeParts) → made_parts table birth stamp 0 parts ≡ all → option_and_then (λ m. group_of m.table m.places parts) all ≡ Some made → KeepsItsPages table made.table
+    go : (size : Option ℕ) → class_of (part_words part) ≡ size
+        → option_and_then (λ (first : Made). option_map (λ (r : MadeParts). record { places = first.place ∷ r.places; table = r.table }) (made_parts first.table birth stamp (suc index) after)) (option_and_then (made_in_class table (new_block birth stamp index part)) size) ≡ Some made → part_words part ≤ 64
     go None is h = absurd (none-some made h)
-    go (Some all) is h = keeps_then table all.table made.table (made_parts-keeps parts table birth stamp 0 all is) (group_of-keeps all.table all.places parts made h)
+    go (Some size) is h = omega (arith, class_of-fits (part_words part) size is, (class_of-is (part_words part) size is).most)
+
+made_group-fields : (table : Table Block) (birth stamp references numbers : ℕ) (made : Made) → made_group table birth stamp (parts references numbers) ≡ Some made → references + numbers ≤ 216000
+made_group-fields table birth stamp references numbers made e = by_parts (made_parts table birth stamp 0 (parts references numbers)) refl e
+  where
+    by_list : (list : List Part) → parts references numbers ≡ list → (all : MadeParts) → made_parts table birth stamp 0 list ≡ Some all → references + numbers ≤ 216000
+    by_list [] same all is = absurd (omega (arith, some_parts references numbers, ap length same))
+    by_list (part ∷ after) same all is = few_fields references numbers part (ap (λ l. slice_get l 0) same) (made_parts-class part after table birth stamp 0 all is)
+
+    by_parts : (all : Option MadeParts) → made_parts table birth stamp 0 (parts references numbers) ≡ all → option_and_then (λ m. group_of m.table m.places (parts references numbers)) all ≡ Some made → references + numbers ≤ 216000
+    by_parts None is h = absurd (none-some made h)
+    by_parts (Some all) is h = by_list (parts references numbers) refl all is
+
+-- making an object keeps the pages
+pub made_group-keeps : (table : Table Block) (birth stamp references numbers : ℕ) (made : Made) → made_group table birth stamp (parts references numbers) ≡ Some made → KeepsItsPages table made.table
+made_group-keeps table birth stamp references numbers made e = go (made_parts table birth stamp 0 (parts references numbers)) refl e
+  where
+    few : AreSmallParts 0 (parts references numbers)
+    few i part at = small_parts references numbers i part (made_group-fields table birth stamp references numbers made e) at
+
+    go : (all : Option MadeParts) → made_parts table birth stamp 0 (parts references numbers) ≡ all → option_and_then (λ m. group_of m.table m.places (parts references numbers)) all ≡ Some made → KeepsItsPages table made.table
+    go None is h = absurd (none-some made h)
+    go (Some all) is h = keeps_then table all.table made.table (made_parts-keeps (parts references numbers) table birth stamp 0 all few is) (group_of-keeps all.table all.places (parts references numbers) made h)
 
 -- Commands ---------------------------------------------------------------------------------------
 
 on_course : (collector : Collector) → IsOnCourse collector collector
-on_course collector = record { pages = refl; slots = λ slots. slots; phase = refl; cursor = refl; cycle = refl; is_asked = refl; quanta = refl }
+on_course collector = record { pages = refl; slots = λ slots. slots; limits = λ small. small; phase = refl; cursor = refl; cycle = refl; is_asked = refl; quanta = refl }
 
 then_on_course : (first second third : Collector) → IsOnCourse first second → IsOnCourse second third → IsOnCourse first third
-then_on_course first second third one two = record { pages = two.pages ∙ one.pages; slots = λ slots. two.slots (one.slots slots); phase = two.phase ∙ one.phase; cursor = two.cursor ∙ one.cursor; cycle = two.cycle ∙ one.cycle; is_asked = two.is_asked ∙ one.is_asked; quanta = two.quanta ∙ one.quanta }
+then_on_course first second third one two = record { pages = two.pages ∙ one.pages; slots = λ slots. two.slots (one.slots slots); limits = λ small. two.limits (one.limits small); phase = two.phase ∙ one.phase; cursor = two.cursor ∙ one.cursor; cycle = two.cycle ∙ one.cycle; is_asked = two.is_asked ∙ one.is_asked; quanta = two.quanta ∙ one.quanta }
 
 with_shade-course : (collector : Collector) (reference : Option ℕ) → IsOnCourse collector (with_shade collector reference)
-with_shade-course collector reference = let kept = shade-keeps (marking_of collector) reference in record { pages = kept.pages; slots = kept.slots; phase = refl; cursor = refl; cycle = refl; is_asked = refl; quanta = refl }
+with_shade-course collector reference = let kept = shade-keeps (marking_of collector) reference in record { pages = kept.pages; slots = kept.slots; limits = kept.limits; phase = refl; cursor = refl; cycle = refl; is_asked = refl; quanta = refl }
 
 if-course : (test : Bool) (collector other : Collector) → IsOnCourse collector other → IsOnCourse collector (if test then other else collector)
 if-course true collector other course = course
@@ -120,7 +156,7 @@ if-course false collector other course = on_course collector
 with_root-course : (collector : Collector) (slot : ℕ) (reference : Option ℕ) → IsOnCourse collector (with_root collector slot reference)
 with_root-course collector slot reference =
     let course = if-course (in_roots collector.phase) collector (with_shade collector (get_or collector.slots slot None)) (with_shade-course collector (get_or collector.slots slot None)) in
-    record { pages = course.pages; slots = course.slots; phase = course.phase; cursor = course.cursor; cycle = course.cycle; is_asked = course.is_asked; quanta = course.quanta }
+    record { pages = course.pages; slots = course.slots; limits = course.limits; phase = course.phase; cursor = course.cursor; cycle = course.cycle; is_asked = course.is_asked; quanta = course.quanta }
 
 with_roots_cleared-course : (count : ℕ) (collector : Collector) (slot : ℕ) → IsOnCourse collector (with_roots_cleared collector slot count)
 with_roots_cleared-course zero collector slot = on_course collector
@@ -134,22 +170,22 @@ with_reference_stored-course : (collector : Collector) (position : Position) (re
 with_reference_stored-course collector position reference =
     let shaded : Collector = before_field collector position in
     let course = if-course (in_roots_or_mark collector.phase) collector (with_shade collector (reference_in collector.table position)) (with_shade-course collector (reference_in collector.table position)) in
-    let kept = with_block-keeps shaded.table position.place _ in
-    record { pages = kept.pages ∙ course.pages; slots = λ slots. kept.slots (course.slots slots); phase = course.phase; cursor = course.cursor; cycle = course.cycle; is_asked = course.is_asked; quanta = course.quanta }
+    let kept = change-keeps shaded.table position.place (λ (block : Block). record block { references = set block.references position.index reference }) (λ block. (refl, refl)) in
+    record { pages = kept.pages ∙ course.pages; slots = λ slots. kept.slots (course.slots slots); limits = λ small. kept.limits (course.limits small); phase = course.phase; cursor = course.cursor; cycle = course.cycle; is_asked = course.is_asked; quanta = course.quanta }
 
 with_number_stored-course : (collector : Collector) (position : Position) (number : ℕ) → IsOnCourse collector (with_number_stored collector position number)
-with_number_stored-course collector position number = let kept = with_block-keeps collector.table position.place _ in record { pages = kept.pages; slots = kept.slots; phase = refl; cursor = refl; cycle = refl; is_asked = refl; quanta = refl }
+with_number_stored-course collector position number = let kept = change-keeps collector.table position.place (λ (block : Block). record block { numbers = set block.numbers (number_index collector.table position) number }) (λ block. (refl, refl)) in record { pages = kept.pages; slots = kept.slots; limits = kept.limits; phase = refl; cursor = refl; cycle = refl; is_asked = refl; quanta = refl }
 
 new-course : (heap : HeapState) (slot : ℕ) (group : Option Made) → ((made : Made) → group ≡ Some made → KeepsItsPages heap.collector.table made.table) → IsOnCourse heap.collector (unwrap_or (option_map (with_born heap slot) group) heap).collector
 new-course heap slot None pages = on_course heap.collector
 new-course heap slot (Some made) pages =
     let course = with_root-course (record (heap.collector) { table = made.table }) slot (Some made.place) in
     let kept = pages made refl in
-    record { pages = course.pages ∙ kept.pages; slots = λ slots. course.slots (kept.slots slots); phase = course.phase; cursor = course.cursor; cycle = course.cycle; is_asked = course.is_asked; quanta = course.quanta }
+    record { pages = course.pages ∙ kept.pages; slots = λ slots. course.slots (kept.slots slots); limits = λ small. course.limits (kept.limits small); phase = course.phase; cursor = course.cursor; cycle = course.cycle; is_asked = course.is_asked; quanta = course.quanta }
 
 heap_effect-course : (heap : HeapState) (who : ℕ) (command : Command) → IsOnCourse heap.collector (heap_effect heap who command).state.collector
 unfolding heap_effect
-heap_effect-course heap who (command.New slot references numbers) = new-course heap (own_slot who slot) (new_group heap references numbers) (made_group-keeps heap.collector.table heap.next_birth heap.collector.cycle (parts references numbers))
+heap_effect-course heap who (command.New slot references numbers) = new-course heap (own_slot who slot) (new_group heap references numbers) (made_group-keeps heap.collector.table heap.next_birth heap.collector.cycle references numbers)
 heap_effect-course heap who (command.Get slot source field) = with_root-course heap.collector (own_slot who slot) _
 heap_effect-course heap who (command.Put slot field value) = with_reference_stored-course heap.collector (field_of heap (own_slot who slot) field) _
 heap_effect-course heap who (command.Copy slot source) = with_root-course heap.collector (own_slot who slot) _
@@ -198,14 +234,9 @@ mutator_step-refused heap who command refused e = go (refusal (heap_sight heap) 
 -- Steps and quanta -------------------------------------------------------------------------------
 
 judged_page-slots : (table : Table Block) (number : ℕ) (page new : Page Block) → HasItsSlots page → judged_page table number page ≡ Some new → HasItsSlots new
-judged_page-slots table number page new has e = go (live_in page == 0) e
-  where
-    flagged : Page Block
-    flagged = record page { is_flagged = nat_le (4 * live_in page) (length page.slots) && has_denser table number page.class_size }
-
-    go : (empty : Bool) → (if empty then None else Some flagged) ≡ Some new → HasItsSlots new
-    go true h = absurd (none-some new h)
-    go false h = subst HasItsSlots (same_Some flagged new h) (record { class = has.class; slots = has.slots })
+judged_page-slots table number page new has e =
+    let judged = judged_page-is table number page new e in
+    record { class = ap is_class_size judged.class ∙ has.class; slots = ap length judged.slots ∙ has.slots ∙ ap slots_in (sym judged.class) }
 
 swept_page-slots : (cycle : ℕ) (table : Table Block) (place : ℕ) (page new : Page Block) → HasItsSlots page → swept_page cycle table place page ≡ Some new → HasItsSlots new
 swept_page-slots cycle table place page new has e = go (is_last_slot place page) e
@@ -220,23 +251,58 @@ swept_page-slots cycle table place page new has e = go (is_last_slot place page)
     go true h = judged_page-slots table (page_number place) swept new swept_has h
     go false h = subst HasItsSlots (same_Some swept new h) swept_has
 
-swept_table-keeps : (cycle : ℕ) (table : Table Block) (place : ℕ) → KeepsItsPages table (swept_table cycle table place)
-swept_table-keeps cycle table place = set-keeps table (page_number place) _ (λ shaped new e. go (page_at table (page_number place)) (λ p at. shaped (page_number place) p at) new e)
+swept_page-small : (cycle : ℕ) (table : Table Block) (place : ℕ) (page new : Page Block) → IsSmallPage page → swept_page cycle table place page ≡ Some new → IsSmallPage new
+swept_page-small cycle table place page new small e = go (is_last_slot place page) e
   where
-    go : (content : Option (Page Block)) → ((p : Page Block) → content ≡ Some p → HasItsSlots p) → (new : Page Block) → option_and_then (swept_page cycle table place) content ≡ Some new → HasItsSlots new
-    go None has new e = absurd (none-some new e)
-    go (Some page) has new e = swept_page-slots cycle table place page new (has page refl) e
+    swept : Page Block
+    swept = page_with (slot_number place) (option_and_then (survivor cycle) (block_in (slot_number place) page)) page
+
+    swept_small : IsSmallPage swept
+    swept_small = page_with-small page (slot_number place) _ small (λ block left. by_slot (block_in (slot_number place) page) refl block left)
+      where
+        by_slot : (content : Option Block) → block_in (slot_number place) page ≡ content → (block : Block) → option_and_then (survivor cycle) content ≡ Some block → IsWithinLimits block
+        by_slot None at block left = absurd (none-some block left)
+        by_slot (Some old) at block left = subst IsWithinLimits (survivor-same cycle old block left) (small.blocks (slot_number place) old at)
+
+    go : (last : Bool) → (if last then judged_page table (page_number place) swept else Some swept) ≡ Some new → IsSmallPage new
+    go true h = record { blocks = λ slot block at. swept_small.blocks slot block (ap (λ slots. get_or slots slot None) (sym (judged_page-is table (page_number place) swept new h).slots) ∙ at) }
+    go false h = subst IsSmallPage (same_Some swept new h) swept_small
+
+swept_table-keeps : (cycle : ℕ) (table : Table Block) (place : ℕ) → KeepsItsPages table (swept_table cycle table place)
+swept_table-keeps cycle table place =
+    set-keeps table (page_number place) _ (λ shaped new e. slots (page_at table (page_number place)) (λ p at. shaped (page_number place) p at) new e)
+    (λ small new e. limits (page_at table (page_number place)) (λ p at. small_page table (page_number place) p small at) new e)
+  where
+    slots : (content : Option (Page Block)) → ((p : Page Block) → content ≡ Some p → HasItsSlots p) → (new : Page Block) → option_and_then (swept_page cycle table place) content ≡ Some new → HasItsSlots new
+    slots None has new e = absurd (none-some new e)
+    slots (Some page) has new e = swept_page-slots cycle table place page new (has page refl) e
+
+    limits : (content : Option (Page Block)) → ((p : Page Block) → content ≡ Some p → IsSmallPage p) → (new : Page Block) → option_and_then (swept_page cycle table place) content ≡ Some new → IsSmallPage new
+    limits None small new e = absurd (none-some new e)
+    limits (Some page) small new e = swept_page-small cycle table place page new (small page refl) e
 
 pub with_move-keeps : (collector : Collector) (move : Option Move) → next_move collector.table collector.cursor ≡ move → KeepsItsPages collector.table (with_move collector move).table
 with_move-keeps collector None is = keeps_same collector.table
-with_move-keeps collector (Some move) is =
-    let taken : Table Block = with_taken collector.table move.class_size move.target move.block in
-    keeps_then collector.table taken (moved_table collector.table collector.cursor move)
-    (with_taken-keeps collector.table move.class_size move.target move.block member)
-    (with_block-keeps taken collector.cursor _)
+with_move-keeps collector (Some move) is = record {
+  pages = length-set taken (page_number collector.cursor) _ ∙ first.pages;
+  slots = λ shaped. with_block-slots taken collector.cursor (Some forwarder) (first.slots shaped);
+  limits = λ small. with_block-limits taken collector.cursor (Some forwarder) (λ block e. subst IsWithinLimits (same_Some forwarder block e) (same_limits move.block forwarder refl refl (moved small))) (first.limits small);
+}
   where
-    member : HaveTheirSlots collector.table → is_class_size move.class_size ≡ true
-    member shaped = let of_page = next_move-class collector.table collector.cursor move is in rw (← of_page.same) (shaped (page_number collector.cursor) of_page.page of_page.in_use).class
+    taken : Table Block
+    taken = with_taken collector.table move.class_size move.target move.block
+
+    forwarder : Block
+    forwarder = record (move.block) { forward = Some move.target }
+
+    one : IsNextMove collector.table collector.cursor move
+    one = next_move-is collector.table collector.cursor move is
+
+    moved : HasSmallBlocks collector.table → IsWithinLimits move.block
+    moved small = small.blocks (page_number collector.cursor) (slot_number collector.cursor) one.page move.block one.in_use one.there
+
+    first : KeepsItsPages collector.table taken
+    first = with_taken-keeps collector.table move.class_size move.target move.block (λ shaped. ap is_class_size (sym one.class) ∙ (shaped (page_number collector.cursor) one.page one.in_use).class) moved
 
 pub step_in-keeps : (phase : Phase) (collector : Collector) → KeepsItsPages collector.table (step_in phase collector).table
 step_in-keeps Idle collector = keeps_same collector.table
@@ -277,16 +343,11 @@ steps-keeps (suc more) left has_moved collector = elim (cases_Bool (is_idle coll
       (keeps_then collector.table (collector_step collector).table rest.collector.table (collector_step-keeps collector) (steps-keeps more (left - step_cost collector has_moved) (has_moved || is_moving collector) (collector_step collector)))
 ]
 
-table-with_count : (collector : Collector) → (with_count collector).table ≡ collector.table
-table-with_count collector = go (is_idle collector.phase)
-  where
-    go : (idle : Bool) → (if idle then collector else record collector { quanta = collector.quanta + 1 }).table ≡ collector.table
-    go true = refl
-    go false = refl
-
 table-quantum_start : (config : Config) (collector : Collector) → (quantum_start config collector).table ≡ collector.table
-table-quantum_start config collector =
-    table-with_count (if is_start_due config collector then cycle_start collector else collector) ∙ table-if (is_start_due config collector) collector (cycle_start collector) refl
+table-quantum_start config collector = elim (begins config collector).case [
+  | inl starts ↦ ap (λ c. c.table) starts.2
+  | inr other ↦ elim other [ inl runs ↦ ap (λ c. c.table) runs.1 | inr rests ↦ ap (λ c. c.table) rests.2 ]
+]
 
 -- and so does a quantum
 pub quantum-keeps : (config : Config) (collector : Collector) → KeepsItsPages collector.table (quantum config collector).collector.table
@@ -301,7 +362,7 @@ quantum_run-keeps machine = quantum-keeps machine.heap.config machine.heap.colle
 
 command_step-keeps : (machine : Machine) (who : ℕ) (command : Command) → KeepsItsPages machine.heap.collector.table (command_step machine who command).state.heap.collector.table
 unfolding command_step
-command_step-keeps machine who command = let course = mutator_step-course machine.heap who command in record { pages = course.pages; slots = course.slots }
+command_step-keeps machine who command = let course = mutator_step-course machine.heap who command in record { pages = course.pages; slots = course.slots; limits = course.limits }
 
 -- the pages of this table are kept by what happens to a machine
 module _ (table : Table Block) where
@@ -328,60 +389,11 @@ event-keeps machine event =
 
 -- the pages of the first table are free
 pub first_table-pages : (config : Config) → HasItsPages config (first_collector config).table
-first_table-pages config = record { pages = length-replicate config.pages None; slots = λ number page at. absurd (none-some page (sym (none_at config.pages number) ∙ at)) }
+first_table-pages config = record { pages = length-replicate config.pages None; slots = λ number page at. absurd (none-some page (sym (none_at config.pages number) ∙ at)); limits = record { blocks = λ number slot page block at. absurd (none-some page (sym (none_at config.pages number) ∙ at)) } }
 
 pub machine_after-pages : (config : Config) (events : List Event) → HasItsPages config (machine_after (first_machine config) events).heap.collector.table
 machine_after-pages config events =
     let first = first_table-pages config in
     let table : Table Block = (first_collector config).table in
     let kept = machine_after-keeps (Keeps table) (by_command table) (by_quantum table) (by_asking table) events (first_machine config) (keeps_same table) in
-    record { pages = kept.pages ∙ first.pages; slots = kept.slots first.slots }
-
--- New objects ------------------------------------------------------------------------------------
-
--- the answer to a new object, by its tests in order
-answer_to_new : (heap : HeapState) (who slot : ℕ) → (many ended bad large : Bool) → Option Made → Answer HeapState
-answer_to_new heap who slot many ended bad large group =
-    unless_refused (first_refusal ((many, TooManySessions) ∷ (ended, Ended) ∷ (bad, BadSlot) ∷ (large, TooLarge) ∷ (is_none group, HeapFull) ∷ [])) heap (done (unwrap_or (option_map (with_born heap (own_slot who slot)) group) heap))
-
--- A new object is answered by a full heap only where some part has no place
-pub new-full : (heap : HeapState) (who slot references numbers : ℕ) → (mutator_step heap who (command.New slot references numbers)).reply ≡ reply.Refused HeapFull → new_group heap references numbers ≡ None
-unfolding mutator_step heap_effect answer_to_new
-new-full heap who slot references numbers e = go (nat_le 8 who) (get_or heap.ended who false) (is_bad slot) (nat_lt (most_fields heap.config) (references + numbers)) (new_group heap references numbers) e
-  where
-    go : (many ended bad large : Bool) (group : Option Made) → (answer_to_new heap who slot many ended bad large group).reply ≡ reply.Refused HeapFull → group ≡ None
-    go true ended bad large group h = cc
-    go false true bad large group h = cc
-    go false false true large group h = cc
-    go false false false true group h = cc
-    go false false false false None h = refl
-    go false false false false (Some made) h = cc
-
--- and where nothing else refuses it, by each heap that has none
-pub full-new : (heap : HeapState) (who slot references numbers : ℕ) → refusal (record (heap_sight heap) { is_full = never_full }) who (command.New slot references numbers) ≡ None → new_group heap references numbers ≡ None
-    → (mutator_step heap who (command.New slot references numbers)).reply ≡ reply.Refused HeapFull
-unfolding mutator_step heap_effect answer_to_new
-full-new heap who slot references numbers e none = go (nat_le 8 who) (get_or heap.ended who false) (is_bad slot) (nat_lt (most_fields heap.config) (references + numbers)) (new_group heap references numbers) e none
-  where
-    go : (many ended bad large : Bool) (group : Option Made) → first_refusal ((many, TooManySessions) ∷ (ended, Ended) ∷ (bad, BadSlot) ∷ (large, TooLarge) ∷ (false, HeapFull) ∷ []) ≡ None → group ≡ None
-        → (answer_to_new heap who slot many ended bad large group).reply ≡ reply.Refused HeapFull
-    go true ended bad large group h is = cc
-    go false true bad large group h is = cc
-    go false false true large group h is = cc
-    go false false false true group h is = cc
-    go false false false false None h is = refl
-    go false false false false (Some made) h is = cc
-
--- and where it is done, its parts were made
-pub new-done : (heap : HeapState) (who slot references numbers : ℕ) → (mutator_step heap who (command.New slot references numbers)).reply ≡ reply.Done → IsBorn heap who slot references numbers
-unfolding mutator_step heap_effect answer_to_new
-new-done heap who slot references numbers e = go (nat_le 8 who) (get_or heap.ended who false) (is_bad slot) (nat_lt (most_fields heap.config) (references + numbers)) (new_group heap references numbers) refl e refl
-  where
-    go : (many ended bad large : Bool) (group : Option Made) → new_group heap references numbers ≡ group → (answer_to_new heap who slot many ended bad large group).reply ≡ reply.Done
-        → (mutator_step heap who (command.New slot references numbers)).state ≡ (answer_to_new heap who slot many ended bad large group).state → IsBorn heap who slot references numbers
-    go true ended bad large group is h same = cc
-    go false true bad large group is h same = cc
-    go false false true large group is h same = cc
-    go false false false true group is h same = cc
-    go false false false false None is h same = cc
-    go false false false false (Some made) is h same = record { made = made; group = is; state = same }
+    record { pages = kept.pages ∙ first.pages; slots = kept.slots first.slots; limits = kept.limits first.limits }

@@ -1,14 +1,14 @@
 -- Quanta: what they spend, what their steps cost, and that the count of steps never runs out.
-use Rattle.std.proofs.Common.{◌≡◌, ℕ, zero, suc, ◌+◌, ◌-◌, ◌<◌, ◌≤◌, ◌⊎◌, IsTrue, Bool, true, false, ◌||◌, nat_lt, inl, inr, Option, Some, None, List, [], ◌∷◌, refl, sym, ap, ◌∙◌, arith, option_and_then, option_map, if◌then◌else◌}
+use Rattle.std.proofs.Common.{◌≡◌, ℕ, zero, suc, ◌+◌, ◌-◌, ◌<◌, ◌≤◌, ◌⊎◌, IsTrue, Bool, true, false, ◌||◌, nat_lt, inl, inr, Option, Some, None, List, [], ◌∷◌, refl, sym, ap, ◌∙◌, arith}
 use Rattle.std.proofs.lemmas.Bool.{cases_Bool, ltb-false, ltb-true, or_parts, true≢false, true_from_ne_false}
-use Rattle.std.proofs.lemmas.Option.{none-some, same_Some}
 use Rattle.mh_model.specs.declared.config.Config.{Config}
 use Rattle.mh_model.specs.declared.cycle.Phase.{Phase}
 use Rattle.mh_model.specs.declared.cycle.Phase.TheVariants.{Idle, Roots, Mark, Sweep, Defrag}
-use Rattle.mh_model.specs.Pages.{Page, Table, page_number, slot_number, page_at, block_in, least_dense_place}
-use Rattle.mh_model.specs.Table.{Block, is_forwarder}
+use Rattle.mh_model.specs.Pages.{Table, page_number}
+use Rattle.mh_model.specs.Table.{Block}
+use Rattle.mh_laws.proofs.moving.NextMove.{next_move-is}
 use Rattle.mh_laws.specs.Costs.{IsSized}
-use Rattle.mh_model.specs.Collector.{Collector, Move, first_mark_cost, if_flagged, move_of, next_move, move_cost, cost_in, step_cost, is_moving, collector_step, is_idle, with_units, quantum_start, Spending, steps, quantum}
+use Rattle.mh_model.specs.Collector.{Collector, Move, first_mark_cost, next_move, move_cost, cost_in, step_cost, is_moving, collector_step, is_idle, with_units, quantum_start, Spending, steps, quantum}
 
 -- steps stop, or one is taken
 pub steps-stop : (more left : ℕ) (has_moved : Bool) (collector : Collector) → (is_idle collector.phase || nat_lt left (step_cost collector has_moved)) ≡ true → steps (suc more) left has_moved collector ≡ record { units = 0; collector = collector }
@@ -69,35 +69,8 @@ move_cost-bounded has_moved None small = omega arith
 move_cost-bounded true (Some move) small = omega (arith, small move refl)
 move_cost-bounded false (Some move) small = omega (arith, small move refl)
 
--- a move is of a block of a page in use, and of its class
-pub record IsOfPage (table : Table Block) (place : ℕ) (move : Move) : Type 0 where
-  pub page : Page Block
-  pub in_use : page_at table (page_number place) ≡ Some page
-  pub same : page.class_size ≡ move.class_size
-
-pub next_move-class : (table : Table Block) (place : ℕ) (move : Move) → next_move table place ≡ Some move → IsOfPage table place move
-next_move-class table place move is = by_page (page_at table (page_number place)) refl is
-  where
-    by_target : (page : Page Block) (block : Block) → (forwards : Bool) (target : Option ℕ)
-        → (if forwards then None else option_map (λ t. record { block = block; class_size = page.class_size; target = t }) target) ≡ Some move → page.class_size ≡ move.class_size
-    by_target page block true target e = absurd (none-some move e)
-    by_target page block false None e = absurd (none-some move e)
-    by_target page block false (Some t) e = ap (λ m. m.class_size) (same_Some (record { block = block; class_size = page.class_size; target = t }) move e)
-
-    by_block : (page : Page Block) (block : Option Block) → option_and_then (move_of table page) block ≡ Some move → page.class_size ≡ move.class_size
-    by_block page None e = absurd (none-some move e)
-    by_block page (Some block) e = by_target page block (is_forwarder block) (least_dense_place table page.class_size) e
-
-    by_flag : (page : Page Block) (flag : Bool) → option_and_then (λ p. option_and_then (move_of table p) (block_in (slot_number place) p)) (if flag then Some page else None) ≡ Some move → page.class_size ≡ move.class_size
-    by_flag page true e = by_block page (block_in (slot_number place) page) e
-    by_flag page false e = absurd (none-some move e)
-
-    by_page : (page : Option (Page Block)) → page_at table (page_number place) ≡ page → option_and_then (λ p. option_and_then (move_of table p) (block_in (slot_number place) p)) (option_and_then if_flagged page) ≡ Some move → IsOfPage table place move
-    by_page None at e = absurd (none-some move e)
-    by_page (Some page) at e = record { page = page; in_use = at; same = by_flag page page.is_flagged e }
-
 next_move-small : (table : Table Block) (place : ℕ) → IsSized table → (move : Move) → next_move table place ≡ Some move → move.class_size ≤ 64
-next_move-small table place sized move is = let of_page = next_move-class table place move is in rw (← of_page.same) (sized.classes (page_number place) of_page.page of_page.in_use)
+next_move-small table place sized move e = let is = next_move-is table place move e in rw (← is.class) (sized.classes (page_number place) is.page is.in_use)
 
 cost_in-bounded : (phase : Phase) (collector : Collector) (has_moved : Bool) → IsSized collector.table → cost_in phase collector has_moved ≤ 209
 cost_in-bounded Idle collector has_moved sized = omega arith
@@ -110,6 +83,12 @@ cost_in-bounded Defrag collector has_moved sized = move_cost-bounded has_moved (
 pub step_cost-bounded : (collector : Collector) (has_moved : Bool) → IsSized collector.table → step_cost collector has_moved ≤ 209
 unfolding step_cost
 step_cost-bounded collector has_moved sized = cost_in-bounded collector.phase collector has_moved sized
+
+-- no step is taken where no cycle runs
+pub steps-idle : (more left : ℕ) (has_moved : Bool) (collector : Collector) → is_idle collector.phase ≡ true → steps more left has_moved collector ≡ record { units = 0; collector = collector }
+unfolding steps
+steps-idle zero left has_moved collector idle = refl
+steps-idle (suc more) left has_moved collector idle = steps-stop more left has_moved collector (ap (λ b. b || nat_lt left (step_cost collector has_moved)) idle)
 
 -- The count of steps -----------------------------------------------------------------------------
 

@@ -13,8 +13,8 @@ use Rattle.mh_model.specs.Mutator.{HeapState, with_root, new_group, with_born, h
 use Rattle.mh_model.specs.View.{birth_named, arraylet_words, field_blocks, block_of_birth, object_of, object_shown, heap_view}
 use Rattle.mh_model.specs.Invariant.{IsPlainAt, first_child, IsSound, KeepsSnapshot, IsKeeping}
 use Rattle.mh_laws.specs.Following.{Follows}
-use Rattle.mh_laws.proofs.showing.ObjectsShown.{Has, field_block-back, count-tabulate}
-use Rattle.mh_laws.proofs.marking.BlockChanges.{resolve-live, within}
+use Rattle.mh_laws.proofs.showing.ObjectsShown.{Has, field_block-back}
+use Rattle.mh_laws.proofs.marking.BlockChanges.{resolve-live}
 use Rattle.mh_laws.proofs.objects.NewbornBlocks.{IsNewborn, IsObjectBorn, made_group-born}
 use Rattle.mh_laws.proofs.objects.Parts.{first_part}
 use Rattle.mh_laws.proofs.snapshots.NewObjects.{borne, either, new_at, resolve-borne, plain_forth, plain_new, plain_old, sound-borne, snapshot-borne, newborn_root}
@@ -24,6 +24,7 @@ use Rattle.mh_laws.proofs.objects.JoinedFields.{shape_is, by_header, has_none, a
 use Rattle.mh_laws.proofs.snapshots.Barriers.{IsWritable}
 use Rattle.mh_laws.proofs.snapshots.SessionCommands.{each_fails}
 use Rattle.mh_laws.proofs.following.SlotCommands.{births_at, shows_root, follows, refused_alike, own_tests}
+use Rattle.mh_laws.proofs.Lists.{below_length, length-tabulate}
 
 -- Lists ------------------------------------------------------------------------------------------
 
@@ -112,7 +113,7 @@ module _ (snapshot : World) (n : ℕ) (c : Collector) (shape : Shape) (made : Ma
       | inr far ↦
           let (k, r, e, at) = far.1 in
           let count = arraylet_count (n + 1) d sound made.place x plain_x newborn.part_is far.0 in
-          let a = an_arraylet (n + 1) d sound made.place x plain_x newborn.part_is far.0 k (omega (arith, count, within (arraylet_words d.table x) k r e)) in
+          let a = an_arraylet (n + 1) d sound made.place x plain_x newborn.part_is far.0 k (omega (arith, count, below_length (arraylet_words d.table x) k r e)) in
           let same_r : a.reference ≡ r = same_Some a.reference r (sym a.word ∙ e) in
           let same : a.block ≡ y = same_Some a.block y (sym a.leads.there ∙ ap (λ w. block_at d.table (resolve d.table w)) same_r ∙ at) in
           let birth_y : y.birth ≡ n = ap (λ (z : Block). z.birth) (sym same) ∙ a.birth ∙ newborn.birth_is in
@@ -175,7 +176,7 @@ module _ (heap : HeapState) (keeping : IsKeeping heap) where
       (ap (tabulate (object_shown after) 0) more
       ∙ grown (object_shown c) (object_shown after) 0 n (λ i below. shows.objects i ∙ old_shown keeping.0 n c shape made keeping.1 born i (omega (arith, below)))
       ∙ ap (λ o. tabulate (object_shown c) 0 n ++ o ∷ []) (ap (object_shown after) last ∙ shows.objects n ∙ born_shown keeping.0 n c shape made keeping.1 born x there newborn))
-      (shows.slots ∙ ap₂ (λ slots name. set slots slot name) (old_births keeping.0 n c shape made keeping.1 born) (born_named keeping.0 n c shape made keeping.1 born x there newborn ∙ ap Some (sym (count-tabulate (object_shown c) 0 n))))
+      (shows.slots ∙ ap₂ (λ slots name. set slots slot name) (old_births keeping.0 n c shape made keeping.1 born) (born_named keeping.0 n c shape made keeping.1 born x there newborn ∙ ap Some (sym (length-tabulate (object_shown c) 0 n))))
 
   pub new-follows : (who slot references numbers : ℕ) → Follows heap who (command.New slot references numbers)
   unfolding heap_effect

@@ -4,8 +4,6 @@ use Rattle.std.proofs.lemmas.Bool.{false≢true, leb-false}
 use Rattle.std.proofs.lemmas.Option.{none-some, same_Some}
 use Rattle.mh_model.specs.declared.command.Command.{Command}
 use Rattle.mh_model.specs.declared.command.Command.TheVariants as command
-use Rattle.mh_model.specs.declared.cycle.Phase.{Phase}
-use Rattle.mh_model.specs.declared.cycle.Phase.TheVariants.{Idle, Roots, Mark, Sweep, Defrag}
 use Rattle.mh_model.specs.declared.reply.Refusal.{Refusal}
 use Rattle.mh_model.specs.declared.reply.Reply.TheVariants as reply
 use Rattle.mh_model.specs.declared.reply.Refusal.TheVariants.{BadSlot, Null, NoField, Ended, TooManySessions}
@@ -15,16 +13,17 @@ use Rattle.mh_model.specs.Pages.{block_at}
 use Rattle.mh_model.specs.Table.{resolve, Block, target_of, position_of, reference_in, number_in, loaded_reference}
 use Rattle.mh_model.specs.Collector.{Collector, with_shade}
 use Rattle.mh_model.specs.Mutator.{HeapState, in_roots, with_root, with_roots_cleared, with_session_cleared, root_at, shape_at, heap_sight, heap_effect, mutator_step, field_of, number_field}
-use Rattle.mh_model.specs.View.{in_sweep, birth_named, object_of, object_shown, heap_view}
+use Rattle.mh_model.specs.View.{birth_named, object_of, object_shown, heap_view}
 use Rattle.mh_model.specs.Invariant.{IsPlainAt, IsSound, KeepsSnapshot, IsKeeping}
 use Rattle.mh_laws.specs.Following.{has_no_place, Follows}
 use Rattle.mh_laws.proofs.showing.ObjectsShown.{read-tabulate}
-use Rattle.mh_laws.proofs.objects.JoinedFields.{shape_is, held_plain, laid, number_read, reference_read}
-use Rattle.mh_laws.proofs.marking.BlockChanges.{resolve-live}
+use Rattle.mh_laws.proofs.objects.JoinedFields.{shape_is, laid, number_read, reference_read}
+use Rattle.mh_laws.proofs.marking.BlockChanges.{resolve-live, roots_mark, no_sweep}
 use Rattle.mh_laws.proofs.snapshots.SessionCommands.{each_fails, not_null, has_reference, loaded_writable, field_held}
 use Rattle.mh_laws.proofs.snapshots.Barriers.{IsWritable, nothing_writable, root_writable, snapshot-with_root}
 use Rattle.mh_laws.proofs.showing.FoundBlocks.{first-found, tabulate-same}
-use Rattle.mh_laws.proofs.showing.ShadedTables.{with_shade-same, births-same, object_shown-same}
+use Rattle.mh_laws.proofs.showing.AlikeTables.{with_shade-alike, roots-alike, alike-shown}
+use Rattle.mh_laws.proofs.showing.SamePlainBlocks.{plain-held}
 
 -- Lists ------------------------------------------------------------------------------------------
 
@@ -39,13 +38,6 @@ map-read f none (x ∷ xs) zero = refl
 map-read f none (x ∷ xs) (suc i) = map-read f none xs i
 
 -- Roots ------------------------------------------------------------------------------------------
-
-roots_no_sweep : (phase : Phase) → in_roots phase ≡ true → in_sweep phase ≡ false
-roots_no_sweep Idle m = refl
-roots_no_sweep Roots m = refl
-roots_no_sweep Mark m = refl
-roots_no_sweep Sweep m = absurd (false≢true m)
-roots_no_sweep Defrag m = refl
 
 -- what a collector shows: its objects, and the births at its roots
 abbrev pub births_at : Collector → List (Option ℕ)
@@ -66,10 +58,10 @@ module _ (snapshot : World) (heap : HeapState) where
     where
       by_shade : (d : Collector) → d ≡ root_after c slot reference true → in_roots c.phase ≡ true → IsSound heap.next_birth d → ShowsRoot c (root_after c slot reference true) slot reference
       by_shade d is e sound =
-          let same = with_shade-same c (get_or c.slots slot None) in
+          let same = with_shade-alike c (get_or c.slots slot None) in
           record {
-            objects = λ birth. object_shown-same heap.next_birth heap.next_birth c (root_after c slot reference true) h.sound (subst (IsSound heap.next_birth) is sound) (roots_no_sweep c.phase e) refl same birth;
-            slots = births-same c.table (with_shade c (get_or c.slots slot None)).table same (set (with_shade c (get_or c.slots slot None)).slots slot reference) ∙ map-put (birth_named c.table) c.slots slot reference;
+            objects = alike-shown heap.next_birth heap.next_birth c (root_after c slot reference true) h.sound (subst (IsSound heap.next_birth) is sound) (no_sweep c.phase (roots_mark c.phase e)) (no_sweep c.phase (roots_mark c.phase e)) same;
+            slots = roots-alike c.table (with_shade c (get_or c.slots slot None)).table same (set (with_shade c (get_or c.slots slot None)).slots slot reference) ∙ map-put (birth_named c.table) c.slots slot reference;
           }
 
       go : (b : Bool) → in_roots c.phase ≡ b → IsSound heap.next_birth (with_root c slot reference) → ShowsRoot c (with_root c slot reference) slot reference
@@ -245,7 +237,7 @@ module _ (heap : HeapState) (keeping : IsKeeping heap) where
   pub shown_plain : (p : ℕ) (z : Block) → IsPlainAt c p z → z.part ≡ 0 → object_at (heap_view heap) z.birth ≡ Some (object_of c.table z)
   shown_plain p z plain first =
       object_view z.birth (keeping.1.sound.births p z plain.there)
-      ∙ ap (option_map (object_of c.table)) (first-found heap.next_birth c keeping.1.sound z.birth p z (record { there = plain.there; held = held_plain c p z plain; birth_is = refl; first = first }))
+      ∙ ap (option_map (object_of c.table)) (first-found heap.next_birth c keeping.1.sound z.birth p z (record { there = plain.there; held = plain-held c p z plain; birth_is = refl; first = first }))
 
   pub at_root : (slot place : ℕ) → root_at heap slot ≡ Some place → (z : Block) × IsAtRoot slot place z
   at_root slot place e =

@@ -6,8 +6,6 @@ use Rattle.std.proofs.lemmas.Option.{none-some, same_Some}
 use Rattle.mh_model.specs.declared.shape.Shape.{Shape}
 use Rattle.mh_model.specs.declared.command.Command.TheVariants as command
 use Rattle.mh_model.specs.World.{Object, own_slot, object_at, with_change, with_number, with_reference, tests}
-use Rattle.mh_model.specs.declared.cycle.Phase.{Phase}
-use Rattle.mh_model.specs.declared.cycle.Phase.TheVariants.{Idle, Roots, Mark, Sweep, Defrag}
 use Rattle.mh_model.specs.Classes.{run_count, middle_count, tabulate}
 use Rattle.mh_model.specs.Pages.{Table, block_at, with_block}
 use Rattle.mh_model.specs.Table.{Block, Position, resolve, is_spine, is_tall, position_of, number_index, with_number_at, with_reference_at, reference_in}
@@ -17,17 +15,18 @@ use Rattle.mh_model.specs.Snapshot.{IsKept}
 use Rattle.mh_model.specs.View.{in_sweep, block_named, blocks_named, birth_named, arraylet_words, field_blocks, object_of, object_shown, heap_view}
 use Rattle.mh_model.specs.Invariant.{IsPlainAt, HasFieldsAt, first_child, IsSound, IsKeeping}
 use Rattle.mh_laws.specs.Following.{Follows}
-use Rattle.mh_laws.proofs.placing.Places.{block_at-with_block_same, block_at-with_block_other}
-use Rattle.mh_laws.proofs.marking.BlockChanges.{is_slot, resolve-live}
+use Rattle.mh_laws.proofs.placing.Places.{block_at-with_block_same, block_at-with_block_other, block-slot}
+use Rattle.mh_laws.proofs.marking.BlockChanges.{resolve-live, no_sweep}
 use Rattle.mh_laws.proofs.snapshots.SessionCommands.{each_fails, not_null, has_reference, field_held}
 use Rattle.mh_laws.proofs.snapshots.Barriers.{HasFields, root_writable, snapshot-with_number_stored, snapshot-with_reference_stored}
 use Rattle.mh_laws.proofs.marking.MarkSteps.{IsGuarded, guarded, leads}
 use Rattle.mh_laws.proofs.showing.SamePlainBlocks.{plain-held, held-plain}
 use Rattle.mh_laws.proofs.objects.JoinedFields.{AreSameBut, SetsNumber, SetsReference, a_middle, IsArraylet, an_arraylet, arraylet_count, IsLaid, are_runs, laid, has_fields, named_at, write_numbers, write_references}
 use Rattle.mh_laws.proofs.objects.Headers.{flat_of}
-use Rattle.mh_laws.proofs.showing.FoundBlocks.{tabulate-same}
-use Rattle.mh_laws.proofs.showing.ShadedTables.{shown-changed, position-same, SameButStamps, with_shade-same, birth-same, births-same, object_shown-same}
+use Rattle.mh_laws.proofs.showing.FoundBlocks.{shown-changed, shown-same}
+use Rattle.mh_laws.proofs.showing.AlikeTables.{IsAlike, position-same, birth-same, with_shade-alike}
 use Rattle.mh_laws.proofs.following.SlotCommands.{map-put, slot_shown, follows, own_tests, has_number, number_place, object_view, object_at_root, refused_alike}
+use Rattle.mh_laws.proofs.showing.MarkingShows.{alike-view}
 
 -- Lists ------------------------------------------------------------------------------------------
 
@@ -117,7 +116,7 @@ module _ (n : ℕ) (c : Collector) (h : IsSound n c) (q : ℕ) (old new : Block)
   t' = with_block c.table q (Some new)
 
   here : block_at t' q ≡ Some new
-  here = block_at-with_block_same t q (Some new) (is_slot t q old plain_q.there)
+  here = block_at-with_block_same t q (Some new) (block-slot t q old plain_q.there)
 
   away : (p : ℕ) → (p ≡ q → ⊥) → block_at t' p ≡ block_at t p
   away p apart = block_at-with_block_other t q p (Some new) apart
@@ -264,23 +263,18 @@ module _ (n : ℕ) (c : Collector) (h : IsSound n c) (q : ℕ) (old new : Block)
         (λ o x is.
         let place : o ≡ p = h.one o p x z is.there plain.there (held-plain n c h o x is.there is.held).original plain.original is.birth_is (is.first ∙ sym first) in
         let x_is : x ≡ z = same_Some x z (sym is.there ∙ ap (block_at t) place ∙ plain.there) in
-        (z', record { there = ap (block_at t') place ∙ plain'.there; held = plain-held (changed c q new) o z' (subst (λ k. IsPlainAt (changed c q new) k z') (sym place) plain'); birth_is = birth'; first = part' ∙ first }, object ∙ ap (λ x. change (object_of t x)) (sym x_is)))
+        (o, z', record { there = ap (block_at t') place ∙ plain'.there; held = plain-held (changed c q new) o z' (subst (λ k. IsPlainAt (changed c q new) k z') (sym place) plain'); birth_is = birth'; first = part' ∙ first }, object ∙ ap (λ x. change (object_of t x)) (sym x_is)))
         (λ o x is.
         let place : o ≡ p = h'.one o p x z' is.there plain'.there (held-plain n (changed c q new) h' o x is.there is.held).original plain'.original (is.birth_is ∙ sym birth') (is.first ∙ sym (part' ∙ first)) in
-        (z, record { there = ap (block_at t) place ∙ plain.there; held = plain-held c o z (subst (λ k. IsPlainAt c k z) (sym place) plain); birth_is = refl; first = first }))
+        (o, z, record { there = ap (block_at t) place ∙ plain.there; held = plain-held c o z (subst (λ k. IsPlainAt c k z) (sym place) plain); birth_is = refl; first = first }))
 
   -- what is shown of another birth
   shown_away : (birth : ℕ) → (birth ≡ old.birth → ⊥) → object_shown (changed c q new) birth ≡ object_shown c birth
-  shown_away birth differs = shown-changed n n c (changed c q new) h h' birth (λ x. x)
+  shown_away birth differs = shown-same n n c (changed c q new) h h' birth
       (λ o x is.
       let plain = held-plain n c h o x is.there is.held in
-      (x, record { there = away o (apart_by o x is.there (λ e. differs (sym is.birth_is ∙ e.0))) ∙ is.there; held = is.held; birth_is = is.birth_is; first = is.first }, object-away o x plain is.first (λ e. differs (sym is.birth_is ∙ e))))
-      (λ o x is. (x, record { there = sym (away o (λ e. differs (sym is.birth_is ∙ ap (λ (y : Block). y.birth) (same_Some x new (sym is.there ∙ ap (block_at t') e ∙ here)) ∙ also.birth))) ∙ is.there; held = is.held; birth_is = is.birth_is; first = is.first }))
-      ∙ by (object_shown c birth)
-    where
-      by : (o : Option Object) → option_map (λ x. x) o ≡ o
-      by None = refl
-      by (Some x) = refl
+      (o, x, record { there = away o (apart_by o x is.there (λ e. differs (sym is.birth_is ∙ e.0))) ∙ is.there; held = is.held; birth_is = is.birth_is; first = is.first }, object-away o x plain is.first (λ e. differs (sym is.birth_is ∙ e))))
+      (λ o x is. (o, x, record { there = sym (away o (λ e. differs (sym is.birth_is ∙ ap (λ (y : Block). y.birth) (same_Some x new (sym is.there ∙ ap (block_at t') e ∙ here)) ∙ also.birth))) ∙ is.there; held = is.held; birth_is = is.birth_is; first = is.first }))
 
 -- Numbers ----------------------------------------------------------------------------------------
 
@@ -433,31 +427,21 @@ module _ (heap : HeapState) (keeping : IsKeeping heap) (place : ℕ) (z : Block)
 
 -- After a barrier --------------------------------------------------------------------------------
 
-marks_no_sweep : (phase : Phase) → in_roots_or_mark phase ≡ true → in_sweep phase ≡ false
-marks_no_sweep Idle m = refl
-marks_no_sweep Roots m = refl
-marks_no_sweep Mark m = refl
-marks_no_sweep Sweep m = absurd (false≢true m)
-marks_no_sweep Defrag m = refl
-
 module _ (heap : HeapState) (keeping : IsKeeping heap) where
   abbrev unshaded : Collector
   unshaded = heap.collector
 
   -- a shaded state shows the same
-  view_shaded : (d : Collector) (o : Option ℕ) → IsGuarded keeping.0 heap.next_birth unshaded d o → in_roots_or_mark unshaded.phase ≡ true → SameButStamps unshaded.table d.table → heap_view (record heap { collector = d }) ≡ heap_view heap
-  unfolding heap_view
-  view_shaded d o g marks same = ap₂ (λ objects slots. record { config = heap.config; objects = objects; slots = slots; ended = heap.ended })
-      (tabulate-same (object_shown unshaded) (object_shown d) (object_shown-same heap.next_birth heap.next_birth unshaded d keeping.1.sound g.keeps.sound (marks_no_sweep unshaded.phase marks) g.phase same) 0 heap.next_birth)
-      (ap (map (birth_named d.table)) g.slots ∙ births-same unshaded.table d.table same unshaded.slots)
+  view_shaded : (d : Collector) (o : Option ℕ) → IsGuarded keeping.0 heap.next_birth unshaded d o → in_roots_or_mark unshaded.phase ≡ true → IsAlike unshaded.table d.table → heap_view (record heap { collector = d }) ≡ heap_view heap
+  view_shaded d o g marks same = alike-view keeping.0 heap d (no_sweep unshaded.phase marks) (ap in_sweep g.phase ∙ no_sweep unshaded.phase marks) keeping.1 g.keeps g.slots same
 
-  stored_shaded : (d : Collector) (o : Option ℕ) → IsGuarded keeping.0 heap.next_birth unshaded d o → in_roots_or_mark unshaded.phase ≡ true → SameButStamps unshaded.table d.table → (place : ℕ) (z : Block) → IsPlainAt unshaded place z → z.part ≡ 0 → (field : ℕ) (reference : Option ℕ) → field < z.header.references
+  stored_shaded : (d : Collector) (o : Option ℕ) → IsGuarded keeping.0 heap.next_birth unshaded d o → in_roots_or_mark unshaded.phase ≡ true → IsAlike unshaded.table d.table → (place : ℕ) (z : Block) → IsPlainAt unshaded place z → z.part ≡ 0 → (field : ℕ) (reference : Option ℕ) → field < z.header.references
       → IsSound heap.next_birth (with_stored d (position_of unshaded.table place field) reference)
       → heap_view (record heap { collector = with_stored d (position_of unshaded.table place field) reference }) ≡ with_change (heap_view heap) (Some z.birth) (with_reference field (birth_named unshaded.table reference))
   stored_shaded d o g marks same place z plain first field reference below sound =
       let (s, there) = g.blocks place z plain.there in
       let at = position-same unshaded.table d.table same place field in
-      let outside : in_sweep d.phase ≡ false = ap in_sweep g.phase ∙ marks_no_sweep unshaded.phase marks in
+      let outside : in_sweep d.phase ≡ false = ap in_sweep g.phase ∙ no_sweep unshaded.phase marks in
       ap (λ p. heap_view (record heap { collector = with_stored d p reference })) (sym at)
       ∙ reference_written (record heap { collector = d }) (keeping.0, g.keeps) place (record z { stamp = s }) (record { there = there; original = plain.original; surviving = λ e. absurd (false≢true (sym outside ∙ e)) }) first field reference below
       (subst (λ p. IsSound heap.next_birth (with_stored d p reference)) (sym at) sound)
@@ -483,7 +467,7 @@ module _ (heap : HeapState) (keeping : IsKeeping heap) where
       go : (b : Bool) → in_roots_or_mark unshaded.phase ≡ b → IsSound heap.next_birth (stored_if position reference b) → heap_view (record heap { collector = stored_if position reference b }) ≡ with_change (heap_view heap) (Some z.birth) (with_reference field (birth_named unshaded.table reference))
       go false e sound = reference_written heap keeping place z plain first field reference below sound
       go true marks sound = stored_shaded (with_shade unshaded (reference_in unshaded.table position)) (reference_in unshaded.table position)
-          (guarded keeping.0 heap.next_birth unshaded (reference_in unshaded.table position) marks (target marks) keeping.1) marks (with_shade-same unshaded (reference_in unshaded.table position)) place z plain first field reference below sound
+          (guarded keeping.0 heap.next_birth unshaded (reference_in unshaded.table position) marks (target marks) keeping.1) marks (with_shade-alike unshaded (reference_in unshaded.table position)) place z plain first field reference below sound
 
   pub put-follows : (who slot field value : ℕ) → Follows heap who (command.Put slot field value)
   unfolding heap_effect

@@ -7,8 +7,8 @@ use Rattle.mh_model.specs.Table.{Block, references_at, with_reference_at, resolv
 use Rattle.mh_model.specs.Collector.{Marking, is_marked, with_grey, shade_block, shade, mark_references, mark_step}
 use Rattle.mh_laws.specs.Batches.{mark_steps}
 use Rattle.mh_model.specs.Batches.{written_back, batch_written, NoneTwice}
-use Rattle.mh_laws.proofs.placing.Places.{block_at-with_block_same, block_at-with_block_other}
-use Rattle.mh_laws.proofs.tables.BlockRoom.{block-slot, with_block-none}
+use Rattle.mh_laws.proofs.placing.Places.{block_at-with_block_same, block_at-with_block_other, block-slot}
+use Rattle.mh_laws.proofs.tables.BlockRoom.{with_block-none}
 
 -- Forwards ---------------------------------------------------------------------------------------
 

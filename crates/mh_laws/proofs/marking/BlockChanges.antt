@@ -8,31 +8,18 @@ use Rattle.mh_model.specs.declared.cycle.Phase.TheVariants.{Idle, Roots, Mark, S
 use Rattle.mh_model.specs.declared.shape.Shape.{Shape}
 use Rattle.mh_model.specs.World.{World, births}
 use Rattle.mh_model.specs.Classes.{parts}
-use Rattle.mh_model.specs.Pages.{Page, Table, page_number, slot_number, page_at, block_in, block_at, page_with, with_block}
+use Rattle.mh_model.specs.Pages.{Page, Table, page_number, slot_number, page_at, block_at, page_with, with_block}
 use Rattle.mh_model.specs.Table.{Block, resolve}
 use Rattle.mh_model.specs.Collector.{Collector, is_idle}
-use Rattle.mh_model.specs.Mutator.{in_roots_or_mark}
+use Rattle.mh_model.specs.Mutator.{in_roots_or_mark, in_roots}
 use Rattle.mh_model.specs.View.{in_sweep}
 use Rattle.mh_model.specs.Paths.{Reachable}
 use Rattle.mh_model.specs.Snapshot.{IsKept}
 use Rattle.mh_model.specs.Invariant.{IsIn, IsPlainAt, LeadsToObject, LeadsToPart, IsStraight, IsPartOf, first_child, in_trace, IsSound, IsMarkedAt, Links, IsWhole, KeepsCycle, KeepsSnapshot}
-use Rattle.mh_laws.proofs.placing.Places.{IsSlot, block_at-with_block_same, block_at-with_block_other}
+use Rattle.mh_laws.proofs.placing.Places.{block_at-with_block_same, block_at-with_block_other, block-slot}
 use Rattle.mh_laws.proofs.marking.MarkingPaths.{Keeps, promises_stay}
 
 -- Reading ----------------------------------------------------------------------------------------
-
-pub within : {X : Type 0} (xs : List (Option X)) (i : ℕ) (x : X) → get_or xs i None ≡ Some x → i < length xs
-within [] i x e = absurd (none-some x e)
-within (y ∷ xs) zero x e = omega arith
-within (y ∷ xs) (suc i) x e = omega (arith, within xs i x e)
-
--- a block is in a slot of a page in use
-pub is_slot : (table : Table Block) (place : ℕ) (block : Block) → block_at table place ≡ Some block → IsSlot table place
-is_slot table place block there = go (page_at table (page_number place)) refl there
-  where
-    go : (content : Option (Page Block)) → page_at table (page_number place) ≡ content → option_and_then (block_in (slot_number place)) content ≡ Some block → IsSlot table place
-    go None is e = absurd (none-some block e)
-    go (Some page) is e = record { page = page; in_use = is; within = within page.slots (slot_number place) block e }
 
 -- a place leads to itself where its block is no forwarder, and else to where that leads
 pub resolve-live : (table : Table Block) (place : ℕ) (block : Block) → block_at table place ≡ Some block → block.forward ≡ None → resolve table place ≡ place
@@ -44,6 +31,24 @@ not_sweep Roots m s = false≢true s
 not_sweep Mark m s = false≢true s
 not_sweep Sweep m s = false≢true m
 not_sweep Defrag m s = false≢true m
+
+pub no_sweep : (phase : Phase) → in_roots_or_mark phase ≡ true → in_sweep phase ≡ false
+no_sweep Idle m = refl
+no_sweep Roots m = refl
+no_sweep Mark m = refl
+no_sweep Sweep m = absurd (false≢true m)
+no_sweep Defrag m = refl
+
+pub roots_mark : (phase : Phase) → in_roots phase ≡ true → in_roots_or_mark phase ≡ true
+roots_mark Idle m = absurd (false≢true m)
+roots_mark Roots m = refl
+roots_mark Mark m = absurd (false≢true m)
+roots_mark Sweep m = absurd (false≢true m)
+roots_mark Defrag m = absurd (false≢true m)
+
+-- outside the sweep what is no forwarder is plain
+pub live_plain : (c : Collector) → in_sweep c.phase ≡ false → (q : ℕ) (x : Block) → block_at c.table q ≡ Some x → x.forward ≡ None → IsPlainAt c q x
+live_plain c out q x there live = record { there = there; original = live; surviving = λ s. absurd (false≢true (sym out ∙ s)) }
 
 -- the change of a page in one slot, with the number of its slots and its flag
 pub pages-with_block : (table : Table Block) (place : ℕ) (content : Option Block) (number : ℕ) (page : Page Block) → page_at (with_block table place content) number ≡ Some page
@@ -100,7 +105,7 @@ module _ (c : Collector) (p : ℕ) (b b' : Block) (grey' : List ℕ) (change : I
   changed = record c { table = with_block c.table p (Some b'); grey = grey' }
 
   pub at_here : block_at changed.table p ≡ Some b'
-  at_here = block_at-with_block_same c.table p (Some b') (is_slot c.table p b change.here)
+  at_here = block_at-with_block_same c.table p (Some b') (block-slot c.table p b change.here)
 
   pub at_other : (q : ℕ) → q ≢ p → block_at changed.table q ≡ block_at c.table q
   at_other q apart = block_at-with_block_other c.table p q (Some b') apart

@@ -9,75 +9,47 @@ use Rattle.std.proofs.lemmas.Option.{none-some, same_Some}
 use Rattle.mh_model.specs.Pages.{Page, Table, page_number, slot_number, page_at, block_in, block_at, page_with, with_block, page_for, with_taken, IsFreeFor}
 use Rattle.mh_model.specs.Table.{Block, references_at, with_block_change, with_reference_at, resolve, target_of}
 use Rattle.mh_model.specs.Collector.{Marking, is_marked, with_grey, shade_block, shade, mark_reference, mark_references, mark_first}
-use Rattle.mh_laws.specs.GreyRoom.{IsMarkedIn, IsSettled}
-use Rattle.mh_model.specs.Batches.{NoneTwice}
-use Rattle.mh_laws.proofs.placing.Places.{IsSlot, block_in-page_for, block_at-with_block_same, block_at-with_block_other}
-use Rattle.mh_laws.proofs.tables.BlockRoom.{IsRoomy, rewritten-roomy, block-slot, get_or-below, with_block-none}
-
--- how many references the block at a place has
-abbrev pub count_at : Table Block → ℕ → ℕ
-count_at table place = length (references_at table place)
-
--- the class of a page in use
-abbrev pub class_at : Table Block → ℕ → Option ℕ
-class_at table number = option_map (λ page. page.class_size) (page_at table number)
+use Rattle.mh_laws.specs.GreyRoom.{IsSettled}
+use Rattle.mh_model.specs.Bound.{count_at, class_at, slot_weight, page_weight, table_weight, grey_weight, weight, IsGreySound, IsMarkedIn}
+use Rattle.mh_laws.proofs.placing.Places.{IsSlot, block_in-page_for, block_at-with_block_same, block_at-with_block_other, block-slot}
+use Rattle.mh_laws.proofs.tables.BlockRoom.{rewritten-roomy, with_block-none}
+use Rattle.mh_laws.proofs.Lists.{below_length}
 
 -- Weights ----------------------------------------------------------------------------------------
 
 module _ (price : ℕ → ℕ) (cycle : ℕ) where
-  -- what marking the block in a slot will cost, at a price by its references: nothing where it is marked
-  abbrev pub slot_weight : Option Block → ℕ
-  slot_weight None = 0
-  slot_weight (Some block) = if is_marked cycle block then 0 else price (length block.references)
-
-  abbrev pub page_weight : Option (Page Block) → ℕ
-  page_weight None = 0
-  page_weight (Some page) = sum_by slot_weight page.slots
-
-  -- what marking all unmarked blocks will cost
-  abbrev pub table_weight : Table Block → ℕ
-  table_weight table = sum_by page_weight table
-
-  weight-with_block : (table : Table Block) (place : ℕ) (content : Option Block) → IsSlot table place → table_weight (with_block table place content) + slot_weight (block_at table place) ≡ table_weight table + slot_weight content
+  weight-with_block : (table : Table Block) (place : ℕ) (content : Option Block) → IsSlot table place → table_weight price cycle (with_block table place content) + slot_weight price cycle (block_at table place) ≡ table_weight price cycle table + slot_weight price cycle content
   weight-with_block table place content slot =
       let page = slot.page in
       let number = page_number place in
-      let inside : number < length table = get_or-below table number page slot.in_use in
+      let inside : number < length table = below_length table number page slot.in_use in
       let new : Option (Page Block) = option_map (page_with (slot_number place) content) (page_at table number) in
-      let whole : table_weight (with_block table place content) + page_weight (page_at table number) ≡ table_weight table + page_weight new = sum_by-set page_weight table number new None inside in
-      let part : sum_by slot_weight (set page.slots (slot_number place) content) + slot_weight (block_in (slot_number place) page) ≡ sum_by slot_weight page.slots + slot_weight content = sum_by-set slot_weight page.slots (slot_number place) content None slot.within in
-      let old_page : page_weight (page_at table number) ≡ sum_by slot_weight page.slots = ap page_weight slot.in_use in
-      let new_page : page_weight new ≡ sum_by slot_weight (set page.slots (slot_number place) content) = ap (λ p. page_weight (option_map (page_with (slot_number place) content) p)) slot.in_use in
-      let there : slot_weight (block_at table place) ≡ slot_weight (block_in (slot_number place) page) = ap (λ p. slot_weight (option_and_then (block_in (slot_number place)) p)) slot.in_use in
+      let whole : table_weight price cycle (with_block table place content) + page_weight price cycle (page_at table number) ≡ table_weight price cycle table + page_weight price cycle new = sum_by-set (page_weight price cycle) table number new None inside in
+      let part : sum_by (slot_weight price cycle) (set page.slots (slot_number place) content) + slot_weight price cycle (block_in (slot_number place) page) ≡ sum_by (slot_weight price cycle) page.slots + slot_weight price cycle content = sum_by-set (slot_weight price cycle) page.slots (slot_number place) content None slot.within in
+      let old_page : page_weight price cycle (page_at table number) ≡ sum_by (slot_weight price cycle) page.slots = ap (page_weight price cycle) slot.in_use in
+      let new_page : page_weight price cycle new ≡ sum_by (slot_weight price cycle) (set page.slots (slot_number place) content) = ap (λ p. page_weight price cycle (option_map (page_with (slot_number place) content) p)) slot.in_use in
+      let there : slot_weight price cycle (block_at table place) ≡ slot_weight price cycle (block_in (slot_number place) page) = ap (λ p. slot_weight price cycle (option_and_then (block_in (slot_number place)) p)) slot.in_use in
       omega (arith, whole, part, old_page, new_page, there)
 
-  weight-empty : (count : ℕ) → sum_by slot_weight (replicate count None) ≡ 0
+  weight-empty : (count : ℕ) → sum_by (slot_weight price cycle) (replicate count None) ≡ 0
   weight-empty zero = refl
   weight-empty (suc count) = omega (arith, weight-empty count)
 
-  weight-page_for : (size : ℕ) (content : Option (Page Block)) → sum_by slot_weight (page_for size content).slots ≡ page_weight content
+  weight-page_for : (size : ℕ) (content : Option (Page Block)) → sum_by (slot_weight price cycle) (page_for size content).slots ≡ page_weight price cycle content
   weight-page_for size None = weight-empty (slots_in size)
   weight-page_for size (Some page) = refl
 
-  pub weight-with_taken : (table : Table Block) (size place : ℕ) (block : Block) → IsFreeFor table size place → table_weight (with_taken table size place block) ≡ table_weight table + slot_weight (Some block)
+  pub weight-with_taken : (table : Table Block) (size place : ℕ) (block : Block) → IsFreeFor table size place → table_weight price cycle (with_taken table size place block) ≡ table_weight price cycle table + slot_weight price cycle (Some block)
   weight-with_taken table size place block free =
       let number = page_number place in
       let page : Page Block = page_for size (page_at table number) in
-      let whole : table_weight (with_taken table size place block) + page_weight (page_at table number) ≡ table_weight table + sum_by slot_weight (set page.slots (slot_number place) (Some block)) = sum_by-set page_weight table number (Some (page_with (slot_number place) (Some block) page)) None free.inside in
-      let part : sum_by slot_weight (set page.slots (slot_number place) (Some block)) + slot_weight (block_in (slot_number place) page) ≡ sum_by slot_weight page.slots + slot_weight (Some block) = sum_by-set slot_weight page.slots (slot_number place) (Some block) None free.within in
-      let empty : slot_weight (block_in (slot_number place) page) ≡ 0 = ap slot_weight (block_in-page_for (page_at table number) size (slot_number place) ∙ free.empty) in
+      let whole : table_weight price cycle (with_taken table size place block) + page_weight price cycle (page_at table number) ≡ table_weight price cycle table + sum_by (slot_weight price cycle) (set page.slots (slot_number place) (Some block)) = sum_by-set (page_weight price cycle) table number (Some (page_with (slot_number place) (Some block) page)) None free.inside in
+      let part : sum_by (slot_weight price cycle) (set page.slots (slot_number place) (Some block)) + slot_weight price cycle (block_in (slot_number place) page) ≡ sum_by (slot_weight price cycle) page.slots + slot_weight price cycle (Some block) = sum_by-set (slot_weight price cycle) page.slots (slot_number place) (Some block) None free.within in
+      let empty : slot_weight price cycle (block_in (slot_number place) page) ≡ 0 = ap (slot_weight price cycle) (block_in-page_for (page_at table number) size (slot_number place) ∙ free.empty) in
       omega (arith, whole, part, empty, weight-page_for size (page_at table number))
 
-  pub weight-marked : (block : Block) → block.stamp ≡ cycle → slot_weight (Some block) ≡ 0
+  pub weight-marked : (block : Block) → block.stamp ≡ cycle → slot_weight price cycle (Some block) ≡ 0
   weight-marked block e = rw (eq-eqb block.stamp cycle e) refl
-
--- what marking the blocks of the grey list will cost
-abbrev pub grey_weight : (ℕ → ℕ) → Table Block → List ℕ → ℕ
-grey_weight price table grey = sum_by (λ place. price (count_at table place)) grey
-
--- What marking still costs: the grey blocks, and those that may become grey
-abbrev pub weight : (ℕ → ℕ) → Marking → ℕ
-weight price marking = table_weight price marking.cycle marking.table + grey_weight price marking.table marking.grey
 
 pub grey_weight-same : (price : ℕ → ℕ) (old new : Table Block) → (grey : List ℕ) → AllByRecursion (λ place. count_at new place ≡ count_at old place) grey → grey_weight price new grey ≡ grey_weight price old grey
 grey_weight-same price old new [] same = refl
@@ -89,12 +61,6 @@ all-of P f [] = tt
 all-of P f (x ∷ xs) = (f x, all-of P f xs)
 
 -- What marking keeps -----------------------------------------------------------------------------
-
--- the table's pages are roomy, and no place stands twice in the grey list, of which each holds a marked block
-pub record IsGreySound (marking : Marking) : Type 0 where
-  pub roomy : IsRoomy marking.table
-  pub once : NoneTwice marking.grey
-  pub marked : AllByRecursion (IsMarkedIn marking.table marking.cycle) marking.grey
 
 -- what sessions and marking do: soundness stays, no place leaves the grey list and no settled one enters it, marking costs no more, and pages in use keep their classes
 pub record Carries (old new : Marking) : Type 0 where

@@ -8,9 +8,10 @@ use Rattle.mh_model.specs.declared.config.Config.{Config}
 use Rattle.mh_model.specs.Pages.{Page, Table, page_number, slot_number, page_at, block_in}
 use Rattle.mh_model.specs.Table.{Block}
 use Rattle.mh_model.specs.Collector.{Collector}
-use Rattle.mh_laws.specs.GreyRoom.{IsMarkedIn, HasGreyRoom, GreyListHasRoom}
-use Rattle.mh_laws.proofs.tables.BlockRoom.{get_or-below}
-use Rattle.mh_laws.proofs.bounds.CyclesInTime.{InBounds, run-stays, half-stays}
+use Rattle.mh_model.specs.Bound.{IsMarkedIn, IsInBounds}
+use Rattle.mh_laws.specs.GreyRoom.{HasGreyRoom, GreyListHasRoom}
+use Rattle.mh_laws.proofs.bounds.CyclesInTime.{run-stays, half-stays}
+use Rattle.mh_laws.proofs.Lists.{below_length}
 
 -- a place with a marked block is a place of the table
 marked-below : (table : Table Block) (cycle place : ℕ) → IsMarkedIn table cycle place → place < 64 * length table
@@ -18,7 +19,7 @@ marked-below table cycle place marked = go (page_at table (page_number place)) r
   where
     go : (page : Option (Page Block)) → page_at table (page_number place) ≡ page → option_map (λ (b : Block). b.stamp) (option_and_then (block_in (slot_number place)) page) ≡ Some cycle → place < 64 * length table
     go None at e = absurd (none-some cycle e)
-    go (Some page) at e = omega (arith, get_or-below table (page_number place) page at)
+    go (Some page) at e = omega (arith, below_length table (page_number place) page at)
 
 -- what holds of each place of a list
 listed : (P : ℕ → Type 0) (list : List ℕ) (place : ℕ) → AllByRecursion P list → list_any (λ other. place == other) list ≡ true → P place
@@ -29,7 +30,7 @@ listed P (other ∷ list) place all e = go (place == other) refl e (listed P lis
     go true is h after = subst P (sym (eqb-true place other is)) all.0
     go false is h after = after h
 
-has_room : (config : Config) (collector : Collector) → InBounds config collector → HasGreyRoom config collector
+has_room : (config : Config) (collector : Collector) → IsInBounds config collector → HasGreyRoom config collector
 has_room config collector bounds =
     let sound = (bounds.under).sound in
     let few : length collector.grey ≤ 64 * length collector.table = length-le_from_distinct_below collector.grey (64 * length collector.table) sound.once (λ place is. marked-below collector.table collector.cycle place (listed (IsMarkedIn collector.table collector.cycle) collector.grey place sound.marked is)) in

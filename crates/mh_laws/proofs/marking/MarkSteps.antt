@@ -14,8 +14,9 @@ use Rattle.mh_model.specs.View.{in_sweep}
 use Rattle.mh_model.specs.Snapshot.{IsKept}
 use Rattle.mh_model.specs.Invariant.{IsIn, IsPlainAt, first_child, in_trace, IsSound, IsMarkedAt, IsFromGrey, KeepsSnapshot}
 use Rattle.mh_laws.proofs.marking.MarkingPaths.{is_in-left, is_in-last, is_in-either}
-use Rattle.mh_laws.proofs.marking.BlockChanges.{IsChange, IsKeptChange, forth, at_here, resolve-changed, snapshot-changed, resolve-live, not_sweep, within, marked_at}
+use Rattle.mh_laws.proofs.marking.BlockChanges.{IsChange, IsKeptChange, forth, at_here, resolve-changed, snapshot-changed, resolve-live, not_sweep, marked_at}
 use Rattle.mh_laws.proofs.marking.SameTable.{IsTurn, turned, snapshot-turned}
+use Rattle.mh_laws.proofs.Lists.{below_length}
 
 pub traces : (phase : Phase) → in_roots_or_mark phase ≡ true → in_trace phase ≡ true
 traces Idle m = absurd (false≢true m)
@@ -129,7 +130,7 @@ leads n c h q b plain i s e = go (first_child (h.shapes b.birth) b.part) refl
     go : (child : Option ℕ) → first_child (h.shapes b.birth) b.part ≡ child → (x : Block) × IsPlainAt c (resolve c.table s) x
     go None is = let (x, plain', first) = h.fields q b plain is i s e in (x, plain')
     go (Some child) is =
-        let (r, f, (x, plain', birth, part)) = h.spines q b child plain is i (within b.references i s e) in
+        let (r, f, (x, plain', birth, part)) = h.spines q b child plain is i (below_length b.references i s e) in
         (x, subst (λ z. IsPlainAt c (resolve c.table z) x) (same_Some r s (sym f ∙ e)) plain')
 
 -- the block that is scanned, up to one of its references: those before it lead straight to marked blocks
@@ -184,7 +185,7 @@ module _ (snapshot : World) (n : ℕ) (c : Collector) (g : ℕ) (marks : in_root
     words_kept i s e = elim (cases_eq i index) [
       | inr apart ↦ (s, get_or-set_other old.references index i (target_of m.table o) None apart ∙ e, refl)
       | inl is ↦
-          let inside : index < length old.references = within old.references index s (ap (λ k. get_or old.references k None) (sym is) ∙ e) in
+          let inside : index < length old.references = below_length old.references index s (ap (λ k. get_or old.references k None) (sym is) ∙ e) in
           let f : o ≡ Some s = sym read_ahead ∙ ap (λ k. get_or old.references k None) (sym is) ∙ e in
           (resolve m.table s, ap (λ k. get_or stored.references k None) is ∙ get_or-set_same old.references index (target_of m.table o) None inside ∙ ap (target_of m.table) f, twice i s e)
     ]
@@ -239,7 +240,7 @@ module _ (snapshot : World) (n : ℕ) (c : Collector) (g : ℕ) (marks : in_root
               let same_length : length (set old.references index None) ≡ length old.references = length-set _ _ _ in
               get_or_past (set old.references index None) index None (omega (arith, past, same_length))
         ]
-        at_index (Some s) is = get_or-set_same old.references index (target_of m.table (Some s)) None (within old.references index s (read_ahead ∙ is))
+        at_index (Some s) is = get_or-set_same old.references index (target_of m.table (Some s)) None (below_length old.references index s (read_ahead ∙ is))
 
         ahead : (k : ℕ) → get_or stored.references (index + k) None ≡ get_or (target_of m.table o ∷ refs) k None
         ahead zero = let e : index + 0 ≡ index = omega arith in ap (λ k. get_or stored.references k None) e ∙ at_index o refl

@@ -1,19 +1,20 @@
 -- Steps of defragmentation: a block that moves with all its roots, and the end of the cycle.
-use Rattle.std.proofs.Common.{◌≡◌, ◌≢◌, ℕ, zero, suc, ◌<◌, ◌≤◌, if◌then◌else◌, Bool, true, false, ◌⊎◌, inl, inr, List, [], ◌∷◌, length, get_or, set, Option, Some, None, is_some, option_map, option_and_then, unwrap_or, refl, sym, ap, ◌∙◌, subst, arith}
+use Rattle.std.proofs.Common.{◌≡◌, ◌≢◌, ℕ, zero, suc, ◌<◌, ◌≤◌, true, false, ◌⊎◌, inl, inr, List, [], ◌∷◌, length, get_or, set, Option, Some, None, option_map, option_and_then, unwrap_or, refl, sym, ap, ◌∙◌, subst, arith}
 use Rattle.std.proofs.lemmas.Bool.{cases_eq, false≢true}
 use Rattle.std.proofs.lemmas.Option.{none-some, same_Some}
 use Rattle.std.proofs.lemmas.List.{length-map}
 use Rattle.mh_model.specs.declared.cycle.Phase.TheVariants.{Idle, Defrag}
 use Rattle.mh_model.specs.World.{World, births}
-use Rattle.mh_model.specs.Pages.{Page, Table, page_number, slot_number, page_at, block_in, block_at, least_dense_place, page_with, with_block, page_for, with_taken}
+use Rattle.mh_model.specs.Pages.{Page, Table, page_number, slot_number, page_at, block_in, block_at, page_with, with_block, page_for, with_taken}
 use Rattle.mh_model.specs.Table.{Block, resolve, target_of}
-use Rattle.mh_model.specs.Collector.{Collector, Move, if_flagged, flagged_page, move_of, next_move, moved_table, forwarded_slots, with_phase, with_move, defrag_step, next_place, is_idle, cycle_end}
+use Rattle.mh_model.specs.Collector.{Collector, Move, flagged_page, next_move, moved_table, forwarded_slots, with_phase, with_move, defrag_step, next_place, is_idle, cycle_end}
 use Rattle.mh_model.specs.Mutator.{in_roots_or_mark}
 use Rattle.mh_model.specs.View.{in_sweep}
 use Rattle.mh_model.specs.Snapshot.{IsKept}
 use Rattle.mh_model.specs.Invariant.{IsIn, IsPlainAt, IsPartOf, IsUnflagged, in_defrag, IsSound, KeepsSnapshot, IsFinished}
-use Rattle.mh_laws.proofs.placing.Places.{IsShaped, least_dense_place-page, block_at-with_block_same, block_at-with_block_other}
-use Rattle.mh_laws.proofs.marking.BlockChanges.{is_slot, resolve-live, pages-with_block}
+use Rattle.mh_laws.proofs.moving.NextMove.{next_move-is}
+use Rattle.mh_laws.proofs.placing.Places.{IsShaped, least_dense_place-page, block_at-with_block_same, block_at-with_block_other, block-slot}
+use Rattle.mh_laws.proofs.marking.BlockChanges.{resolve-live, pages-with_block, live_plain}
 use Rattle.mh_laws.proofs.marking.SameTable.{snapshot-turned}
 
 -- The move that a step makes ---------------------------------------------------------------------
@@ -31,43 +32,22 @@ pub record IsMove (table : Table Block) (place : ℕ) (move : Move) : Type 0 whe
   pub inside : slot_number (move.target) < length into.slots
   pub free : block_at table (move.target) ≡ None
 
-pub next_move-is : (table : Table Block) (place : ℕ) → IsShaped table → (move : Move) → next_move table place ≡ Some move → IsMove table place move
-next_move-is table place shaped move e = by_page (page_at table (page_number place)) refl e
-  where
-    by_target : (page : Page Block) → page_at table (page_number place) ≡ Some page → page.is_flagged ≡ true → (block : Block) → block_in (slot_number place) page ≡ Some block → block.forward ≡ None → (target : Option ℕ) → least_dense_place table page.class_size ≡ target
-        → option_map (λ t. record { block = block; class_size = page.class_size; target = t }) target ≡ Some move → IsMove table place move
-    by_target page at flag block in_page live None is h = absurd (none-some move h)
-    by_target page at flag block in_page live (Some t) is h =
-        let (into, to, of_class, unflagged, empty) = least_dense_place-page table page.class_size shaped t is in
-        subst (IsMove table place) (same_Some (record { block = block; class_size = page.class_size; target = t }) move h) (record {
-          page = page;
-          from = at;
-          flagged = flag;
-          there = ap (option_and_then (block_in (slot_number place))) at ∙ in_page;
-          live = live;
-          into = into;
-          to = to;
-          unflagged = unflagged;
-          inside = empty.within;
-          free = ap (option_and_then (block_in (slot_number t))) to ∙ empty.empty;
-        })
-
-    by_forward : (page : Page Block) → page_at table (page_number place) ≡ Some page → page.is_flagged ≡ true → (block : Block) → block_in (slot_number place) page ≡ Some block → (forward : Option ℕ) → block.forward ≡ forward
-        → (if is_some forward then None else option_map (λ t. record { block = block; class_size = page.class_size; target = t }) (least_dense_place table page.class_size)) ≡ Some move → IsMove table place move
-    by_forward page at flag block in_page (Some f) is h = absurd (none-some move h)
-    by_forward page at flag block in_page None is h = by_target page at flag block in_page is (least_dense_place table page.class_size) refl h
-
-    by_block : (page : Page Block) → page_at table (page_number place) ≡ Some page → page.is_flagged ≡ true → (block : Option Block) → block_in (slot_number place) page ≡ block → option_and_then (move_of table page) block ≡ Some move → IsMove table place move
-    by_block page at flag None is h = absurd (none-some move h)
-    by_block page at flag (Some block) is h = by_forward page at flag block is block.forward refl h
-
-    by_flag : (page : Page Block) → page_at table (page_number place) ≡ Some page → (flag : Bool) → page.is_flagged ≡ flag → option_and_then (λ p. option_and_then (move_of table p) (block_in (slot_number place) p)) (if flag then Some page else None) ≡ Some move → IsMove table place move
-    by_flag page at true is h = by_block page at is (block_in (slot_number place) page) refl h
-    by_flag page at false is h = absurd (none-some move h)
-
-    by_page : (content : Option (Page Block)) → page_at table (page_number place) ≡ content → option_and_then (λ p. option_and_then (move_of table p) (block_in (slot_number place) p)) (option_and_then if_flagged content) ≡ Some move → IsMove table place move
-    by_page None at h = absurd (none-some move h)
-    by_page (Some page) at h = by_flag page at page.is_flagged refl h
+pub move-is : (table : Table Block) (place : ℕ) → IsShaped table → (move : Move) → next_move table place ≡ Some move → IsMove table place move
+move-is table place shaped move e =
+    let is = next_move-is table place move e in
+    let (into, to, of_class, unflagged, empty) = least_dense_place-page table move.class_size shaped move.target is.target in
+    record {
+      page = is.page;
+      from = is.in_use;
+      flagged = is.flagged;
+      there = ap (option_and_then (block_in (slot_number place))) is.in_use ∙ is.there;
+      live = is.live;
+      into = into;
+      to = to;
+      unflagged = unflagged;
+      inside = empty.within;
+      free = ap (option_and_then (block_in (slot_number move.target))) to ∙ empty.empty;
+    }
 
 -- a root forwarded leads to where a root led
 forwarded-root : (table : Table Block) (slots : List (Option ℕ)) (i r : ℕ) → get_or (forwarded_slots table slots) i None ≡ Some r → (s : ℕ) × (get_or slots i None ≡ Some s) × (resolve table s ≡ r)
@@ -110,7 +90,7 @@ module _ (snapshot : World) (n : ℕ) (c : Collector) (defrags : c.phase ≡ Def
   p_there = block_at-with_block_other c.table q p (Some b) apart ∙ is.there
 
   at_p : block_at table' p ≡ Some forwarder
-  at_p = ap (λ t. block_at t p) as_written ∙ block_at-with_block_same (with_block c.table q (Some b)) p (Some forwarder) (is_slot (with_block c.table q (Some b)) p b p_there)
+  at_p = ap (λ t. block_at t p) as_written ∙ block_at-with_block_same (with_block c.table q (Some b)) p (Some forwarder) (block-slot (with_block c.table q (Some b)) p b p_there)
 
   at_q : block_at table' q ≡ Some b
   at_q = ap (λ t. block_at t q) as_written ∙ block_at-with_block_other (with_block c.table q (Some b)) p q (Some forwarder) (λ e. apart (sym e)) ∙ block_at-with_block_same c.table q (Some b) (record { page = is.into; in_use = is.to; within = is.inside })
@@ -201,9 +181,6 @@ module _ (snapshot : World) (n : ℕ) (c : Collector) (defrags : c.phase ≡ Def
     | inr not_here ↦ (x, at_other x not_here (not_q x y e) ∙ e)
   ]
 
-  plain_of : (x : ℕ) (y : Block) → block_at c.table x ≡ Some y → y.forward ≡ None → IsPlainAt c x y
-  plain_of x y e live = record { there = e; original = live; surviving = λ s. absurd (false≢true (ap in_sweep (sym defrags) ∙ s)) }
-
   plain_then : (x : ℕ) (y : Block) → block_at table' x ≡ Some y → y.forward ≡ None → IsPlainAt moved x y
   plain_then x y e live = record { there = e; original = live; surviving = λ s. absurd (false≢true s) }
 
@@ -226,11 +203,11 @@ module _ (snapshot : World) (n : ℕ) (c : Collector) (defrags : c.phase ≡ Def
         (y, plain_then r y (ap (block_at table') (sym to) ∙ there) plain.original, first);
     fields = λ x y plain flat i r e.
         let (place, there, k) = live_from x y plain.there plain.original in
-        let (z, plain', first) = h.sound.fields place y (plain_of place y there plain.original) flat i r e in
+        let (z, plain', first) = h.sound.fields place y (live_plain c (ap in_sweep defrags) place y there plain.original) flat i r e in
         (z, plain_then (resolve table' r) z (follows r z plain'.there plain'.original) plain'.original, first);
     spines = λ x y child plain spine i below.
         let (place, there, k) = live_from x y plain.there plain.original in
-        let (r, e, (z, plain', birth, part)) = h.sound.spines place y child (plain_of place y there plain.original) spine i below in
+        let (r, e, (z, plain', birth, part)) = h.sound.spines place y child (live_plain c (ap in_sweep defrags) place y there plain.original) spine i below in
         (r, e, (z, plain_then (resolve table' r) z (follows r z plain'.there plain'.original) plain'.original, birth, part));
     grey = λ x k. absurd (subst (IsIn x) (h.sound.quiet (ap in_roots_or_mark defrags)) k);
     quiet = λ no. h.sound.quiet (ap in_roots_or_mark defrags);
@@ -302,7 +279,7 @@ snapshot-defrag_step snapshot n c defrags h = go (next_move c.table c.cursor) re
     cursor' = next_place c.cursor (flagged_page c.table c.cursor)
 
     go : (move : Option Move) → next_move c.table c.cursor ≡ move → KeepsSnapshot snapshot n (with_phase (with_move c move) Defrag (next_place c.cursor (flagged_page c.table c.cursor)))
-    go (Some move) e = snapshot-moved snapshot n c defrags h move (next_move-is c.table c.cursor h.sound.narrow move e) (next_place c.cursor (flagged_page c.table c.cursor))
+    go (Some move) e = snapshot-moved snapshot n c defrags h move (move-is c.table c.cursor h.sound.narrow move e) (next_place c.cursor (flagged_page c.table c.cursor))
     go None e = snapshot-turned c c.slots Defrag (next_place c.cursor (flagged_page c.table c.cursor)) c.grey c.is_asked c.quanta (record {
       enters = λ s. absurd (false≢true s);
       leaves = λ no s. absurd (false≢true (ap in_sweep (sym defrags) ∙ s));

@@ -1,5 +1,5 @@
 -- The runs of 60 fields of an object's blocks join to its fields.
-use Rattle.std.proofs.Common.{◌≡◌, ℕ, zero, suc, ◌+◌, ◌-◌, ◌*◌, ◌/◌, ◌%◌, ◌<◌, ◌≤◌, min, nat_le, nat_lt, Bool, true, false, if◌then◌else◌, ◌⊎◌, inl, inr, List, [], ◌∷◌, ◌++◌, length, get_or, set, map, flat_map, slice_get, Option, Some, None, option_map, unwrap_or, refl, sym, ap, ap₂, ◌∙◌, subst, arith, eq-eqb}
+use Rattle.std.proofs.Common.{◌≡◌, ℕ, zero, suc, ◌+◌, ◌-◌, ◌*◌, ◌/◌, ◌%◌, ◌<◌, ◌≤◌, min, nat_lt, Bool, true, false, if◌then◌else◌, ◌⊎◌, inl, inr, List, [], ◌∷◌, ◌++◌, length, get_or, set, map, flat_map, slice_get, Option, Some, None, option_map, unwrap_or, refl, sym, ap, ap₂, ◌∙◌, subst, arith}
 use Rattle.std.specs.Prelude.{option_to_list}
 use Rattle.std.proofs.lemmas.Bool.{ltb-true, ltb-false}
 use Rattle.std.proofs.lemmas.Option.{none-some, same_Some}
@@ -10,7 +10,7 @@ use Rattle.mh_model.specs.Classes.{Part, run_count, middle_count, child_count, p
 use Rattle.mh_model.specs.Pages.{Table, block_at}
 use Rattle.mh_model.specs.Table.{Block, Position, resolve, target_of, is_spine, is_tall, is_at, child_place, spine_place, arraylet_place, position_of}
 use Rattle.mh_model.specs.Collector.{Collector}
-use Rattle.mh_model.specs.View.{in_sweep, is_held, block_named, blocks_named, birth_named, arraylet_words, field_blocks, object_of}
+use Rattle.mh_model.specs.View.{block_named, blocks_named, birth_named, arraylet_words, field_blocks, object_of}
 use Rattle.mh_model.specs.Invariant.{IsPlainAt, IsPartOf, IsSound, HasFieldsAt, first_child}
 use Rattle.mh_laws.proofs.objects.Parts.{IsFirst, counts, later_part, child_is}
 use Rattle.mh_laws.proofs.objects.Headers.{first_is, header_is}
@@ -152,9 +152,6 @@ module _ (n : ℕ) (c : Collector) (h : IsSound n c) (p : ℕ) (z : Block) (plai
   abbrev size : ℕ
   size = z.header.references + z.header.numbers
 
-  part_z : IsPartOf s z
-  part_z = h.parts p z plain.there
-
   head : IsFirst s.references s.numbers (h.parts p z plain.there).part
   head = first_is n c h p z plain.there first
 
@@ -180,7 +177,7 @@ module _ (n : ℕ) (c : Collector) (h : IsSound n c) (p : ℕ) (z : Block) (plai
   pub has_none : size ≤ 60 → first_child (h.shapes z.birth) z.part ≡ None
   has_none few = child_is s z.part (h.parts p z plain.there).part (h.parts p z plain.there).is ∙ (head.plain (omega (arith, few, sum_is))).2
 
-  own_count : 60 < size → length z.references ≡ child_count size
+  pub own_count : 60 < size → length z.references ≡ child_count size
   own_count more = (h.parts p z plain.there).references ∙ (head.spine (omega (arith, more, sum_is))).0 ∙ ap child_count sum_is
 
   -- a block of the object, by its part
@@ -395,18 +392,6 @@ module _ (n : ℕ) (c : Collector) (h : IsSound n c) (p : ℕ) (z : Block) (plai
   shape_is = ap₂ (λ r m. record { references = r; numbers = m })
       (count_words (λ (y : Block). map (birth_named c.table) y.references) (λ y. length-map y.references (birth_named c.table)) refs nums 0 (field_blocks c.table z) are_runs ∙ omega arith)
       (count_numbers refs nums 0 (field_blocks c.table z) are_runs ∙ omega arith)
-
--- a plain block is held
-pub held_plain : (c : Collector) (p : ℕ) (z : Block) → IsPlainAt c p z → is_held c p z ≡ true
-held_plain c p z plain = go (in_sweep c.phase) refl
-  where
-    go : (b : Bool) → in_sweep c.phase ≡ b → is_held c p z ≡ true
-    go false e = rw (plain.original, e) refl
-    go true e = by (nat_le c.cursor p) refl
-      where
-        by : (b : Bool) → nat_le c.cursor p ≡ b → is_held c p z ≡ true
-        by true f = rw (plain.original, e, f, eq-eqb z.stamp c.cycle (plain.surviving e)) refl
-        by false f = rw (plain.original, e, f) refl
 
 module _ (n : ℕ) (c : Collector) (h : IsSound n c) (p : ℕ) (z : Block) (plain : IsPlainAt c p z) (first : z.part ≡ 0) where
   -- the block in which a field lies, among the blocks that have the object's fields

@@ -4,12 +4,12 @@ use Rattle.std.proofs.lemmas.Bool.{cases_eq}
 use Rattle.std.proofs.lemmas.Option.{none-some, same_Some}
 use Rattle.std.proofs.lemmas.List.{length-set, length-replicate, length-map, length-take, length-drop}
 use Rattle.mh_model.specs.Classes.{Part, class_of, slots_in, part_words}
-use Rattle.mh_model.specs.Pages.{Page, Table, page_number, slot_number, page_at, block_in, block_at, least_place, page_with, page_for, with_taken, IsFreeFor}
+use Rattle.mh_model.specs.Pages.{Page, Table, page_number, slot_number, page_at, block_at, least_place, page_with, page_for, with_taken, IsFreeFor}
 use Rattle.mh_model.specs.Table.{Block, Made, MadeParts, new_block, made_in_class, made_part, made_parts, with_block_change, words_of, linked_block, linked_parts, group_of, made_group}
 use Rattle.mh_laws.specs.NewObjects.{IsMade, AreMade, IsGroup, LacksAPlace}
-use Rattle.mh_laws.proofs.Lists.{below_length, get_or-set_either}
+use Rattle.mh_laws.proofs.Lists.{get_or-set_either}
 use Rattle.mh_laws.proofs.tables.PageSlots.{slots_in-class_size, class_of-class_size}
-use Rattle.mh_laws.proofs.placing.Places.{IsSlot, IsShaped, block_at-with_block_same, block_at-with_block_other, least_place-free, block_at-with_taken_same, block_at-with_taken_other}
+use Rattle.mh_laws.proofs.placing.Places.{IsShaped, block_at-with_block_same, block_at-with_block_other, least_place-free, block_at-with_taken_same, block_at-with_taken_other, block-slot}
 
 -- Parts ------------------------------------------------------------------------------------------
 
@@ -159,14 +159,6 @@ made_parts-shaped (part ∷ parts) table birth stamp index shaped made e =
 
 -- Objects ----------------------------------------------------------------------------------------
 
--- a place with a block is a slot of a page in use
-pub block_at-slot : (table : Table Block) (place : ℕ) (block : Block) → block_at table place ≡ Some block → IsSlot table place
-block_at-slot table place block e = go (page_at table (page_number place)) refl e
-  where
-    go : (content : Option (Page Block)) → page_at table (page_number place) ≡ content → option_and_then (block_in (slot_number place)) content ≡ Some block → IsSlot table place
-    go None at h = absurd (none-some block h)
-    go (Some page) at h = record { page = page; in_use = at; within = below_length page.slots (slot_number place) block h }
-
 -- lists of one length have elements at the same numbers
 same_count : {X Y : Type 0} (xs : List X) (ys : List Y) (i : ℕ) (x : X) → length xs ≡ length ys → slice_get xs i ≡ Some x → (y : Y) × (slice_get ys i ≡ Some y)
 same_count [] ys i x count at = absurd (none-some x at)
@@ -216,7 +208,7 @@ module _ (all : List ℕ) where
       let same : first ≡ part = same_Some first part at' in
       linked-other places parts (with_block_change table place (linked_block all first)) q (λ i other e is'. zero_suc i (distinct 0 (suc i) q at (e ∙ ap Some (sym is'))))
       ∙ ap (λ k. block_at (with_block_change table k (linked_block all first)) q) here
-      ∙ block_at-with_block_same table q (option_map (linked_block all first) (block_at table q)) (block_at-slot table q block is)
+      ∙ block_at-with_block_same table q (option_map (linked_block all first) (block_at table q)) (block-slot table q block is)
       ∙ ap (option_map (linked_block all first)) is
       ∙ ap (λ p. Some (linked_block all p block)) same
     where

@@ -27,6 +27,14 @@ module _ {X : Type 0} where
     pub in_use : page_at table (page_number place) ≡ Some page
     pub within : slot_number place < length page.slots
 
+  -- and so is each place with a block
+  pub block-slot : (table : Table X) (place : ℕ) (block : X) → block_at table place ≡ Some block → IsSlot table place
+  block-slot table place block e = go (page_at table (page_number place)) refl e
+    where
+      go : (content : Option (Page X)) → page_at table (page_number place) ≡ content → option_and_then (block_in (slot_number place)) content ≡ Some block → IsSlot table place
+      go None at h = absurd (none-some block h)
+      go (Some page) at h = record { page = page; in_use = at; within = below_length page.slots (slot_number place) block h }
+
   pub block_at-with_block_same : (table : Table X) (place : ℕ) (content : Option X) → IsSlot table place → block_at (with_block table place content) place ≡ content
   block_at-with_block_same table place content slot =
       let number = page_number place in

@@ -23,7 +23,8 @@ use Rattle.mh_laws.proofs.worlds.FullHeaps.{heap_step-beside, heap_step-answers}
 use Rattle.mh_laws.proofs.showing.QuantaShow.{agrees-quantum}
 use Rattle.mh_laws.proofs.snapshots.CycleSteps.{continues-quantum}
 use Rattle.mh_laws.proofs.snapshots.AgreeingWorlds.{continues-start_agreeing, keeps-half_moment, keeps-next_moment}
-use Rattle.mh_laws.proofs.snapshots.RunningCycles.{idle_is, keeps-first}
+use Rattle.mh_laws.proofs.snapshots.RunningCycles.{keeps-first}
+use Rattle.mh_laws.proofs.costs.QuantumStarts.{idle_is}
 
 -- the first world reaches nothing
 none-reached : (config : Config) (path : List ℕ) (birth : ℕ) → IsPath (first_world config) birth path → ⊥

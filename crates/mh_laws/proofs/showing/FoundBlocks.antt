@@ -2,14 +2,15 @@
 use Rattle.std.proofs.Common.{ap₂, ◌≡◌, ℕ, zero, suc, ◌+◌, ◌*◌, ◌/◌, ◌%◌, ◌<◌, ◌==◌, true, false, not, ◌&&◌, ◌∷◌, Option, Some, None, is_some, option_map, option_and_then, IsSome, refl, sym, ap, ◌∙◌, subst, arith, eqb-true, eq-eqb}
 use Rattle.std.proofs.lemmas.Bool.{false≢true, and_parts}
 use Rattle.std.proofs.lemmas.Option.{none-some}
+use Rattle.mh_model.specs.World.{Object}
 use Rattle.mh_model.specs.Classes.{tabulate}
 use Rattle.mh_model.specs.Pages.{Page, page_at, block_in, block_at}
 use Rattle.mh_model.specs.Table.{Block, is_forwarder}
 use Rattle.mh_model.specs.Collector.{Collector}
 use Rattle.mh_model.specs.View.{in_sweep, is_held, block_of_birth, object_of, object_shown}
 use Rattle.mh_model.specs.Invariant.{IsSound}
-use Rattle.mh_laws.proofs.marking.BlockChanges.{within}
 use Rattle.mh_laws.proofs.showing.ObjectsShown.{first_block-is, first_block-some}
+use Rattle.mh_laws.proofs.Lists.{below_length}
 
 -- a held part 0 of a birth is at a place
 pub record IsFirstAt (c : Collector) (birth place : ℕ) (block : Block) : Type 0 where
@@ -35,7 +36,7 @@ module _ (n : ℕ) (c : Collector) (h : IsSound n c) where
     where
       by_page : (content : Option (Page Block)) → page_at c.table m ≡ content → option_and_then (block_in s) content ≡ Some y → s < 64
       by_page None is f = absurd (none-some y f)
-      by_page (Some page) is f = omega (arith, h.narrow m page is, within page.slots s y f)
+      by_page (Some page) is f = omega (arith, h.narrow m page is, below_length page.slots s y f)
 
   -- what the search finds is at a place
   pub found-first : (birth : ℕ) (y : Block) → block_of_birth c birth ≡ Some y → (place : ℕ) × IsFirstAt c birth place y
@@ -76,24 +77,36 @@ module _ (n : ℕ) (c : Collector) (h : IsSound n c) where
           let same : p ≡ place = h.one p place y z f.there at.there (held_live c p y f.held) (held_live c place z at.held) (f.birth_is ∙ sym at.birth_is) (f.first ∙ sym at.first) in
           sym f.there ∙ ap (block_at c.table) same ∙ at.there
 
--- what is held of an object in one state is held in another, and shows the same object
-abbrev pub IsShownIn : Collector → Collector → Type 0
-IsShownIn c d = (birth place : ℕ) (block : Block) → IsFirstAt c birth place block → (other : ℕ) × (same : Block) × IsFirstAt d birth other same × (object_of d.table same ≡ object_of c.table block)
+-- what is held of a birth in one state is held in another, and shows its object changed so
+abbrev pub IsShownAs : (Object → Object) → Collector → Collector → ℕ → Type 0
+IsShownAs change c d birth = (place : ℕ) (block : Block) → IsFirstAt c birth place block → (other : ℕ) × (same : Block) × IsFirstAt d birth other same × (object_of d.table same ≡ change (object_of c.table block))
 
--- two sound states show the same object of a birth where each shows what the other has
-pub same-shown : (n m : ℕ) (c d : Collector) → IsSound n c → IsSound m d → IsShownIn c d → IsShownIn d c → (birth : ℕ) → object_shown d birth ≡ object_shown c birth
-same-shown n m c d h k forth back birth = go (block_of_birth c birth) (block_of_birth d birth) refl refl
-  where
-    go : (o p : Option Block) → block_of_birth c birth ≡ o → block_of_birth d birth ≡ p → object_shown d birth ≡ object_shown c birth
-    go None None e f = ap (option_map (object_of d.table)) f ∙ ap (option_map (object_of c.table)) (sym e)
-    go None (Some y) e f =
-        let (q, at) = found-first m d k birth y f in
-        let (p, x, at', same) = back birth q y at in
-        absurd (none-some x (sym e ∙ first-found n c h birth p x at'))
-    go (Some x) p e f =
-        let (q, at) = found-first n c h birth x e in
-        let (r, y, at', same) = forth birth q x at in
-        ap (option_map (object_of d.table)) (first-found m d k birth r y at') ∙ ap Some same ∙ ap (option_map (object_of c.table)) (sym e)
+abbrev pub IsHeldIn : Collector → Collector → ℕ → Type 0
+IsHeldIn c d birth = (place : ℕ) (block : Block) → IsFirstAt c birth place block → (other : ℕ) × (same : Block) × IsFirstAt d birth other same
+
+module _ (n m : ℕ) (c d : Collector) (h : IsSound n c) (k : IsSound m d) (birth : ℕ) where
+  -- two sound states of which each holds what the other does: the object that is shown is changed so
+  pub shown-changed : (change : Object → Object) → IsShownAs change c d birth → IsHeldIn d c birth → object_shown d birth ≡ option_map change (object_shown c birth)
+  shown-changed change forth back = go (block_of_birth c birth) (block_of_birth d birth) refl refl
+    where
+      go : (o p : Option Block) → block_of_birth c birth ≡ o → block_of_birth d birth ≡ p → object_shown d birth ≡ option_map change (object_shown c birth)
+      go None None e f = ap (option_map (object_of d.table)) f ∙ ap (λ b. option_map change (option_map (object_of c.table) b)) (sym e)
+      go None (Some y) e f =
+          let (q, at) = found-first m d k birth y f in
+          let (p, x, at') = back q y at in
+          absurd (none-some x (sym e ∙ first-found n c h birth p x at'))
+      go (Some x) p e f =
+          let (q, at) = found-first n c h birth x e in
+          let (r, y, at', same) = forth q x at in
+          ap (option_map (object_of d.table)) (first-found m d k birth r y at') ∙ ap Some same ∙ ap (λ b. option_map change (option_map (object_of c.table) b)) (sym e)
+
+  -- or it is the same
+  pub shown-same : IsShownAs (λ object. object) c d birth → IsHeldIn d c birth → object_shown d birth ≡ object_shown c birth
+  shown-same forth back = shown-changed (λ object. object) forth back ∙ by (object_shown c birth)
+    where
+      by : (o : Option Object) → option_map (λ object. object) o ≡ o
+      by None = refl
+      by (Some object) = refl
 
 pub tabulate-same : {X : Type 0} (f f' : ℕ → X) → ((i : ℕ) → f' i ≡ f i) → (first count : ℕ) → tabulate f' first count ≡ tabulate f first count
 tabulate-same f f' same first zero = refl

@@ -1,19 +1,17 @@
 -- The steps of the collector change nothing of what the heap shows.
-use Rattle.std.proofs.Common.{◌≡◌, ℕ, zero, suc, ◌+◌, true, false, inl, inr, List, [], ◌∷◌, get_or, set, map, Option, Some, None, option_map, unwrap_or, refl, sym, ap, ◌∙◌, subst, arith}
-use Rattle.std.proofs.lemmas.Bool.{false≢true}
-use Rattle.mh_model.specs.declared.cycle.Phase.{Phase}
-use Rattle.mh_model.specs.declared.cycle.Phase.TheVariants.{Idle, Roots, Mark, Sweep, Defrag}
+use Rattle.std.proofs.Common.{◌≡◌, ℕ, zero, suc, ◌+◌, true, false, inl, List, [], ◌∷◌, get_or, set, map, Option, Some, None, option_map, unwrap_or, refl, sym, ap, ◌∙◌, subst, arith}
+use Rattle.mh_model.specs.declared.cycle.Phase.TheVariants.{Roots}
 use Rattle.mh_model.specs.World.{Object, World}
 use Rattle.mh_model.specs.Pages.{Table, block_at, with_block}
 use Rattle.mh_model.specs.Table.{Block, references_at, with_reference_at, resolve, target_of}
-use Rattle.mh_model.specs.Collector.{Collector, Marking, shade_place, shade, mark_reference, mark_references, mark_first, mark_step, marking_of, with_marking, roots_step}
+use Rattle.mh_model.specs.Collector.{Collector, Marking, mark_reference, mark_references, mark_first, mark_step, marking_of, with_marking, roots_step}
 use Rattle.mh_model.specs.Mutator.{HeapState, in_roots_or_mark}
 use Rattle.mh_model.specs.View.{in_sweep, birth_named, object_shown, heap_view}
 use Rattle.mh_model.specs.Invariant.{IsIn, IsPlainAt, IsSound, KeepsSnapshot, HeapKeeps}
-use Rattle.mh_laws.proofs.marking.BlockChanges.{resolve-live, not_sweep}
-use Rattle.mh_laws.proofs.marking.MarkSteps.{leads, shade_place-is, snapshot-mark_step, snapshot-roots_step}
-use Rattle.mh_laws.proofs.showing.FoundBlocks.{IsShownIn, held_live, live_held, same-shown, tabulate-same}
-use Rattle.mh_laws.proofs.showing.AlikeTables.{bare, IsAlike, resolve-alike, object-alike, roots-alike, alike-with_block, alike-forth, alike-back}
+use Rattle.mh_laws.proofs.marking.BlockChanges.{resolve-live, not_sweep, no_sweep}
+use Rattle.mh_laws.proofs.marking.MarkSteps.{leads, snapshot-mark_step, snapshot-roots_step}
+use Rattle.mh_laws.proofs.showing.FoundBlocks.{tabulate-same}
+use Rattle.mh_laws.proofs.showing.AlikeTables.{bare, IsAlike, resolve-alike, roots-alike, alike-with_block, alike-forth, alike-shade, read-map, alike-shown, with_shade-alike}
 
 -- What shows the same ----------------------------------------------------------------------------
 
@@ -26,48 +24,22 @@ same-view heap d objects slots =
     ∙ ap {A = List (Option ℕ)} (λ xs. record { config = heap.config; objects = (heap_view heap).objects; slots = xs; ended = heap.ended }) slots
 
 -- two states of which no one is in the sweep, with alike tables
-alike-view : (snapshot : World) (heap : HeapState) (d : Collector) → in_sweep heap.collector.phase ≡ false → in_sweep d.phase ≡ false → HeapKeeps snapshot heap → KeepsSnapshot snapshot heap.next_birth d → d.slots ≡ heap.collector.slots
+pub alike-view : (snapshot : World) (heap : HeapState) (d : Collector) → in_sweep heap.collector.phase ≡ false → in_sweep d.phase ≡ false → HeapKeeps snapshot heap → KeepsSnapshot snapshot heap.next_birth d → d.slots ≡ heap.collector.slots
     → IsAlike heap.collector.table d.table → heap_view (record heap { collector = d }) ≡ heap_view heap
 alike-view snapshot heap d no_sweep no_sweep' h k slots alike =
     same-view
     heap
     d
-    (same-shown heap.next_birth heap.next_birth heap.collector d h.sound k.sound forth back)
+    (alike-shown heap.next_birth heap.next_birth heap.collector d h.sound k.sound no_sweep no_sweep' alike)
     (ap (map (birth_named d.table)) slots ∙ roots-alike heap.collector.table d.table alike heap.collector.slots)
-  where
-    forth : IsShownIn heap.collector d
-    forth birth place x at =
-        let (z, there, same) = alike-forth heap.collector.table d.table alike place x at.there in
-        (place, z, record { there = there; held = live_held d place z no_sweep' (ap (λ y. y.forward) same ∙ held_live heap.collector place x at.held); birth_is = ap (λ y. y.birth) same ∙ at.birth_is; first = ap (λ y. y.part) same ∙ at.first }, object-alike heap.collector.table d.table alike z x same)
-
-    back : IsShownIn d heap.collector
-    back birth place z at =
-        let (x, there, same) = alike-back heap.collector.table d.table alike place z at.there in
-        (place, x, record { there = there; held = live_held heap.collector place x no_sweep (ap (λ y. y.forward) same ∙ held_live d place z at.held); birth_is = ap (λ y. y.birth) same ∙ at.birth_is; first = ap (λ y. y.part) same ∙ at.first }, sym (object-alike heap.collector.table d.table alike z x (sym same)))
 
 -- Marking ----------------------------------------------------------------------------------------
 
 module _ (first : Table Block) where
-  -- a block that is marked is alike
-  alike-shade_place : (m : Marking) (place : ℕ) → IsAlike first m.table → IsAlike first (shade_place m place).table
-  alike-shade_place m place alike = elim (shade_place-is m place).case [
-    | inl same ↦ subst (λ (z : Marking). IsAlike first z.table) (sym same.0) alike
-    | inr k ↦ let (b, there, white, e) = k in subst (λ (z : Marking). IsAlike first z.table) (sym e) (alike-with_block first m.table place b (record b { stamp = m.cycle }) there refl alike)
-  ]
-
-  alike-shade : (m : Marking) (reference : Option ℕ) → IsAlike first m.table → IsAlike first (shade m reference).table
-  alike-shade m None alike = alike
-  alike-shade m (Some r) alike = alike-shade_place m (resolve m.table r) alike
-
   set-same : (xs : List (Option ℕ)) (i : ℕ) (y : Option ℕ) → option_map (resolve first) y ≡ get_or (map (option_map (resolve first)) xs) i None → map (option_map (resolve first)) (set xs i y) ≡ map (option_map (resolve first)) xs
   set-same [] i y e = refl
   set-same (x ∷ xs) zero y e = ap (λ z. z ∷ map (option_map (resolve first)) xs) e
   set-same (x ∷ xs) (suc i) y e = ap (λ zs. option_map (resolve first) x ∷ zs) (set-same xs i y e)
-
-  read-map : (xs : List (Option ℕ)) (i : ℕ) → get_or (map (option_map (resolve first)) xs) i None ≡ option_map (resolve first) (get_or xs i None)
-  read-map [] i = refl
-  read-map (x ∷ xs) zero = refl
-  read-map (x ∷ xs) (suc i) = read-map xs i
 
   module _ (g : ℕ) (b : Block) (there : block_at first g ≡ Some b) (twice : (i r : ℕ) → get_or b.references i None ≡ Some r → resolve first (resolve first r) ≡ resolve first r) where
     -- a reference is resolved and written back
@@ -85,7 +57,7 @@ module _ (first : Table Block) where
 
         leads_so : (x : Block) → bare first x ≡ bare first b → (p : Option ℕ) → get_or b.references index None ≡ p → option_map (resolve first) (target_of table p) ≡ get_or (map (option_map (resolve first)) x.references) index None
         leads_so x same p e =
-            to_same p e ∙ ap (option_map (resolve first)) (sym e) ∙ sym (read-map b.references index) ∙ ap (λ (z : Block). get_or z.references index None) (sym same)
+            to_same p e ∙ ap (option_map (resolve first)) (sym e) ∙ sym (read-map first b.references index) ∙ ap (λ (z : Block). get_or z.references index None) (sym same)
 
     alike-references : (refs : List (Option ℕ)) (m : Marking) (index : ℕ) → ((k : ℕ) → get_or b.references (index + k) None ≡ get_or refs k None) → IsAlike first m.table → IsAlike first (mark_references m g index refs).table
     alike-references [] m index ahead alike = alike
@@ -97,14 +69,7 @@ module _ (first : Table Block) where
         (mark_reference m g index o)
         (suc index)
         (λ k. let e : suc index + k ≡ index + suc k = omega arith in ap (λ i. get_or b.references i None) e ∙ ahead (suc k))
-        (alike-shade (record m { table = with_reference_at m.table g index (target_of m.table o) }) (target_of m.table o) (alike-stored m.table index o read alike))
-
-no_sweep : (phase : Phase) → in_roots_or_mark phase ≡ true → in_sweep phase ≡ false
-no_sweep Idle m = refl
-no_sweep Roots m = refl
-no_sweep Mark m = refl
-no_sweep Sweep m = absurd (false≢true m)
-no_sweep Defrag m = refl
+        (alike-shade first (record m { table = with_reference_at m.table g index (target_of m.table o) }) (target_of m.table o) (alike-stored m.table index o read alike))
 
 -- a mark step leaves an alike table
 alike-mark_step : (n : ℕ) (c : Collector) → in_roots_or_mark c.phase ≡ true → IsSound n c → IsAlike c.table (mark_step (marking_of c)).table
@@ -153,4 +118,4 @@ view-roots_step snapshot heap phase h =
     h
     (snapshot-roots_step snapshot heap.next_birth heap.collector phase h)
     refl
-    (alike-shade heap.collector.table (marking_of heap.collector) (get_or heap.collector.slots heap.collector.cursor None) (λ place. refl))
+    (with_shade-alike heap.collector (get_or heap.collector.slots heap.collector.cursor None))

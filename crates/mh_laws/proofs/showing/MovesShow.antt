@@ -8,9 +8,9 @@ use Rattle.mh_model.specs.Table.{Block, resolve}
 use Rattle.mh_model.specs.Collector.{Collector, Move, flagged_page, next_move, moved_table, forwarded_slots, with_phase, with_move, defrag_step, next_place}
 use Rattle.mh_model.specs.Mutator.{HeapState}
 use Rattle.mh_model.specs.View.{in_sweep, birth_named, heap_view}
-use Rattle.mh_model.specs.Invariant.{IsPlainAt, IsSound, HeapKeeps}
-use Rattle.mh_laws.proofs.marking.BlockChanges.{resolve-live}
-use Rattle.mh_laws.proofs.moving.MoveSteps.{IsMove, next_move-is, follows, live_from, live_forth, snapshot-defrag_step}
+use Rattle.mh_model.specs.Invariant.{IsSound, HeapKeeps}
+use Rattle.mh_laws.proofs.marking.BlockChanges.{resolve-live, live_plain}
+use Rattle.mh_laws.proofs.moving.MoveSteps.{IsMove, move-is, follows, live_from, live_forth, snapshot-defrag_step}
 use Rattle.mh_laws.proofs.showing.SamePlainBlocks.{plain-shown}
 use Rattle.mh_laws.proofs.showing.MarkingShows.{same-view}
 
@@ -31,9 +31,6 @@ view-defrag_step snapshot heap defrags h = go (next_move c.table c.cursor) refl 
     cursor' : ℕ
     cursor' = next_place c.cursor (flagged_page c.table c.cursor)
 
-    plain_now : (p : ℕ) (x : Block) → block_at c.table p ≡ Some x → x.forward ≡ None → IsPlainAt c p x
-    plain_now p x there live = record { there = there; original = live; surviving = λ s. absurd (false≢true (ap in_sweep (sym defrags) ∙ s)) }
-
     go : (move : Option Move) → next_move c.table c.cursor ≡ move → IsSound heap.next_birth (with_phase (with_move c (next_move c.table c.cursor)) Defrag cursor') → heap_view (record heap { collector = with_phase (with_move c move) Defrag cursor' }) ≡ heap_view heap
     go None e k =
         same-view
@@ -47,10 +44,10 @@ view-defrag_step snapshot heap defrags h = go (next_move c.table c.cursor) refl 
         (subst (λ m. IsSound heap.next_birth (with_phase (with_move c m) Defrag cursor')) e k)
         (λ p x plain i r f y plain'. plain'.there)
         (λ p x plain. (p, record { there = plain.there; original = plain.original; surviving = λ s. absurd (false≢true s) }))
-        (λ p x plain. (p, plain_now p x plain.there plain.original)))
+        (λ p x plain. (p, live_plain c (ap in_sweep defrags) p x plain.there plain.original)))
         refl
     go (Some move) e k =
-        let is : IsMove c.table c.cursor move = next_move-is c.table c.cursor h.sound.narrow move e in
+        let is : IsMove c.table c.cursor move = move-is c.table c.cursor h.sound.narrow move e in
         let d : Collector = with_phase (with_move c (Some move)) Defrag cursor' in
         same-view
         heap
@@ -63,7 +60,7 @@ view-defrag_step snapshot heap defrags h = go (next_move c.table c.cursor) refl 
         (subst (λ m. IsSound heap.next_birth (with_phase (with_move c m) Defrag cursor')) e k)
         (λ p x plain i r f y plain'. follows snapshot heap.next_birth c defrags h move is cursor' r y plain'.there plain'.original)
         (λ p x plain. let (q, there) = live_forth snapshot heap.next_birth c defrags h move is cursor' p x plain.there plain.original in (q, record { there = there; original = plain.original; surviving = λ s. absurd (false≢true s) }))
-        (λ p x plain. let (q, there, from) = live_from snapshot heap.next_birth c defrags h move is cursor' p x plain.there plain.original in (q, plain_now q x there plain.original)))
+        (λ p x plain. let (q, there, from) = live_from snapshot heap.next_birth c defrags h move is cursor' p x plain.there plain.original in (q, live_plain c (ap in_sweep defrags) q x there plain.original)))
         (forwarded-same c.table (moved_table c.table c.cursor move) c.slots (λ i r f.
         let (x, plain, first) = h.sound.slots i r f in
         let at : block_at c.table (resolve c.table r) ≡ Some x = ap (block_at c.table) (resolve-live c.table r x plain.there plain.original) ∙ plain.there in

@@ -1,20 +1,20 @@
 -- Quanta: a view that agrees with a world agrees with it after them.
-use Rattle.std.proofs.Common.{◌≡◌, ℕ, zero, suc, ◌+◌, ◌-◌, nat_lt, if◌then◌else◌, Bool, true, false, ◌||◌, inl, inr, refl, sym, ap, ◌∙◌, subst}
-use Rattle.std.proofs.lemmas.Bool.{false≢true, cases_Bool, and_parts, or_parts}
+use Rattle.std.proofs.Common.{◌≡◌, ℕ, zero, suc, ◌+◌, ◌-◌, nat_lt, Bool, false, ◌||◌, inl, inr, refl, sym, ap, ◌∙◌, subst}
+use Rattle.std.proofs.lemmas.Bool.{false≢true, cases_Bool, or_parts}
 use Rattle.mh_model.specs.declared.cycle.Phase.TheVariants.{Idle}
 use Rattle.mh_model.specs.World.{World}
 use Rattle.mh_model.specs.Paths.{Agrees}
-use Rattle.mh_model.specs.Collector.{Collector, collector_step, step_cost, is_moving, is_idle, cycle_start, with_count, is_start_due, quantum_start, steps, quantum}
+use Rattle.mh_model.specs.Collector.{Collector, collector_step, step_cost, is_moving, is_idle, cycle_start, quantum_start, steps, quantum}
 use Rattle.mh_model.specs.Mutator.{HeapState}
 use Rattle.mh_model.specs.View.{in_sweep, heap_view}
 use Rattle.mh_model.specs.Invariant.{KeepsSnapshot, HeapKeeps}
 use Rattle.mh_laws.proofs.costs.Quanta.{steps-stop, steps-go}
 use Rattle.mh_laws.proofs.snapshots.CycleSteps.{continues-collector_step, snapshot-counted}
-use Rattle.mh_laws.proofs.snapshots.RunningCycles.{idle_is, quantum-rests}
 use Rattle.mh_laws.proofs.snapshots.CycleStarts.{snapshot-started}
 use Rattle.mh_laws.proofs.showing.SamePlainBlocks.{plain-shown}
 use Rattle.mh_laws.proofs.showing.MarkingShows.{same-view}
 use Rattle.mh_laws.proofs.showing.StepsShow.{agrees-collector_step}
+use Rattle.mh_laws.proofs.costs.QuantumStarts.{quantum-rests, begins}
 
 -- Steps of a quantum
 agrees-steps : (snapshot world : World) (more left : ℕ) (has_moved : Bool) (heap : HeapState) → HeapKeeps snapshot heap → Agrees (heap_view heap) world → Agrees (heap_view (record heap { collector = (steps more left has_moved heap.collector).collector })) world
@@ -68,38 +68,27 @@ agrees-from world heap d is snapshot h agrees = subst (λ z. Agrees (heap_view (
 
 -- A quantum
 pub agrees-quantum : (snapshot world : World) (heap : HeapState) → HeapKeeps snapshot heap → Agrees (heap_view heap) world → Agrees (heap_view (record heap { collector = (quantum heap.config heap.collector).collector })) world
-agrees-quantum snapshot world heap h agrees = elim (cases_Bool (is_start_due heap.config heap.collector)) [
-  | inl due ↦ starts due
-  | inr rests ↦ elim (cases_Bool (is_idle heap.collector.phase)) [
-    | inl idle ↦ subst (λ d. Agrees (heap_view (record heap { collector = d })) world) (sym (quantum-rests heap.config heap.collector idle rests)) agrees
-    | inr runs ↦ goes_on rests runs
+agrees-quantum snapshot world heap h agrees = elim (begins heap.config heap.collector).case [
+  | inl starts ↦
+      let k : KeepsSnapshot (heap_view heap) heap.next_birth (cycle_start heap.collector) = snapshot-started heap (ap in_sweep starts.1) h.sound in
+      agrees-from
+      world
+      heap
+      (record (cycle_start heap.collector) { quanta = 1 })
+      starts.2
+      (heap_view heap)
+      (snapshot-counted (heap_view heap) heap.next_birth (cycle_start heap.collector) false 1 k)
+      (subst (λ v. Agrees v world) (sym (counted-view (record heap { collector = cycle_start heap.collector }) 1 ∙ started-view heap starts.1 k snapshot h)) agrees)
+  | inr other ↦ elim other [
+    | inl runs ↦
+        agrees-from
+        world
+        heap
+        (record (heap.collector) { quanta = heap.collector.quanta + 1 })
+        runs.1
+        snapshot
+        (snapshot-counted snapshot heap.next_birth heap.collector heap.collector.is_asked (heap.collector.quanta + 1) h)
+        (subst (λ v. Agrees v world) (sym (counted-view heap (heap.collector.quanta + 1))) agrees)
+    | inr rests ↦ subst (λ d. Agrees (heap_view (record heap { collector = d })) world) (sym (quantum-rests heap.config heap.collector (ap is_idle rests.1) rests.0)) agrees
   ]
 ]
-  where
-    c : Collector
-    c = heap.collector
-
-    goes_on : is_start_due heap.config heap.collector ≡ false → is_idle heap.collector.phase ≡ false → Agrees (heap_view (record heap { collector = (quantum heap.config heap.collector).collector })) world
-    goes_on rests runs =
-        agrees-from
-        world
-        heap
-        (record c { quanta = c.quanta + 1 })
-        (ap (λ b. with_count (if b then cycle_start c else c)) rests ∙ ap (λ b. if b then c else record c { quanta = c.quanta + 1 }) runs)
-        snapshot
-        (snapshot-counted snapshot heap.next_birth c c.is_asked (c.quanta + 1) h)
-        (subst (λ v. Agrees v world) (sym (counted-view heap (c.quanta + 1))) agrees)
-
-    starts : is_start_due heap.config heap.collector ≡ true → Agrees (heap_view (record heap { collector = (quantum heap.config heap.collector).collector })) world
-    starts due =
-        let idle = idle_is heap.collector.phase (and_parts (is_idle heap.collector.phase) _ due).0 in
-        let k : KeepsSnapshot (heap_view heap) heap.next_birth (cycle_start heap.collector) = snapshot-started heap (ap in_sweep idle) h.sound in
-        let d : Collector = record (cycle_start heap.collector) { quanta = (cycle_start heap.collector).quanta + 1 } in
-        agrees-from
-        world
-        heap
-        d
-        (ap (λ b. with_count (if b then cycle_start heap.collector else heap.collector)) due)
-        (heap_view heap)
-        (snapshot-counted (heap_view heap) heap.next_birth (cycle_start heap.collector) false ((cycle_start heap.collector).quanta + 1) k)
-        (subst (λ v. Agrees v world) (sym (counted-view (record heap { collector = cycle_start heap.collector }) ((cycle_start heap.collector).quanta + 1) ∙ started-view heap idle k snapshot h)) agrees)

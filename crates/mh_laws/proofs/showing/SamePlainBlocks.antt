@@ -10,7 +10,7 @@ use Rattle.mh_model.specs.View.{in_sweep, is_held, block_named, blocks_named, bi
 use Rattle.mh_model.specs.Invariant.{IsPlainAt, IsSound}
 use Rattle.mh_laws.proofs.marking.MarkSteps.{leads}
 use Rattle.mh_laws.proofs.showing.ObjectsShown.{Has, IsFieldBlock, arraylet_word-back, field_block-back}
-use Rattle.mh_laws.proofs.showing.FoundBlocks.{IsShownIn, held_live, same-shown}
+use Rattle.mh_laws.proofs.showing.FoundBlocks.{IsShownAs, IsHeldIn, held_live, shown-same}
 
 -- Held blocks are the plain ones -----------------------------------------------------------------
 
@@ -111,19 +111,19 @@ IsCarriedTo c d = (p : ℕ) (x : Block) → IsPlainAt c p x → (q : ℕ) × IsP
 
 -- Two sound states with the same plain blocks, whose references lead to the same, show the same objects
 pub plain-shown : (n : ℕ) (c d : Collector) → IsSound n c → IsSound n d → Follows c d → IsCarriedTo c d → IsCarriedTo d c → (birth : ℕ) → object_shown d birth ≡ object_shown c birth
-plain-shown n c d h k follows forth back = same-shown n n c d h k shown_forth shown_back
+plain-shown n c d h k follows forth back birth = shown-same n n c d h k birth shown_forth shown_back
   where
-    shown_forth : IsShownIn c d
-    shown_forth birth p x at =
+    shown_forth : IsShownAs (λ object. object) c d birth
+    shown_forth p x at =
         let plain = held-plain n c h p x at.there at.held in
         let (q, plain') = forth p x plain in
         (q, x, record { there = plain'.there; held = plain-held d q x plain'; birth_is = at.birth_is; first = at.first }, object-same n c d h follows p x plain)
 
-    shown_back : IsShownIn d c
-    shown_back birth p x at =
+    shown_back : IsHeldIn d c birth
+    shown_back p x at =
         let plain = held-plain n d k p x at.there at.held in
         let (q, plain') = back p x plain in
-        (q, x, record { there = plain'.there; held = plain-held c q x plain'; birth_is = at.birth_is; first = at.first }, sym (object-same n c d h follows q x plain'))
+        (q, x, record { there = plain'.there; held = plain-held c q x plain'; birth_is = at.birth_is; first = at.first })
 
 -- roots lead to the same blocks
 pub roots-same : (table table' : Table Block) (slots : List (Option ℕ)) → ((i r : ℕ) → get_or slots i None ≡ Some r → block_at table' (resolve table' r) ≡ block_at table (resolve table r)) → map (birth_named table') slots ≡ map (birth_named table) slots

@@ -1,11 +1,11 @@
 -- Steps of the collector and quanta: a view that agrees with a world agrees with it after them.
-use Rattle.std.proofs.Common.{◌≡◌, ℕ, ◌+◌, ◌<◌, ◌==◌, if◌then◌else◌, Bool, true, false, List, [], ◌∷◌, Option, Some, None, option_map, IsSome, refl, sym, ap, ◌∙◌, subst, arith, eqb-true}
+use Rattle.std.proofs.Common.{◌≡◌, ℕ, ◌==◌, if◌then◌else◌, Bool, true, false, List, [], ◌∷◌, Option, Some, None, option_map, IsSome, refl, sym, ap, ◌∙◌, subst, arith, eqb-true}
 use Rattle.std.proofs.lemmas.Bool.{false≢true}
 use Rattle.std.proofs.lemmas.Option.{none-some, same_Some}
 use Rattle.std.proofs.lemmas.List.{get_or_past}
 use Rattle.mh_model.specs.declared.cycle.Phase.{Phase}
 use Rattle.mh_model.specs.declared.cycle.Phase.TheVariants.{Idle, Roots, Mark, Sweep, Defrag}
-use Rattle.mh_model.specs.World.{Object, World, object_at}
+use Rattle.mh_model.specs.World.{Object, World}
 use Rattle.mh_model.specs.Paths.{Agrees}
 use Rattle.mh_model.specs.Pages.{block_at}
 use Rattle.mh_model.specs.Table.{Block}
@@ -17,11 +17,10 @@ use Rattle.mh_laws.proofs.marking.BlockChanges.{not_sweep}
 use Rattle.mh_laws.proofs.marking.MarkSteps.{snapshot-roots_step, snapshot-mark_step}
 use Rattle.mh_laws.proofs.sweeping.SweepSteps.{snapshot-sweeping, snapshot-after_mark, snapshot-sweep_step, snapshot-after_sweep}
 use Rattle.mh_laws.proofs.moving.MoveSteps.{snapshot-defrag_step, snapshot-cycle_end}
-use Rattle.mh_laws.proofs.showing.ObjectsShown.{tabulate-read}
-use Rattle.mh_laws.proofs.snapshots.CycleStarts.{births-view, object-view}
+use Rattle.mh_laws.proofs.snapshots.CycleStarts.{births-view, view-shown, first-view}
 use Rattle.mh_laws.proofs.marking.ReachableNow.{reachable_is_kept}
 use Rattle.mh_laws.proofs.snapshots.AgreeingWorlds.{reachable-view}
-use Rattle.mh_laws.proofs.showing.FoundBlocks.{IsFirstAt, held_live, found-first, first-found}
+use Rattle.mh_laws.proofs.showing.FoundBlocks.{held_live, found-first}
 use Rattle.mh_laws.proofs.showing.SamePlainBlocks.{IsCarriedTo, plain-held, plain-shown}
 use Rattle.mh_laws.proofs.showing.MarkingShows.{same-view, view-mark_step, view-roots_step}
 use Rattle.mh_laws.proofs.showing.SweepShows.{view-sweep_step}
@@ -29,20 +28,12 @@ use Rattle.mh_laws.proofs.showing.MovesShow.{view-defrag_step}
 
 -- Reading a view ---------------------------------------------------------------------------------
 
-view-shown : (heap : HeapState) (birth : ℕ) (object : Object) → object_at (heap_view heap) birth ≡ Some object → object_shown heap.collector birth ≡ Some object
-unfolding heap_view
-view-shown heap birth object e = let k : birth ≡ 0 + birth = omega arith in ap (object_shown heap.collector) k ∙ tabulate-read (object_shown heap.collector) 0 heap.next_birth birth object e
-
 shown-block : (c : Collector) (birth : ℕ) (object : Object) → object_shown c birth ≡ Some object → (y : Block) × (block_of_birth c birth ≡ Some y) × (object_of c.table y ≡ object)
 shown-block c birth object e = go (block_of_birth c birth) refl e
   where
     go : (o : Option Block) → block_of_birth c birth ≡ o → option_map (object_of c.table) o ≡ Some object → (y : Block) × (block_of_birth c birth ≡ Some y) × (object_of c.table y ≡ object)
     go None is f = absurd (none-some object f)
     go (Some y) is f = (y, is, same_Some (object_of c.table y) object f)
-
-first-view : (heap : HeapState) → IsSound heap.next_birth heap.collector → (birth p : ℕ) (z : Block) → IsFirstAt heap.collector birth p z → object_at (heap_view heap) birth ≡ Some (object_of heap.collector.table z)
-first-view heap h birth p z at =
-    object-view heap birth (subst (λ b. b < heap.next_birth) at.birth_is (h.births p z at.there)) ∙ ap (option_map (object_of heap.collector.table)) (first-found heap.next_birth heap.collector h birth p z at)
 
 config-view : (heap : HeapState) (d : Collector) → (heap_view (record heap { collector = d })).config ≡ (heap_view heap).config
 unfolding heap_view

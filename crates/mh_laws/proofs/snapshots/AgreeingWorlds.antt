@@ -17,7 +17,8 @@ use Rattle.mh_model.specs.Snapshot.{Moment, half_moment, next_moment, IsKept}
 use Rattle.mh_model.specs.Invariant.{IsSound, KeepsSnapshot, IsFinished, Continues, HeapKeeps}
 use Rattle.mh_laws.proofs.snapshots.CycleSteps.{continues-quantum, snapshot-counted}
 use Rattle.mh_laws.proofs.snapshots.SessionCommands.{snapshot-mutator_step}
-use Rattle.mh_laws.proofs.snapshots.RunningCycles.{idle_is, quantum-rests, continues-start}
+use Rattle.mh_laws.proofs.snapshots.RunningCycles.{continues-start}
+use Rattle.mh_laws.proofs.costs.QuantumStarts.{idle_is, quantum-rests}
 
 has_object : (o : Option Object) (field birth : ℕ) → reference_of o field ≡ Some birth → (object : Object) × (o ≡ Some object)
 has_object None field birth e = absurd (none-some birth e)

@@ -1,6 +1,13 @@
 -- Barriers and what is written after them, as laws.
-use Rattle.mh_laws.specs.Barriers.{BarriersKeepTheSnapshot, RootsWrittenKeepTheSnapshot, ReferencesWrittenKeepTheSnapshot, NumbersWrittenKeepTheSnapshot}
+use Rattle.std.proofs.Common.{subst}
+use Rattle.std.proofs.lemmas.Option.{same_Some}
+use Rattle.mh_model.specs.declared.shape.Shape.{Shape}
+use Rattle.mh_model.specs.Collector.{Collector}
+use Rattle.mh_model.specs.Invariant.{IsPlainAt}
+use Rattle.mh_laws.specs.Barriers.{BarriersKeepTheSnapshot, RootsWrittenKeepTheSnapshot, ReferencesWrittenKeepTheSnapshot, NumbersWrittenKeepTheSnapshot, ObjectsMadeKeepTheSnapshot}
 use Rattle.mh_laws.proofs.marking.MarkSteps.{guarded}
+use Rattle.mh_laws.proofs.objects.NewbornBlocks.{made_group-born}
+use Rattle.mh_laws.proofs.snapshots.NewObjects.{snapshot-borne, newborn_root, borne}
 use Rattle.mh_laws.proofs.snapshots.Barriers.{snapshot-with_root, snapshot-with_reference_stored, snapshot-with_number_stored}
 
 pub barriers-keep : BarriersKeepTheSnapshot
@@ -14,3 +21,13 @@ references-keep snapshot n c position reference (block, has, kept) may h = snaps
 
 pub numbers-keep : NumbersWrittenKeepTheSnapshot
 numbers-keep snapshot n c position number block there live h = snapshot-with_number_stored snapshot n c position number block there live h
+
+pub objects-keep : ObjectsMadeKeepTheSnapshot
+objects-keep snapshot n c references numbers made is h =
+    let shape : Shape = record { references = references; numbers = numbers } in
+    let born = made_group-born c.table n c.cycle shape h.sound.narrow made is in
+    let new : Collector = borne snapshot n c shape made h born in
+    let (x, plain, first, kept) = newborn_root snapshot n c shape made h born in (
+      snapshot-borne snapshot n c shape made h born,
+      λ place same. (x, subst (λ q. IsPlainAt new q x) (same_Some made.place place same) plain, first, λ marks. kept),
+    )

@@ -3,8 +3,6 @@ use Rattle.std.proofs.Common.{◌≡◌, ℕ, zero, suc, if◌then◌else◌, Bo
 use Rattle.std.proofs.lemmas.Bool.{cases_eq, false≢true}
 use Rattle.std.proofs.lemmas.Option.{none-some, same_Some}
 use Rattle.std.proofs.lemmas.List.{get_or-set_other, length-set}
-use Rattle.mh_model.specs.declared.cycle.Phase.{Phase}
-use Rattle.mh_model.specs.declared.cycle.Phase.TheVariants.{Idle, Roots, Mark, Sweep, Defrag}
 use Rattle.mh_model.specs.World.{World, own_slot}
 use Rattle.mh_model.specs.Pages.{block_at, with_block}
 use Rattle.mh_model.specs.Table.{Block, Position, with_reference_at, with_number_at, number_index, resolve, reference_in}
@@ -14,16 +12,9 @@ use Rattle.mh_model.specs.Snapshot.{IsKept}
 use Rattle.mh_model.specs.Invariant.{IsPlainAt, HasFieldsAt, IsSound, IsMarkedAt, KeepsSnapshot}
 use Rattle.mh_laws.proofs.Lists.{get_or-set_either}
 use Rattle.mh_laws.proofs.objects.Headers.{flat_of}
-use Rattle.mh_laws.proofs.marking.BlockChanges.{IsChange, IsKeptChange, snapshot-changed, resolve-live, not_sweep}
+use Rattle.mh_laws.proofs.marking.BlockChanges.{IsChange, IsKeptChange, snapshot-changed, resolve-live, not_sweep, roots_mark}
 use Rattle.mh_laws.proofs.marking.SameTable.{snapshot-turned}
 use Rattle.mh_laws.proofs.marking.MarkSteps.{IsGuarded, guarded, unguarded, root_target, leads}
-
-roots_mark : (phase : Phase) → in_roots phase ≡ true → in_roots_or_mark phase ≡ true
-roots_mark Idle m = absurd (false≢true m)
-roots_mark Roots m = refl
-roots_mark Mark m = absurd (false≢true m)
-roots_mark Sweep m = absurd (false≢true m)
-roots_mark Defrag m = absurd (false≢true m)
 
 module _ (snapshot : World) (n : ℕ) where
   -- what may be written: nothing, or the place of an object that is kept

@@ -3,7 +3,7 @@ use Rattle.std.proofs.Common.{◌≡◌, ◌≢◌, ℕ, zero, suc, ◌+◌, ◌
 use Rattle.std.proofs.lemmas.Bool.{false≢true, ltb-true, ltb-false}
 use Rattle.std.proofs.lemmas.Option.{none-some, same_Some, slice_get_within}
 use Rattle.mh_model.specs.declared.shape.Shape.{Shape}
-use Rattle.mh_model.specs.World.{World, births, object_at, slot_at, reference_of}
+use Rattle.mh_model.specs.World.{Object, World, births, object_at, slot_at, reference_of}
 use Rattle.mh_model.specs.Paths.{IsPath, Reachable}
 use Rattle.mh_model.specs.Classes.{Part, run_count, middle_count, parts}
 use Rattle.mh_model.specs.Pages.{Table, block_at}
@@ -12,16 +12,17 @@ use Rattle.mh_model.specs.Collector.{Collector, cycle_start}
 use Rattle.mh_model.specs.Mutator.{HeapState}
 use Rattle.mh_model.specs.View.{in_sweep, block_of_birth, birth_named, arraylet_words, object_of, object_shown, heap_view}
 use Rattle.mh_model.specs.Invariant.{IsPlainAt, IsPartOf, first_child, IsSound, IsMarkedAt, IsPromised, IsWhole, KeepsSnapshot}
-use Rattle.mh_laws.proofs.marking.BlockChanges.{resolve-live, within}
+use Rattle.mh_laws.proofs.marking.BlockChanges.{resolve-live, live_plain}
 use Rattle.mh_laws.proofs.objects.Parts.{later_part, IsChild, parent_of, child_is}
 use Rattle.mh_laws.proofs.objects.Headers.{header_is}
 use Rattle.mh_laws.proofs.objects.JoinedFields.{has_children, has_none, an_arraylet, arraylet_count}
-use Rattle.mh_laws.proofs.showing.FoundBlocks.{live_held, first-found}
-use Rattle.mh_laws.proofs.showing.ObjectsShown.{read-tabulate, count-tabulate, IsFieldBlock, named-back, named-forth, refers-back, refers-forth}
+use Rattle.mh_laws.proofs.showing.FoundBlocks.{live_held, first-found, IsFirstAt}
+use Rattle.mh_laws.proofs.showing.ObjectsShown.{read-tabulate, IsFieldBlock, named-back, named-forth, refers-back, refers-forth, tabulate-read}
+use Rattle.mh_laws.proofs.Lists.{below_length, length-tabulate}
 
 pub births-view : (heap : HeapState) → births (heap_view heap) ≡ heap.next_birth
 unfolding heap_view
-births-view heap = count-tabulate (object_shown heap.collector) 0 heap.next_birth
+births-view heap = length-tabulate (object_shown heap.collector) 0 heap.next_birth
 
 pub slot-view : (heap : HeapState) (slot : ℕ) → slot_at (heap_view heap) slot ≡ get_or (map (birth_named heap.collector.table) heap.collector.slots) slot None
 unfolding heap_view
@@ -30,6 +31,15 @@ slot-view heap slot = refl
 pub object-view : (heap : HeapState) (birth : ℕ) → birth < heap.next_birth → object_at (heap_view heap) birth ≡ object_shown heap.collector birth
 unfolding heap_view
 object-view heap birth below = let e : 0 + birth ≡ birth = omega arith in read-tabulate (object_shown heap.collector) 0 heap.next_birth birth below ∙ ap (object_shown heap.collector) e
+
+pub view-shown : (heap : HeapState) (birth : ℕ) (object : Object) → object_at (heap_view heap) birth ≡ Some object → object_shown heap.collector birth ≡ Some object
+unfolding heap_view
+view-shown heap birth object e = let k : birth ≡ 0 + birth = omega arith in ap (object_shown heap.collector) k ∙ tabulate-read (object_shown heap.collector) 0 heap.next_birth birth object e
+
+-- the object of a held part 0 is shown
+pub first-view : (heap : HeapState) → IsSound heap.next_birth heap.collector → (birth p : ℕ) (z : Block) → IsFirstAt heap.collector birth p z → object_at (heap_view heap) birth ≡ Some (object_of heap.collector.table z)
+first-view heap h birth p z at =
+    object-view heap birth (subst (λ b. b < heap.next_birth) at.birth_is (h.births p z at.there)) ∙ ap (option_map (object_of heap.collector.table)) (first-found heap.next_birth heap.collector h birth p z at)
 
 module _ (heap : HeapState) (no_sweep : in_sweep heap.collector.phase ≡ false) (h : IsSound heap.next_birth heap.collector) where
   abbrev c : Collector
@@ -45,7 +55,7 @@ module _ (heap : HeapState) (no_sweep : in_sweep heap.collector.phase ≡ false)
   view = heap_view heap
 
   pub plain_of : (q : ℕ) (x : Block) → block_at t₀ q ≡ Some x → x.forward ≡ None → IsPlainAt c q x
-  plain_of q x there live = record { there = there; original = live; surviving = λ s. absurd (false≢true (sym no_sweep ∙ s)) }
+  plain_of = live_plain heap.collector no_sweep
 
   plain_then : (q : ℕ) (x : Block) → IsPlainAt c q x → IsPlainAt started q x
   plain_then q x plain = record { there = plain.there; original = plain.original; surviving = λ s. absurd (false≢true s) }
@@ -167,7 +177,7 @@ module _ (heap : HeapState) (no_sweep : in_sweep heap.collector.phase ≡ false)
             | inr k ↦
                 let (i, w, word_w, there_y) = k.1 in
                 let count = arraylet_count heap.next_birth c h f.place f.block plain_f f.first k.0 in
-                let a = an_arraylet heap.next_birth c h f.place f.block plain_f f.first k.0 i (omega (arith, count, within (arraylet_words t₀ f.block) i w word_w)) in
+                let a = an_arraylet heap.next_birth c h f.place f.block plain_f f.first k.0 i (omega (arith, count, below_length (arraylet_words t₀ f.block) i w word_w)) in
                 let same_w : a.reference ≡ w = same_Some a.reference w (sym a.word ∙ word_w) in
                 let same : a.block ≡ y = same_Some a.block y (sym a.leads.there ∙ ap (λ z. block_at t₀ (resolve t₀ z)) same_w ∙ there_y) in
                 let live_y : y.forward ≡ None = ap (λ (z : Block). z.forward) (sym same) ∙ a.leads.original in
@@ -243,7 +253,7 @@ module _ (heap : HeapState) (no_sweep : in_sweep heap.collector.phase ≡ false)
       by_children : (child : Option ℕ) → first_child (h.shapes x.birth) x.part ≡ child → IsReached x.birth → Reachable view t.birth
       by_children None flat f = fields f flat x.part refl
       by_children (Some child) spine f =
-          let (w, word, (y, plain, birth_y, part_y)) = h.spines q x child (plain_of q x there live) spine i (within x.references i r e) in
+          let (w, word, (y, plain, birth_y, part_y)) = h.spines q x child (plain_of q x there live) spine i (below_length x.references i r e) in
           let same_w : w ≡ r = same_Some w r (sym word ∙ e) in
           let same_y : y ≡ t = same_Some y t (sym plain.there ∙ ap (λ z. block_at t₀ (resolve t₀ z)) same_w ∙ there_t) in
           subst (Reachable view) (sym birth_y ∙ ap (λ z. z.birth) same_y) (path, is_path)

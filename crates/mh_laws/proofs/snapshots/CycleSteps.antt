@@ -1,5 +1,5 @@
 -- Steps of the collector and quanta: each keeps the snapshot of a running cycle, and the last of them leaves what the cycle keeps.
-use Rattle.std.proofs.Common.{◌≡◌, ℕ, zero, suc, ◌+◌, ◌-◌, ◌==◌, nat_lt, nat_le, if◌then◌else◌, Bool, true, false, ◌||◌, ◌&&◌, inl, inr, List, [], ◌∷◌, None, refl, sym, ap, ◌∙◌, subst, arith, eqb-true}
+use Rattle.std.proofs.Common.{◌≡◌, ℕ, zero, suc, ◌+◌, ◌-◌, ◌==◌, nat_lt, if◌then◌else◌, Bool, true, false, ◌||◌, inl, inr, List, [], ◌∷◌, None, refl, sym, ap, ◌∙◌, subst, arith, eqb-true}
 use Rattle.std.proofs.lemmas.Bool.{false≢true, cases_Bool, or_parts}
 use Rattle.std.proofs.lemmas.Option.{none-some}
 use Rattle.std.proofs.lemmas.List.{get_or_past}
@@ -7,8 +7,7 @@ use Rattle.mh_model.specs.declared.config.Config.{Config}
 use Rattle.mh_model.specs.declared.cycle.Phase.{Phase}
 use Rattle.mh_model.specs.declared.cycle.Phase.TheVariants.{Idle, Roots, Mark, Sweep, Defrag}
 use Rattle.mh_model.specs.World.{World}
-use Rattle.mh_model.specs.Pages.{free_pages}
-use Rattle.mh_model.specs.Collector.{Collector, mark_step, marking_of, with_marking, with_phase, roots_step, sweep_step, defrag_step, after_mark, is_past, cycle_end, phase_after, step_in, collector_step, step_cost, is_moving, is_idle, cycle_start, with_count, quantum_start, steps, quantum}
+use Rattle.mh_model.specs.Collector.{Collector, mark_step, marking_of, with_marking, with_phase, roots_step, sweep_step, defrag_step, after_mark, is_past, cycle_end, phase_after, step_in, collector_step, step_cost, is_moving, is_idle, quantum_start, steps, quantum}
 use Rattle.mh_model.specs.Mutator.{in_roots_or_mark, in_roots}
 use Rattle.mh_model.specs.Invariant.{IsFromRoot, KeepsSnapshot, Continues}
 use Rattle.mh_laws.proofs.costs.Quanta.{steps-stop, steps-go}
@@ -16,6 +15,7 @@ use Rattle.mh_laws.proofs.marking.SameTable.{snapshot-turned}
 use Rattle.mh_laws.proofs.marking.MarkSteps.{snapshot-roots_step, snapshot-mark_step}
 use Rattle.mh_laws.proofs.sweeping.SweepSteps.{snapshot-after_mark, snapshot-sweep_step, snapshot-after_sweep}
 use Rattle.mh_laws.proofs.moving.MoveSteps.{snapshot-defrag_step, snapshot-cycle_end, finished-cycle_end}
+use Rattle.mh_laws.proofs.costs.QuantumStarts.{begins}
 
 module _ (snapshot : World) (n : ℕ) where
   after_roots : (c : Collector) → c.phase ≡ Roots → KeepsSnapshot snapshot n c → Continues snapshot n (phase_after Roots c)
@@ -104,12 +104,10 @@ module _ (config : Config) (snapshot : World) (n : ℕ) where
   -- A quantum in a running cycle
   pub continues-quantum : (c : Collector) → is_idle c.phase ≡ false → KeepsSnapshot snapshot n c → Continues snapshot n (quantum config c).collector
   unfolding quantum
-  continues-quantum c runs h = continues-steps snapshot n config.quantum config.quantum false (quantum_start config c) (begins (is_idle c.phase) refl)
-    where
-      counted : (idle : Bool) → is_idle c.phase ≡ idle → is_idle c.phase ≡ false → Continues snapshot n (if idle then c else record c { quanta = c.quanta + 1 })
-      counted true e r = absurd (false≢true (sym r ∙ e))
-      counted false e r = record { keeps = snapshot-counted snapshot n c c.is_asked (c.quanta + 1) h; ends = λ i. absurd (false≢true (sym r ∙ i)) }
-
-      begins : (idle : Bool) → is_idle c.phase ≡ idle → Continues snapshot n (quantum_start config c)
-      begins true e = absurd (false≢true (sym runs ∙ e))
-      begins false e = subst (λ b. Continues snapshot n (with_count (if (b && (c.is_asked || nat_le (free_pages c.table) config.trigger)) then cycle_start c else c))) (sym runs) (counted (is_idle c.phase) refl runs)
+  continues-quantum c runs h = continues-steps snapshot n config.quantum config.quantum false (quantum_start config c) (elim (begins config c).case [
+    | inl starts ↦ absurd (false≢true (sym runs ∙ ap is_idle starts.1))
+    | inr other ↦ elim other [
+      | inl counted ↦ subst (Continues snapshot n) (sym counted.1) (record { keeps = snapshot-counted snapshot n c c.is_asked (c.quanta + 1) h; ends = λ i. absurd (false≢true (sym runs ∙ i)) })
+      | inr rests ↦ absurd (false≢true (sym runs ∙ ap is_idle rests.1))
+    ]
+  ])

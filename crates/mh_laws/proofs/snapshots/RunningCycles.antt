@@ -1,35 +1,28 @@
 -- Quanta that start a cycle or none, events, and every moment of a run: some world is the snapshot of the running cycle.
-use Rattle.std.proofs.Common.{◌≡◌, ℕ, zero, suc, ◌+◌, ◌≤◌, nat_le, nat_lt, if◌then◌else◌, Bool, true, false, not, ◌&&◌, ◌||◌, inl, inr, List, Option, Some, None, is_some, option_and_then, refl, sym, ap, ◌∙◌, subst, arith, eq-eqb, eqb-true}
-use Rattle.std.proofs.lemmas.Bool.{false≢true, and_parts, cases_Bool, leb-false}
+use Rattle.std.proofs.Common.{◌≡◌, ℕ, ◌≤◌, true, false, inl, inr, List, Some, option_and_then, refl, sym, ap, ◌∙◌, subst, arith}
+use Rattle.std.proofs.lemmas.Bool.{false≢true, cases_Bool}
 use Rattle.std.proofs.lemmas.Option.{none-some}
 use Rattle.mh_model.specs.declared.config.Config.{Config}
 use Rattle.mh_model.specs.declared.command.Command.{Command}
 use Rattle.mh_model.specs.declared.command.Event.{Event}
-use Rattle.mh_model.specs.declared.cycle.Phase.{Phase}
-use Rattle.mh_model.specs.declared.cycle.Phase.TheVariants.{Idle, Roots, Mark, Sweep, Defrag}
+use Rattle.mh_model.specs.declared.cycle.Phase.TheVariants.{Idle}
 use Rattle.mh_model.specs.World.{World, births, first_world}
 use Rattle.mh_model.specs.Pages.{page_number, slot_number, block_in, block_at}
-use Rattle.mh_model.specs.Table.{Block, resolve, is_forwarder}
-use Rattle.mh_model.specs.Collector.{Collector, first_collector, is_marked, is_idle, is_start_due, cycle_start, with_count, quantum_start, steps, step_cost, quantum}
+use Rattle.mh_model.specs.Table.{Block, resolve}
+use Rattle.mh_model.specs.Collector.{Collector, first_collector, is_idle, is_start_due, cycle_start, quantum_start, quantum}
 use Rattle.mh_model.specs.Mutator.{HeapState, first_heap, in_roots_or_mark}
 use Rattle.mh_model.specs.Machine.{Machine, first_machine, with_collector, quantum_run, command_step, half_step, machine_after}
-use Rattle.mh_model.specs.View.{in_sweep, is_condemned, is_held, heap_view}
-use Rattle.mh_model.specs.Invariant.{IsPlainAt, IsSound, KeepsSnapshot, Continues, IsLinked, IsKeeping}
+use Rattle.mh_model.specs.View.{in_sweep, heap_view}
+use Rattle.mh_model.specs.Invariant.{IsSound, KeepsSnapshot, Continues, IsLinked, IsKeeping}
 use Rattle.mh_laws.specs.Snapshots.{MomentsKeepASnapshot}
 use Rattle.mh_laws.proofs.Lists.{none_at}
-use Rattle.mh_laws.proofs.costs.Quanta.{steps-stop}
 use Rattle.mh_laws.proofs.runs.EveryMoment.{half_step-keeps, machine_after-keeps}
 use Rattle.mh_laws.proofs.marking.MarkSteps.{leads}
 use Rattle.mh_laws.proofs.snapshots.CycleSteps.{continues-steps, continues-quantum, snapshot-counted}
 use Rattle.mh_laws.proofs.snapshots.SessionCommands.{snapshot-mutator_step}
 use Rattle.mh_laws.proofs.snapshots.CycleStarts.{snapshot-started}
-
-pub idle_is : (phase : Phase) → is_idle phase ≡ true → phase ≡ Idle
-idle_is Idle e = refl
-idle_is Roots e = absurd (false≢true e)
-idle_is Mark e = absurd (false≢true e)
-idle_is Sweep e = absurd (false≢true e)
-idle_is Defrag e = absurd (false≢true e)
+use Rattle.mh_laws.proofs.showing.SamePlainBlocks.{plain-held, held-plain}
+use Rattle.mh_laws.proofs.costs.QuantumStarts.{idle_is, quantum-rests, begins}
 
 -- where no cycle runs, a sound state keeps any snapshot
 pub snapshot-idle : (snapshot : World) (n : ℕ) (c : Collector) → c.phase ≡ Idle → births snapshot ≤ n → IsSound n c → KeepsSnapshot snapshot n c
@@ -49,20 +42,16 @@ snapshot-idle snapshot n c idle before sound = record {
 -- A quantum that starts a cycle keeps what is reachable in the view at its entry, or ends the cycle with just that and what is born since
 pub continues-start : (heap : HeapState) → heap.collector.phase ≡ Idle → is_start_due heap.config heap.collector ≡ true → IsSound heap.next_birth heap.collector → Continues (heap_view heap) heap.next_birth (quantum heap.config heap.collector).collector
 unfolding quantum
-continues-start heap idle due sound = continues-steps (heap_view heap) heap.next_birth heap.config.quantum heap.config.quantum false (quantum_start heap.config heap.collector)
-    (subst (λ b. Continues (heap_view heap) heap.next_birth (with_count (if b then cycle_start heap.collector else heap.collector))) (sym due) (record {
-      keeps = snapshot-counted (heap_view heap) heap.next_birth (cycle_start heap.collector) false ((cycle_start heap.collector).quanta + 1) (snapshot-started heap (ap in_sweep idle) sound);
-      ends = λ i. absurd (false≢true i);
-    }))
-
--- A quantum where no cycle runs and none is due changes nothing
-pub quantum-rests : (config : Config) (c : Collector) → is_idle c.phase ≡ true → is_start_due config c ≡ false → (quantum config c).collector ≡ c
-unfolding quantum steps
-quantum-rests config c idle rests = ap (λ b. (steps config.quantum config.quantum false (with_count (if b then cycle_start c else c))).collector) rests ∙ ap (λ b. (steps config.quantum config.quantum false (if b then c else record c { quanta = c.quanta + 1 })).collector) idle ∙ at_rest config.quantum config.quantum
+continues-start heap idle due sound = continues-steps (heap_view heap) heap.next_birth heap.config.quantum heap.config.quantum false (quantum_start heap.config heap.collector) started
   where
-    at_rest : (more left : ℕ) → (steps more left false c).collector ≡ c
-    at_rest zero left = refl
-    at_rest (suc more) left = ap (λ s. s.collector) (steps-stop more left false c (ap (λ b. b || nat_lt left (step_cost c false)) idle))
+    started : Continues (heap_view heap) heap.next_birth (quantum_start heap.config heap.collector)
+    started = elim (begins heap.config heap.collector).case [
+      | inl starts ↦ subst (Continues (heap_view heap) heap.next_birth) (sym starts.2) (record {
+        keeps = snapshot-counted (heap_view heap) heap.next_birth (cycle_start heap.collector) false 1 (snapshot-started heap (ap in_sweep idle) sound);
+        ends = λ i. absurd (false≢true i);
+      })
+      | inr other ↦ elim other [ inl runs ↦ absurd (false≢true (sym runs.0 ∙ ap is_idle idle)) | inr rests ↦ absurd (false≢true (sym rests.0 ∙ due)) ]
+    ]
 
 -- A quantum leaves some snapshot kept
 pub keeping-quantum : (heap : HeapState) → IsKeeping heap → IsKeeping (record heap { collector = (quantum heap.config heap.collector).collector })
@@ -122,35 +111,10 @@ keeping-first config = (first_world config, keeps-first config)
 -- References at each moment ----------------------------------------------------------------------
 
 module _ (n : ℕ) (c : Collector) (h : IsSound n c) where
-  held_plain : (q : ℕ) (x : Block) → IsPlainAt c q x → is_held c q x ≡ true
-  held_plain q x plain = rw plain.original (go (in_sweep c.phase) refl (nat_le c.cursor q))
-    where
-      go : (s : Bool) → in_sweep c.phase ≡ s → (b : Bool) → not (s && (b && not (is_marked c.cycle x))) ≡ true
-      go false is b = refl
-      go true is false = refl
-      go true is true = ap (λ m. not (not m)) (eq-eqb x.stamp c.cycle (plain.surviving is))
-
-  plain_held : (q : ℕ) (x : Block) → block_at c.table q ≡ Some x → is_held c q x ≡ true → IsPlainAt c q x
-  plain_held q x there held =
-      let (live, kept) = and_parts (not (is_forwarder x)) (not (is_condemned c q x)) held in
-      record { there = there; original = no_forward x.forward live; surviving = λ sweeps. marked sweeps (nat_le c.cursor q) refl (ap (λ s. not (s && (nat_le c.cursor q && not (is_marked c.cycle x)))) (sym sweeps) ∙ kept) }
-    where
-      no_forward : (o : Option ℕ) → not (is_some o) ≡ true → o ≡ None
-      no_forward None e = refl
-      no_forward (Some target) e = absurd (false≢true e)
-
-      by_mark : (b : Bool) → is_marked c.cycle x ≡ b → not (not b) ≡ true → x.stamp ≡ c.cycle
-      by_mark true is e = eqb-true x.stamp c.cycle is
-      by_mark false is e = absurd (false≢true e)
-
-      marked : in_sweep c.phase ≡ true → (b : Bool) → nat_le c.cursor q ≡ b → not (true && (b && not (is_marked c.cycle x))) ≡ true → x.stamp ≡ c.cycle
-      marked sweeps true is e = by_mark (is_marked c.cycle x) refl e
-      marked sweeps false is e = h.swept sweeps q x there (leb-false c.cursor q is)
-
   pub linked : IsLinked c
   linked = record {
-    slots = λ i r e. let (x, plain, first) = h.slots i r e in (x, plain.there, held_plain r x plain);
-    references = λ q x there held i r e. let (y, plain) = leads n c h q x (plain_held q x there held) i r e in (y, plain.there, held_plain (resolve c.table r) y plain);
+    slots = λ i r e. let (x, plain, first) = h.slots i r e in (x, plain.there, plain-held c r x plain);
+    references = λ q x there held i r e. let (y, plain) = leads n c h q x (held-plain n c h q x there held) i r e in (y, plain.there, plain-held c (resolve c.table r) y plain);
   }
 
 -- what is kept is linked too

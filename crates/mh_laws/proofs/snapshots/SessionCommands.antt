@@ -54,16 +54,16 @@ module _ (snapshot : World) (heap : HeapState) (h : KeepsSnapshot snapshot heap.
   c = heap.collector
 
   -- the object that a root holds
-  record IsHeldBy (slot : ℕ) (s : Shape) : Type 0 where
-    place : ℕ
-    block : Block
-    root : root_at heap slot ≡ Some place
-    plain : IsPlainAt heap.collector place block
-    first : block.part ≡ 0
-    kept : in_roots_or_mark heap.collector.phase ≡ true → IsKept snapshot heap.next_birth block.birth
-    header : block.header ≡ s
+  pub record IsHeldBy (slot : ℕ) (s : Shape) : Type 0 where
+    pub place : ℕ
+    pub block : Block
+    pub root : root_at heap slot ≡ Some place
+    pub plain : IsPlainAt heap.collector place block
+    pub first : block.part ≡ 0
+    pub kept : in_roots_or_mark heap.collector.phase ≡ true → IsKept snapshot heap.next_birth block.birth
+    pub header : block.header ≡ s
 
-  held_by : (slot : ℕ) (s : Shape) → shape_at heap slot ≡ Some s → IsHeldBy slot s
+  pub held_by : (slot : ℕ) (s : Shape) → shape_at heap slot ≡ Some s → IsHeldBy slot s
   held_by slot s e = go (root_at heap slot) refl e
     where
       at_block : (r : ℕ) → root_at heap slot ≡ Some r → (o : Option Block) → block_at c.table r ≡ o → option_map (λ (x : Block). x.header) o ≡ Some s → IsHeldBy slot s

@@ -12,10 +12,11 @@ use Rattle.mh_model.specs.View.{in_sweep}
 use Rattle.mh_model.specs.Snapshot.{IsKept}
 use Rattle.mh_model.specs.Invariant.{IsIn, IsPlainAt, in_trace, in_defrag, IsSound, IsFromRoot, KeepsSnapshot}
 use Rattle.mh_laws.proofs.marking.MarkingPaths.{nothing_promised}
-use Rattle.mh_laws.proofs.marking.BlockChanges.{resolve-live, not_sweep, within}
+use Rattle.mh_laws.proofs.marking.BlockChanges.{resolve-live, not_sweep}
 use Rattle.mh_laws.proofs.marking.SameTable.{snapshot-turned}
 use Rattle.mh_laws.proofs.marking.MarkSteps.{traces, runs, leads}
 use Rattle.mh_laws.proofs.sweeping.SweptTables.{IsSwept, swept-is}
+use Rattle.mh_laws.proofs.Lists.{below_length}
 
 -- When marking ends ------------------------------------------------------------------------------
 
@@ -224,7 +225,7 @@ snapshot-after_sweep snapshot n c sweeps past h = snapshot-turned c c.slots Defr
       where
         go : (content : Option (Page Block)) → page_at c.table (page_number q) ≡ content → option_and_then (Rattle.mh_model.specs.Pages.block_in (Rattle.mh_model.specs.Pages.slot_number q)) content ≡ Some x → page_number q < length c.table
         go None is f = absurd (none-some x f)
-        go (Some page) is f = within c.table (page_number q) page is
+        go (Some page) is f = below_length c.table (page_number q) page is
 
     all_marked : (q : ℕ) (x : Block) → block_at c.table q ≡ Some x → x.stamp ≡ c.cycle
     all_marked q x e =

@@ -1,12 +1,13 @@
 -- The table after a sweep step: what is left in the slot that was swept, and every other block.
-use Rattle.std.proofs.Common.{◌≡◌, ◌≢◌, ℕ, zero, suc, ◌+◌, ◌*◌, ◌/◌, ◌<◌, ◌==◌, nat_le, if◌then◌else◌, Bool, true, false, not, ◌&&◌, ◌||◌, ◌⊎◌, inl, inr, List, [], ◌∷◌, length, get_or, set, Option, Some, None, option_and_then, refl, sym, ap, ◌∙◌, arith, eq-eqb, eqb-true}
+use Rattle.std.proofs.Common.{◌≡◌, ◌≢◌, ℕ, zero, suc, ◌+◌, ◌/◌, ◌<◌, ◌==◌, if◌then◌else◌, Bool, true, false, not, ◌||◌, ◌⊎◌, inl, inr, List, [], ◌∷◌, length, get_or, set, Option, Some, None, option_and_then, refl, sym, ap, ◌∙◌, arith, eq-eqb, eqb-true}
 use Rattle.std.proofs.lemmas.Bool.{cases_eq, cases_lt, cases_order}
 use Rattle.std.proofs.lemmas.Option.{none-some, same_Some}
 use Rattle.std.proofs.lemmas.List.{get_or-set_same, get_or-set_other, length-set}
-use Rattle.mh_model.specs.Pages.{Page, Table, page_number, slot_number, page_at, block_in, block_at, block_count, live_in, page_with, has_denser}
+use Rattle.mh_model.specs.Pages.{Page, Table, page_number, slot_number, page_at, block_in, block_at, block_count, live_in, page_with}
 use Rattle.mh_model.specs.Table.{Block, is_forwarder}
 use Rattle.mh_model.specs.Collector.{is_marked, next_page, is_last_slot, next_place, survivor, judged_page, swept_page, swept_table}
-use Rattle.mh_laws.proofs.marking.BlockChanges.{within}
+use Rattle.mh_laws.proofs.tables.PageSlots.{judged_page-is}
+use Rattle.mh_laws.proofs.Lists.{below_length}
 
 -- What a sweep step leaves: nothing but blocks that were there, at its place only a marked one that is no forwarder, and each such block
 pub record IsSwept (cycle : ℕ) (table : Table Block) (place : ℕ) (table' : Table Block) (place' : ℕ) : Type 0 where
@@ -24,19 +25,11 @@ none_left (Some x ∷ slots) slot e = absurd (omega arith)
 
 -- a page that is judged keeps its blocks
 judged-reads : (table : Table Block) (number : ℕ) (page : Page Block) (slot : ℕ) → option_and_then (block_in slot) (judged_page table number page) ≡ get_or page.slots slot None
-judged-reads table number page slot = go (live_in page == 0) refl
+judged-reads table number page slot = go (live_in page == 0) _ refl
   where
-    go : (empty : Bool) → (live_in page == 0) ≡ empty
-        → option_and_then (block_in slot) (if empty then None else Some (record page { is_flagged = nat_le (4 * live_in page) (length page.slots) && has_denser table number page.class_size })) ≡ get_or page.slots slot None
-    go true e = sym (none_left page.slots slot (eqb-true (live_in page) 0 e))
-    go false e = refl
-
-judged-length : (table : Table Block) (number : ℕ) (page new : Page Block) → judged_page table number page ≡ Some new → length new.slots ≡ length page.slots
-judged-length table number page new = go (live_in page == 0)
-  where
-    go : (empty : Bool) → (if empty then None else Some (record page { is_flagged = nat_le (4 * live_in page) (length page.slots) && has_denser table number page.class_size })) ≡ Some new → length new.slots ≡ length page.slots
-    go true e = absurd (none-some new e)
-    go false e = ap (λ p. length p.slots) (sym (same_Some (record page { is_flagged = nat_le (4 * live_in page) (length page.slots) && has_denser table number page.class_size }) new e))
+    go : (empty flag : Bool) → (live_in page == 0) ≡ empty → option_and_then (block_in slot) (if empty then None else Some (record page { is_flagged = flag })) ≡ get_or page.slots slot None
+    go true flag e = sym (none_left page.slots slot (eqb-true (live_in page) 0 e))
+    go false flag e = refl
 
 survivor-is : (cycle : ℕ) (o : Option Block) (x : Block) → option_and_then (survivor cycle) o ≡ Some x → (o ≡ Some x) × (x.stamp ≡ cycle)
 survivor-is cycle None x e = absurd (none-some x e)
@@ -82,7 +75,7 @@ module _ (cycle : ℕ) (table : Table Block) (place : ℕ) (page : Page Block) (
   left = option_and_then (survivor cycle) (block_in (slot_number place) page)
 
   inside : page_number place < length table
-  inside = within table (page_number place) page is
+  inside = below_length table (page_number place) page is
 
   module _ (new : Option (Page Block)) (reads : (slot : ℕ) → option_and_then (block_in slot) new ≡ get_or (set page.slots (slot_number place) left) slot None)
       (size : (p : Page Block) → new ≡ Some p → length p.slots ≡ length page.slots) (place' : ℕ) (passes : (q : ℕ) (x : Block) → block_at (set table (page_number place) new) q ≡ Some x → q < place' → (q < place) ⊎ (q ≡ place)) where
@@ -105,7 +98,7 @@ module _ (cycle : ℕ) (table : Table Block) (place : ℕ) (page : Page Block) (
     survived x e =
         let f : get_or (set page.slots (slot_number place) left) (slot_number place) None ≡ Some x = sym now ∙ e in
         let same_length : length (set page.slots (slot_number place) left) ≡ length page.slots = length-set _ _ _ in
-        let inside_page : slot_number place < length page.slots = omega (arith, same_length, within (set page.slots (slot_number place) left) (slot_number place) x f) in
+        let inside_page : slot_number place < length page.slots = omega (arith, same_length, below_length (set page.slots (slot_number place) left) (slot_number place) x f) in
         let (old, stamp) = survivor-is cycle (block_in (slot_number place) page) x (sym (get_or-set_same page.slots (slot_number place) left None inside_page) ∙ f) in
         (before ∙ old, stamp)
 
@@ -119,7 +112,7 @@ module _ (cycle : ℕ) (table : Table Block) (place : ℕ) (page : Page Block) (
       kept = λ q x e s live. elim (cases_eq q place) [
         | inl same ↦
             let old : block_in (slot_number place) page ≡ Some x = sym before ∙ ap (block_at table) (sym same) ∙ e in
-            ap (block_at (set table (page_number place) new)) same ∙ now ∙ get_or-set_same page.slots (slot_number place) left None (within page.slots (slot_number place) x old) ∙ ap (option_and_then (survivor cycle)) old ∙ survivor-kept cycle x s live
+            ap (block_at (set table (page_number place) new)) same ∙ now ∙ get_or-set_same page.slots (slot_number place) left None (below_length page.slots (slot_number place) x old) ∙ ap (option_and_then (survivor cycle)) old ∙ survivor-kept cycle x s live
         | inr apart ↦ other q apart ∙ e
       ];
       passed = passes;
@@ -150,13 +143,13 @@ swept-is cycle table place = go (page_at table (page_number place)) refl
             at_once : (q : ℕ) → q < place + 1 → (q < place) ⊎ (q ≡ place)
             at_once q below = elim (cases_lt q place) [ inl l ↦ inl l | inr g ↦ inr (omega arith) ]
         by_last true e = swept-page cycle table place page is (judged_page table (page_number place) (page_with (slot_number place) o page)) (judged-reads table (page_number place) (page_with (slot_number place) o page))
-            (λ p f. judged-length table (page_number place) (page_with (slot_number place) o page) p f ∙ same_length) (next_page place) passes
+            (λ p f. ap length (judged_page-is table (page_number place) (page_with (slot_number place) o page) p f).slots ∙ same_length) (next_page place) passes
           where
             last_slot : suc (slot_number place) ≡ length page.slots
             last_slot = eqb-true (suc (slot_number place)) (length page.slots) e
 
             inside_table : page_number place < length table
-            inside_table = within table (page_number place) page is
+            inside_table = below_length table (page_number place) page is
 
             passes : (q : ℕ) (x : Block) → block_at (set table (page_number place) (judged_page table (page_number place) (page_with (slot_number place) o page))) q ≡ Some x → q < next_page place → (q < place) ⊎ (q ≡ place)
             passes q x f below = elim (cases_order q place) [
@@ -169,6 +162,6 @@ swept-is cycle table place = go (page_at table (page_number place)) refl
                     let read : get_or (set page.slots (slot_number place) o) (slot_number q) None ≡ Some x =
                     sym (judged-reads table (page_number place) (page_with (slot_number place) o page) (slot_number q))
                     ∙ ap (option_and_then (block_in (slot_number q))) (sym (get_or-set_same table (page_number place) new None inside_table)) ∙ ap (λ n. option_and_then (block_in (slot_number q)) (page_at (set table (page_number place) new) n)) (sym here) ∙ f in
-                    absurd (omega (arith, last_slot, same_length, within (set page.slots (slot_number place) o) (slot_number q) x read))
+                    absurd (omega (arith, last_slot, same_length, below_length (set page.slots (slot_number place) o) (slot_number q) x read))
               ]
             ]

@@ -1,29 +1,20 @@
 -- The words of a page: its slots have room for the blocks of its class, and each block fits its slot.
-use Rattle.std.proofs.Common.{◌≡◌, ℕ, zero, suc, ◌+◌, ◌*◌, ◌<◌, ◌≤◌, ◌==◌, ◌||◌, ◌&&◌, not, Bool, true, false, nat_le, if◌then◌else◌, inl, inr, List, [], ◌∷◌, length, get_or, set, Option, Some, None, option_map, option_and_then, unwrap_or, find, refl, sym, ap, ◌∙◌, subst, arith}
+use Rattle.std.proofs.Common.{◌≡◌, ℕ, ◌+◌, ◌*◌, ◌≤◌, ◌==◌, ◌||◌, ◌&&◌, not, Bool, true, false, nat_le, if◌then◌else◌, inl, inr, List, [], ◌∷◌, length, get_or, set, Option, Some, None, option_map, option_and_then, unwrap_or, find, refl, sym, ap, ◌∙◌, subst, arith}
 use Rattle.std.proofs.lemmas.Bool.{and_parts, leb-true}
 use Rattle.std.proofs.lemmas.Option.{none-some, same_Some}
 use Rattle.std.proofs.Math.Nat.{mul-le-mul_right}
 use Rattle.std.proofs.lemmas.List.{length-set, length-replicate, set-get_or}
 use Rattle.mh_model.specs.Classes.{class_sizes, class_of, slots_in}
-use Rattle.mh_model.specs.Pages.{Page, Table, page_number, slot_number, page_at, block_in, block_at, live_in, page_with, with_block, page_for, with_taken, has_denser}
+use Rattle.mh_model.specs.Pages.{Page, Table, page_number, slot_number, page_at, block_in, block_at, page_with, with_block, page_for, with_taken}
 use Rattle.mh_model.specs.Table.{Block, is_forwarder}
 use Rattle.mh_model.specs.Collector.{survivor, is_last_slot, is_marked, judged_page, swept_page, swept_table}
+use Rattle.mh_model.specs.Bound.{IsRoomyPage, IsRoomy}
 use Rattle.mh_laws.proofs.Lists.{find-passes, get_or-set_either, none_at}
-use Rattle.mh_laws.proofs.placing.Places.{IsShaped, IsSlot}
+use Rattle.mh_laws.proofs.placing.Places.{IsShaped}
+use Rattle.mh_laws.proofs.tables.PageSlots.{judged_page-is}
 use Rattle.mh_laws.specs.Costs.{IsSized}
 
 -- Pages ------------------------------------------------------------------------------------------
-
--- a class has 4 to 64 words, its slots lie in 256 words, and each block lies in its slot
-pub record IsRoomyPage (page : Page Block) : Type 0 where
-  pub least : 4 ≤ page.class_size
-  pub most : page.class_size ≤ 64
-  pub words : page.class_size * length page.slots ≤ 256
-  pub blocks : (slot : ℕ) (block : Block) → block_in slot page ≡ Some block → length block.references + 4 ≤ page.class_size
-
--- each page in use is so
-pub record IsRoomy (table : Table Block) : Type 0 where
-  pub pages : (number : ℕ) (page : Page Block) → page_at table number ≡ Some page → IsRoomyPage page
 
 -- a class of at least 4 words has at most 64 slots
 pub few_slots : (page : Page Block) → IsRoomyPage page → length page.slots ≤ 64
@@ -142,7 +133,7 @@ with_taken-roomy table size place block roomy class of_class fits = set-roomy ta
 
 -- Sweep and moves --------------------------------------------------------------------------------
 
-survivor-same : (cycle : ℕ) (block left : Block) → survivor cycle block ≡ Some left → block ≡ left
+pub survivor-same : (cycle : ℕ) (block left : Block) → survivor cycle block ≡ Some left → block ≡ left
 survivor-same cycle block left e = go (is_forwarder block || not (is_marked cycle block)) e
   where
     go : (b : Bool) → (if b then None else Some block) ≡ Some left → block ≡ left
@@ -150,14 +141,14 @@ survivor-same cycle block left e = go (is_forwarder block || not (is_marked cycl
     go false h = same_Some block left h
 
 judged-roomy : (table : Table Block) (number : ℕ) (page new : Page Block) → IsRoomyPage page → judged_page table number page ≡ Some new → IsRoomyPage new
-judged-roomy table number page new roomy e = go (live_in page == 0) e
-  where
-    flag : Bool
-    flag = nat_le (4 * live_in page) (length page.slots) && has_denser table number page.class_size
-
-    go : (b : Bool) → (if b then None else Some (record page { is_flagged = flag })) ≡ Some new → IsRoomyPage new
-    go true h = absurd (none-some new h)
-    go false h = subst IsRoomyPage (same_Some (record page { is_flagged = flag }) new h) (record { least = roomy.least; most = roomy.most; words = roomy.words; blocks = roomy.blocks })
+judged-roomy table number page new roomy e =
+    let judged = judged_page-is table number page new e in
+    record {
+      least = rw judged.class roomy.least;
+      most = rw judged.class roomy.most;
+      words = rw (judged.class, judged.slots) roomy.words;
+      blocks = λ slot block at. rw judged.class (roomy.blocks slot block (ap (λ slots. get_or slots slot None) (sym judged.slots) ∙ at));
+    }
 
 swept_page-roomy : (cycle : ℕ) (table : Table Block) (place : ℕ) (page new : Page Block) → IsRoomyPage page → swept_page cycle table place page ≡ Some new → IsRoomyPage new
 swept_page-roomy cycle table place page new roomy e = go (is_last_slot place page) e
@@ -186,20 +177,6 @@ swept-roomy cycle table place roomy = set-roomy table (page_number place) _ room
     go : (content : Option (Page Block)) (new : Page Block) → page_at table (page_number place) ≡ content → option_and_then (swept_page cycle table place) content ≡ Some new → IsRoomyPage new
     go None new at e = absurd (none-some new e)
     go (Some page) new at e = swept_page-roomy cycle table place page new (roomy.pages (page_number place) page at) e
-
--- what is read from a list is in it
-pub get_or-below : {X : Type 0} (xs : List (Option X)) (index : ℕ) (x : X) → get_or xs index None ≡ Some x → index < length xs
-get_or-below [] index x e = absurd (none-some x e)
-get_or-below (y ∷ xs) zero x e = omega arith
-get_or-below (y ∷ xs) (suc index) x e = omega (arith, get_or-below xs index x e)
-
--- a block lies in a slot of a page in use
-pub block-slot : (table : Table Block) (place : ℕ) (block : Block) → block_at table place ≡ Some block → IsSlot table place
-block-slot table place block e = go (page_at table (page_number place)) refl e
-  where
-    go : (content : Option (Page Block)) → page_at table (page_number place) ≡ content → option_and_then (block_in (slot_number place)) content ≡ Some block → IsSlot table place
-    go None at h = absurd (none-some block h)
-    go (Some page) at h = record { page = page; in_use = at; within = get_or-below page.slots (slot_number place) block h }
 
 set_same : {X : Type 0} (xs : List (Option X)) (index : ℕ) (x : Option X) → get_or xs index None ≡ x → set xs index x ≡ xs
 set_same xs index x e = ap (λ y. set xs index y) (sym e) ∙ set-get_or xs index None

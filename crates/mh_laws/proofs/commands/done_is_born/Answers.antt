@@ -1,4 +1,4 @@
-use Rattle.mh_laws.proofs.commands.LeftUnchanged.{new-done}
+use Rattle.mh_laws.proofs.commands.CommandAnswers.{new-done}
 use Rattle.mh_laws.proofs.commands.done_is_born.Goals as goal
 
 pub returns : goal.returns

@@ -1,4 +1,4 @@
-use Rattle.mh_laws.proofs.commands.LeftUnchanged.{new-full}
+use Rattle.mh_laws.proofs.commands.CommandAnswers.{new-full}
 use Rattle.mh_laws.proofs.commands.full_heap_has_no_place.Goals as goal
 
 pub returns : goal.returns

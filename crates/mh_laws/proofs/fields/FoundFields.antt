@@ -1,0 +1,154 @@
+-- Where the fields of objects lie, what lies there, and what references lead to.
+use Rattle.std.proofs.Common.{◌≡◌, ℕ, zero, suc, ◌+◌, ◌/◌, ◌%◌, ◌<◌, Bool, true, false, inl, inr, List, [], ◌∷◌, length, get_or, slice_get, Option, Some, None, is_some, IsSome, option_map, option_and_then, unwrap_or, refl, sym, ap, ◌∙◌, subst, arith}
+use Rattle.std.proofs.lemmas.Bool.{ltb-true}
+use Rattle.std.proofs.lemmas.Option.{none-some, same_Some}
+use Rattle.mh_model.specs.declared.shape.Shape.{Shape}
+use Rattle.mh_model.specs.Pages.{Table, block_at}
+use Rattle.mh_model.specs.Table.{Block, references_at, numbers_at, resolve, target_of, is_spine, is_tall, is_at, spine_place, position_of, reference_in}
+use Rattle.mh_model.specs.Collector.{Collector}
+use Rattle.mh_model.specs.View.{field_blocks}
+use Rattle.mh_model.specs.Invariant.{IsPlainAt, LeadsToObject, IsSound, IsObjectAt, HasChild, IsFindable, HasField, LeadsOn}
+use Rattle.mh_laws.specs.Fields.{SlotsHoldObjects, FieldsAreFound, ReferencesLeadOn, CommandsWriteWhatTheyMay}
+use Rattle.mh_laws.proofs.Lists.{below_length}
+use Rattle.mh_laws.proofs.marking.MarkSteps.{leads}
+use Rattle.mh_laws.proofs.objects.Headers.{flat_of}
+use Rattle.mh_laws.proofs.objects.JoinedFields.{IsRun, AreRuns, child_place-is, own_count, a_middle, an_arraylet, are_runs, laid, has_fields}
+use Rattle.mh_laws.proofs.objects.Parts.{counts}
+use Rattle.mh_laws.proofs.snapshots.Barriers.{root_writable}
+use Rattle.mh_laws.proofs.snapshots.SessionCommands.{held_by, field_held, loaded_writable}
+
+-- a place that leads to a block has one
+there_before : (table : Table Block) (place : ℕ) → IsSome (block_at table (resolve table place)) → IsSome (block_at table place)
+there_before table place leads_on = go (block_at table place) refl leads_on
+  where
+    go : (content : Option Block) → block_at table place ≡ content → IsSome (block_at table (unwrap_or (option_and_then (λ b. b.forward) content) place)) → IsSome (block_at table place)
+    go None at h = h
+    go (Some block) at h = ap is_some at
+
+leads_on : (c : Collector) (reference : ℕ) (x : Block) → IsPlainAt c (resolve c.table reference) x → LeadsOn c reference
+leads_on c reference x plain = record { there = there_before c.table reference (ap is_some plain.there); target = x; plain = plain }
+
+references-of : (c : Collector) (q : ℕ) (y : Block) → IsPlainAt c q y → references_at c.table q ≡ y.references
+references-of c q y plain = ap (λ o. unwrap_or (option_map (λ (b : Block). b.references) o) []) plain.there
+
+numbers-of : (c : Collector) (q : ℕ) (y : Block) → IsPlainAt c q y → numbers_at c.table q ≡ y.numbers
+numbers-of c q y plain = ap (λ o. unwrap_or (option_map (λ (b : Block). b.numbers) o) []) plain.there
+
+-- a reference of a plain block that leads to one
+has_child : (c : Collector) (q : ℕ) (y : Block) (i r : ℕ) (x : Block) → IsPlainAt c q y → get_or y.references i None ≡ Some r → IsPlainAt c (resolve c.table r) x → HasChild c.table q i
+has_child c q y i r x plain word led =
+    let own = references-of c q y plain in
+    record {
+      within = subst (λ rs. i < length rs) (sym own) (below_length y.references i r word);
+      there = subst (λ rs. IsSome (option_and_then (block_at c.table) (get_or rs i None))) (sym own) (subst (λ o. IsSome (option_and_then (block_at c.table) o)) (sym word) (there_before c.table r (ap is_some led.there)));
+      leads = subst (λ p. IsSome (block_at c.table p)) (sym (child_place-is c q y i r plain word)) (ap is_some led.there);
+    }
+
+-- the run of a number among the blocks of an object
+run-at : (r n k : ℕ) (ys : List Block) → AreRuns r n k ys → (i : ℕ) (y : Block) → slice_get ys i ≡ Some y → IsRun r n (k + i) y
+run-at r n k [] runs i y e = absurd (none-some y e)
+run-at r n k (x ∷ ys) (run, runs) zero y e =
+    let z : k ≡ k + 0 = omega arith in
+    subst (λ m. IsRun r n m y) z (subst (IsRun r n k) (same_Some x y e) run)
+run-at r n k (x ∷ ys) (run, runs) (suc i) y e =
+    let z : suc k + i ≡ k + suc i = omega arith in
+    subst (λ m. IsRun r n m y) z (run-at r n (suc k) ys runs i y e)
+
+-- the object of part 0 at a place
+module _ (n : ℕ) (c : Collector) (h : IsSound n c) (p : ℕ) (z : Block) (plain : IsPlainAt c p z) (first : z.part ≡ 0) (field : ℕ) (below : field < z.header.references + z.header.numbers) where
+  test-at : (test : Block → Bool) → is_at test c.table p ≡ true → test z ≡ true
+  test-at test e = sym (ap (λ (o : Option Block). unwrap_or (option_map test o) false) plain.there) ∙ e
+
+  upper-found : is_tall z ≡ true → HasChild c.table p (field / 3600)
+  upper-found tall =
+      let many : 3600 < z.header.references + z.header.numbers = ltb-true 3600 (z.header.references + z.header.numbers) tall in
+      let own = own_count n c h p z plain first (omega (arith, many)) in
+      elim (counts (z.header.references + z.header.numbers)).case [
+        | inl k ↦ absurd (omega (arith, many, k.0))
+        | inr k ↦ let m = a_middle n c h p z plain first many (field / 3600) (omega (arith, own, k.2, below)) in has_child c p z (field / 3600) m.reference m.block plain m.word m.leads
+      ]
+
+  lower-found : is_spine z ≡ true → HasChild c.table (spine_place c.table p field) (field / 60 % 60)
+  lower-found spine =
+      let a = an_arraylet n c h p z plain first spine (field / 60) (omega (arith, below)) in
+      let at : HasChild c.table a.spine a.index = has_child c a.spine a.spine_block a.index a.reference a.block a.spine_plain a.own a.leads in
+      subst (λ q. HasChild c.table q (field / 60 % 60)) (sym (a.spine_is field refl)) (subst (HasChild c.table a.spine) (sym (a.index_is field refl)) at)
+
+  pub findable : IsFindable c.table p field
+  findable = record {
+    there = ap is_some plain.there;
+    upper = λ e. upper-found (test-at is_tall e);
+    lower = λ e. lower-found (test-at is_spine e);
+  }
+
+  pub has_field : HasField c p z.header field
+  has_field =
+      let l = laid n c h p z plain first field below in
+      let at : ℕ = (position_of c.table p field).place in
+      let run = run-at z.header.references z.header.numbers 0 (field_blocks c.table z) (are_runs n c h p z plain first) (field / 60) l.block l.at in
+      let references : length (references_at c.table at) ≡ length l.block.references = ap length (references-of c at l.block l.lies) in
+      let numbers : length (numbers_at c.table at) ≡ length l.block.numbers = ap length (numbers-of c at l.block l.lies) in
+      let own = run.references in
+      let owned = run.numbers in
+      let index = l.index in
+      record {
+        block = l.block;
+        has = has_fields n c h p z plain first field l;
+        reference = λ small. omega (arith, references, own, index, small);
+        after = λ large. omega (arith, references, own, index, large);
+        number = λ large. omega (arith, references, numbers, own, owned, index, large, below);
+      }
+
+  -- what a reference there leads to
+  pub field_leads : field < z.header.references → (reference : ℕ) → reference_in c.table (position_of c.table p field) ≡ Some reference → LeadsToObject c reference
+  field_leads small reference e =
+      let l = laid n c h p z plain first field below in
+      let at : ℕ = (position_of c.table p field).place in
+      let index : ℕ = (position_of c.table p field).index in
+      let word : get_or l.block.references index None ≡ Some reference = ap (λ rs. get_or rs index None) (sym (references-of c at l.block l.lies)) ∙ e in
+      h.fields at l.block l.lies (flat_of n c h at l.block (has_fields n c h p z plain first field l)) index reference word
+
+pub slots-hold : SlotsHoldObjects
+slots-hold = record {
+  held = λ heap keeping slot place root.
+      let (x, plain, first) = keeping.1.sound.slots slot place root in
+      (x.header, record { block = x; plain = plain; first = first; header = refl }, ap (λ o. option_map (λ (b : Block). b.header) (option_and_then (block_at heap.collector.table) o)) root ∙ ap (option_map (λ (b : Block). b.header)) plain.there);
+  seen = λ heap keeping slot shape e.
+      let o = held_by keeping.0 heap keeping.1 slot shape e in
+      (o.place, o.root, record { block = o.block; plain = o.plain; first = o.first; header = o.header });
+}
+
+pub fields-found : FieldsAreFound
+fields-found = record {
+  findable = λ c (snapshot, n, keeps) place shape o field below. findable n c keeps.sound place o.block o.plain o.first field (subst (λ (s : Shape). field < s.references + s.numbers) (sym o.header) below);
+  lies = λ c (snapshot, n, keeps) place shape o field below. subst (λ (s : Shape). HasField c place s field) o.header (has_field n c keeps.sound place o.block o.plain o.first field (subst (λ (s : Shape). field < s.references + s.numbers) (sym o.header) below));
+}
+
+-- a reference of an object leads to one
+leads-to : (n : ℕ) (c : Collector) → IsSound n c → (place : ℕ) (shape : Shape) → IsObjectAt c place shape → (field : ℕ) → field < shape.references → (reference : ℕ) → reference_in c.table (position_of c.table place field) ≡ Some reference → LeadsToObject c reference
+leads-to n c h place shape o field below reference e =
+    let small : field < (o.block).header.references = subst (λ (s : Shape). field < s.references) (sym o.header) below in
+    field_leads n c h place o.block o.plain o.first field (omega (arith, small)) small reference e
+
+pub references-lead : ReferencesLeadOn
+references-lead = record {
+  slots = λ c (snapshot, n, keeps) slot reference e. let (x, plain, first) = keeps.sound.slots slot reference e in (x.header, record { block = x; plain = plain; first = first; header = refl });
+  words = λ c (snapshot, n, keeps) place block plain index reference e. let (x, led) = leads n c keeps.sound place block plain index reference e in leads_on c reference x led;
+  fields = λ c (snapshot, n, keeps) place shape o field below reference e. let to = leads-to n c keeps.sound place shape o field below reference e in (leads_on c reference to.0 to.1, to);
+  loaded = λ c (snapshot, n, keeps) place shape o field below target e. loaded n c keeps.sound place shape o field below target (reference_in c.table (position_of c.table place field)) refl e;
+  grey = λ c (snapshot, n, keeps) place is. let (x, there, live, stamp) = keeps.sound.grey place is in (x, record { there = there; original = live; surviving = λ s. stamp }, stamp);
+}
+  where
+    loaded : (n : ℕ) (c : Collector) → IsSound n c → (place : ℕ) (shape : Shape) → IsObjectAt c place shape → (field : ℕ) → field < shape.references → (target : ℕ) → (o : Option ℕ) → reference_in c.table (position_of c.table place field) ≡ o → target_of c.table o ≡ Some target
+        → (other : Shape) × IsObjectAt c target other
+    loaded n c h place shape o field below target None at e = absurd (none-some target e)
+    loaded n c h place shape o field below target (Some r) at e =
+        let (x, plain, first) = leads-to n c h place shape o field below r at in
+        (x.header, record { block = x; plain = subst (λ q. IsPlainAt c q x) (same_Some (resolve c.table r) target e) plain; first = first; header = refl })
+
+pub commands-write : CommandsWriteWhatTheyMay
+commands-write = record {
+  slots = λ snapshot heap keeps slot. (root_writable snapshot heap.next_birth heap.collector slot keeps).leads;
+  fields = λ snapshot heap keeps slot field shape e below. let f = field_held snapshot heap keeps slot field shape e below in (f.block, f.has, f.kept);
+  loaded = λ snapshot heap keeps slot field shape e below. (loaded_writable snapshot heap keeps _ (field_held snapshot heap keeps slot field shape e below)).leads;
+}

@@ -1,0 +1,35 @@
+-- What commands find: the objects that slots hold, where the fields of objects lie, and what references lead to.
+use Rattle.std.specs.Prelude.{◌≡◌, ℕ, ◌+◌, ◌<◌, Some, None, get_or}
+use Rattle.mh_model.specs.declared.shape.Shape.{Shape}
+use Rattle.mh_model.specs.World.{World}
+use Rattle.mh_model.specs.Table.{Block, position_of, reference_in, loaded_reference}
+use Rattle.mh_model.specs.Collector.{Collector}
+use Rattle.mh_model.specs.Mutator.{HeapState, root_at, shape_at, field_of}
+use Rattle.mh_model.specs.Invariant.{IsIn, IsPlainAt, LeadsToObject, HeapKeeps, IsKeeping, IsSteady, MayBeWritten, MayHaveWritten, IsObjectAt, IsFindable, HasField, LeadsOn}
+
+-- A slot of a kept heap holds the place of an object, whose shape is the one that is seen there
+pub record SlotsHoldObjects : Type 0 where
+  pub held : (heap : HeapState) → IsKeeping heap → (slot place : ℕ) → root_at heap slot ≡ Some place → (shape : Shape) × IsObjectAt heap.collector place shape × (shape_at heap slot ≡ Some shape)
+  pub seen : (heap : HeapState) → IsKeeping heap → (slot : ℕ) (shape : Shape) → shape_at heap slot ≡ Some shape → (place : ℕ) × (root_at heap slot ≡ Some place) × IsObjectAt heap.collector place shape
+
+-- Each field of an object is found: the references on the way to it lead to blocks, and where it lies there is a block with fields and as many of them
+pub record FieldsAreFound : Type 0 where
+  pub findable : (collector : Collector) → IsSteady collector → (place : ℕ) (shape : Shape) → IsObjectAt collector place shape → (field : ℕ) → field < shape.references + shape.numbers → IsFindable collector.table place field
+  pub lies : (collector : Collector) → IsSteady collector → (place : ℕ) (shape : Shape) → IsObjectAt collector place shape → (field : ℕ) → field < shape.references + shape.numbers → HasField collector place shape field
+
+-- References lead to blocks: those of slots and of objects' fields to objects, those of any plain block to plain blocks; and a grey place has a plain block, which is marked
+pub record ReferencesLeadOn : Type 0 where
+  pub slots : (collector : Collector) → IsSteady collector → (slot reference : ℕ) → get_or collector.slots slot None ≡ Some reference → (shape : Shape) × IsObjectAt collector reference shape
+  pub words : (collector : Collector) → IsSteady collector → (place : ℕ) (block : Block) → IsPlainAt collector place block → (index reference : ℕ) → get_or block.references index None ≡ Some reference → LeadsOn collector reference
+  pub fields : (collector : Collector) → IsSteady collector → (place : ℕ) (shape : Shape) → IsObjectAt collector place shape → (field : ℕ) → field < shape.references → (reference : ℕ) → reference_in collector.table (position_of collector.table place field) ≡ Some reference
+      → LeadsOn collector reference × LeadsToObject collector reference
+  pub loaded : (collector : Collector) → IsSteady collector → (place : ℕ) (shape : Shape) → IsObjectAt collector place shape → (field : ℕ) → field < shape.references → (target : ℕ) → loaded_reference collector.table (position_of collector.table place field) ≡ Some target
+      → (other : Shape) × IsObjectAt collector target other
+  pub grey : (collector : Collector) → IsSteady collector → (place : ℕ) → IsIn place collector.grey → (block : Block) × IsPlainAt collector place block × (block.stamp ≡ collector.cycle)
+
+-- What slots hold and what is loaded may be written, and the fields of an object in a slot may have it written
+pub record CommandsWriteWhatTheyMay : Type 0 where
+  pub slots : (snapshot : World) (heap : HeapState) → HeapKeeps snapshot heap → (slot : ℕ) → MayBeWritten snapshot heap.next_birth heap.collector (root_at heap slot)
+  pub fields : (snapshot : World) (heap : HeapState) → HeapKeeps snapshot heap → (slot field : ℕ) (shape : Shape) → shape_at heap slot ≡ Some shape → field < shape.references → MayHaveWritten snapshot heap.next_birth heap.collector (field_of heap slot field).place
+  pub loaded : (snapshot : World) (heap : HeapState) → HeapKeeps snapshot heap → (slot field : ℕ) (shape : Shape) → shape_at heap slot ≡ Some shape → field < shape.references
+      → MayBeWritten snapshot heap.next_birth heap.collector (loaded_reference heap.collector.table (field_of heap slot field))
