@@ -1,11 +1,11 @@
 -- What commands find: the objects that slots hold, where the fields of objects lie, and what references lead to.
-use Rattle.std.specs.Prelude.{◌≡◌, ℕ, ◌+◌, ◌<◌, Some, None, get_or}
+use Rattle.std.specs.Prelude.{◌≡◌, ℕ, ◌+◌, ◌<◌, Option, Some, None, get_or}
 use Rattle.mh_model.specs.declared.shape.Shape.{Shape}
 use Rattle.mh_model.specs.World.{World}
-use Rattle.mh_model.specs.Table.{Block, position_of, reference_in, loaded_reference}
+use Rattle.mh_model.specs.Table.{Block, reference_at, LeadsOn, LeadsHome, position_of, reference_in, loaded_reference}
 use Rattle.mh_model.specs.Collector.{Collector}
 use Rattle.mh_model.specs.Mutator.{HeapState, root_at, shape_at, field_of}
-use Rattle.mh_model.specs.Invariant.{IsIn, IsPlainAt, LeadsToObject, HeapKeeps, IsKeeping, IsSteady, MayBeWritten, MayHaveWritten, IsObjectAt, IsFindable, HasField, LeadsOn}
+use Rattle.mh_model.specs.Invariant.{IsIn, IsPlainAt, LeadsToObject, HeapKeeps, IsKeeping, IsSteady, MayBeWritten, MayHaveWritten, IsObjectAt, IsFindable, HasField}
 
 -- A slot of a kept heap holds the place of an object, whose shape is the one that is seen there
 pub record SlotsHoldObjects : Type 0 where
@@ -17,12 +17,17 @@ pub record FieldsAreFound : Type 0 where
   pub findable : (collector : Collector) → IsSteady collector → (place : ℕ) (shape : Shape) → IsObjectAt collector place shape → (field : ℕ) → field < shape.references + shape.numbers → IsFindable collector.table place field
   pub lies : (collector : Collector) → IsSteady collector → (place : ℕ) (shape : Shape) → IsObjectAt collector place shape → (field : ℕ) → field < shape.references + shape.numbers → HasField collector place shape field
 
--- References lead to blocks: those of slots and of objects' fields to objects, those of any plain block to plain blocks; and a grey place has a plain block, which is marked
+-- a reference leads to a block that is no forwarder, and there is a block on the way
+pub record LeadsThere (collector : Collector) (reference : Option ℕ) : Type 0 where
+  pub on : LeadsOn collector.table reference
+  pub home : LeadsHome collector.table reference
+
+-- References of slots and of plain blocks lead to blocks that are no forwarders, and those of slots and of objects' fields to objects; a grey place has a plain block, which is marked
 pub record ReferencesLeadOn : Type 0 where
-  pub slots : (collector : Collector) → IsSteady collector → (slot reference : ℕ) → get_or collector.slots slot None ≡ Some reference → (shape : Shape) × IsObjectAt collector reference shape
-  pub words : (collector : Collector) → IsSteady collector → (place : ℕ) (block : Block) → IsPlainAt collector place block → (index reference : ℕ) → get_or block.references index None ≡ Some reference → LeadsOn collector reference
-  pub fields : (collector : Collector) → IsSteady collector → (place : ℕ) (shape : Shape) → IsObjectAt collector place shape → (field : ℕ) → field < shape.references → (reference : ℕ) → reference_in collector.table (position_of collector.table place field) ≡ Some reference
-      → LeadsOn collector reference × LeadsToObject collector reference
+  pub slots : (collector : Collector) → IsSteady collector → (slot : ℕ) → LeadsThere collector (get_or collector.slots slot None)
+  pub words : (collector : Collector) → IsSteady collector → (place : ℕ) (block : Block) → IsPlainAt collector place block → (index : ℕ) → LeadsThere collector (reference_at collector.table place index)
+  pub objects : (collector : Collector) → IsSteady collector → (slot place : ℕ) → get_or collector.slots slot None ≡ Some place → (shape : Shape) × IsObjectAt collector place shape
+  pub fields : (collector : Collector) → IsSteady collector → (place : ℕ) (shape : Shape) → IsObjectAt collector place shape → (field : ℕ) → field < shape.references → (reference : ℕ) → reference_in collector.table (position_of collector.table place field) ≡ Some reference → LeadsToObject collector reference
   pub loaded : (collector : Collector) → IsSteady collector → (place : ℕ) (shape : Shape) → IsObjectAt collector place shape → (field : ℕ) → field < shape.references → (target : ℕ) → loaded_reference collector.table (position_of collector.table place field) ≡ Some target
       → (other : Shape) × IsObjectAt collector target other
   pub grey : (collector : Collector) → IsSteady collector → (place : ℕ) → IsIn place collector.grey → (block : Block) × IsPlainAt collector place block × (block.stamp ≡ collector.cycle)

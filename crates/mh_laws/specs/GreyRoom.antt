@@ -6,7 +6,7 @@ use Rattle.mh_model.specs.declared.config.Config.{Config}
 use Rattle.mh_model.specs.Collector.{Collector, Marking}
 use Rattle.mh_model.specs.Machine.{first_machine, half_step, machine_after}
 use Rattle.mh_model.specs.Batches.{NoneTwice}
-use Rattle.mh_model.specs.Bound.{IsMarkedIn}
+use Rattle.mh_model.specs.Bound.{IsMarkedIn, IsInBounds}
 
 -- a place holds a marked block, and isn't in the grey list
 pub record IsSettled (marking : Marking) (place : ℕ) : Type 0 where
@@ -19,7 +19,8 @@ pub record HasGreyRoom (config : Config) (collector : Collector) : Type 0 where
   pub marked : AllByRecursion (IsMarkedIn collector.table collector.cycle) collector.grey
   pub few : length collector.grey ≤ 64 * config.pages
 
--- The grey list has room at every moment of every run, half steps included
+-- The grey list has room at every moment of every run, half steps included, and wherever a collector is within the bounds of its cycle
 pub record GreyListHasRoom : Type 0 where
+  pub in_bounds : (config : Config) (collector : Collector) → IsInBounds config collector → HasGreyRoom config collector
   pub after_events : (config : Config) (events : List Event) → HasGreyRoom config (machine_after (first_machine config) events).heap.collector
   pub after_commands : (config : Config) (events : List Event) (event : Event) → HasGreyRoom config (half_step (machine_after (first_machine config) events) event).heap.collector

@@ -11,7 +11,7 @@ pub fn fields_are_found()
     ensures { FieldsAreFound }
 {}
 
-/// References lead to blocks, and those of slots and fields to objects.
+/// References lead to blocks that are no forwarders, and those of slots and fields to objects.
 pub fn references_lead_on()
     ensures { ReferencesLeadOn }
 {}

@@ -4,12 +4,13 @@ use Rattle.std.proofs.lemmas.Bool.{ltb-true}
 use Rattle.std.proofs.lemmas.Option.{none-some, same_Some}
 use Rattle.mh_model.specs.declared.shape.Shape.{Shape}
 use Rattle.mh_model.specs.Pages.{Table, block_at}
-use Rattle.mh_model.specs.Table.{Block, references_at, numbers_at, resolve, target_of, is_spine, is_tall, is_at, spine_place, position_of, reference_in}
+use Rattle.mh_model.specs.Table.{Block, reference_at, LeadsOn, references_at, numbers_at, resolve, target_of, is_spine, is_tall, is_at, spine_place, position_of, reference_in}
 use Rattle.mh_model.specs.Collector.{Collector}
 use Rattle.mh_model.specs.View.{field_blocks}
-use Rattle.mh_model.specs.Invariant.{IsPlainAt, LeadsToObject, IsSound, IsObjectAt, HasChild, IsFindable, HasField, LeadsOn}
-use Rattle.mh_laws.specs.Fields.{SlotsHoldObjects, FieldsAreFound, ReferencesLeadOn, CommandsWriteWhatTheyMay}
+use Rattle.mh_model.specs.Invariant.{IsPlainAt, LeadsToObject, IsSound, IsObjectAt, HasChild, IsFindable, HasField}
+use Rattle.mh_laws.specs.Fields.{LeadsThere, SlotsHoldObjects, FieldsAreFound, ReferencesLeadOn, CommandsWriteWhatTheyMay}
 use Rattle.mh_laws.proofs.Lists.{below_length}
+use Rattle.mh_laws.proofs.marking.BlockChanges.{resolve-live}
 use Rattle.mh_laws.proofs.marking.MarkSteps.{leads}
 use Rattle.mh_laws.proofs.objects.Headers.{flat_of}
 use Rattle.mh_laws.proofs.objects.JoinedFields.{IsRun, AreRuns, child_place-is, own_count, a_middle, an_arraylet, are_runs, laid, has_fields}
@@ -25,8 +26,12 @@ there_before table place leads_on = go (block_at table place) refl leads_on
     go None at h = h
     go (Some block) at h = ap is_some at
 
-leads_on : (c : Collector) (reference : ℕ) (x : Block) → IsPlainAt c (resolve c.table reference) x → LeadsOn c reference
-leads_on c reference x plain = record { there = there_before c.table reference (ap is_some plain.there); target = x; plain = plain }
+leads_there : (c : Collector) (o : Option ℕ) → ((reference : ℕ) → o ≡ Some reference → (x : Block) × IsPlainAt c (resolve c.table reference) x) → LeadsThere c o
+leads_there c None led = record { on = tt; home = tt }
+leads_there c (Some reference) led =
+    let (x, plain) = led reference refl in
+    let there : IsSome (block_at c.table (resolve c.table reference)) = ap is_some plain.there in
+    record { on = (there_before c.table reference there, there); home = (there, ap (option_and_then (λ (b : Block). b.forward)) plain.there ∙ plain.original) }
 
 references-of : (c : Collector) (q : ℕ) (y : Block) → IsPlainAt c q y → references_at c.table q ≡ y.references
 references-of c q y plain = ap (λ o. unwrap_or (option_map (λ (b : Block). b.references) o) []) plain.there
@@ -38,10 +43,12 @@ numbers-of c q y plain = ap (λ o. unwrap_or (option_map (λ (b : Block). b.numb
 has_child : (c : Collector) (q : ℕ) (y : Block) (i r : ℕ) (x : Block) → IsPlainAt c q y → get_or y.references i None ≡ Some r → IsPlainAt c (resolve c.table r) x → HasChild c.table q i
 has_child c q y i r x plain word led =
     let own = references-of c q y plain in
+    let read : reference_at c.table q i ≡ Some r = ap (λ rs. get_or rs i None) own ∙ word in
     record {
       within = subst (λ rs. i < length rs) (sym own) (below_length y.references i r word);
-      there = subst (λ rs. IsSome (option_and_then (block_at c.table) (get_or rs i None))) (sym own) (subst (λ o. IsSome (option_and_then (block_at c.table) o)) (sym word) (there_before c.table r (ap is_some led.there)));
-      leads = subst (λ p. IsSome (block_at c.table p)) (sym (child_place-is c q y i r plain word)) (ap is_some led.there);
+      some = ap is_some read;
+      leads = subst (LeadsOn c.table) (sym read) (there_before c.table r (ap is_some led.there), ap is_some led.there);
+      there = subst (λ p. IsSome (block_at c.table p)) (sym (child_place-is c q y i r plain word)) (ap is_some led.there);
     }
 
 -- the run of a number among the blocks of an object
@@ -132,9 +139,12 @@ leads-to n c h place shape o field below reference e =
 
 pub references-lead : ReferencesLeadOn
 references-lead = record {
-  slots = λ c (snapshot, n, keeps) slot reference e. let (x, plain, first) = keeps.sound.slots slot reference e in (x.header, record { block = x; plain = plain; first = first; header = refl });
-  words = λ c (snapshot, n, keeps) place block plain index reference e. let (x, led) = leads n c keeps.sound place block plain index reference e in leads_on c reference x led;
-  fields = λ c (snapshot, n, keeps) place shape o field below reference e. let to = leads-to n c keeps.sound place shape o field below reference e in (leads_on c reference to.0 to.1, to);
+  slots = λ c (snapshot, n, keeps) slot. leads_there c (get_or c.slots slot None) (λ reference e.
+      let (x, plain, first) = keeps.sound.slots slot reference e in
+      (x, subst (λ q. IsPlainAt c q x) (sym (resolve-live c.table reference x plain.there plain.original)) plain));
+  words = λ c (snapshot, n, keeps) place block plain index. subst (λ rs. LeadsThere c (get_or rs index None)) (sym (references-of c place block plain)) (leads_there c (get_or block.references index None) (λ reference e. leads n c keeps.sound place block plain index reference e));
+  objects = λ c (snapshot, n, keeps) slot place e. let (x, plain, first) = keeps.sound.slots slot place e in (x.header, record { block = x; plain = plain; first = first; header = refl });
+  fields = λ c (snapshot, n, keeps) place shape o field below reference e. leads-to n c keeps.sound place shape o field below reference e;
   loaded = λ c (snapshot, n, keeps) place shape o field below target e. loaded n c keeps.sound place shape o field below target (reference_in c.table (position_of c.table place field)) refl e;
   grey = λ c (snapshot, n, keeps) place is. let (x, there, live, stamp) = keeps.sound.grey place is in (x, record { there = there; original = live; surviving = λ s. stamp }, stamp);
 }

@@ -39,6 +39,7 @@ has_room config collector bounds =
 -- The grey list has room
 pub grey_has_room : GreyListHasRoom
 grey_has_room = record {
+  in_bounds = has_room;
   after_events = λ config events. has_room config _ (run-stays config events).bounds;
   after_commands = λ config events event. has_room config _ (half-stays config events event).bounds;
 }

@@ -11,7 +11,7 @@ use Rattle.mh_laws.proofs.bounds.StepsOfACycle.{step-idle}
 use Rattle.mh_laws.proofs.snapshots.CycleStarts.{snapshot-started}
 use Rattle.mh_laws.proofs.snapshots.CycleSteps.{continues-collector_step, snapshot-counted}
 use Rattle.mh_laws.proofs.snapshots.SessionCommands.{snapshot-mutator_step}
-use Rattle.mh_laws.proofs.snapshots.RunningCycles.{keeping-quantum, keeping-first}
+use Rattle.mh_laws.proofs.snapshots.RunningCycles.{keeping-quantum, keeping-first, linked}
 use Rattle.mh_laws.proofs.costs.QuantumStarts.{begins}
 
 start-steady : (config : Config) (c : Collector) → IsSteady c → IsSteady (quantum_start config c)
@@ -40,6 +40,7 @@ collectors-steady = record {
   quanta = quantum-steady;
   steps = step-steady;
   of_heaps = λ heap (snapshot, keeps). (snapshot, heap.next_birth, keeps);
+  linked = λ c (snapshot, n, keeps). linked n c keeps.sound;
 }
 
 pub heaps-kept : HeapsStayKept
