@@ -1,12 +1,10 @@
 -- Commands and controls by their first word and their numbers.
-use Rattle.std.proofs.Common.{◌≡◌, ℕ, ◌^◌, ◌<◌, nat_lt, Bool, true, false, Option, Some, None, option_and_then, List, [], ◌∷◌, length, get_or, ap, sym, refl, ◌∙◌, arith}
+use Rattle.std.proofs.Common.{◌≡◌, ℕ, ◌^◌, ◌<◌, nat_lt, Bool, true, false, Some, None, List, [], ◌∷◌, length, get_or, refl, ◌∙◌, arith}
 use Rattle.std.specs.Prelude.{codes}
 use Rattle.std.proofs.lemmas.Bool.Decides.{nat_tests}
-use Rattle.mh_model.specs.declared.command.Command.{Command}
-use Rattle.mh_model.specs.declared.command.Control.{Control}
 use Rattle.mh_model.specs.declared.command.Command.TheVariants as command
 use Rattle.mh_model.specs.declared.command.Control.TheVariants as control
-use Rattle.mh_model.specs.Bytes.{Text, is_text, numbers}
+use Rattle.mh_model.specs.Bytes.{Text, is_text}
 use Rattle.mh_model.specs.Forms.{Two, within, u32, u64, command_of, control_of}
 use Rattle.mh_text.specs.Words.{few_numbers}
 use Rattle.mh_text.specs.Rows.{said, command_rows, three_rows, two_rows, one_rows, no_rows, control_rows, plain_rows}

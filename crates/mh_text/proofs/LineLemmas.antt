@@ -1,5 +1,5 @@
 -- Lines with a configuration, and lines of a session.
-use Rattle.std.proofs.Common.{◌≡◌, ℕ, ◌<◌, nat_lt, Bool, true, false, Option, Some, None, option_and_then, List, [], ◌∷◌, length, get_or, refl, arith}
+use Rattle.std.proofs.Common.{◌≡◌, ℕ, nat_lt, Some, None, option_and_then, List, [], ◌∷◌, length, get_or, refl, arith}
 use Rattle.mh_model.specs.Configs.{configured}
 use Rattle.mh_model.specs.Bytes.{Text, numbers}
 use Rattle.mh_model.specs.Forms.{within, u32}

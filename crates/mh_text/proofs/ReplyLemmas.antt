@@ -1,14 +1,11 @@
 -- The texts of replies by their words.
-use Rattle.std.proofs.Common.{◌≡◌, ℕ, Option, List, [], ◌∷◌, ◌++◌, flat_map, ap, sym, refl, ◌∙◌, append_assoc}
+use Rattle.std.proofs.Common.{◌≡◌, ℕ, Option, List, [], ◌∷◌, ◌++◌, flat_map, ap, sym, append_assoc}
 use Rattle.std.specs.Prelude.{codes}
 use Rattle.std.proofs.lemmas.List.{append-nil}
-use Rattle.mh_model.specs.declared.reply.Refusal.{Refusal}
-use Rattle.mh_model.specs.declared.reply.Refusal.TheVariants.{BadSlot, Null, NoField, TooLarge, HeapFull, Ended, TooManySessions}
-use Rattle.mh_model.specs.declared.reply.Reply.{Reply}
 use Rattle.mh_model.specs.declared.reply.Reply.TheVariants as reply
 use Rattle.mh_model.specs.declared.dump.DumpItem.{DumpItem}
 use Rattle.mh_model.specs.Bytes.{Text, joined}
-use Rattle.mh_model.specs.Replies.{refusal_words, item_words, reply_text, optional_word}
+use Rattle.mh_model.specs.Replies.{item_words, reply_text}
 use Rattle.mh_text.specs.ReplyWords.{spaced, counts_words, window_words}
 
 -- the first word, and each other with a space before it
@@ -18,10 +15,6 @@ joined_spaced word (next ∷ words) = ap (λ (text : Text). word ++ 32 ∷ text)
 
 pub dump_text : (items : List DumpItem) → reply_text (reply.Dump items) ≡ codes "dump" ++ spaced (flat_map item_words items)
 dump_text items = joined_spaced (codes "dump") (flat_map item_words items)
-
--- five pieces with something after each
-regroup : (a b c d e : Text) (x y z w v : Text) → a ++ (x ++ (b ++ (y ++ (c ++ (z ++ (d ++ (w ++ (e ++ v)))))))) ≡ (a ++ (x ++ (b ++ (y ++ (c ++ (z ++ d)))))) ++ (w ++ (e ++ v))
-regroup a b c d e x y z w v = simp append_assoc
 
 pub report_text : (mutator collector quanta greatest window : ℕ) (least floor : Option ℕ)
     → reply_text (reply.Report mutator collector quanta greatest window least floor) ≡ joined (counts_words mutator collector quanta greatest) ++ (codes " " ++ joined (window_words window least floor))

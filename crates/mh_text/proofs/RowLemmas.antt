@@ -1,10 +1,9 @@
 -- Tables of forms: their words, and their rows by how many numbers they have.
-use Rattle.std.proofs.Common.{◌≡◌, ℕ, suc, ◌<◌, ◌≤◌, ◌==◌, nat_lt, ◌&&◌, Bool, true, false, cond, Option, Some, None, option_map, option_and_then, List, [], ◌∷◌, length, map, get_or, ap, sym, refl, ◌∙◌, arith}
+use Rattle.std.proofs.Common.{◌≡◌, ℕ, suc, ◌<◌, ◌==◌, nat_lt, ◌&&◌, Bool, true, false, Option, Some, None, option_and_then, List, [], ◌∷◌, length, map, ap, sym, refl, ◌∙◌, arith}
 use Rattle.std.specs.Prelude.{if◌then◌else◌}
 use Rattle.std.proofs.lemmas.Bool.Decides.{nat_tests}
-use Rattle.mh_model.specs.Bytes.{Text, is_text, number, numbers}
+use Rattle.mh_model.specs.Bytes.{Text, is_text, numbers}
 use Rattle.mh_model.specs.Forms.{Form, within, form_of, formed, are_below}
-use Rattle.mh_text.specs.Words.{few_numbers}
 use Rattle.mh_text.specs.Rows.{Row, row_form, said}
 
 -- Texts ------------------------------------------------------------------------------------------

@@ -1,5 +1,5 @@
 -- Reading the lines of a script one after another.
-use Rattle.std.proofs.Common.{◌≡◌, ℕ, suc, ◌+◌, ◌<◌, ◌≤◌, nat_lt, Bool, true, false, Option, Some, None, Result, Ok, Err, List, [], ◌∷◌, ◌++◌, length, take, drop, map, ap, sym, refl, ◌∙◌, append_assoc, arith}
+use Rattle.std.proofs.Common.{◌≡◌, ℕ, suc, ◌+◌, ◌<◌, ◌≤◌, nat_lt, Bool, true, false, Some, Result, Ok, Err, List, [], ◌∷◌, ◌++◌, length, take, map, ap, sym, refl, ◌∙◌, append_assoc, arith}
 use Rattle.std.specs.Prelude.{if◌then◌else◌, IfOk}
 use Rattle.std.specs.Result.{result_ok}
 use Rattle.std.proofs.lemmas.Bool.Decides.{nat_tests}
@@ -10,10 +10,10 @@ use Rattle.mh_model.specs.declared.command.Control.{Control}
 use Rattle.mh_model.specs.declared.command.Event.{Event}
 use Rattle.mh_model.specs.declared.command.Event.TheVariants as event
 use Rattle.mh_model.specs.Bytes.{Text, words, cut_after}
-use Rattle.mh_model.specs.Script.{Meaning, Reading, BadLine, Means, reading_map, Blank, Calls, Asks, Wrong, line_of, is_blank, config_words, session_number, with_name, with_event, at_end, events_from, script_from, script_of, reading}
+use Rattle.mh_model.specs.Script.{Reading, BadLine, Means, Blank, Calls, Asks, Wrong, line_of, is_blank, config_words, session_number, with_name, with_event, at_end, events_from, script_from, reading}
 use Rattle.mh_text.specs.declared.script.ScriptError.{ScriptError}
 use Rattle.mh_text.specs.Pieces.{Lines, TakesLine, lines_from}
-use Rattle.mh_text.specs.Reading.{script_left, events_left, with_config, TakesConfig, HasEvent, first_lines, BeginsWithEvent}
+use Rattle.mh_text.specs.Reading.{script_left, events_left, with_config, TakesConfig, HasEvent, BeginsWithEvent}
 
 -- Readings ---------------------------------------------------------------------------------------
 
@@ -43,9 +43,6 @@ pub record Blanks (old new : Lines) : Type 0 where
   pub after : new.rest ≡ old.rest
   pub reads : (more : List Text) (rest : Text) → script_from old.number (head ++ more) rest ≡ script_from new.number more rest
 
-pub blanks_none : (left : Lines) → Blanks left left
-blanks_none left = record { head = []; lines = refl; after = refl; reads = λ more rest. refl }
-
 -- one more line is taken from the lines after a head
 pub lines_more : (old mid new : Lines) (head : List Text) (n : ℕ) (line : Text) → old.lines ≡ head ++ mid.lines → TakesLine mid new n line → old.lines ≡ (head ++ line ∷ []) ++ new.lines
 lines_more old mid new head n line lines takes = lines ∙ rw takes.taken (sym (append_assoc head (line ∷ []) new.lines))
@@ -60,9 +57,6 @@ blanks_more old mid new n line done takes is = record {
   after = takes.after ∙ done.after;
   reads = λ more rest. rw append_assoc (done.reads (line ∷ more) rest ∙ rw takes.counted (blank_line mid.number line more rest is));
 }
-
-blanks_whole : (old mid : Lines) → Blanks old mid → script_left old ≡ script_left mid
-blanks_whole old mid done = rw (done.lines, ← done.after) (done.reads mid.lines mid.rest)
 
 config_good : (n : ℕ) (line : Text) (config : Config) (more : List Text) (rest : Text) → is_blank line ≡ false → config_words (words line) ≡ Some config
     → script_from n (line ∷ more) rest ≡ with_config config (events_from [] (suc n) (map line_of more) rest)
@@ -80,12 +74,6 @@ pub blanks_found : (old mid new : Lines) (n : ℕ) (line : Text) (found : Result
 blanks_found old mid new n line (Ok config) done takes full is = blanks_config old mid new n line config done takes full is
 blanks_found old mid new n line (Err error) done takes full is = tt
 
-pub blanks_bad : (old mid new : Lines) (n : ℕ) (line : Text) → Blanks old mid → TakesLine mid new n line → is_blank line ≡ false → config_words (words line) ≡ None → script_left old ≡ BadLine n
-blanks_bad old mid new n line done takes full is = blanks_whole old mid done ∙ rw (takes.taken, full, is, takes.numbered) refl
-
-pub blanks_end : (old mid : Lines) → Blanks old mid → mid.lines ≡ [] → script_left old ≡ BadLine mid.number
-blanks_end old mid done none = blanks_whole old mid done ∙ rw none refl
-
 -- The events -------------------------------------------------------------------------------------
 
 -- lines that were read have these events, after which these names are seen
@@ -94,9 +82,6 @@ pub record Walks (old new : Lines) (names : List Text) (es : List Event) : Type 
   pub lines : old.lines ≡ head ++ new.lines
   pub after : new.rest ≡ old.rest
   pub reads : (more : List Text) (rest : Text) → events_from [] old.number (map line_of (head ++ more)) rest ≡ with_events es (events_from names new.number (map line_of more) rest)
-
-pub walks_none : (left : Lines) → Walks left left [] []
-walks_none left = record { head = []; lines = refl; after = refl; reads = λ more rest. refl }
 
 walks_line : (old mid new : Lines) (names seen : List Text) (es fs : List Event) (n : ℕ) (line : Text) → Walks old mid names es → TakesLine mid new n line
     → ((more : List Text) (rest : Text) → with_events es (events_from names mid.number (map line_of (line ∷ more)) rest) ≡ with_events fs (events_from seen (suc mid.number) (map line_of more) rest))
@@ -167,16 +152,6 @@ reading_long text long = reading_by true text (grind (arith, nat_tests))
 
 pub reading_left : (text : Text) → length text ≤ 67108864 → reading text ≡ script_left (lines_from 1 text)
 reading_left text short = reading_by false text (grind (arith, nat_tests))
-
-config_whole : (old new : Lines) (config : Config) → TakesConfig old new config → script_left old ≡ with_config config (events_left new)
-config_whole old new config takes = rw (takes.lines, ← takes.after) (takes.reads new.lines new.rest)
-
-pub reading_means : (text : Text) (new : Lines) (config : Config) (es : List Event) → length text ≤ 67108864 → TakesConfig (lines_from 1 text) new config → events_left new ≡ Means es
-    → reading text ≡ Means (record { config = config; events = es })
-reading_means text new config es short takes is = reading_left text short ∙ config_whole (lines_from 1 text) new config takes ∙ rw is refl
-
-pub reading_bad : (text : Text) (new : Lines) (config : Config) (n : ℕ) → length text ≤ 67108864 → TakesConfig (lines_from 1 text) new config → events_left new ≡ BadLine n → reading text ≡ BadLine n
-reading_bad text new config n short takes is = reading_left text short ∙ config_whole (lines_from 1 text) new config takes ∙ rw is refl
 
 take_past : (count : ℕ) (head more : List Text) → take (length head + count) (head ++ more) ≡ head ++ take count more
 take_past count [] more = let none : 0 + count ≡ count = omega arith in rw none refl

@@ -40,6 +40,7 @@ impl<'a> Model for Words<'a> {
 }
 
 impl<'a> Words<'a> {
+    /// All words of a line, which is given without its end. An empty line has one word, which is empty.
     pub fn new(line: &'a [u8]) -> Words<'a>
         ensures { result ≡ words line.now }
     {
@@ -85,6 +86,7 @@ impl<'a> Model for Lines<'a> {
 }
 
 impl<'a> Lines<'a> {
+    /// All lines of a text. Bytes that no end of a line follows are no line.
     pub fn new(text: &'a [u8]) -> Lines<'a>
         requires { length text.now + 1 < 2 ^ 64 }
         ensures { result ≡ lines_from 1 text.now }
@@ -92,7 +94,7 @@ impl<'a> Lines<'a> {
         Lines { text, number: 1 }
     }
 
-    /// The number of the next line.
+    /// The number of the next line; after the last line, of the one that would follow.
     pub fn number(&self) -> u64
         ensures { result ≡ self.now.number }
     {

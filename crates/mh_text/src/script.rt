@@ -57,6 +57,7 @@ impl Script {
         self.config
     }
 
+    /// One event for each line with a command or a control, in the order of the lines.
     pub fn events(&self) -> &[Event]
         ensures { result.now ≡ self.now.events }
     {
@@ -64,7 +65,8 @@ impl Script {
     }
 }
 
-/// Reads a script, up to its first bad line. It takes memory for its events alone.
+/// Reads a script, up to its first bad line. It takes memory for events alone, so a text that is refused before its
+/// first event is never answered with want of memory.
 #[tactic(auto, using(crate::proofs::ScriptLemmas::reading_long, crate::proofs::ScriptLemmas::reading_left, crate::proofs::ScriptLemmas::begins_with_event))]
 pub fn parse(alloc: Global, text: &[u8]) -> Result<Script, ScriptError>
     ensures script { IfOk result (λ script. reading text.now ≡ Means script) }

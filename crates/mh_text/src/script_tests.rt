@@ -1,5 +1,7 @@
+use crate::line::{Line, config_line, line_of};
+use crate::pieces::Lines;
 use crate::script::{SCRIPT_BYTES, Script, ScriptError, parse};
-use mh_model::command::{Command, Event};
+use mh_model::command::{Command, Control, Event};
 use std::alloc::{AllocError, Global};
 use std::test::Fail;
 
@@ -20,21 +22,27 @@ fn refusal(alloc: Global, text: &[u8]) -> Option<ScriptError> {
 #[test]
 fn reads_a_configuration(rt: HostRuntime) -> Result<(), Fail> {
     for text in [
-        b"config 4 209 0 0\n".as_slice(),
-        b"\n\n# first\nconfig 4 209 0 0\n",
-        b"#\x00\xff\nconfig 4 209 0 0\n\n#\x00\xff\n#\n",
+        b"config 4 209 4 1000000\n".as_slice(),
+        b"\n\n# first\nconfig 4 209 4 1000000\n",
+        b"#\x00\xff\nconfig 4 209 4 1000000\n\n#\x00\xff\n#\n",
     ] {
         let script = parse(rt.alloc(), text)?;
         let config = script.config();
         assert_eq!(rt; (config.pages, config.quantum), (4, 209));
-        assert_eq!(rt; (config.trigger, config.every), (0, 0));
+        assert_eq!(rt; (config.trigger, config.every), (4, 1_000_000));
         assert!(rt; script.events().is_empty());
     }
     Ok(())
 }
 
+/// What one line after the configuration asks for.
+fn event_of(alloc: Global, line: &[u8]) -> Result<Option<Event>, Fail> {
+    let script = parse(alloc, &script_of(alloc, line)?)?;
+    Ok(script.events().first().copied())
+}
+
 #[test]
-fn reads_each_form(rt: HostRuntime) -> Result<(), Fail> {
+fn reads_each_form_of_numbers(rt: HostRuntime) -> Result<(), Fail> {
     for (line, command) in [
         (
             b"a new 1 2 3\n".as_slice(),
@@ -60,15 +68,6 @@ fn reads_each_form(rt: HostRuntime) -> Result<(), Fail> {
                 value: 3,
             },
         ),
-        (b"a read 1 2\n", Command::Read { slot: 1, index: 2 }),
-        (
-            b"a write 0 0 5\n",
-            Command::Write {
-                slot: 0,
-                index: 0,
-                number: 5,
-            },
-        ),
         (
             b"a write 4294967295 4294967295 18446744073709551615\n",
             Command::Write {
@@ -77,9 +76,50 @@ fn reads_each_form(rt: HostRuntime) -> Result<(), Fail> {
                 number: u64::MAX,
             },
         ),
+        (b"a read 1 2\n", Command::Read { slot: 1, index: 2 }),
     ] {
-        let script = parse(rt.alloc(), &script_of(rt.alloc(), line)?)?;
-        assert_eq!(rt; script.events(), [Event::Session(0, command)].as_slice());
+        let event = event_of(rt.alloc(), line)?;
+        assert_eq!(rt; event, Some(Event::Session(0, command)));
+    }
+    Ok(())
+}
+
+#[test]
+fn reads_each_form_of_slots(rt: HostRuntime) -> Result<(), Fail> {
+    for (line, command) in [
+        (
+            b"a copy 1 2\n".as_slice(),
+            Command::Copy { slot: 1, source: 2 },
+        ),
+        (b"a same 1 2\n", Command::Same { left: 1, right: 2 }),
+        (b"a post 1 2\n", Command::Post { board: 1, slot: 2 }),
+        (b"a take 1 2\n", Command::Take { slot: 1, board: 2 }),
+        (b"a clear 1\n", Command::Clear { slot: 1 }),
+        (b"a shape 1\n", Command::Shape { slot: 1 }),
+        (b"a end\n", Command::End),
+    ] {
+        let event = event_of(rt.alloc(), line)?;
+        assert_eq!(rt; event, Some(Event::Session(0, command)));
+    }
+    Ok(())
+}
+
+#[test]
+fn reads_each_control(rt: HostRuntime) -> Result<(), Fail> {
+    let window = u64::MAX;
+    for (line, control) in [
+        (b"* quantum\n".as_slice(), Control::Quantum),
+        (b"* start\n", Control::Start),
+        (b"* stat\n", Control::Stat),
+        (b"* dump\n", Control::Dump),
+        (b"* left\n", Control::Left),
+        (
+            b"* report 18446744073709551615\n",
+            Control::Report { window },
+        ),
+    ] {
+        let event = event_of(rt.alloc(), line)?;
+        assert_eq!(rt; event, Some(Event::Control(control)));
     }
     Ok(())
 }
@@ -88,7 +128,7 @@ fn reads_each_form(rt: HostRuntime) -> Result<(), Fail> {
 fn reads_each_name(rt: HostRuntime) -> Result<(), Fail> {
     for line in [
         b"a new 0 0 0\n".as_slice(),
-        b"abcdefghijklmnop new 0 0 0\n",
+        b"abcdefghijklmnop end\n",
         b"a1 new 0 0 0\n",
         b"config new 0 0 0\n",
         b"z9z0 new 4294967295 4294967295 4294967295\n",
@@ -114,7 +154,8 @@ fn refuses_a_first_line(rt: HostRuntime) {
         (b"".as_slice(), 1),
         (b"config 4 209 5 0\n", 1),
         (b"config 4097 209 0 0\n", 1),
-        (b"config 4 209 0 1\n", 1),
+        (b"config 4 209 0 1000001\n", 1),
+        (b"config 4 209 0 18446744073709551616\n", 1),
         (b"config 4 209 0\n", 1),
         (b"config 4 209 0 0 0\n", 1),
         (b"config 04 209 0 0\n", 1),
@@ -124,7 +165,7 @@ fn refuses_a_first_line(rt: HostRuntime) {
         (b"# one\nconfig\na new\n", 2),
         (b"config 4 209 0 0\na new 0 0", 2),
         (b"config 4 209 0 0\n#", 2),
-        (b"config 4 209 0 0\na new\nb new\n", 2),
+        (b"config 4 209 0 0\na end\nb end\nb\n", 4),
         (b"config 4 209 0 0\n\na new 0 0 0\na\nb\n", 4),
     ] {
         assert_eq!(rt; refusal(rt.alloc(), text), Some(ScriptError::Line(line)));
@@ -136,23 +177,24 @@ fn refuses_a_line(rt: HostRuntime) -> Result<(), Fail> {
     for line in [
         b"a new 00 0 0\n".as_slice(),
         b"a new 4294967296 0 0\n",
-        b"a  new 0 0 0\n",
-        b"a new 0 0 0 \n",
-        b" a new 0 0 0\n",
+        b"a  end\n",
+        b"a end \n",
+        b" a end\n",
         b" \n",
-        b"A new 0 0 0\n",
-        b"abcdefghijklmnopq new 0 0 0\n",
+        b"A end\n",
+        b"abcdefghijklmnopq end\n",
         b"1a new 0 0 0\n",
         b"config 4 209 0 0\n",
         b"a write 0 0 18446744073709551616\n",
-        b"a new 0 0 0\r\n",
+        b"* report 18446744073709551616\n",
+        b"* left 0\n",
+        b"* end\n",
+        b"a stat\n",
+        b"a end\r\n",
         b"a new 0 0\n",
         b"a new 0 0 0 0\n",
         b"a new 0 0 0 0 0\n",
         b"a\n",
-        b"a clear 0\n",
-        b"a end\n",
-        b"* stat\n",
         b"a new -1 0 0\n",
         b"a new +1 0 0\n",
         b"a new  0 0\n",
@@ -167,9 +209,15 @@ fn refuses_a_line(rt: HostRuntime) -> Result<(), Fail> {
 }
 
 #[test]
-fn refuses_a_second_name(rt: HostRuntime) -> Result<(), Fail> {
-    let text = script_of(rt.alloc(), b"a new 0 0 0\nb new 0 0 0\n")?;
-    assert_eq!(rt; refusal(rt.alloc(), &text), Some(ScriptError::Line(3)));
+fn numbers_names_as_they_are_seen(rt: HostRuntime) -> Result<(), Fail> {
+    let lines = b"a end\nb end\nc end\nd end\ne end\nf end\ng end\nh end\ni end\nj end\nb end\n";
+    let script = parse(rt.alloc(), &script_of(rt.alloc(), lines)?)?;
+    let end = |who| Event::Session(who, Command::End);
+    let first = [end(0), end(1), end(2), end(3), end(4), end(5)];
+    let last = [end(6), end(7), end(8), end(8), end(1)];
+    assert_eq!(rt; script.events().len(), 11);
+    assert_eq!(rt; &script.events()[..6], first.as_slice());
+    assert_eq!(rt; &script.events()[6..], last.as_slice());
     Ok(())
 }
 
@@ -184,5 +232,28 @@ fn reads_the_longest_text(rt: HostRuntime) -> Result<(), Fail> {
     assert!(rt; script.events().is_empty());
     text.push(b'\n')?;
     assert_eq!(rt; refusal(rt.alloc(), &text), Some(ScriptError::Line(0)));
+    Ok(())
+}
+
+#[test]
+fn shows_each_line(rt: HostRuntime) -> Result<(), Fail> {
+    let mut lines = Lines::new(b"config 1 209 1 2\n\n#\nbob end\n* dump\nx\nrest");
+    let (_, first) = lines.next_line().ok_or("a line")?;
+    let config = config_line(first).ok_or("a configuration")?;
+    assert_eq!(rt; (config.pages, config.every), (1, 2));
+    for _ in 0..2 {
+        let (_, blank) = lines.next_line().ok_or("a line")?;
+        assert!(rt; matches!(line_of(blank), Line::Blank));
+    }
+    let (number, call) = lines.next_line().ok_or("a line")?;
+    assert_eq!(rt; number, 4);
+    assert!(rt; matches!(line_of(call), Line::Calls(b"bob", Command::End)));
+    let (_, ask) = lines.next_line().ok_or("a line")?;
+    assert!(rt; matches!(line_of(ask), Line::Asks(Control::Dump)));
+    let (_, wrong) = lines.next_line().ok_or("a line")?;
+    assert!(rt; matches!(line_of(wrong), Line::Wrong));
+    assert!(rt; lines.next_line().is_none());
+    assert_eq!(rt; lines.number(), 7);
+    assert!(rt; !lines.is_empty());
     Ok(())
 }

@@ -1,12 +1,15 @@
+use crate::device::DeviceFailed;
 use crate::reply_text::ReplyText;
 use crate::sink::StdSink;
 use crate::source::StdSource;
-use crate::stream::{read_text, write_text};
+use crate::stream::{ReadError, read_text, write_text};
 use mh_model::cycle::{Phase, Spent};
 use mh_model::dump::{Dump, DumpItem};
 use mh_model::reply::{Refusal, Reply};
 use mh_model::shape::Shape;
 use std::alloc::Global;
+use std::io;
+use std::io::{ErrorKind, Read, Write};
 use std::process::Abort;
 use std::test::Fail;
 
@@ -35,6 +38,113 @@ fn writes_a_whole_text(rt: HostRuntime) -> Result<(), Fail> {
     write_text(&mut sink, b"number 5\n")?;
     assert_eq!(rt; sink.writer.as_slice(), b"ok\nnumber 5\n".as_slice());
     Ok(())
+}
+
+/// Bytes of which one read or write after another takes three at most; the call with number `at` fails.
+#[derive(Drop)]
+struct Failing<'a> {
+    bytes: &'a [u8],
+    taken: Vec<u8>,
+    calls: u64,
+    at: u64,
+    kind: ErrorKind,
+}
+
+impl<'a> Failing<'a> {
+    fn new(alloc: Global, bytes: &'a [u8], at: u64, kind: ErrorKind) -> Failing<'a> {
+        Failing {
+            bytes,
+            taken: Vec::new(alloc),
+            calls: 0,
+            at,
+            kind,
+        }
+    }
+
+    fn fails(&mut self) -> bool {
+        self.calls = self.calls.wrapping_add(1);
+        self.calls == self.at
+    }
+}
+
+impl Read for Failing<'_> {
+    fn read(&mut self, buffer: &mut [u8]) -> io::Result<usize> {
+        if self.fails() {
+            return Err(io::Error::from(self.kind));
+        }
+        let count = buffer.len().min(3);
+        self.bytes.read(&mut buffer[..count])
+    }
+}
+
+impl Write for Failing<'_> {
+    fn write(&mut self, bytes: &[u8]) -> io::Result<usize> {
+        if self.fails() {
+            return Err(io::Error::from(self.kind));
+        }
+        let count = bytes.len().min(3);
+        self.taken.extend_from_slice(&bytes[..count])?;
+        Ok(count)
+    }
+
+    fn flush(&mut self) -> io::Result<()> {
+        Ok(())
+    }
+}
+
+#[test]
+fn reads_on_after_an_interruption(rt: HostRuntime) -> Result<(), Fail> {
+    let bytes = b"ok\nnumber 5\n".as_slice();
+    for at in 1..6 {
+        let reader = Failing::new(rt.alloc(), bytes, at, ErrorKind::Interrupted);
+        let mut source = StdSource::new(reader);
+        let text = read_text(rt.alloc(), &mut source, 100)?;
+        assert_eq!(rt; text.as_slice(), bytes);
+        assert_eq!(rt; source.failures, 0);
+    }
+    Ok(())
+}
+
+#[test]
+fn tells_of_a_failed_read(rt: HostRuntime) {
+    let bytes = b"ok\nnumber 5\n".as_slice();
+    for at in 1..6 {
+        let reader = Failing::new(rt.alloc(), bytes, at, ErrorKind::BrokenPipe);
+        let mut source = StdSource::new(reader);
+        let text = read_text(rt.alloc(), &mut source, 100);
+        assert!(rt; matches!(text, Err(ReadError::Device)));
+        assert_eq!(rt; source.failures, 1);
+    }
+}
+
+#[test]
+fn writes_on_after_an_interruption(rt: HostRuntime) -> Result<(), Fail> {
+    let bytes = b"ok\nnumber 5\n".as_slice();
+    for at in 1..5 {
+        let mut sink = StdSink::new(Failing::new(rt.alloc(), b"", at, ErrorKind::Interrupted));
+        write_text(&mut sink, bytes)?;
+        assert_eq!(rt; sink.writer.taken.as_slice(), bytes);
+        assert_eq!(rt; sink.failures, 0);
+    }
+    Ok(())
+}
+
+#[test]
+fn tells_of_a_failed_write(rt: HostRuntime) {
+    let bytes = b"ok\nnumber 5\n".as_slice();
+    for at in 1..5 {
+        let mut sink = StdSink::new(Failing::new(rt.alloc(), b"", at, ErrorKind::BrokenPipe));
+        assert_eq!(rt; write_text(&mut sink, bytes), Err(DeviceFailed));
+        assert_eq!(rt; sink.failures, 1);
+    }
+}
+
+#[test]
+fn a_write_of_no_byte_is_a_failure(rt: HostRuntime) {
+    let mut room = [0u8; 2];
+    let mut sink = StdSink::new(room.as_mut_slice());
+    assert_eq!(rt; write_text(&mut sink, b"ok\n"), Err(DeviceFailed));
+    assert_eq!(rt; sink.failures, 1);
 }
 
 fn shows(rt: &impl Abort, alloc: Global, reply: Reply, wanted: &str) -> Result<(), Fail> {
@@ -81,29 +191,30 @@ fn texts_of_controls(rt: HostRuntime) -> Result<(), Fail> {
     };
     shows(&rt, rt.alloc(), spent, "spent 353 phase sweep")?;
     let stat = Reply::Stat {
-        free: 1,
-        live: 5,
+        free: 3,
+        live: 1,
         old: 0,
         phase: Phase::Idle,
-        cycle: 1,
+        cycle: 0,
     };
     shows(
         &rt,
         rt.alloc(),
         stat,
-        "free 1 live 5 old 0 phase idle cycle 1",
+        "free 3 live 1 old 0 phase idle cycle 0",
     )?;
     let report = Reply::Report {
-        mutator: 1,
+        mutator: 4,
         collector: 360,
         quanta: 2,
         greatest: 353,
-        window: 361,
-        least: Some(1),
-        floor: None,
+        window: 500,
+        least: None,
+        floor: Some(2),
     };
-    let wanted = "mutator 1 collector 360 quanta 2 greatest 353 window 361 least 1 floor none";
-    shows(&rt, rt.alloc(), report, wanted)
+    let wanted = "mutator 4 collector 360 quanta 2 greatest 353 window 500 least none floor 2";
+    shows(&rt, rt.alloc(), report, wanted)?;
+    shows(&rt, rt.alloc(), Reply::Left(911), "left 911")
 }
 
 #[test]
@@ -119,6 +230,11 @@ fn the_text_of_a_dump(rt: HostRuntime) -> Result<(), Fail> {
         page: 0,
         class_size: 64,
         is_flagged: false,
+    })?;
+    items.push(DumpItem::Block {
+        slot: 0,
+        birth: 0,
+        part: 0,
     })?;
     items.push(DumpItem::Block {
         slot: 1,
@@ -139,6 +255,6 @@ fn the_text_of_a_dump(rt: HostRuntime) -> Result<(), Fail> {
         &rt,
         rt.alloc(),
         Reply::Dump(Dump::new(items)),
-        "dump P0 C64 - 1=4.0 P1 C64 + 0>0.1",
+        "dump P0 C64 - 0=0.0 1=4.0 P1 C64 + 0>0.1",
     )
 }

@@ -1,4 +1,4 @@
-use Rattle.std.proofs.Common.{◌≡◌, ◌<◌, ◌++◌, ℕ, length, take, length-append, length-take-le, arith}
+use Rattle.std.proofs.Common.{◌≡◌, ◌<◌, ◌++◌, length, take, length-append, length-take-le, arith}
 use Rattle.std.proofs.KnownBytes.{Consumes-trans}
 use Rattle.mh_text.proofs.stream.read_text.Goals as goal
 

@@ -1,6 +1,6 @@
-use Rattle.std.proofs.Common.{◌≡◌, ◌<◌, ◌≤◌, ◌==◌, Bool, true, false, length, sym, ◌∙◌, arith}
+use Rattle.std.proofs.Common.{◌≡◌, ◌<◌, ◌≤◌, ◌==◌, true, false, length, sym, ◌∙◌, arith}
 use Rattle.std.proofs.lemmas.Bool.Decides.{nat_tests}
-use Rattle.mh_text.proofs.NameLemmas.{place_found, place_missing, known_name, full_names, added_name}
+use Rattle.mh_text.proofs.NameLemmas.{place_found, place_missing, known_name, added_name}
 use Rattle.mh_text.proofs.names.Names.number.Goals as goal
 
 pub returns-in-Some-clause-number : goal.returns-in-Some-clause-number
