@@ -1,19 +1,14 @@
 -- Words that are an event, and lines that are an entry, with its units or without, are what is written of these.
-use Rattle.std.proofs.Common.{◌≡◌, ◌∙◌, ℕ, ◌==◌, nat_le, ◌&&◌, cond, Bool, true, false, Option, Some, None, option_map, option_and_then, List, [], ◌∷◌, ◌++◌, map, ap, sym, refl, codes, decimal}
-use Rattle.std.proofs.lemmas.Bool.{and_parts, and_from, eqb-true}
-use Rattle.mh_model.specs.declared.config.Config.{Config}
-use Rattle.mh_model.specs.declared.config.Rules.{Rules}
-use Rattle.mh_model.specs.declared.config.Rules.TheVariants.{First, Second}
+use Rattle.std.proofs.Common.{◌≡◌, ◌∙◌, ℕ, nat_le, cond, Bool, true, false, Some, option_map, option_and_then, List, [], ◌∷◌, ◌++◌, map, ap, sym, refl, codes, decimal}
+use Rattle.std.proofs.lemmas.Bool.{and_from}
 use Rattle.mh_model.specs.declared.command.Event.{Event}
 use Rattle.mh_model.specs.declared.command.Event.TheVariants as event
 use Rattle.mh_model.specs.declared.reply.Reply.{Reply}
 use Rattle.mh_model.specs.declared.history.Entry.{Entry}
-use Rattle.mh_model.specs.Limits.{is_configuration}
-use Rattle.mh_model.specs.Configs.{configured_by, configured_under}
 use Rattle.mh_model.specs.Bytes.{Text, joined, words, is_text, numbers, tagged}
-use Rattle.mh_model.specs.Forms.{within, Version, Two, phrase_words, is_sayable, command_phrase, command_of, control_phrase, control_of, knows_control}
-use Rattle.mh_model.specs.Replies.{reply_words, reply_of, is_reply, are_u64}
-use Rattle.mh_model.specs.HistoryTexts.{Measured, event_words, is_event, event_of, session_of, entry_words, is_entry, entry_by, entry_of, measured_words, is_measured, measured_with, measured_by, measured_of, Halves, halves_at, rules_number, rules_of, header_words, header_by, header_of}
+use Rattle.mh_model.specs.Forms.{within, Version, Two, command_of, control_of}
+use Rattle.mh_model.specs.Replies.{reply_words, reply_of, are_u64}
+use Rattle.mh_model.specs.HistoryTexts.{Measured, event_words, is_event, event_of, session_of, entry_words, is_entry, entry_by, entry_of, measured_words, is_measured, measured_with, measured_by, measured_of, Halves, halves_at}
 use Rattle.mh_text_laws.proofs.rewritings.NumbersWrittenAgain.{mapped, chained, within_is, numbers_are}
 use Rattle.mh_text_laws.proofs.rewritings.WordsWrittenAgain.{text_is, joined-words, tagged_is}
 use Rattle.mh_text_laws.proofs.rewritings.FormsWrittenAgain.{IsOf, same_of, command_is, control_is}

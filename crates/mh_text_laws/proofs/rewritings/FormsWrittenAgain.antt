@@ -1,12 +1,11 @@
 -- Words that are read by a table of forms, as commands and controls are, are what is written of what they mean.
-use Rattle.std.proofs.Common.{◌≡◌, ◌∙◌, ℕ, suc, nat_lt, ◌&&◌, cond, Bool, true, false, Option, Some, option_and_then, List, [], ◌∷◌, length, map, ap, sym, refl, codes, decimal, arith}
+use Rattle.std.proofs.Common.{◌≡◌, ◌∙◌, ℕ, nat_lt, ◌&&◌, cond, Bool, true, false, Option, Some, option_and_then, List, [], ◌∷◌, map, ap, sym, refl, codes, decimal}
 use Rattle.std.proofs.lemmas.Bool.{and_parts}
 use Rattle.mh_model.specs.declared.command.Command.{Command}
-use Rattle.mh_model.specs.declared.command.Command.TheVariants as command
 use Rattle.mh_model.specs.declared.command.Control.{Control}
 use Rattle.mh_model.specs.declared.command.Control.TheVariants as control
 use Rattle.mh_model.specs.Bytes.{Text, is_text}
-use Rattle.mh_model.specs.Forms.{within, Form, form_of, formed, are_below, with_numbers, at, u32, u64, phrase_words, is_sayable, command_forms, command_phrase, command_of, Version, One, Two, control_forms, control_phrase, control_of, knows_control, where_known}
+use Rattle.mh_model.specs.Forms.{Form, form_of, formed, are_below, with_numbers, u32, u64, phrase_words, is_sayable, command_forms, command_phrase, command_of, Version, One, Two, control_forms, control_phrase, control_of, knows_control, where_known}
 use Rattle.mh_model.specs.Replies.{are_texts, with_words}
 use Rattle.mh_text_laws.proofs.rewritings.NumbersWrittenAgain.{within_is, numbered_is, OfEach, of_each, length-below}
 use Rattle.mh_text_laws.proofs.rewritings.WordsWrittenAgain.{text_is}
@@ -98,19 +97,40 @@ abbrev command_passes : Command → Bool
 command_passes c = is_sayable (command_phrase c)
 
 pub command_is : (words : List Text) (c : Command) → command_of words ≡ Some c → IsOf command_words command_passes words c
-command_is = formed-faithful command_words command_passes command_forms
-    (numbers-faithful _ _ (codes "new") (u32 ∷ u32 ∷ u32 ∷ []) _ (λ a b c. (refl, refl)),
-    (numbers-faithful _ _ (codes "get") (u32 ∷ u32 ∷ u32 ∷ []) _ (λ a b c. (refl, refl)),
-    (numbers-faithful _ _ (codes "put") (u32 ∷ u32 ∷ u32 ∷ []) _ (λ a b c. (refl, refl)),
-    (numbers-faithful _ _ (codes "copy") (u32 ∷ u32 ∷ []) _ (λ a b. (refl, refl)),
-    (numbers-faithful _ _ (codes "clear") (u32 ∷ []) _ (λ a. (refl, refl)),
-    (numbers-faithful _ _ (codes "read") (u32 ∷ u32 ∷ []) _ (λ a b. (refl, refl)),
-    (numbers-faithful _ _ (codes "write") (u32 ∷ u32 ∷ u64 ∷ []) _ (λ a b c. (refl, refl)),
-    (numbers-faithful _ _ (codes "same") (u32 ∷ u32 ∷ []) _ (λ a b. (refl, refl)),
-    (numbers-faithful _ _ (codes "shape") (u32 ∷ []) _ (λ a. (refl, refl)),
-    (numbers-faithful _ _ (codes "post") (u32 ∷ u32 ∷ []) _ (λ a b. (refl, refl)),
-    (numbers-faithful _ _ (codes "take") (u32 ∷ u32 ∷ []) _ (λ a b. (refl, refl)),
-    (numbers-faithful _ _ (codes "end") [] _ (refl, refl), tt))))))))))))
+command_is = formed-faithful command_words command_passes command_forms (
+  numbers-faithful _ _ (codes "new") (u32 ∷ u32 ∷ u32 ∷ []) _ (λ a b c. (refl, refl)),
+  (
+    numbers-faithful _ _ (codes "get") (u32 ∷ u32 ∷ u32 ∷ []) _ (λ a b c. (refl, refl)),
+    (
+      numbers-faithful _ _ (codes "put") (u32 ∷ u32 ∷ u32 ∷ []) _ (λ a b c. (refl, refl)),
+      (
+        numbers-faithful _ _ (codes "copy") (u32 ∷ u32 ∷ []) _ (λ a b. (refl, refl)),
+        (
+          numbers-faithful _ _ (codes "clear") (u32 ∷ []) _ (λ a. (refl, refl)),
+          (
+            numbers-faithful _ _ (codes "read") (u32 ∷ u32 ∷ []) _ (λ a b. (refl, refl)),
+            (
+              numbers-faithful _ _ (codes "write") (u32 ∷ u32 ∷ u64 ∷ []) _ (λ a b c. (refl, refl)),
+              (
+                numbers-faithful _ _ (codes "same") (u32 ∷ u32 ∷ []) _ (λ a b. (refl, refl)),
+                (
+                  numbers-faithful _ _ (codes "shape") (u32 ∷ []) _ (λ a. (refl, refl)),
+                  (
+                    numbers-faithful _ _ (codes "post") (u32 ∷ u32 ∷ []) _ (λ a b. (refl, refl)),
+                    (
+                      numbers-faithful _ _ (codes "take") (u32 ∷ u32 ∷ []) _ (λ a b. (refl, refl)),
+                      (numbers-faithful _ _ (codes "end") [] _ (refl, refl), tt),
+                    ),
+                  ),
+                ),
+              ),
+            ),
+          ),
+        ),
+      ),
+    ),
+  ),
+)
 
 abbrev control_words : Control → List Text
 control_words c = phrase_words (control_phrase c)
@@ -128,13 +148,22 @@ left-faithful One = tt
 left-faithful Two = (numbers-faithful _ _ (codes "left") [] _ (refl, refl), tt)
 
 pub control_is : (version : Version) (words : List Text) (c : Control) → control_of version words ≡ Some c → IsOf control_words (control_passes version) words c
-control_is version = formed-faithful control_words (control_passes version) (control_forms version)
-    (numbers-faithful _ _ (codes "quantum") [] _ (refl, known version control.Quantum true refl),
-    (numbers-faithful _ _ (codes "start") [] _ (refl, known version control.Start true refl),
-    (numbers-faithful _ _ (codes "stat") [] _ (refl, known version control.Stat true refl),
-    (numbers-faithful _ _ (codes "dump") [] _ (refl, known version control.Dump true refl),
-    (numbers-faithful _ _ (codes "report") (u64 ∷ []) _ (λ a. (refl, known version (control.Report a) (nat_lt a u64 && true) refl)),
-    left-faithful version)))))
+control_is version = formed-faithful control_words (control_passes version) (control_forms version) (
+  numbers-faithful _ _ (codes "quantum") [] _ (refl, known version control.Quantum true refl),
+  (
+    numbers-faithful _ _ (codes "start") [] _ (refl, known version control.Start true refl),
+    (
+      numbers-faithful _ _ (codes "stat") [] _ (refl, known version control.Stat true refl),
+      (
+        numbers-faithful _ _ (codes "dump") [] _ (refl, known version control.Dump true refl),
+        (
+          numbers-faithful _ _ (codes "report") (u64 ∷ []) _ (λ a. (refl, known version (control.Report a) (nat_lt a u64 && true) refl)),
+          left-faithful version,
+        ),
+      ),
+    ),
+  ),
+)
 
 pub control_again : (version : Version) (words : List Text) (c : Control) → control_of version words ≡ Some c
     → (phrase_words (control_phrase c) ≡ words) × (knows_control version c ≡ true) × (is_sayable (control_phrase c) ≡ true)

@@ -1,5 +1,5 @@
 -- A line that is the first of version 2 is what is written of its configuration.
-use Rattle.std.proofs.Common.{◌≡◌, ◌∙◌, ℕ, ◌==◌, ◌&&◌, cond, Bool, true, false, Option, Some, None, option_and_then, List, [], ◌∷◌, map, ap, sym, refl, codes, decimal}
+use Rattle.std.proofs.Common.{◌≡◌, ◌∙◌, ℕ, ◌==◌, ◌&&◌, cond, Bool, true, false, Some, None, option_and_then, List, [], ◌∷◌, map, ap, sym, refl, codes, decimal}
 use Rattle.std.proofs.lemmas.Bool.{and_parts, eqb-true}
 use Rattle.mh_model.specs.declared.config.Config.{Config}
 use Rattle.mh_model.specs.declared.config.Rules.{Rules}
@@ -46,6 +46,7 @@ header_is (w1 ∷ w2 ∷ []) c h = cc
 header_is (w1 ∷ w2 ∷ w3 ∷ ws) c h = by (is_text w1 (codes "history") && (is_text w2 (codes "2") && is_text w3 (codes "rules"))) refl h where
   all_same : (more : List Text) → w1 ≡ codes "history" → w2 ≡ codes "2" → w3 ≡ codes "rules" → more ≡ ws → codes "history" ∷ codes "2" ∷ codes "rules" ∷ more ≡ w1 ∷ w2 ∷ w3 ∷ ws
   all_same more p q r s = cc
+
   by : (is : Bool) → (is_text w1 (codes "history") && (is_text w2 (codes "2") && is_text w3 (codes "rules"))) ≡ is → cond is (option_and_then header_by (numbers ws)) None ≡ Some c → header_words c ≡ w1 ∷ w2 ∷ w3 ∷ ws
   by false is k = cc
   by true is k =

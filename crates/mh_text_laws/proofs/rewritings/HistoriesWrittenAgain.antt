@@ -1,5 +1,5 @@
 -- Texts that are histories, of both versions, are what is written of these, with their entries in range.
-use Rattle.std.proofs.Common.{◌≡◌, ◌∙◌, ℕ, suc, ◌≤◌, nat_lt, ◌&&◌, cond, Bool, true, false, Option, Some, None, List, [], ◌∷◌, ◌++◌, length, map, ap, sym, subst, refl, codes, arith, append-nil}
+use Rattle.std.proofs.Common.{◌≡◌, ◌∙◌, ℕ, suc, ◌≤◌, nat_lt, cond, Bool, true, false, Option, Some, None, List, [], ◌∷◌, ◌++◌, length, map, ap, sym, subst, refl, codes, append-nil}
 use Rattle.std.specs.List.{list_all}
 use Rattle.std.proofs.lemmas.Bool.{and_from, ltb-false}
 use Rattle.mh_model.specs.declared.config.Config.{Config}
@@ -7,7 +7,7 @@ use Rattle.mh_model.specs.declared.history.Entry.{Entry}
 use Rattle.mh_model.specs.Bytes.{Text, cut_after, words, joined, lines_text, is_text}
 use Rattle.mh_model.specs.Forms.{One}
 use Rattle.mh_model.specs.Script.{Reading, BadLine, Means, reading_map, at_end}
-use Rattle.mh_model.specs.HistoryTexts.{Measured, Recorded, entry_words, is_entry, entry_of, measured_words, is_measured, measured_of, header_words, header_of, entries_from, history_text, history_of, history_reading, recorded_text, recorded_by, recorded_of, recorded_reading}
+use Rattle.mh_model.specs.HistoryTexts.{Recorded, is_entry, entry_of, is_measured, measured_of, header_words, header_of, entries_from, history_text, history_of, history_reading, recorded_text, recorded_by, recorded_of, recorded_reading}
 use Rattle.mh_text_laws.proofs.round_trips.HistoryRoundTrips.{entry_line, measured_line}
 use Rattle.mh_text_laws.proofs.beginnings.WholeLines.{text_is_lines}
 use Rattle.mh_text_laws.proofs.rewritings.WordsWrittenAgain.{text_is}

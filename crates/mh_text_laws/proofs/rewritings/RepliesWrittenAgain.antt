@@ -1,6 +1,6 @@
 -- Words that are a reply are what is written of it, and it is well formed.
-use Rattle.std.proofs.Common.{option_to_list, ◌≡◌, ◌∙◌, ℕ, ◌&&◌, cond, Bool, true, false, Option, Some, None, option_map, option_and_then, List, [], ◌∷◌, map, ap, sym, subst, refl, codes, decimal}
-use Rattle.std.proofs.lemmas.Bool.{and_parts, and_from}
+use Rattle.std.proofs.Common.{option_to_list, ◌≡◌, ◌∙◌, ℕ, cond, Bool, true, false, Option, Some, None, option_map, option_and_then, List, [], ◌∷◌, map, ap, sym, subst, refl, codes, decimal}
+use Rattle.std.proofs.lemmas.Bool.{and_from}
 use Rattle.mh_model.specs.declared.reply.Reply.{Reply}
 use Rattle.mh_model.specs.declared.reply.Reply.TheVariants as reply
 use Rattle.mh_model.specs.declared.reply.Refusal.{Refusal}
@@ -8,7 +8,7 @@ use Rattle.mh_model.specs.declared.reply.Refusal.TheVariants.{BadSlot, Null, NoF
 use Rattle.mh_model.specs.declared.cycle.Phase.{Phase}
 use Rattle.mh_model.specs.declared.cycle.Phase.TheVariants.{Idle, Roots, Mark, Sweep, Defrag}
 use Rattle.mh_model.specs.Bytes.{Text, is_text, number, numbers}
-use Rattle.mh_model.specs.Forms.{within, Form, formed, with_numbers, at, u32, u64, Version, One, Two, where_known}
+use Rattle.mh_model.specs.Forms.{within, formed, with_numbers, at, u32, u64, Version, One, Two, where_known}
 use Rattle.mh_model.specs.Replies.{refusal_words, phase_word, optional_word, reply_words, are_u64, is_reply, refusal_forms, phase_forms, phase_of, ascends, items_in_range, Ready, items_from, values, spent_of, stat_of, optional_by, optional_of, report_of, dump_of, reply_forms, reply_of}
 use Rattle.mh_text_laws.proofs.rewritings.NumbersWrittenAgain.{within_is, mapped, chained, number_is, numbers_are, of_each, length-decimals}
 use Rattle.mh_text_laws.proofs.rewritings.WordsWrittenAgain.{text_is}
@@ -18,22 +18,40 @@ use Rattle.mh_text_laws.proofs.rewritings.FormsWrittenAgain.{IsOf, same_of, word
 -- Parts of replies -------------------------------------------------------------------------------
 
 refusal_is : (words : List Text) (x : Refusal) → formed refusal_forms words ≡ Some x → IsOf refusal_words (λ x. true) words x
-refusal_is = formed-faithful refusal_words (λ x. true) refusal_forms
-    (words-faithful _ _ (codes "1") _ BadSlot refl refl,
-    (words-faithful _ _ (codes "2") _ Null refl refl,
-    (words-faithful _ _ (codes "3") _ NoField refl refl,
-    (words-faithful _ _ (codes "4") _ TooLarge refl refl,
-    (words-faithful _ _ (codes "5") _ HeapFull refl refl,
-    (words-faithful _ _ (codes "6") _ Ended refl refl,
-    (words-faithful _ _ (codes "7") _ TooManySessions refl refl, tt)))))))
+refusal_is = formed-faithful refusal_words (λ x. true) refusal_forms (
+  words-faithful _ _ (codes "1") _ BadSlot refl refl,
+  (
+    words-faithful _ _ (codes "2") _ Null refl refl,
+    (
+      words-faithful _ _ (codes "3") _ NoField refl refl,
+      (
+        words-faithful _ _ (codes "4") _ TooLarge refl refl,
+        (
+          words-faithful _ _ (codes "5") _ HeapFull refl refl,
+          (
+            words-faithful _ _ (codes "6") _ Ended refl refl,
+            (words-faithful _ _ (codes "7") _ TooManySessions refl refl, tt),
+          ),
+        ),
+      ),
+    ),
+  ),
+)
 
 phase_is : (word : Text) (phase : Phase) → phase_of word ≡ Some phase → phase_word phase ≡ word
-phase_is = word-faithful phase_word phase_forms
-    (words-faithful _ _ (codes "idle") [] Idle refl refl,
-    (words-faithful _ _ (codes "roots") [] Roots refl refl,
-    (words-faithful _ _ (codes "mark") [] Mark refl refl,
-    (words-faithful _ _ (codes "sweep") [] Sweep refl refl,
-    (words-faithful _ _ (codes "defrag") [] Defrag refl refl, tt)))))
+phase_is = word-faithful phase_word phase_forms (
+  words-faithful _ _ (codes "idle") [] Idle refl refl,
+  (
+    words-faithful _ _ (codes "roots") [] Roots refl refl,
+    (
+      words-faithful _ _ (codes "mark") [] Mark refl refl,
+      (
+        words-faithful _ _ (codes "sweep") [] Sweep refl refl,
+        (words-faithful _ _ (codes "defrag") [] Defrag refl refl, tt),
+      ),
+    ),
+  ),
+)
 
 -- an optional number of 64 bits
 abbrev IsOptional : Text → Option ℕ → Type 0
@@ -126,9 +144,9 @@ stat_is version (free ∷ live ∷ old ∷ phase ∷ cycle ∷ []) r h =
     same_of reply_words (is_reply version) found (stat p.from n.from) r p.same
     (of_each texts (λ ns. map decimal ns ≡ texts → are_u64 ns ≡ true → IsReply version found (stat p.from ns))
     (λ a b c d same small. (all_same a b c d (phase_word p.from) same (phase_is phase p.from p.is), small)) n.from (length-decimals n.from texts known.0) known.0 known.1) where
-  all_same : (a b c d : ℕ) (p : Text) → decimal a ∷ decimal b ∷ decimal c ∷ decimal d ∷ [] ≡ free ∷ live ∷ old ∷ cycle ∷ [] → p ≡ phase
-      → codes "free" ∷ keyed stat_keys (decimal a ∷ decimal b ∷ decimal c ∷ p ∷ decimal d ∷ []) ≡ codes "free" ∷ keyed stat_keys (free ∷ live ∷ old ∷ phase ∷ cycle ∷ [])
-  all_same a b c d p same is = cc
+      all_same : (a b c d : ℕ) (p : Text) → decimal a ∷ decimal b ∷ decimal c ∷ decimal d ∷ [] ≡ free ∷ live ∷ old ∷ cycle ∷ [] → p ≡ phase
+          → codes "free" ∷ keyed stat_keys (decimal a ∷ decimal b ∷ decimal c ∷ p ∷ decimal d ∷ []) ≡ codes "free" ∷ keyed stat_keys (free ∷ live ∷ old ∷ phase ∷ cycle ∷ [])
+      all_same a b c d p same is = cc
 
 abbrev report_keys : List Text
 report_keys = codes "collector" ∷ codes "quanta" ∷ codes "greatest" ∷ codes "window" ∷ codes "least" ∷ codes "floor" ∷ []
@@ -158,10 +176,10 @@ report_is version (mutator ∷ collector ∷ quanta ∷ greatest ∷ window ∷ 
     (of_each texts (λ ns. map decimal ns ≡ texts → are_u64 ns ≡ true → IsReply version found (report l.from f.from ns))
     (λ a b c d e same small. (all_same a b c d e (optional_word l.from) (optional_word f.from) same x.0 y.0, and_from _ _ small (and_from _ _ x.1 y.1)))
     n.from (length-decimals n.from texts known.0) known.0 known.1) where
-  all_same : (a b c d e : ℕ) (x y : Text) → decimal a ∷ decimal b ∷ decimal c ∷ decimal d ∷ decimal e ∷ [] ≡ mutator ∷ collector ∷ quanta ∷ greatest ∷ window ∷ [] → x ≡ least → y ≡ floor
-      → codes "mutator" ∷ keyed report_keys (decimal a ∷ decimal b ∷ decimal c ∷ decimal d ∷ decimal e ∷ x ∷ y ∷ [])
-      ≡ codes "mutator" ∷ keyed report_keys (mutator ∷ collector ∷ quanta ∷ greatest ∷ window ∷ least ∷ floor ∷ [])
-  all_same a b c d e x y same p q = cc
+      all_same : (a b c d e : ℕ) (x y : Text) → decimal a ∷ decimal b ∷ decimal c ∷ decimal d ∷ decimal e ∷ [] ≡ mutator ∷ collector ∷ quanta ∷ greatest ∷ window ∷ [] → x ≡ least → y ≡ floor
+          → codes "mutator" ∷ keyed report_keys (decimal a ∷ decimal b ∷ decimal c ∷ decimal d ∷ decimal e ∷ x ∷ y ∷ [])
+          ≡ codes "mutator" ∷ keyed report_keys (mutator ∷ collector ∷ quanta ∷ greatest ∷ window ∷ least ∷ floor ∷ [])
+      all_same a b c d e x y same p q = cc
 
 -- Replies ----------------------------------------------------------------------------------------
 
@@ -189,15 +207,34 @@ left-faithful One = tt
 left-faithful Two = (numbers-faithful _ _ (codes "left") (u64 ∷ []) _ (λ a. (refl, refl)), tt)
 
 pub reply_is : (version : Version) (words : List Text) (r : Reply) → reply_of version words ≡ Some r → IsReply version words r
-reply_is version = formed-faithful reply_words (is_reply version) (reply_forms version)
-    (words-faithful _ _ (codes "ok") [] reply.Done refl refl,
-    (words-faithful _ _ (codes "yes") [] reply.Yes refl refl,
-    (words-faithful _ _ (codes "no") [] reply.No refl refl,
-    (numbers-faithful _ _ (codes "number") (u64 ∷ []) _ (λ a. (refl, refl)),
-    (numbers-faithful _ _ (codes "shape") (u32 ∷ u32 ∷ []) _ (λ a b. (refl, refl)),
-    (refused-faithful version,
-    (keyed-faithful version (codes "spent") spent_keys spent_of (spent_is version),
-    (keyed-faithful version (codes "free") stat_keys stat_of (stat_is version),
-    (dump-faithful version,
-    (keyed-faithful version (codes "mutator") report_keys report_of (report_is version),
-    left-faithful version))))))))))
+reply_is version = formed-faithful reply_words (is_reply version) (reply_forms version) (
+  words-faithful _ _ (codes "ok") [] reply.Done refl refl,
+  (
+    words-faithful _ _ (codes "yes") [] reply.Yes refl refl,
+    (
+      words-faithful _ _ (codes "no") [] reply.No refl refl,
+      (
+        numbers-faithful _ _ (codes "number") (u64 ∷ []) _ (λ a. (refl, refl)),
+        (
+          numbers-faithful _ _ (codes "shape") (u32 ∷ u32 ∷ []) _ (λ a b. (refl, refl)),
+          (
+            refused-faithful version,
+            (
+              keyed-faithful version (codes "spent") spent_keys spent_of (spent_is version),
+              (
+                keyed-faithful version (codes "free") stat_keys stat_of (stat_is version),
+                (
+                  dump-faithful version,
+                  (
+                    keyed-faithful version (codes "mutator") report_keys report_of (report_is version),
+                    left-faithful version,
+                  ),
+                ),
+              ),
+            ),
+          ),
+        ),
+      ),
+    ),
+  ),
+)

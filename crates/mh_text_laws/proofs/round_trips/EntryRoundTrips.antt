@@ -1,8 +1,7 @@
 -- Entries are read as they were written.
-use Rattle.std.proofs.Common.{option_to_list, ◌≡◌, ℕ, ◌<◌, ◌^◌, nat_lt, nat_le, not, ◌&&◌, Bool, true, false, Option, Some, None, List, [], ◌∷◌, ◌++◌, length, map, flat_map, ap, ◌∙◌, refl, decimal, codes, arith, length-append, append-nil, subst, sym}
-use Rattle.std.proofs.lemmas.Bool.{and_parts, and_from, not-true, not_from_false, ltb-true, leb-true}
+use Rattle.std.proofs.Common.{option_to_list, ◌≡◌, ℕ, ◌<◌, ◌^◌, nat_lt, nat_le, not, ◌&&◌, Bool, true, false, Option, Some, None, List, [], ◌∷◌, ◌++◌, length, map, flat_map, ap, ◌∙◌, refl, decimal, codes, arith, length-append, append-nil, subst}
+use Rattle.std.proofs.lemmas.Bool.{and_parts, and_from, not-true, ltb-true, leb-true}
 use Rattle.std.specs.List.{list_all}
-use Rattle.std.proofs.lemmas.Fmt.{decimal_nonempty}
 use Rattle.mh_model.specs.declared.command.Command.{Command}
 use Rattle.mh_model.specs.declared.command.Command.TheVariants as command
 use Rattle.mh_model.specs.declared.command.Control.{Control}
@@ -19,10 +18,10 @@ use Rattle.mh_model.specs.declared.dump.DumpItem.{DumpItem}
 use Rattle.mh_model.specs.declared.dump.DumpItem.TheVariants as item
 use Rattle.mh_model.specs.declared.history.Entry.{Entry}
 use Rattle.mh_model.specs.Bytes.{Text, is_text, is_digit, number, words, joined}
-use Rattle.mh_model.specs.Forms.{are_below, u32, u64, Phrase, phrase, phrase_words, is_sayable, command_phrase, Version, One, Two, control_phrase, knows_control}
-use Rattle.mh_model.specs.Replies.{refusal_words, phase_word, flag_word, placed_word, item_words, optional_word, reply_words, are_u64, item_numbers, items_in_range, ascends, is_reply}
+use Rattle.mh_model.specs.Forms.{u32, u64, Phrase, phrase_words, is_sayable, command_phrase, Version, One, Two, control_phrase, knows_control}
+use Rattle.mh_model.specs.Replies.{refusal_words, phase_word, flag_word, placed_word, item_words, optional_word, reply_words, are_u64, item_numbers, items_in_range, is_reply}
 use Rattle.mh_model.specs.HistoryTexts.{Measured, event_words, entry_words, measured_words, is_event, is_entry, is_measured, event_of, halves_at, entry_of, measured_of}
-use Rattle.mh_text_laws.proofs.ListTests.{all_weaker, all-append}
+use Rattle.mh_text_laws.proofs.ListLemmas.{all_weaker, all-append}
 use Rattle.mh_text_laws.proofs.round_trips.WordRoundTrips.{number-decimal, numbers-decimal, decimal_word, is_word, are_words, words-joined, all-decimals, are_small, digit_other, is_numbered, numbered_first}
 use Rattle.mh_text_laws.proofs.round_trips.ReplyRoundTrips.{small_numbers, command_of-words, control_of-words, reply_of-words}
 
@@ -203,8 +202,11 @@ halves_at-words mark (x ∷ xs) ys same h =
 entry_of-words : (version : Version) (e : Entry) → is_entry version e ≡ true → entry_of version (entry_words e) ≡ Some e
 entry_of-words version e h =
     let both = and_parts (is_event version e.event) (is_reply version e.reply) h in
-    rw (halves_at-words (codes "=") (event_words e.event) (reply_words e.reply) refl (plain_equals (event_words e.event) (event_plain version e.event both.0)),
-        event_of-words version e.event both.0, reply_of-words version e.reply both.1) refl
+    rw (
+      halves_at-words (codes "=") (event_words e.event) (reply_words e.reply) refl (plain_equals (event_words e.event) (event_plain version e.event both.0)),
+      event_of-words version e.event both.0,
+      reply_of-words version e.reply both.1,
+    ) refl
 
 pub entry_are_words : (version : Version) (e : Entry) → is_entry version e ≡ true → are_words (entry_words e) ≡ true
 entry_are_words version e h =
@@ -219,8 +221,11 @@ entry_no_units version e h =
 measured_of-words : (m : Measured) → is_measured m ≡ true → measured_of (measured_words m) ≡ Some m
 measured_of-words m h =
     let both = and_parts (is_entry Two m.entry) (are_u64 (m.mutator ∷ m.collector ∷ [])) h in
-    rw (halves_at-words (codes "units") (entry_words m.entry) (map decimal (m.mutator ∷ m.collector ∷ [])) refl (entry_no_units Two m.entry both.0),
-        entry_of-words Two m.entry both.0, numbers-decimal (m.mutator ∷ m.collector ∷ []) both.1) refl
+    rw (
+      halves_at-words (codes "units") (entry_words m.entry) (map decimal (m.mutator ∷ m.collector ∷ [])) refl (entry_no_units Two m.entry both.0),
+      entry_of-words Two m.entry both.0,
+      numbers-decimal (m.mutator ∷ m.collector ∷ []) both.1,
+    ) refl
 
 pub measured_are_words : (m : Measured) → is_measured m ≡ true → are_words (measured_words m) ≡ true
 measured_are_words m h =

@@ -1,5 +1,5 @@
 -- The first line of version 2 is read as it was written.
-use Rattle.std.proofs.Common.{◌≡◌, ◌∙◌, ℕ, ◌≤◌, ◌<◌, ◌^◌, nat_lt, nat_le, ◌&&◌, true, Some, List, [], ◌∷◌, map, ap, refl, codes, decimal, arith}
+use Rattle.std.proofs.Common.{◌≡◌, ◌∙◌, ℕ, ◌≤◌, ◌<◌, ◌^◌, nat_lt, nat_le, true, Some, List, [], ◌∷◌, map, ap, refl, codes, decimal, arith}
 use Rattle.std.proofs.lemmas.Bool.{and_parts, and_from, leb-true, lt-ltb}
 use Rattle.mh_model.specs.declared.config.Config.{Config}
 use Rattle.mh_model.specs.declared.config.Rules.{Rules}

@@ -1,5 +1,5 @@
 -- Histories of both versions are read as they were written.
-use Rattle.std.proofs.Common.{◌≡◌, ◌∙◌, ℕ, suc, ◌≤◌, nat_lt, Bool, true, Option, Some, List, [], ◌∷◌, ◌++◌, length, map, ap, sym, refl, codes, append-nil}
+use Rattle.std.proofs.Common.{◌≡◌, ◌∙◌, ℕ, suc, ◌≤◌, Bool, true, Option, Some, List, [], ◌∷◌, length, map, ap, sym, refl, codes, append-nil}
 use Rattle.std.specs.List.{list_all}
 use Rattle.std.proofs.lemmas.Bool.{and_parts, and_from, le-ltb}
 use Rattle.mh_model.specs.declared.config.Config.{Config}
@@ -8,7 +8,7 @@ use Rattle.mh_model.specs.Bytes.{Text, cut_after, words, joined, lines_text}
 use Rattle.mh_model.specs.Forms.{One}
 use Rattle.mh_model.specs.Script.{Means, reading_map}
 use Rattle.mh_model.specs.HistoryTexts.{Measured, Recorded, entry_words, measured_words, is_entry, is_measured, entry_of, measured_of, header_words, header_of, history_text, recorded_text, entries_from, history_of, history_reading, recorded_by, recorded_of, recorded_reading}
-use Rattle.mh_text_laws.proofs.ListTests.{all-map}
+use Rattle.mh_text_laws.proofs.ListLemmas.{all-map}
 use Rattle.mh_text_laws.proofs.round_trips.WordRoundTrips.{is_free, are_free, cut-lines, joined_free}
 use Rattle.mh_text_laws.proofs.round_trips.EntryRoundTrips.{entry_of-line, measured_of-line, entry_are_words, measured_are_words}
 use Rattle.mh_text_laws.proofs.round_trips.HeaderRoundTrips.{header_are_words, header_of-line}
