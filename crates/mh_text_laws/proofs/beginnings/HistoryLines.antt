@@ -21,7 +21,8 @@ entry-breaks read n line (Some x) lines rest m later is h =
     breaks-step (entries_from read n) (entries_from read (suc n)) (λ entries. x ∷ entries) n line lines m
     (λ others rest. rw (is, entries_from) refl) (later (bad-map (λ entries. x ∷ entries) (entries_from read (suc n) lines rest) m h))
 
-entries-break : {X : Type 0} (read : Text → Option X) (n : ℕ) (lines : List Text) (rest : Text) (m : ℕ) → entries_from read n lines rest ≡ BadLine m → Breaks (entries_from read n) n lines m
+entries-break : {X : Type 0} (read : Text → Option X) (n : ℕ) (lines : List Text) (rest : Text) (m : ℕ) → entries_from read n lines rest ≡ BadLine m
+    → Breaks (entries_from read n) n lines m
 entries-break read n [] rest m h = end-breaks (entries_from read n) [] n rest m refl h
 entries-break read n (line ∷ lines) rest m h = entry-breaks read n line (read line) lines rest m (entries-break read (suc n) lines rest m) refl h
 

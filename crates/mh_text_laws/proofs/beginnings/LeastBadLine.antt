@@ -30,14 +30,17 @@ begins-shorter read n m text within begins =
     sym (append_assoc (front n text) between begins.0) ∙ ap (λ (found : Text). found ++ begins.0) (lines-between n m (cut_after 10 text).pieces within) in
     (between ++ begins.0, begins.1, ap (λ (found : Text). read (cut_after 10 found)) same ∙ begins.2)
 
-none-earlier : {X : Type 0} (read : Cut → Reading X) (text : Text) (n m : ℕ) → n < m → IsLeastBad read text n → IsLeastBad read text m → ⊥
-none-earlier read text n m below h k = h.bad (omega (arith, k.within)) (begins-shorter read n (m - 1) text (omega arith) k.before)
+no_earlier_line : {X : Type 0} (read : Cut → Reading X) (text : Text) (n m : ℕ) → n < m → IsLeastBad read text n → IsLeastBad read text m → ⊥
+no_earlier_line read text n m below h k = h.bad (omega (arith, k.within)) (begins-shorter read n (m - 1) text (omega arith) k.before)
 
 one-least : {X : Type 0} (read : Cut → Reading X) → HasOneLeastBadLine read
 one-least read text n m h k =
     elim (cases_order n m) as (λ _. n ≡ m) [
       | inl same ↦ same
-      | inr other ↦ elim other as (λ _. n ≡ m) [ inl below ↦ absurd (none-earlier read text n m below h k) | inr above ↦ absurd (none-earlier read text m n above k h) ]
+      | inr other ↦ elim other as (λ _. n ≡ m) [
+        | inl below ↦ absurd (no_earlier_line read text n m below h k)
+        | inr above ↦ absurd (no_earlier_line read text m n above k h)
+      ]
     ]
 
 pub lines-one : LeastBadLinesAreOne
@@ -88,10 +91,13 @@ unfolding reading
 reading-short text few = rw (le-ltb 67108864 (length text) few) refl
 
 pub scripts-least : (text : Text) (line : ℕ) → length text ≤ 67108864 → (reading text ≡ BadLine line) ↔ IsLeastBad script_of text line
-scripts-least text line few = refused-least script_of (reading text) text line (reading-short text few) (script-breaks 1 (cut_after 10 text).pieces (cut_after 10 text).rest)
+scripts-least text line few =
+    refused-least script_of (reading text) text line (reading-short text few) (script-breaks 1 (cut_after 10 text).pieces (cut_after 10 text).rest)
 
 pub histories-least : (text : Text) (line : ℕ) → length text ≤ 1073741824 → (history_reading text ≡ BadLine line) ↔ IsLeastBad history_of text line
-histories-least text line few = refused-least history_of (history_reading text) text line (history_reading-short text few) (history-breaks (cut_after 10 text).pieces (cut_after 10 text).rest)
+histories-least text line few =
+    refused-least history_of (history_reading text) text line (history_reading-short text few) (history-breaks (cut_after 10 text).pieces (cut_after 10 text).rest)
 
 pub records-least : (text : Text) (line : ℕ) → length text ≤ 2147483648 → (recorded_reading text ≡ BadLine line) ↔ IsLeastBad recorded_of text line
-records-least text line few = refused-least recorded_of (recorded_reading text) text line (recorded_reading-short text few) (recorded-breaks (cut_after 10 text).pieces (cut_after 10 text).rest)
+records-least text line few =
+    refused-least recorded_of (recorded_reading text) text line (recorded_reading-short text few) (recorded-breaks (cut_after 10 text).pieces (cut_after 10 text).rest)

@@ -30,7 +30,8 @@ breaks-step read after f n line lines m step h = record {
 }
 
 -- the first line is refused
-pub breaks-here : {X : Type 0} (read : List Text → Text → Reading X) (n : ℕ) (line : Text) (lines more : List Text) (x : X) (m : ℕ) → n ≡ m → are_free 10 more ≡ true → read more [] ≡ Means x
+pub breaks-here : {X : Type 0} (read : List Text → Text → Reading X) (n : ℕ) (line : Text) (lines more : List Text) (x : X) (m : ℕ) → n ≡ m → are_free 10 more ≡ true
+    → read more [] ≡ Means x
     → ((others : List Text) (rest : Text) → read (line ∷ others) rest ≡ BadLine n) → Breaks read n (line ∷ lines) m
 breaks-here read n line lines more x m same free good bad = record {
   place = 0;
@@ -44,7 +45,8 @@ breaks-here read n line lines more x m same free good bad = record {
 }
 
 -- there is no line
-pub breaks-end : {X : Type 0} (read : List Text → Text → Reading X) (n : ℕ) (more : List Text) (x : X) (m : ℕ) → n ≡ m → are_free 10 more ≡ true → read more [] ≡ Means x → Breaks read n [] m
+pub breaks-end : {X : Type 0} (read : List Text → Text → Reading X) (n : ℕ) (more : List Text) (x : X) (m : ℕ) → n ≡ m → are_free 10 more ≡ true → read more [] ≡ Means x
+    → Breaks read n [] m
 breaks-end read n more x m same free good = record {
   place = 0;
   number = omega arith;

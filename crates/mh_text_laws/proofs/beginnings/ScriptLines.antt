@@ -30,7 +30,8 @@ event-breaks names n line Wrong lines rest m later is h =
     let same : n ≡ m = cc in
     breaks-here (events_reader names n) n line lines [] [] m same refl refl (λ others rest. rw is refl)
 
-events-break : (names : List Text) (n : ℕ) (lines : List Text) (rest : Text) (m : ℕ) → events_from names n (map line_of lines) rest ≡ BadLine m → Breaks (events_reader names n) n lines m
+events-break : (names : List Text) (n : ℕ) (lines : List Text) (rest : Text) (m : ℕ) → events_from names n (map line_of lines) rest ≡ BadLine m
+    → Breaks (events_reader names n) n lines m
 events-break names n [] rest m h = end-breaks (events_reader names n) [] n rest m refl h
 events-break names n (line ∷ lines) rest m h = event-breaks names n line (line_of line) lines rest m (λ names n k. events-break names n lines rest m k) refl h
 
@@ -55,8 +56,10 @@ config-breaks n line lines rest m (Some config) full is h =
     breaks-step (script_from n) (events_reader [] (suc n)) (configured config) n line lines m (λ others rest. rw (full, is) refl)
     (events-break [] (suc n) lines rest m (bad-map (configured config) (events_from [] (suc n) (map line_of lines) rest) m h))
 
-line-breaks : (n : ℕ) (line : Text) (lines : List Text) (rest : Text) (m : ℕ) (blank : Bool) → (script_from (suc n) lines rest ≡ BadLine m → Breaks (script_from (suc n)) (suc n) lines m)
-    → is_blank line ≡ blank → cond blank (script_from (suc n) lines rest) (after_config (config_words (words line)) n lines rest) ≡ BadLine m → Breaks (script_from n) n (line ∷ lines) m
+line-breaks : (n : ℕ) (line : Text) (lines : List Text) (rest : Text) (m : ℕ) (blank : Bool)
+    → (script_from (suc n) lines rest ≡ BadLine m → Breaks (script_from (suc n)) (suc n) lines m)
+    → is_blank line ≡ blank → cond blank (script_from (suc n) lines rest) (after_config (config_words (words line)) n lines rest) ≡ BadLine m
+    → Breaks (script_from n) n (line ∷ lines) m
 line-breaks n line lines rest m true later is h =
     breaks-step (script_from n) (script_from (suc n)) (λ script. script) n line lines m (λ others rest. rw is (map-itself (script_from (suc n) others rest))) (later h)
 line-breaks n line lines rest m false later is h = config-breaks n line lines rest m (config_words (words line)) is refl h

@@ -108,5 +108,7 @@ control_adds machine other = stays machine
 
 pub event_adds : (machine : Machine) (e : Event) → machine.heap.config.rules ≡ First → IsSmallStep machine (event_step machine e).state
 unfolding event_step
-event_adds machine (event.Session who c) first = due_adds machine (command_step machine who c).state (is_quantum_due (command_step machine who c).state) (command_adds machine who c first)
+event_adds machine (event.Session who c) first =
+    let after = (command_step machine who c).state in
+    due_adds machine after (is_quantum_due after) (command_adds machine who c first)
 event_adds machine (event.Control c) first = control_adds machine c

@@ -71,7 +71,8 @@ record_measured machine (e ∷ entries) first h same =
     let known : is_entry Two e ≡ true = entry_two e (and_parts _ _ h).0 in
     let answered : is_entry Two (record { event = e.event; reply = (event_step machine e.event).reply }) ≡ true = rw (← here) known in
     let next : (event_step machine e.event).state.heap.config.rules ≡ First = ap (λ (config : Config). config.rules) (event_adds machine e.event first).config ∙ first in
-    and_from _ _ (and_from _ _ answered (units_small machine e.event first)) (record_measured (event_step machine e.event).state entries next (and_parts _ _ h).1 (others_same same))
+    let later = record_measured (event_step machine e.event).state entries next (and_parts _ _ h).1 (others_same same) in
+    and_from _ _ (and_from _ _ answered (units_small machine e.event first)) later
 
 record_events : (machine : Machine) (events : List Event) → measured_events (machine_record machine events) ≡ events
 unfolding machine_record
@@ -85,7 +86,8 @@ record_length machine (e ∷ events) = ap suc (record_length (event_step machine
 
 -- Texts ------------------------------------------------------------------------------------------
 
-pub migration_keeps : (config : Config) (text : Text) (entries : List Entry) → config.rules ≡ First → history_reading text ≡ Means entries → IsLegal config entries → IsMigrated config entries
+pub migration_keeps : (config : Config) (text : Text) (entries : List Entry) → config.rules ≡ First → history_reading text ≡ Means entries → IsLegal config entries
+    → IsMigrated config entries
 migration_keeps config text entries first read legal =
     let known = history_reading_is text entries read in
     let few : length (history_text entries) ≤ 1073741824 = subst (λ (t : Text). length t ≤ 1073741824) known.same known.short in
@@ -100,14 +102,14 @@ migration_keeps config text entries first read legal =
       same = same;
     }
 
-audited_by : (config : Config) (text : Text) (count : ℕ) (found : Reading (List Entry)) → history_reading text ≡ found → config.rules ≡ First → IsChecked config text (Legal count)
+migrated_by : (config : Config) (text : Text) (count : ℕ) (found : Reading (List Entry)) → history_reading text ≡ found → config.rules ≡ First → IsChecked config text (Legal count)
     → IsAudited (migration_text config (Legal count) found) (Legal count)
-audited_by config text count (BadLine line) is first h = let refused : Legal count ≡ Refused line = rw is at h in cc
-audited_by config text count (Means entries) is first h =
+migrated_by config text count (BadLine line) is first h = let refused : Legal count ≡ Refused line = rw is at h in cc
+migrated_by config text count (Means entries) is first h =
     let legal : IsJudged (IsLegal config) entries (Legal count) = rw is at h in
     let kept = migration_keeps config text entries first is legal.0 in
     rw kept.read (kept.legal, legal.1 ∙ sym kept.count)
 
 pub migrated_legal : (config : Config) (text : Text) (count : ℕ) → config.rules ≡ First → IsChecked config text (Legal count)
     → IsAudited (migration_text config (Legal count) (history_reading text)) (Legal count)
-migrated_legal config text count first h = audited_by config text count (history_reading text) refl first h
+migrated_legal config text count first h = migrated_by config text count (history_reading text) refl first h

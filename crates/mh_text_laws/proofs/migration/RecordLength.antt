@@ -32,7 +32,7 @@ units_length words [] two h = absurd (omega arith)
 units_length [] (n ∷ ns) two h = omega (arith, decimals_length (n ∷ ns) h)
 units_length (word ∷ words) (n ∷ ns) two h =
     let units : Text = joined (codes "units" ∷ map decimal (n ∷ ns)) in
-    let split : length (joined ((word ∷ words) ++ codes "units" ∷ map decimal (n ∷ ns))) ≡ length (joined (word ∷ words) ++ 32 ∷ units) = ap length (joined-append word words (codes "units") (map decimal (n ∷ ns))) in
+    let split = ap length (joined-append word words (codes "units") (map decimal (n ∷ ns))) in
     omega (arith, split, length-append (joined (word ∷ words)) (32 ∷ units), decimals_length (n ∷ ns) h)
 
 measured_length : (m : Measured) → is_measured m ≡ true → length (measured_line m) ≤ length (entry_line m.entry) + 49
@@ -52,9 +52,12 @@ entries_length (m ∷ ms) h =
     let more = entries_length ms (and_parts _ _ h).1 in
     omega (arith, one, more, lines-cons (measured_line m) (map measured_line ms), lines-cons (entry_line m.entry) (map entry_line (map (λ measured. measured.entry) ms)))
 
-pub recorded_length : (r : Recorded) → list_all is_measured r.entries ≡ true → length r.entries ≤ 1000000 → length (history_text (map (λ measured. measured.entry) r.entries)) ≤ 1073741824
+pub recorded_length : (r : Recorded) → list_all is_measured r.entries ≡ true → length r.entries ≤ 1000000
+    → length (history_text (map (λ measured. measured.entry) r.entries)) ≤ 1073741824
     → length (recorded_text r) ≤ 2147483648
 recorded_length r h few short =
     let first = header_length r.config in
     let more = entries_length r.entries h in
-    omega (arith, first, more, few, short, lines-cons (joined (header_words r.config)) (map measured_line r.entries), lines-cons (codes "history 1") (map entry_line (map (λ measured. measured.entry) r.entries)))
+    let written = lines-cons (joined (header_words r.config)) (map measured_line r.entries) in
+    let read = lines-cons (codes "history 1") (map entry_line (map (λ measured. measured.entry) r.entries)) in
+    omega (arith, first, more, few, short, written, read)

@@ -5,8 +5,9 @@ use Rattle.std.proofs.lemmas.Bool.{and_parts, and_from}
 use Rattle.mh_model.specs.declared.dump.DumpItem.{DumpItem}
 use Rattle.mh_model.specs.declared.dump.DumpItem.TheVariants as item
 use Rattle.mh_model.specs.Bytes.{Text, parts_at, joined_at, tagged}
-use Rattle.mh_model.specs.Forms.{are_below, at, u64}
+use Rattle.mh_model.specs.Forms.{are_below, u64}
 use Rattle.mh_model.specs.Replies.{flag_word, placed_word, item_words, item_numbers, are_u64, items_in_range, flag_forms, flag_of, placed_from, placed_by, placed_of, Pending, Ready, HasPage, HasClass, with_item, items_from}
+use Rattle.mh_text_laws.proofs.round_trips.ReplyRoundTrips.{block, forwarder}
 use Rattle.mh_text_laws.proofs.rewritings.NumbersWrittenAgain.{mapped, numbered_is, of_each, length-below}
 use Rattle.mh_text_laws.proofs.rewritings.WordsWrittenAgain.{joined-parts_at, tagged_is}
 use Rattle.mh_text_laws.proofs.rewritings.FormsWrittenAgain.{IsOf, same_of, word-faithful, words-faithful}
@@ -17,15 +18,6 @@ flag_is : (word : Text) (flag : Bool) → flag_of word ≡ Some flag → flag_wo
 flag_is = word-faithful flag_word flag_forms (words-faithful _ _ (codes "+") [] true refl refl, (words-faithful _ _ (codes "-") [] false refl refl, tt))
 
 -- Blocks and forwarders --------------------------------------------------------------------------
-
--- a word is a slot, a mark, and two numbers with a point between them
-record IsPlaced (mark : ℕ) (made : List ℕ → DumpItem) (word : Text) (i : DumpItem) : Type 0 where
-  slot : ℕ
-  a : ℕ
-  b : ℕ
-  same : made (slot ∷ a ∷ b ∷ []) ≡ i
-  written : placed_word mark slot a b ≡ word
-  small : are_u64 (slot ∷ a ∷ b ∷ []) ≡ true
 
 -- three words of a slot and a place are a slot, and what the place is the words of
 record IsPlace (parts : List Text) (slot a b : Text) : Type 0 where
@@ -64,12 +56,6 @@ placed_is mark made each word i h =
     (of_each (u64 ∷ u64 ∷ u64 ∷ []) (λ ns. are_below (u64 ∷ u64 ∷ u64 ∷ []) ns ≡ true → map decimal ns ≡ placed_from (parts_at mark word) → IsItem (word ∷ []) (made ns))
     (λ slot a b small is. let known = each slot a b in (known.0 ∙ ap (λ (w : Text). w ∷ []) (placed_written mark slot a b word (sym is)), known.1 ∙ small))
     found.numbers (length-below (u64 ∷ u64 ∷ u64 ∷ []) found.numbers found.below) found.below found.written)
-
-abbrev block : List ℕ → DumpItem
-block ns = item.Block (at ns 0) (at ns 1) (at ns 2)
-
-abbrev forwarder : List ℕ → DumpItem
-forwarder ns = item.Forwarder (at ns 0) (at ns 1) (at ns 2)
 
 item_is : (word : Text) (i : DumpItem) → placed_of word ≡ Some i → IsItem (word ∷ []) i
 item_is word i h = by (placed_by 61 block word) refl h where

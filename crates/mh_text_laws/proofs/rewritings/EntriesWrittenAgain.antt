@@ -1,5 +1,5 @@
 -- Words that are an event, and lines that are an entry, with its units or without, are what is written of these.
-use Rattle.std.proofs.Common.{◌≡◌, ◌∙◌, ℕ, nat_le, cond, Bool, true, false, Some, option_map, option_and_then, List, [], ◌∷◌, ◌++◌, map, ap, sym, refl, codes, decimal}
+use Rattle.std.proofs.Common.{◌≡◌, ◌∙◌, ℕ, nat_le, cond, Bool, true, false, Option, Some, option_map, option_and_then, List, [], ◌∷◌, ◌++◌, map, ap, sym, refl, codes, decimal}
 use Rattle.std.proofs.lemmas.Bool.{and_from}
 use Rattle.mh_model.specs.declared.command.Event.{Event}
 use Rattle.mh_model.specs.declared.command.Event.TheVariants as event
@@ -22,9 +22,15 @@ session_is word who h =
     let few = within_is (nat_le found.from 8) found.from who found.then in
     (ap (λ (n : ℕ). 115 ∷ decimal n) (sym few.1) ∙ (tagged_is 115 word found.from found.is).0, ap (λ (n : ℕ). nat_le n 8) (sym few.1) ∙ few.0)
 
+abbrev control_event : Version → List Text → Option Event
+control_event version words = option_map (λ control. event.Control control) (control_of version words)
+
+abbrev session_event : Text → List Text → Option Event
+session_event word words = option_and_then (λ who. option_map (λ command. event.Session who command) (command_of words)) (session_of word)
+
 -- a control, after the word `*`
 control_event_is : (version : Version) (word : Text) (words : List Text) (e : Event) → is_text word (codes "*") ≡ true
-    → option_map (λ control. event.Control control) (control_of version words) ≡ Some e → IsOf event_words (is_event version) (word ∷ words) e
+    → control_event version words ≡ Some e → IsOf event_words (is_event version) (word ∷ words) e
 control_event_is version word words e is h =
     let found = mapped (λ control. event.Control control) (control_of version words) e h in
     let known = control_is version words found.from found.is in
@@ -34,7 +40,8 @@ control_event_is version word words e is h =
 
 -- a command, after the word of its session
 session_event_is : (version : Version) (word : Text) (words : List Text) (e : Event)
-    → option_and_then (λ who. option_map (λ command. event.Session who command) (command_of words)) (session_of word) ≡ Some e → IsOf event_words (is_event version) (word ∷ words) e
+    → session_event word words ≡ Some e
+    → IsOf event_words (is_event version) (word ∷ words) e
 session_event_is version word words e h =
     let who = chained (λ who. option_map (λ command. event.Session who command) (command_of words)) (session_of word) e h in
     let found = mapped (λ command. event.Session who.from command) (command_of words) e who.then in
@@ -46,20 +53,21 @@ session_event_is version word words e h =
 pub event_is : (version : Version) (words : List Text) (e : Event) → event_of version words ≡ Some e → IsOf event_words (is_event version) words e
 event_is version [] e h = cc
 event_is version (word ∷ words) e h = by (is_text word (codes "*")) refl h where
-  by : (is : Bool) → is_text word (codes "*") ≡ is
-      → cond is (option_map (λ control. event.Control control) (control_of version words)) (option_and_then (λ who. option_map (λ command. event.Session who command) (command_of words)) (session_of word))
-      ≡ Some e → IsOf event_words (is_event version) (word ∷ words) e
+  by : (is : Bool) → is_text word (codes "*") ≡ is → cond is (control_event version words) (session_event word words) ≡ Some e → IsOf event_words (is_event version) (word ∷ words) e
   by true is k = control_event_is version word words e is k
   by false is k = session_event_is version word words e k
 
 -- Entries ----------------------------------------------------------------------------------------
+
+abbrev with_before : Text → Halves → Halves
+with_before word halves = record { before = word ∷ halves.before; after = halves.after }
 
 -- the words before and after a mark, with it, are all of them
 halves_are : (mark : Text) (words : List Text) (halves : Halves) → halves_at mark words ≡ Some halves → halves.before ++ mark ∷ halves.after ≡ words
 halves_are mark [] halves h = cc
 halves_are mark (word ∷ words) halves h = by (is_text word mark) refl (halves_are mark words) h where
   by : (is : Bool) → is_text word mark ≡ is → ((found : Halves) → halves_at mark words ≡ Some found → found.before ++ mark ∷ found.after ≡ words)
-      → cond is (Some (record { before = []; after = words })) (option_map (λ found. record { before = word ∷ found.before; after = found.after }) (halves_at mark words)) ≡ Some halves
+      → cond is (Some (record { before = []; after = words })) (option_map (with_before word) (halves_at mark words)) ≡ Some halves
       → halves.before ++ mark ∷ halves.after ≡ word ∷ words
   by true is later k =
       let made : Halves = record { before = []; after = words } in
@@ -67,13 +75,14 @@ halves_are mark (word ∷ words) halves h = by (is_text word mark) refl (halves_
       let here : mark ≡ word = sym (text_is word mark is) in
       ap (λ (found : Halves). found.before ++ mark ∷ found.after) (sym same) ∙ ap (λ (w : Text). w ∷ words) here
   by false is later k =
-      let found = mapped (λ (found : Halves). let made : Halves = record { before = word ∷ found.before; after = found.after } in made) (halves_at mark words) halves k in
+      let found = mapped (with_before word) (halves_at mark words) halves k in
       ap (λ (found : Halves). found.before ++ mark ∷ found.after) (sym found.same) ∙ ap (λ (ws : List Text). word ∷ ws) (later found.from found.is)
 
 abbrev entry : Event → Reply → Entry
 entry event reply = record { event = event; reply = reply }
 
-entry_by_is : (version : Version) (halves : Halves) (e : Entry) → entry_by version halves ≡ Some e → IsOf entry_words (is_entry version) (halves.before ++ codes "=" ∷ halves.after) e
+entry_by_is : (version : Version) (halves : Halves) (e : Entry) → entry_by version halves ≡ Some e
+    → IsOf entry_words (is_entry version) (halves.before ++ codes "=" ∷ halves.after) e
 entry_by_is version halves e h =
     let ev = chained (λ event. option_map (entry event) (reply_of version halves.after)) (event_of version halves.before) e h in
     let re = mapped (entry ev.from) (reply_of version halves.after) e ev.then in
@@ -96,7 +105,8 @@ units_are e (a ∷ b ∷ c ∷ ns) words m is small known h = cc
 units_are e (a ∷ b ∷ []) words m is small known h =
     let made : Measured = record { entry = e; mutator = a; collector = b } in
     let same : made ≡ m = cc in
-    same_of measured_words is_measured (entry_words e ++ codes "units" ∷ words) made m same (ap (λ (ws : List Text). entry_words e ++ codes "units" ∷ ws) is, and_from (is_entry Two e) (are_u64 (a ∷ b ∷ [])) known small)
+    let written : measured_words made ≡ entry_words e ++ codes "units" ∷ words = ap (λ (ws : List Text). entry_words e ++ codes "units" ∷ ws) is in
+    same_of measured_words is_measured (entry_words e ++ codes "units" ∷ words) made m same (written, and_from (is_entry Two e) (are_u64 (a ∷ b ∷ [])) known small)
 
 measured_is : (words : List Text) (m : Measured) → measured_of words ≡ Some m → IsOf measured_words is_measured words m
 measured_is words m h =

@@ -48,7 +48,8 @@ formed-faithful written passes forms all [] x h = cc
 formed-faithful written passes forms all (verb ∷ words) x h = found-faithful written passes forms verb words x all h
 
 -- of one word
-pub word-faithful : {X : Type 0} (written : X → Text) (forms : List (Form X)) → AreFaithful (λ x. written x ∷ []) (λ x. true) forms → (word : Text) (x : X) → formed forms (word ∷ []) ≡ Some x → written x ≡ word
+pub word-faithful : {X : Type 0} (written : X → Text) (forms : List (Form X)) → AreFaithful (λ x. written x ∷ []) (λ x. true) forms → (word : Text) (x : X)
+    → formed forms (word ∷ []) ≡ Some x → written x ≡ word
 word-faithful written forms all word x h = first (written x) (formed-faithful (λ x. written x ∷ []) (λ x. true) forms all (word ∷ []) x h).0 where
   first : (other : Text) → other ∷ [] ≡ word ∷ [] → other ≡ word
   first other same = cc
@@ -143,9 +144,9 @@ known : (version : Version) (c : Control) (test : Bool) → knows_control One c 
 known One c test h = rw h refl
 known Two c test h = refl
 
-left-faithful : (version : Version) → AreFaithful control_words (control_passes version) (where_known version (with_numbers (codes "left") [] (λ ns. control.Left)))
-left-faithful One = tt
-left-faithful Two = (numbers-faithful _ _ (codes "left") [] _ (refl, refl), tt)
+left_control-faithful : (version : Version) → AreFaithful control_words (control_passes version) (where_known version (with_numbers (codes "left") [] (λ ns. control.Left)))
+left_control-faithful One = tt
+left_control-faithful Two = (numbers-faithful _ _ (codes "left") [] _ (refl, refl), tt)
 
 pub control_is : (version : Version) (words : List Text) (c : Control) → control_of version words ≡ Some c → IsOf control_words (control_passes version) words c
 control_is version = formed-faithful control_words (control_passes version) (control_forms version) (
@@ -158,7 +159,7 @@ control_is version = formed-faithful control_words (control_passes version) (con
         numbers-faithful _ _ (codes "dump") [] _ (refl, known version control.Dump true refl),
         (
           numbers-faithful _ _ (codes "report") (u64 ∷ []) _ (λ a. (refl, known version (control.Report a) (nat_lt a u64 && true) refl)),
-          left-faithful version,
+          left_control-faithful version,
         ),
       ),
     ),

@@ -19,7 +19,8 @@ rules_are n rules h = by (n == 1) (n == 2) refl refl h where
   by false true is other k = let same : Second ≡ rules = cc in ap rules_number (sym same) ∙ sym (eqb-true n 2 other)
   by false false is other k = cc
 
-configured_is : (rules : Rules) (pages quantum trigger every : ℕ) (answer : Bool) (is : is_configuration pages quantum trigger every ≡ answer) (c : Config) → configured_by rules pages quantum trigger every answer is ≡ Some c
+configured_is : (rules : Rules) (pages quantum trigger every : ℕ) (answer : Bool) (is : is_configuration pages quantum trigger every ≡ answer) (c : Config)
+    → configured_by rules pages quantum trigger every answer is ≡ Some c
     → header_numbers c ≡ rules_number rules ∷ pages ∷ quantum ∷ trigger ∷ every ∷ []
 configured_is rules pages quantum trigger every true is c h =
     let made : Config = record { pages = pages; quantum = quantum; trigger = trigger; every = every; rules = rules; in_limits = is } in
@@ -47,7 +48,8 @@ header_is (w1 ∷ w2 ∷ w3 ∷ ws) c h = by (is_text w1 (codes "history") && (i
   all_same : (more : List Text) → w1 ≡ codes "history" → w2 ≡ codes "2" → w3 ≡ codes "rules" → more ≡ ws → codes "history" ∷ codes "2" ∷ codes "rules" ∷ more ≡ w1 ∷ w2 ∷ w3 ∷ ws
   all_same more p q r s = cc
 
-  by : (is : Bool) → (is_text w1 (codes "history") && (is_text w2 (codes "2") && is_text w3 (codes "rules"))) ≡ is → cond is (option_and_then header_by (numbers ws)) None ≡ Some c → header_words c ≡ w1 ∷ w2 ∷ w3 ∷ ws
+  by : (is : Bool) → (is_text w1 (codes "history") && (is_text w2 (codes "2") && is_text w3 (codes "rules"))) ≡ is → cond is (option_and_then header_by (numbers ws)) None ≡ Some c
+      → header_words c ≡ w1 ∷ w2 ∷ w3 ∷ ws
   by false is k = cc
   by true is k =
       let first = and_parts (is_text w1 (codes "history")) (is_text w2 (codes "2") && is_text w3 (codes "rules")) is in

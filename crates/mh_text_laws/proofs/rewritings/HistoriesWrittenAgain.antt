@@ -54,9 +54,9 @@ entries_are {X} read line passes is n (l ∷ lines) rest xs h = by (read l) refl
         passed = ap (list_all passes) (sym found.same) ∙ and_from _ _ one.1 more.passed;
       }
 
--- the whole text of the lines before an empty rest
-whole : (text : Text) (lines : List Text) → (cut_after 10 text).pieces ≡ lines → (cut_after 10 text).rest ≡ [] → text ≡ lines_text lines
-whole text lines same end =
+-- a text after whose lines nothing follows is these
+text_of_lines : (text : Text) (lines : List Text) → (cut_after 10 text).pieces ≡ lines → (cut_after 10 text).rest ≡ [] → text ≡ lines_text lines
+text_of_lines text lines same end =
     let joined_again : lines_text lines ++ [] ≡ text = rw (← same, ← end) (text_is_lines text) in
     sym joined_again ∙ append-nil (lines_text lines)
 
@@ -98,7 +98,7 @@ unfolding history_reading
 history_reading_is text entries h =
     let read = not_long 1073741824 (length text) (history_of (cut_after 10 text)) entries h in
     let found = history_is (cut_after 10 text).pieces (cut_after 10 text).rest entries read.1 in
-    record { short = read.0; same = whole text (codes "history 1" ∷ map entry_line entries) found.same found.end; passed = found.passed }
+    record { short = read.0; same = text_of_lines text (codes "history 1" ∷ map entry_line entries) found.same found.end; passed = found.passed }
 
 pub histories-again : (text : Text) (entries : List Entry) → history_reading text ≡ Means entries → (text ≡ history_text entries) × (list_all (is_entry One) entries ≡ true)
 histories-again text entries h = let found = history_reading_is text entries h in (found.same, found.passed)
@@ -126,4 +126,4 @@ unfolding recorded_reading
 records-again text r h =
     let read = not_long 2147483648 (length text) (recorded_of (cut_after 10 text)) r h in
     let found = recorded_is (cut_after 10 text).pieces (cut_after 10 text).rest r read.1 in
-    (whole text (joined (header_words r.config) ∷ map measured_line r.entries) found.same found.end, found.passed)
+    (text_of_lines text (joined (header_words r.config) ∷ map measured_line r.entries) found.same found.end, found.passed)

@@ -35,7 +35,8 @@ number_is word n h =
     let found = cond_some (is_numeral word && nat_lt (value_after 0 word) (2 ^ 64)) (value_after 0 word) n h in
     let both = and_parts (is_numeral word) (nat_lt (value_after 0 word) (2 ^ 64)) found.0 in
     let numeral = numeral_is word both.0 in
-    let written : decimal (value_after 0 word) ≡ word = decimal-digits_value numerals word numeral.digits numeral.some numeral.one (ltb-true (value_after 0 word) (2 ^ 64) both.1) in
+    let small = ltb-true (value_after 0 word) (2 ^ 64) both.1 in
+    let written = decimal-digits_value numerals word numeral.digits numeral.some numeral.one small in
     (ap decimal (sym found.1) ∙ written, ap (λ (m : ℕ). nat_lt m u64) (sym found.1) ∙ both.1)
 
 pub number-again : (word : Text) (n : ℕ) → number word ≡ Some n → (decimal n ≡ word) × (n < 2 ^ 64)

@@ -176,7 +176,8 @@ report_is version (mutator ∷ collector ∷ quanta ∷ greatest ∷ window ∷ 
     (of_each texts (λ ns. map decimal ns ≡ texts → are_u64 ns ≡ true → IsReply version found (report l.from f.from ns))
     (λ a b c d e same small. (all_same a b c d e (optional_word l.from) (optional_word f.from) same x.0 y.0, and_from _ _ small (and_from _ _ x.1 y.1)))
     n.from (length-decimals n.from texts known.0) known.0 known.1) where
-      all_same : (a b c d e : ℕ) (x y : Text) → decimal a ∷ decimal b ∷ decimal c ∷ decimal d ∷ decimal e ∷ [] ≡ mutator ∷ collector ∷ quanta ∷ greatest ∷ window ∷ [] → x ≡ least → y ≡ floor
+      all_same : (a b c d e : ℕ) (x y : Text) → decimal a ∷ decimal b ∷ decimal c ∷ decimal d ∷ decimal e ∷ [] ≡ mutator ∷ collector ∷ quanta ∷ greatest ∷ window ∷ [] → x ≡ least
+          → y ≡ floor
           → codes "mutator" ∷ keyed report_keys (decimal a ∷ decimal b ∷ decimal c ∷ decimal d ∷ decimal e ∷ x ∷ y ∷ [])
           ≡ codes "mutator" ∷ keyed report_keys (mutator ∷ collector ∷ quanta ∷ greatest ∷ window ∷ least ∷ floor ∷ [])
       all_same a b c d e x y same p q = cc
@@ -202,9 +203,9 @@ dump-faithful version = record {
       (ap (λ (ws : List Text). codes "dump" ∷ ws) known.0, and_from (items_in_range found.from) (ascends None None found.from) known.1 ordered.0);
 }
 
-left-faithful : (version : Version) → AreFaithful reply_words (is_reply version) (where_known version (with_numbers (codes "left") (u64 ∷ []) (λ ns. reply.Left (at ns 0))))
-left-faithful One = tt
-left-faithful Two = (numbers-faithful _ _ (codes "left") (u64 ∷ []) _ (λ a. (refl, refl)), tt)
+left_reply-faithful : (version : Version) → AreFaithful reply_words (is_reply version) (where_known version (with_numbers (codes "left") (u64 ∷ []) (λ ns. reply.Left (at ns 0))))
+left_reply-faithful One = tt
+left_reply-faithful Two = (numbers-faithful _ _ (codes "left") (u64 ∷ []) _ (λ a. (refl, refl)), tt)
 
 pub reply_is : (version : Version) (words : List Text) (r : Reply) → reply_of version words ≡ Some r → IsReply version words r
 reply_is version = formed-faithful reply_words (is_reply version) (reply_forms version) (
@@ -227,7 +228,7 @@ reply_is version = formed-faithful reply_words (is_reply version) (reply_forms v
                   dump-faithful version,
                   (
                     keyed-faithful version (codes "mutator") report_keys report_of (report_is version),
-                    left-faithful version,
+                    left_reply-faithful version,
                   ),
                 ),
               ),

@@ -192,7 +192,8 @@ reply_plain Two (reply.Left quanta) h = plain_decimals (quanta ∷ []) h
 
 -- Entries ----------------------------------------------------------------------------------------
 
-halves_at-words : (mark : Text) (xs ys : List Text) → is_text mark mark ≡ true → are_not mark xs ≡ true → halves_at mark (xs ++ mark ∷ ys) ≡ Some (record { before = xs; after = ys })
+halves_at-words : (mark : Text) (xs ys : List Text) → is_text mark mark ≡ true → are_not mark xs ≡ true
+    → halves_at mark (xs ++ mark ∷ ys) ≡ Some (record { before = xs; after = ys })
 halves_at-words mark [] ys same h = rw same refl
 halves_at-words mark (x ∷ xs) ys same h =
     let both = and_parts (not (is_text x mark)) (are_not mark xs) h in
@@ -249,5 +250,6 @@ entry_of-line version e h = ap (entry_of version) (words-line (entry_words e) (s
 
 pub measured_of-line : (m : Measured) → is_measured m ≡ true → measured_of (words (joined (measured_words m))) ≡ Some m
 measured_of-line m h =
-    let some : 0 < length (measured_words m) = omega (arith, some_entry m.entry, length-append (entry_words m.entry) (codes "units" ∷ decimal m.mutator ∷ decimal m.collector ∷ [])) in
+    let units : List Text = codes "units" ∷ decimal m.mutator ∷ decimal m.collector ∷ [] in
+    let some : 0 < length (measured_words m) = omega (arith, some_entry m.entry, length-append (entry_words m.entry) units) in
     ap measured_of (words-line (measured_words m) some (measured_are_words m h)) ∙ measured_of-words m h

@@ -1,5 +1,5 @@
 -- The first line of version 2 is read as it was written.
-use Rattle.std.proofs.Common.{◌≡◌, ◌∙◌, ℕ, ◌≤◌, ◌<◌, ◌^◌, nat_lt, nat_le, true, Some, List, [], ◌∷◌, map, ap, refl, codes, decimal, arith}
+use Rattle.std.proofs.Common.{◌≡◌, ◌∙◌, ℕ, ◌≤◌, nat_lt, nat_le, true, Some, List, [], ◌∷◌, map, ap, refl, codes, decimal, arith}
 use Rattle.std.proofs.lemmas.Bool.{and_parts, and_from, leb-true, lt-ltb}
 use Rattle.mh_model.specs.declared.config.Config.{Config}
 use Rattle.mh_model.specs.declared.config.Rules.{Rules}
@@ -52,11 +52,11 @@ header_numbers c = rules_number c.rules ∷ c.pages ∷ c.quantum ∷ c.trigger 
 pub small_header : (c : Config) → are_u64 (header_numbers c) ≡ true
 small_header c =
     let limits = config_limits c in
-    let p : c.pages < 2 ^ 64 = omega (arith, limits.pages_most) in
-    let q : c.quantum < 2 ^ 64 = omega (arith, limits.quantum_most) in
-    let t : c.trigger < 2 ^ 64 = omega (arith, limits.trigger_most) in
-    let e : c.every < 2 ^ 64 = omega (arith, limits.every_most) in
-    and_from _ _ (rules_small c.rules) (and_from _ _ (lt-ltb c.pages u64 p) (and_from _ _ (lt-ltb c.quantum u64 q) (and_from _ _ (lt-ltb c.trigger u64 t) (and_from _ _ (lt-ltb c.every u64 e) refl))))
+    let p = lt-ltb c.pages u64 (omega (arith, limits.pages_most)) in
+    let q = lt-ltb c.quantum u64 (omega (arith, limits.quantum_most)) in
+    let t = lt-ltb c.trigger u64 (omega (arith, limits.trigger_most)) in
+    let e = lt-ltb c.every u64 (omega (arith, limits.every_most)) in
+    and_from _ _ (rules_small c.rules) (and_from _ _ p (and_from _ _ q (and_from _ _ t (and_from _ _ e refl))))
 
 pub header_are_words : (c : Config) → are_words (header_words c) ≡ true
 header_are_words c = all-decimals is_word decimal_word (header_numbers c) (small_header c)

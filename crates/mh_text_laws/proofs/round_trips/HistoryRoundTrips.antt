@@ -44,7 +44,8 @@ pub history_reading-short : (text : Text) → length text ≤ 1073741824 → his
 unfolding history_reading
 history_reading-short text few = rw (le-ltb 1073741824 (length text) few) refl
 
-pub history_reading-text : (entries : List Entry) → list_all (is_entry One) entries ≡ true → length (history_text entries) ≤ 1073741824 → history_reading (history_text entries) ≡ Means entries
+pub history_reading-text : (entries : List Entry) → list_all (is_entry One) entries ≡ true → length (history_text entries) ≤ 1073741824
+    → history_reading (history_text entries) ≡ Means entries
 history_reading-text entries h few =
     let free : are_free 10 (codes "history 1" ∷ map entry_line entries) ≡ true =
     all-map (is_entry One) (is_free 10) entry_line entries (λ e in_range. joined_free (entry_words e) (entry_are_words One e in_range)) h in

@@ -51,7 +51,8 @@ command_of-words (command.Post b s) h = numbered-words (u32 ∷ u32 ∷ []) _ (b
 command_of-words (command.Take d b) h = numbered-words (u32 ∷ u32 ∷ []) _ (d ∷ b ∷ []) h refl
 command_of-words command.End h = refl
 
-pub control_of-words : (version : Version) (c : Control) → knows_control version c ≡ true → is_sayable (control_phrase c) ≡ true → control_of version (phrase_words (control_phrase c)) ≡ Some c
+pub control_of-words : (version : Version) (c : Control) → knows_control version c ≡ true → is_sayable (control_phrase c) ≡ true
+    → control_of version (phrase_words (control_phrase c)) ≡ Some c
 control_of-words version control.Quantum known h = refl
 control_of-words version control.Start known h = refl
 control_of-words version control.Stat known h = refl
@@ -106,10 +107,10 @@ placed_by-word mark made slot a b no_digit no_point h =
     parts-joined 46 (decimal a) (decimal b ∷ []) (and_from _ _ (decimal_free 46 a refl small.second) (and_from _ _ (decimal_free 46 b refl small.third) refl)) in
     rw (outer, inner) (numbered-words (u64 ∷ u64 ∷ u64 ∷ []) made (slot ∷ a ∷ b ∷ []) h refl)
 
-abbrev block : List ℕ → DumpItem
+abbrev pub block : List ℕ → DumpItem
 block ns = item.Block (at ns 0) (at ns 1) (at ns 2)
 
-abbrev forwarder : List ℕ → DumpItem
+abbrev pub forwarder : List ℕ → DumpItem
 forwarder ns = item.Forwarder (at ns 0) (at ns 1) (at ns 2)
 
 -- a forwarder is no block

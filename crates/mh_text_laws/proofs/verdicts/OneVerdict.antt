@@ -14,14 +14,19 @@ use Rattle.mh_text_laws.proofs.verdicts.LegalHistories.{legal-begins, record_leg
 record HasBeginnings {X : Type 0} (Lawful : List X → Type 0) : Type 0 where
   begins : (n : ℕ) (xs : List X) → Lawful xs → Lawful (take n xs)
 
-none-earlier : {X : Type 0} (Lawful : List X → Type 0) → HasBeginnings Lawful → (entries : List X) (i j : ℕ) → i < j → IsFirstBadOf Lawful entries i → IsFirstBadOf Lawful entries j → ⊥
-none-earlier Lawful rule entries i j below h k = h.bad (subst Lawful (take-take i (j - 1) entries (omega arith)) (rule.begins i (take (j - 1) entries) k.before))
+no_earlier_entry : {X : Type 0} (Lawful : List X → Type 0) → HasBeginnings Lawful → (entries : List X) (i j : ℕ) → i < j → IsFirstBadOf Lawful entries i
+    → IsFirstBadOf Lawful entries j → ⊥
+no_earlier_entry Lawful rule entries i j below h k = h.bad (subst Lawful (take-take i (j - 1) entries (omega arith)) (rule.begins i (take (j - 1) entries) k.before))
 
-first_bad-once : {X : Type 0} (Lawful : List X → Type 0) → HasBeginnings Lawful → (entries : List X) (i j : ℕ) → IsFirstBadOf Lawful entries i → IsFirstBadOf Lawful entries j → i ≡ j
+first_bad-once : {X : Type 0} (Lawful : List X → Type 0) → HasBeginnings Lawful → (entries : List X) (i j : ℕ) → IsFirstBadOf Lawful entries i → IsFirstBadOf Lawful entries j
+    → i ≡ j
 first_bad-once Lawful rule entries i j h k =
     elim (cases_order i j) as (λ _. i ≡ j) [
       | inl same ↦ same
-      | inr other ↦ elim other as (λ _. i ≡ j) [ inl below ↦ absurd (none-earlier Lawful rule entries i j below h k) | inr above ↦ absurd (none-earlier Lawful rule entries j i above k h) ]
+      | inr other ↦ elim other as (λ _. i ≡ j) [
+        | inl below ↦ absurd (no_earlier_entry Lawful rule entries i j below h k)
+        | inr above ↦ absurd (no_earlier_entry Lawful rule entries j i above k h)
+      ]
     ]
 
 judged-once : {X : Type 0} (Lawful : List X → Type 0) → HasBeginnings Lawful → (entries : List X) (v w : Verdict) → IsJudged Lawful entries v → IsJudged Lawful entries w → v ≡ w
@@ -35,7 +40,8 @@ judged-once Lawful rule entries (FirstBad i) (FirstBad j) h k = ap FirstBad (fir
 
 -- Texts ------------------------------------------------------------------------------------------
 
-checked_by : (config : Config) (text : Text) (found : Reading (List Entry)) (v w : Verdict) → history_reading text ≡ found → IsChecked config text v → IsChecked config text w → v ≡ w
+checked_by : (config : Config) (text : Text) (found : Reading (List Entry)) (v w : Verdict) → history_reading text ≡ found → IsChecked config text v → IsChecked config text w
+    → v ≡ w
 checked_by config text (BadLine line) v w is h k =
     let one : v ≡ Refused line = rw is at h in
     let other : w ≡ Refused line = rw is at k in
