@@ -53,7 +53,8 @@ session_event_is version word words e h =
 pub event_is : (version : Version) (words : List Text) (e : Event) → event_of version words ≡ Some e → IsOf event_words (is_event version) words e
 event_is version [] e h = cc
 event_is version (word ∷ words) e h = by (is_text word (codes "*")) refl h where
-  by : (is : Bool) → is_text word (codes "*") ≡ is → cond is (control_event version words) (session_event word words) ≡ Some e → IsOf event_words (is_event version) (word ∷ words) e
+  by : (is : Bool) → is_text word (codes "*") ≡ is → cond is (control_event version words) (session_event word words) ≡ Some e
+      → IsOf event_words (is_event version) (word ∷ words) e
   by true is k = control_event_is version word words e is k
   by false is k = session_event_is version word words e k
 

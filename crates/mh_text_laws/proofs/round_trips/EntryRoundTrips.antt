@@ -108,7 +108,7 @@ event_plain version (event.Session who c) h =
     and_from _ _ (and_from _ _ (decimal_word who (small_who who both.0)) refl) (phrase_plain (command_phrase c) (fine_command c) both.1)
 event_plain version (event.Control c) h = phrase_plain (control_phrase c) (fine_control c) (and_parts _ _ h).1
 
-event_of-words : (version : Version) (e : Event) → is_event version e ≡ true → event_of version (event_words e) ≡ Some e
+pub event_of-words : (version : Version) (e : Event) → is_event version e ≡ true → event_of version (event_words e) ≡ Some e
 event_of-words version (event.Session who c) h =
     let both = and_parts (nat_le who 8) (is_sayable (command_phrase c)) h in
     let n : number (decimal who) ≡ Some who = number-decimal who (small_who who both.0) in
