@@ -3,7 +3,7 @@ use Rattle.std.proofs.Common.{◌≡◌, ◌∙◌, ℕ, suc, ◌<◌, ◌^◌, 
 use Rattle.std.specs.List.{list_all}
 use Rattle.std.proofs.lemmas.Bool.{and_parts, and_from, not-true, eqb-false, ltb-true}
 use Rattle.std.proofs.lemmas.List.{length-map}
-use Rattle.std.proofs.lemmas.Option.{cond_some}
+use Rattle.std.proofs.lemmas.Option.{cond_some, option_and_then_some}
 use Rattle.std.proofs.lemmas.Fmt.{decimal-digits_value}
 use Rattle.mh_model.specs.Forms.{u64, within, are_below, numbered}
 use Rattle.mh_model.specs.Replies.{are_u64}
@@ -60,8 +60,7 @@ pub record IsChained {X Y : Type 0} (next : X → Option Y) (found : Option X) (
   pub then : next from ≡ Some y
 
 pub chained : {X Y : Type 0} (next : X → Option Y) (found : Option X) (y : Y) → option_and_then next found ≡ Some y → IsChained next found y
-chained next None y h = cc
-chained next (Some x) y h = record { from = x; is = refl; then = h }
+chained next found y h = option_and_then_some next found y h (λ x is then. record { from = x; is = is; then = then })
 
 pub within_is : {X : Type 0} (test : Bool) (a x : X) → within test a ≡ Some x → (test ≡ true) × (a ≡ x)
 within_is true a x h = (refl, (let same : a ≡ x = cc in same))

@@ -176,8 +176,8 @@ report_is version (mutator ∷ collector ∷ quanta ∷ greatest ∷ window ∷ 
     (of_each texts (λ ns. map decimal ns ≡ texts → are_u64 ns ≡ true → IsReply version found (report l.from f.from ns))
     (λ a b c d e same small. (all_same a b c d e (optional_word l.from) (optional_word f.from) same x.0 y.0, and_from _ _ small (and_from _ _ x.1 y.1)))
     n.from (length-decimals n.from texts known.0) known.0 known.1) where
-      all_same : (a b c d e : ℕ) (x y : Text) → decimal a ∷ decimal b ∷ decimal c ∷ decimal d ∷ decimal e ∷ [] ≡ mutator ∷ collector ∷ quanta ∷ greatest ∷ window ∷ [] → x ≡ least
-          → y ≡ floor
+      all_same : (a b c d e : ℕ) (x y : Text) → decimal a ∷ decimal b ∷ decimal c ∷ decimal d ∷ decimal e ∷ [] ≡ mutator ∷ collector ∷ quanta ∷ greatest ∷ window ∷ []
+          → x ≡ least → y ≡ floor
           → codes "mutator" ∷ keyed report_keys (decimal a ∷ decimal b ∷ decimal c ∷ decimal d ∷ decimal e ∷ x ∷ y ∷ [])
           ≡ codes "mutator" ∷ keyed report_keys (mutator ∷ collector ∷ quanta ∷ greatest ∷ window ∷ least ∷ floor ∷ [])
       all_same a b c d e x y same p q = cc

@@ -1,4 +1,4 @@
--- Worked rows of texts.
+-- Worked rows of scripts: lines that are refused, and what is answered.
 use Rattle.std.proofs.Common.{◌≡◌, refl, codes, ◌∷◌, ◌++◌}
 use Rattle.mh_text_laws.proofs.rows.Worked.{worked}
 use Rattle.mh_model.specs.Output.{output}
