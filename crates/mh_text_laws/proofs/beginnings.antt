@@ -1,2 +1,5 @@
 pub mod WholeLines
+pub mod LineReaders
+pub mod ScriptLines
+pub mod HistoryLines
 pub mod LeastBadLine

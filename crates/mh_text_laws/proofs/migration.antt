@@ -1,2 +1,3 @@
 pub mod RecordLength
+pub mod LettersAdded
 pub mod MigratedRecords

@@ -4,4 +4,5 @@ pub mod FormsWrittenAgain
 pub mod DumpsWrittenAgain
 pub mod RepliesWrittenAgain
 pub mod EntriesWrittenAgain
+pub mod HeadersWrittenAgain
 pub mod HistoriesWrittenAgain

@@ -1,4 +1,5 @@
 pub mod WordRoundTrips
 pub mod ReplyRoundTrips
 pub mod EntryRoundTrips
+pub mod HeaderRoundTrips
 pub mod HistoryRoundTrips

@@ -1,1 +1,2 @@
-pub mod VerdictLemmas
+pub mod LegalHistories
+pub mod OneVerdict

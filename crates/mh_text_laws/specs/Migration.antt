@@ -17,8 +17,10 @@ pub record IsMigrated (config : Config) (entries : List Entry) : Type 0 where
 
 -- for any text that is read as a legal history under the first rules
 abbrev pub MigrationKeepsHistories : Type 0
-MigrationKeepsHistories = (config : Config) (text : Text) (entries : List Entry) → config.rules ≡ First → history_reading text ≡ Means entries → IsLegal config entries → IsMigrated config entries
+MigrationKeepsHistories = (config : Config) (text : Text) (entries : List Entry) → config.rules ≡ First → history_reading text ≡ Means entries → IsLegal config entries
+    → IsMigrated config entries
 
 -- what is written for a text that is checked and found legal is audited and found legal, with as many entries
 abbrev pub MigratedTextsAreLegal : Type 0
-MigratedTextsAreLegal = (config : Config) (text : Text) (count : ℕ) → config.rules ≡ First → IsChecked config text (Legal count) → IsAudited (migration_text config (Legal count) (history_reading text)) (Legal count)
+MigratedTextsAreLegal = (config : Config) (text : Text) (count : ℕ) → config.rules ≡ First → IsChecked config text (Legal count)
+    → IsAudited (migration_text config (Legal count) (history_reading text)) (Legal count)

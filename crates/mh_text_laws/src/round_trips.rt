@@ -1,5 +1,5 @@
 //! Laws of texts that are read back as they were written.
-ghost use Rattle.mh_text_laws.specs.RoundTrips.{NumbersAreReadBack, CommandsAreReadBack, ControlsAreReadBack, RepliesAreReadBack, EntriesAreReadBack, MeasuredEntriesAreReadBack, HeadersAreReadBack, HistoriesAreReadBack, RecordsAreReadBack};
+ghost use Rattle.mh_text_laws.specs.RoundTrips.{NumbersAreReadBack, CommandsAreReadBack, ControlsAreReadBack, RepliesAreReadBack, EventsAreReadBack, EntriesAreReadBack, MeasuredEntriesAreReadBack, HeadersAreReadBack, HistoriesAreReadBack, RecordsAreReadBack};
 
 /// A number below 2^64 is read as it was written.
 pub fn numbers_are_read_back()
@@ -19,6 +19,11 @@ pub fn controls_are_read_back()
 /// A well-formed reply's words are that reply.
 pub fn replies_are_read_back()
     ensures { RepliesAreReadBack }
+{}
+
+/// An event's words are that event.
+pub fn events_are_read_back()
+    ensures { EventsAreReadBack }
 {}
 
 /// An entry's line is that entry.

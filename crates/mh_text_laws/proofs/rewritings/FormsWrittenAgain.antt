@@ -1,12 +1,11 @@
--- What a form reads is written with its word and the words that it read: commands and controls.
-use Rattle.std.proofs.Common.{◌≡◌, ◌∙◌, ℕ, suc, nat_lt, ◌&&◌, cond, Bool, true, false, Option, Some, option_and_then, List, [], ◌∷◌, length, map, ap, sym, refl, codes, decimal, arith}
+-- Words that are read by a table of forms, as commands and controls are, are what is written of what they mean.
+use Rattle.std.proofs.Common.{◌≡◌, ◌∙◌, ℕ, nat_lt, ◌&&◌, cond, Bool, true, false, Option, Some, option_and_then, List, [], ◌∷◌, map, ap, sym, refl, codes, decimal}
 use Rattle.std.proofs.lemmas.Bool.{and_parts}
 use Rattle.mh_model.specs.declared.command.Command.{Command}
-use Rattle.mh_model.specs.declared.command.Command.TheVariants as command
 use Rattle.mh_model.specs.declared.command.Control.{Control}
 use Rattle.mh_model.specs.declared.command.Control.TheVariants as control
 use Rattle.mh_model.specs.Bytes.{Text, is_text}
-use Rattle.mh_model.specs.Forms.{within, Form, form_of, formed, are_below, with_numbers, at, u32, u64, phrase_words, is_sayable, command_forms, command_phrase, command_of, Version, One, Two, control_forms, control_phrase, control_of, knows_control, where_known}
+use Rattle.mh_model.specs.Forms.{Form, form_of, formed, are_below, with_numbers, u32, u64, phrase_words, is_sayable, command_forms, command_phrase, command_of, Version, One, Two, control_forms, control_phrase, control_of, knows_control, where_known}
 use Rattle.mh_model.specs.Replies.{are_texts, with_words}
 use Rattle.mh_text_laws.proofs.rewritings.NumbersWrittenAgain.{within_is, numbered_is, OfEach, of_each, length-below}
 use Rattle.mh_text_laws.proofs.rewritings.WordsWrittenAgain.{text_is}
@@ -14,6 +13,9 @@ use Rattle.mh_text_laws.proofs.rewritings.WordsWrittenAgain.{text_is}
 -- these words are written of something, which passes a test
 abbrev pub IsOf : {X : Type 0} → (X → List Text) → (X → Bool) → List Text → X → Type 0
 IsOf written passes words x = (written x ≡ words) × (passes x ≡ true)
+
+pub same_of : {X : Type 0} (written : X → List Text) (passes : X → Bool) (words : List Text) (made x : X) → made ≡ x → IsOf written passes words made → IsOf written passes words x
+same_of written passes words made x same h = (ap written (sym same) ∙ h.0, ap passes (sym same) ∙ h.1)
 
 -- what a form reads is written with its word and the words that it read, and passes
 pub record IsFaithful {X : Type 0} (written : X → List Text) (passes : X → Bool) (form : Form X) : Type 0 where
@@ -45,16 +47,26 @@ pub formed-faithful : {X : Type 0} (written : X → List Text) (passes : X → B
 formed-faithful written passes forms all [] x h = cc
 formed-faithful written passes forms all (verb ∷ words) x h = found-faithful written passes forms verb words x all h
 
+-- of one word
+pub word-faithful : {X : Type 0} (written : X → Text) (forms : List (Form X)) → AreFaithful (λ x. written x ∷ []) (λ x. true) forms → (word : Text) (x : X)
+    → formed forms (word ∷ []) ≡ Some x → written x ≡ word
+word-faithful written forms all word x h = first (written x) (formed-faithful (λ x. written x ∷ []) (λ x. true) forms all (word ∷ []) x h).0 where
+  first : (other : Text) → other ∷ [] ≡ word ∷ [] → other ≡ word
+  first other same = cc
+
 -- Forms of numbers -------------------------------------------------------------------------------
 
--- a form of numbers is faithful where what they make is written with these, and passes where they are below the bounds
+-- what these numbers make is written with them, and passes where they are below the bounds
+abbrev pub IsOfNumbers : {X : Type 0} → (X → List Text) → (X → Bool) → Text → List ℕ → (List ℕ → X) → List ℕ → Type 0
+IsOfNumbers written passes verb bounds made ns = (written (made ns) ≡ verb ∷ map decimal ns) × (passes (made ns) ≡ are_below bounds ns)
+
 pub numbers-faithful : {X : Type 0} (written : X → List Text) (passes : X → Bool) (verb : Text) (bounds : List ℕ) (made : List ℕ → X)
-    → OfEach bounds (λ ns. (written (made ns) ≡ verb ∷ map decimal ns) × (passes (made ns) ≡ are_below bounds ns)) → IsFaithful written passes (with_numbers verb bounds made)
-numbers-faithful written passes verb bounds made back = record {
+    → OfEach bounds (IsOfNumbers written passes verb bounds made) → IsFaithful written passes (with_numbers verb bounds made)
+numbers-faithful written passes verb bounds made each = record {
   read = λ words x h.
       let found = numbered_is bounds made words x h in
-      let known = of_each bounds (λ ns. (written (made ns) ≡ verb ∷ map decimal ns) × (passes (made ns) ≡ are_below bounds ns)) back found.0 (length-below bounds found.0 found.2) in
-      (ap written (sym found.1) ∙ known.0 ∙ ap (λ (ws : List Text). verb ∷ ws) found.3, ap passes (sym found.1) ∙ known.1 ∙ found.2);
+      let known = of_each bounds (IsOfNumbers written passes verb bounds made) each found.numbers (length-below bounds found.numbers found.below) in
+      same_of written passes (verb ∷ words) (made found.numbers) x found.same (known.0 ∙ ap (λ (ws : List Text). verb ∷ ws) found.written, known.1 ∙ found.below);
 }
 
 -- Forms of words ---------------------------------------------------------------------------------
@@ -74,7 +86,7 @@ pub words-faithful : {X : Type 0} (written : X → List Text) (passes : X → Bo
 words-faithful written passes verb more made is good = record {
   read = λ words x h.
       let found = within_is (are_texts words more) made x h in
-      (ap written (sym found.1) ∙ is ∙ ap (λ (ws : List Text). verb ∷ ws) (sym (texts_are words more found.0)), ap passes (sym found.1) ∙ good);
+      same_of written passes (verb ∷ words) made x found.1 (is ∙ ap (λ (ws : List Text). verb ∷ ws) (sym (texts_are words more found.0)), good);
 }
 
 -- Commands and controls --------------------------------------------------------------------------
@@ -86,19 +98,40 @@ abbrev command_passes : Command → Bool
 command_passes c = is_sayable (command_phrase c)
 
 pub command_is : (words : List Text) (c : Command) → command_of words ≡ Some c → IsOf command_words command_passes words c
-command_is = formed-faithful command_words command_passes command_forms
-    (numbers-faithful _ _ (codes "new") (u32 ∷ u32 ∷ u32 ∷ []) _ (λ a b c. (refl, refl)),
-    (numbers-faithful _ _ (codes "get") (u32 ∷ u32 ∷ u32 ∷ []) _ (λ a b c. (refl, refl)),
-    (numbers-faithful _ _ (codes "put") (u32 ∷ u32 ∷ u32 ∷ []) _ (λ a b c. (refl, refl)),
-    (numbers-faithful _ _ (codes "copy") (u32 ∷ u32 ∷ []) _ (λ a b. (refl, refl)),
-    (numbers-faithful _ _ (codes "clear") (u32 ∷ []) _ (λ a. (refl, refl)),
-    (numbers-faithful _ _ (codes "read") (u32 ∷ u32 ∷ []) _ (λ a b. (refl, refl)),
-    (numbers-faithful _ _ (codes "write") (u32 ∷ u32 ∷ u64 ∷ []) _ (λ a b c. (refl, refl)),
-    (numbers-faithful _ _ (codes "same") (u32 ∷ u32 ∷ []) _ (λ a b. (refl, refl)),
-    (numbers-faithful _ _ (codes "shape") (u32 ∷ []) _ (λ a. (refl, refl)),
-    (numbers-faithful _ _ (codes "post") (u32 ∷ u32 ∷ []) _ (λ a b. (refl, refl)),
-    (numbers-faithful _ _ (codes "take") (u32 ∷ u32 ∷ []) _ (λ a b. (refl, refl)),
-    (numbers-faithful _ _ (codes "end") [] _ (refl, refl), tt))))))))))))
+command_is = formed-faithful command_words command_passes command_forms (
+  numbers-faithful _ _ (codes "new") (u32 ∷ u32 ∷ u32 ∷ []) _ (λ a b c. (refl, refl)),
+  (
+    numbers-faithful _ _ (codes "get") (u32 ∷ u32 ∷ u32 ∷ []) _ (λ a b c. (refl, refl)),
+    (
+      numbers-faithful _ _ (codes "put") (u32 ∷ u32 ∷ u32 ∷ []) _ (λ a b c. (refl, refl)),
+      (
+        numbers-faithful _ _ (codes "copy") (u32 ∷ u32 ∷ []) _ (λ a b. (refl, refl)),
+        (
+          numbers-faithful _ _ (codes "clear") (u32 ∷ []) _ (λ a. (refl, refl)),
+          (
+            numbers-faithful _ _ (codes "read") (u32 ∷ u32 ∷ []) _ (λ a b. (refl, refl)),
+            (
+              numbers-faithful _ _ (codes "write") (u32 ∷ u32 ∷ u64 ∷ []) _ (λ a b c. (refl, refl)),
+              (
+                numbers-faithful _ _ (codes "same") (u32 ∷ u32 ∷ []) _ (λ a b. (refl, refl)),
+                (
+                  numbers-faithful _ _ (codes "shape") (u32 ∷ []) _ (λ a. (refl, refl)),
+                  (
+                    numbers-faithful _ _ (codes "post") (u32 ∷ u32 ∷ []) _ (λ a b. (refl, refl)),
+                    (
+                      numbers-faithful _ _ (codes "take") (u32 ∷ u32 ∷ []) _ (λ a b. (refl, refl)),
+                      (numbers-faithful _ _ (codes "end") [] _ (refl, refl), tt),
+                    ),
+                  ),
+                ),
+              ),
+            ),
+          ),
+        ),
+      ),
+    ),
+  ),
+)
 
 abbrev control_words : Control → List Text
 control_words c = phrase_words (control_phrase c)
@@ -111,18 +144,27 @@ known : (version : Version) (c : Control) (test : Bool) → knows_control One c 
 known One c test h = rw h refl
 known Two c test h = refl
 
-left-faithful : (version : Version) → AreFaithful control_words (control_passes version) (where_known version (with_numbers (codes "left") [] (λ ns. control.Left)))
-left-faithful One = tt
-left-faithful Two = (numbers-faithful _ _ (codes "left") [] _ (refl, refl), tt)
+left_control-faithful : (version : Version) → AreFaithful control_words (control_passes version) (where_known version (with_numbers (codes "left") [] (λ ns. control.Left)))
+left_control-faithful One = tt
+left_control-faithful Two = (numbers-faithful _ _ (codes "left") [] _ (refl, refl), tt)
 
 pub control_is : (version : Version) (words : List Text) (c : Control) → control_of version words ≡ Some c → IsOf control_words (control_passes version) words c
-control_is version = formed-faithful control_words (control_passes version) (control_forms version)
-    (numbers-faithful _ _ (codes "quantum") [] _ (refl, known version control.Quantum true refl),
-    (numbers-faithful _ _ (codes "start") [] _ (refl, known version control.Start true refl),
-    (numbers-faithful _ _ (codes "stat") [] _ (refl, known version control.Stat true refl),
-    (numbers-faithful _ _ (codes "dump") [] _ (refl, known version control.Dump true refl),
-    (numbers-faithful _ _ (codes "report") (u64 ∷ []) _ (λ a. (refl, known version (control.Report a) (nat_lt a u64 && true) refl)),
-    left-faithful version)))))
+control_is version = formed-faithful control_words (control_passes version) (control_forms version) (
+  numbers-faithful _ _ (codes "quantum") [] _ (refl, known version control.Quantum true refl),
+  (
+    numbers-faithful _ _ (codes "start") [] _ (refl, known version control.Start true refl),
+    (
+      numbers-faithful _ _ (codes "stat") [] _ (refl, known version control.Stat true refl),
+      (
+        numbers-faithful _ _ (codes "dump") [] _ (refl, known version control.Dump true refl),
+        (
+          numbers-faithful _ _ (codes "report") (u64 ∷ []) _ (λ a. (refl, known version (control.Report a) (nat_lt a u64 && true) refl)),
+          left_control-faithful version,
+        ),
+      ),
+    ),
+  ),
+)
 
 pub control_again : (version : Version) (words : List Text) (c : Control) → control_of version words ≡ Some c
     → (phrase_words (control_phrase c) ≡ words) × (knows_control version c ≡ true) × (is_sayable (control_phrase c) ≡ true)

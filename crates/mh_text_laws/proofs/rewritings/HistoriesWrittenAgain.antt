@@ -1,21 +1,28 @@
--- A text that is a history of either version is what is written of it, with its entries in range.
-use Rattle.std.proofs.Common.{◌≡◌, ◌∙◌, ℕ, suc, ◌≤◌, nat_lt, ◌&&◌, cond, Bool, true, false, Option, Some, None, List, [], ◌∷◌, ◌++◌, length, map, ap, sym, refl, codes, arith, append-nil}
+-- Texts that are histories, of both versions, are what is written of these, with their entries in range.
+use Rattle.std.proofs.Common.{◌≡◌, ◌∙◌, ℕ, suc, ◌≤◌, nat_lt, cond, Bool, true, false, Option, Some, None, List, [], ◌∷◌, ◌++◌, length, map, ap, sym, subst, refl, codes, append-nil}
 use Rattle.std.specs.List.{list_all}
-use Rattle.std.proofs.lemmas.Bool.{and_from}
-use Rattle.std.proofs.lemmas.Bool.Decides.{nat_tests}
+use Rattle.std.proofs.lemmas.Bool.{and_from, ltb-false}
 use Rattle.mh_model.specs.declared.config.Config.{Config}
 use Rattle.mh_model.specs.declared.history.Entry.{Entry}
 use Rattle.mh_model.specs.Bytes.{Text, cut_after, words, joined, lines_text, is_text}
 use Rattle.mh_model.specs.Forms.{One}
 use Rattle.mh_model.specs.Script.{Reading, BadLine, Means, reading_map, at_end}
-use Rattle.mh_model.specs.HistoryTexts.{Measured, Recorded, entry_words, is_entry, entry_of, measured_words, is_measured, measured_of, header_words, header_of, entries_from, history_text, history_of, history_reading, recorded_text, recorded_by, recorded_of, recorded_reading}
+use Rattle.mh_model.specs.HistoryTexts.{Recorded, is_entry, entry_of, is_measured, measured_of, header_words, header_of, entries_from, history_text, history_of, history_reading, recorded_text, recorded_by, recorded_of, recorded_reading}
+use Rattle.mh_text_laws.proofs.round_trips.HistoryRoundTrips.{entry_line, measured_line}
 use Rattle.mh_text_laws.proofs.beginnings.WholeLines.{text_is_lines}
 use Rattle.mh_text_laws.proofs.rewritings.WordsWrittenAgain.{text_is}
-use Rattle.mh_text_laws.proofs.rewritings.EntriesWrittenAgain.{entry_line_is, measured_line_is, header_line_is}
+use Rattle.mh_text_laws.proofs.rewritings.EntriesWrittenAgain.{entry_line_is, measured_line_is}
+use Rattle.mh_text_laws.proofs.rewritings.HeadersWrittenAgain.{header_line_is}
 
-reading_map_is : {X Y : Type 0} (f : X → Y) (found : Reading X) (y : Y) → reading_map f found ≡ Means y → (x : X) × (found ≡ Means x) × (f x ≡ y)
-reading_map_is f (BadLine n) y h = cc
-reading_map_is f (Means x) y h = (x, refl, (let same : f x ≡ y = cc in same))
+-- what a reading is made of
+record IsRead {X Y : Type 0} (made : X → Y) (found : Reading X) (y : Y) : Type 0 where
+  from : X
+  is : found ≡ Means from
+  same : made from ≡ y
+
+read_as : {X Y : Type 0} (made : X → Y) (found : Reading X) (y : Y) → reading_map made found ≡ Means y → IsRead made found y
+read_as made (BadLine n) y h = cc
+read_as made (Means x) y h = record { from = x; is = refl; same = (let same : made x ≡ y = cc in same) }
 
 -- Lines that are entries are what is written of these, which are in range, and nothing follows them
 record AreRead {X : Type 0} (line : X → Text) (passes : X → Bool) (lines : List Text) (rest : Text) (xs : List X) : Type 0 where
@@ -38,18 +45,18 @@ entries_are {X} read line passes is n (l ∷ lines) rest xs h = by (read l) refl
       → AreRead line passes (l ∷ lines) rest xs
   by None was later k = cc
   by (Some x) was later k =
-      let found = reading_map_is (λ entries. x ∷ entries) (entries_from read (suc n) lines rest) xs k in
+      let found = read_as (λ entries. x ∷ entries) (entries_from read (suc n) lines rest) xs k in
       let one = is l x was in
-      let more = later found.0 found.1 in
+      let more = later found.from found.is in
       record {
-        same = ap (map line) (sym found.2) ∙ rw (one.0, more.same) refl;
+        same = ap (map line) (sym found.same) ∙ rw (one.0, more.same) refl;
         end = more.end;
-        passed = ap (list_all passes) (sym found.2) ∙ and_from _ _ one.1 more.passed;
+        passed = ap (list_all passes) (sym found.same) ∙ and_from _ _ one.1 more.passed;
       }
 
--- the whole text of the lines before an empty rest
-whole : (text : Text) (lines : List Text) → (cut_after 10 text).pieces ≡ lines → (cut_after 10 text).rest ≡ [] → text ≡ lines_text lines
-whole text lines same end =
+-- a text after whose lines nothing follows is these
+text_of_lines : (text : Text) (lines : List Text) → (cut_after 10 text).pieces ≡ lines → (cut_after 10 text).rest ≡ [] → text ≡ lines_text lines
+text_of_lines text lines same end =
     let joined_again : lines_text lines ++ [] ≡ text = rw (← same, ← end) (text_is_lines text) in
     sym joined_again ∙ append-nil (lines_text lines)
 
@@ -57,24 +64,28 @@ not_long : {X : Type 0} (limit n : ℕ) (found : Reading X) (x : X) → cond (na
 not_long {X} limit n found x h = by (nat_lt limit n) refl h where
   by : (long : Bool) → nat_lt limit n ≡ long → cond long (BadLine 0) found ≡ Means x → (n ≤ limit) × (found ≡ Means x)
   by true is k = cc
-  by false is k = (grind (arith, nat_tests), k)
+  by false is k = (ltb-false limit n is, k)
+
+-- whole lines are a first line and those of entries, which are in range, and nothing follows them
+record AreWritten (lines : List Text) (rest first : Text) (more : List Text) (in_range : Bool) : Type 0 where
+  same : lines ≡ first ∷ more
+  end : rest ≡ []
+  passed : in_range ≡ true
 
 -- Version 1 --------------------------------------------------------------------------------------
 
-abbrev entry_line : Entry → Text
-entry_line e = joined (entry_words e)
-
 history_is : (lines : List Text) (rest : Text) (entries : List Entry) → history_of (record { pieces = lines; rest = rest }) ≡ Means entries
-    → (lines ≡ codes "history 1" ∷ map entry_line entries) × (rest ≡ []) × (list_all (is_entry One) entries ≡ true)
+    → AreWritten lines rest (codes "history 1") (map entry_line entries) (list_all (is_entry One) entries)
 history_is [] rest entries h = cc
 history_is (first ∷ lines) rest entries h = by (is_text first (codes "history 1")) refl h where
   by : (is : Bool) → is_text first (codes "history 1") ≡ is → cond is (entries_from (λ line. entry_of One (words line)) 2 lines rest) (BadLine 1) ≡ Means entries
-      → (first ∷ lines ≡ codes "history 1" ∷ map entry_line entries) × (rest ≡ []) × (list_all (is_entry One) entries ≡ true)
+      → AreWritten (first ∷ lines) rest (codes "history 1") (map entry_line entries) (list_all (is_entry One) entries)
   by false is k = cc
   by true is k =
       let found = entries_are (λ line. entry_of One (words line)) entry_line (is_entry One) (entry_line_is One) 2 lines rest entries k in
       let here : first ≡ codes "history 1" = text_is first (codes "history 1") is in
-      (ap (λ (line : Text). line ∷ lines) here ∙ ap (λ (more : List Text). codes "history 1" ∷ more) (sym found.same), found.end, found.passed)
+      let same : first ∷ lines ≡ codes "history 1" ∷ map entry_line entries = rw (here, found.same) refl in
+      record { same = same; end = found.end; passed = found.passed }
 
 -- what a text of version 1 is, that is read
 pub record IsHistory (text : Text) (entries : List Entry) : Type 0 where
@@ -87,30 +98,26 @@ unfolding history_reading
 history_reading_is text entries h =
     let read = not_long 1073741824 (length text) (history_of (cut_after 10 text)) entries h in
     let found = history_is (cut_after 10 text).pieces (cut_after 10 text).rest entries read.1 in
-    record { short = read.0; same = whole text (codes "history 1" ∷ map entry_line entries) found.0 found.1; passed = found.2 }
+    record { short = read.0; same = text_of_lines text (codes "history 1" ∷ map entry_line entries) found.same found.end; passed = found.passed }
 
 pub histories-again : (text : Text) (entries : List Entry) → history_reading text ≡ Means entries → (text ≡ history_text entries) × (list_all (is_entry One) entries ≡ true)
 histories-again text entries h = let found = history_reading_is text entries h in (found.same, found.passed)
 
 -- Version 2 --------------------------------------------------------------------------------------
 
-abbrev measured_line : Measured → Text
-measured_line m = joined (measured_words m)
-
 record_is : (first : Text) (lines : List Text) (rest : Text) (r : Recorded) (found : Option Config) → header_of (words first) ≡ found → recorded_by found lines rest ≡ Means r
-    → (first ∷ lines ≡ joined (header_words r.config) ∷ map measured_line r.entries) × (rest ≡ []) × (list_all is_measured r.entries ≡ true)
+    → AreWritten (first ∷ lines) rest (joined (header_words r.config)) (map measured_line r.entries) (list_all is_measured r.entries)
 record_is first lines rest r None is h = cc
 record_is first lines rest r (Some config) is h =
-    let one = reading_map_is (λ entries. let made : Recorded = record { config = config; entries = entries } in made) (entries_from (λ line. measured_of (words line)) 2 lines rest) r h in
-    let found = entries_are (λ line. measured_of (words line)) measured_line is_measured measured_line_is 2 lines rest one.0 one.1 in
-    let here : first ≡ joined (header_words config) = sym (header_line_is first config is) in
-    let config_same : config ≡ r.config = ap (λ (r : Recorded). r.config) one.2 in
-    let entries_same : one.0 ≡ r.entries = ap (λ (r : Recorded). r.entries) one.2 in
-    (ap (λ (line : Text). line ∷ lines) (here ∙ ap (λ (c : Config). joined (header_words c)) config_same)
-    ∙ ap (λ (more : List Text). joined (header_words r.config) ∷ more) (sym found.same ∙ ap (map measured_line) entries_same), found.end, ap (list_all is_measured) (sym entries_same) ∙ found.passed)
+    let one = read_as (λ entries. let made : Recorded = record { config = config; entries = entries } in made) (entries_from (λ line. measured_of (words line)) 2 lines rest) r h in
+    let found = entries_are (λ line. measured_of (words line)) measured_line is_measured measured_line_is 2 lines rest one.from one.is in
+    let here : joined (header_words config) ≡ first = header_line_is first config is in
+    let same : first ∷ lines ≡ joined (header_words config) ∷ map measured_line one.from = rw (here, found.same) refl in
+    subst (λ (r : Recorded). AreWritten (first ∷ lines) rest (joined (header_words r.config)) (map measured_line r.entries) (list_all is_measured r.entries)) one.same
+    (record { same = same; end = found.end; passed = found.passed })
 
 recorded_is : (lines : List Text) (rest : Text) (r : Recorded) → recorded_of (record { pieces = lines; rest = rest }) ≡ Means r
-    → (lines ≡ joined (header_words r.config) ∷ map measured_line r.entries) × (rest ≡ []) × (list_all is_measured r.entries ≡ true)
+    → AreWritten lines rest (joined (header_words r.config)) (map measured_line r.entries) (list_all is_measured r.entries)
 recorded_is [] rest r h = cc
 recorded_is (first ∷ lines) rest r h = record_is first lines rest r (header_of (words first)) refl h
 
@@ -119,4 +126,4 @@ unfolding recorded_reading
 records-again text r h =
     let read = not_long 2147483648 (length text) (recorded_of (cut_after 10 text)) r h in
     let found = recorded_is (cut_after 10 text).pieces (cut_after 10 text).rest r read.1 in
-    (whole text (joined (header_words r.config) ∷ map measured_line r.entries) found.0 found.1, found.2)
+    (text_of_lines text (joined (header_words r.config) ∷ map measured_line r.entries) found.same found.end, found.passed)

@@ -1,49 +1,75 @@
 -- Words that are a reply are what is written of it, and it is well formed.
-use Rattle.std.proofs.Common.{option_to_list, ◌≡◌, ◌∙◌, ℕ, ◌&&◌, cond, Bool, true, false, Option, Some, None, option_map, option_and_then, List, [], ◌∷◌, map, ap, sym, refl, codes, decimal}
-use Rattle.std.proofs.lemmas.Bool.{and_parts, and_from}
+use Rattle.std.proofs.Common.{option_to_list, ◌≡◌, ◌∙◌, ℕ, cond, Bool, true, false, Option, Some, None, option_map, option_and_then, List, [], ◌∷◌, map, ap, sym, subst, refl, codes, decimal}
+use Rattle.std.proofs.lemmas.Bool.{and_from}
 use Rattle.mh_model.specs.declared.reply.Reply.{Reply}
 use Rattle.mh_model.specs.declared.reply.Reply.TheVariants as reply
 use Rattle.mh_model.specs.declared.reply.Refusal.{Refusal}
+use Rattle.mh_model.specs.declared.reply.Refusal.TheVariants.{BadSlot, Null, NoField, TooLarge, HeapFull, Ended, TooManySessions}
 use Rattle.mh_model.specs.declared.cycle.Phase.{Phase}
+use Rattle.mh_model.specs.declared.cycle.Phase.TheVariants.{Idle, Roots, Mark, Sweep, Defrag}
 use Rattle.mh_model.specs.Bytes.{Text, is_text, number, numbers}
-use Rattle.mh_model.specs.Forms.{within, Form, formed, with_numbers, at, u32, u64, Version, One, Two, where_known}
+use Rattle.mh_model.specs.Forms.{within, formed, with_numbers, at, u32, u64, Version, One, Two, where_known}
 use Rattle.mh_model.specs.Replies.{refusal_words, phase_word, optional_word, reply_words, are_u64, is_reply, refusal_forms, phase_forms, phase_of, ascends, items_in_range, Ready, items_from, values, spent_of, stat_of, optional_by, optional_of, report_of, dump_of, reply_forms, reply_of}
-use Rattle.mh_text_laws.proofs.rewritings.NumbersWrittenAgain.{within_is, mapped_is, chained_is, number_is, numbers_are, of_each, length-decimals}
+use Rattle.mh_text_laws.proofs.rewritings.NumbersWrittenAgain.{within_is, mapped, chained, number_is, numbers_are, of_each, length-decimals}
 use Rattle.mh_text_laws.proofs.rewritings.WordsWrittenAgain.{text_is}
 use Rattle.mh_text_laws.proofs.rewritings.DumpsWrittenAgain.{items_are}
-use Rattle.mh_text_laws.proofs.rewritings.FormsWrittenAgain.{IsOf, IsFaithful, AreFaithful, formed-faithful, numbers-faithful, words-faithful}
+use Rattle.mh_text_laws.proofs.rewritings.FormsWrittenAgain.{IsOf, same_of, word-faithful, IsFaithful, AreFaithful, formed-faithful, numbers-faithful, words-faithful}
 
--- Refusals and phases ----------------------------------------------------------------------------
+-- Parts of replies -------------------------------------------------------------------------------
 
 refusal_is : (words : List Text) (x : Refusal) → formed refusal_forms words ≡ Some x → IsOf refusal_words (λ x. true) words x
-refusal_is = formed-faithful refusal_words (λ x. true) refusal_forms
-    (words-faithful _ _ _ _ _ refl refl, (words-faithful _ _ _ _ _ refl refl, (words-faithful _ _ _ _ _ refl refl, (words-faithful _ _ _ _ _ refl refl,
-    (words-faithful _ _ _ _ _ refl refl, (words-faithful _ _ _ _ _ refl refl, (words-faithful _ _ _ _ _ refl refl, tt)))))))
-
-abbrev phase_words : Phase → List Text
-phase_words phase = phase_word phase ∷ []
-
-first_word : (a b : Text) → a ∷ [] ≡ b ∷ [] → a ≡ b
-first_word a b h = cc
+refusal_is = formed-faithful refusal_words (λ x. true) refusal_forms (
+  words-faithful _ _ (codes "1") _ BadSlot refl refl,
+  (
+    words-faithful _ _ (codes "2") _ Null refl refl,
+    (
+      words-faithful _ _ (codes "3") _ NoField refl refl,
+      (
+        words-faithful _ _ (codes "4") _ TooLarge refl refl,
+        (
+          words-faithful _ _ (codes "5") _ HeapFull refl refl,
+          (
+            words-faithful _ _ (codes "6") _ Ended refl refl,
+            (words-faithful _ _ (codes "7") _ TooManySessions refl refl, tt),
+          ),
+        ),
+      ),
+    ),
+  ),
+)
 
 phase_is : (word : Text) (phase : Phase) → phase_of word ≡ Some phase → phase_word phase ≡ word
-phase_is word phase h = first_word (phase_word phase) word (formed-faithful phase_words (λ x. true) phase_forms
-    (words-faithful _ _ _ _ _ refl refl, (words-faithful _ _ _ _ _ refl refl, (words-faithful _ _ _ _ _ refl refl, (words-faithful _ _ _ _ _ refl refl,
-    (words-faithful _ _ _ _ _ refl refl, tt))))) (word ∷ []) phase h).0
+phase_is = word-faithful phase_word phase_forms (
+  words-faithful _ _ (codes "idle") [] Idle refl refl,
+  (
+    words-faithful _ _ (codes "roots") [] Roots refl refl,
+    (
+      words-faithful _ _ (codes "mark") [] Mark refl refl,
+      (
+        words-faithful _ _ (codes "sweep") [] Sweep refl refl,
+        (words-faithful _ _ (codes "defrag") [] Defrag refl refl, tt),
+      ),
+    ),
+  ),
+)
 
-optional_is : (word : Text) (n : Option ℕ) → optional_of word ≡ Some n → (optional_word n ≡ word) × (are_u64 (option_to_list n) ≡ true)
+-- an optional number of 64 bits
+abbrev IsOptional : Text → Option ℕ → Type 0
+IsOptional word n = (optional_word n ≡ word) × (are_u64 (option_to_list n) ≡ true)
+
+optional_is : (word : Text) (n : Option ℕ) → optional_of word ≡ Some n → IsOptional word n
 optional_is word n h = by (number word) (is_text word (codes "none")) refl refl h where
-  by : (found : Option ℕ) (none : Bool) → number word ≡ found → is_text word (codes "none") ≡ none → optional_by found none ≡ Some n → (optional_word n ≡ word) × (are_u64 (option_to_list n) ≡ true)
+  by : (found : Option ℕ) (none : Bool) → number word ≡ found → is_text word (codes "none") ≡ none → optional_by found none ≡ Some n → IsOptional word n
   by (Some m) none is other h =
       let same : Some m ≡ n = cc in
       let known = number_is word m is in
-      (ap optional_word (sym same) ∙ known.0, ap (λ (x : Option ℕ). are_u64 (option_to_list x)) (sym same) ∙ and_from _ true known.1 refl)
+      subst (IsOptional word) same (known.0, and_from _ _ known.1 refl)
   by None true is other h =
       let same : None ≡ n = cc in
-      (ap optional_word (sym same) ∙ sym (text_is word (codes "none") other), ap (λ (x : Option ℕ). are_u64 (option_to_list x)) (sym same))
+      subst (IsOptional word) same (sym (text_is word (codes "none") other), refl)
   by None false is other h = cc
 
--- Keys -------------------------------------------------------------------------------------------
+-- Values between keys ----------------------------------------------------------------------------
 
 -- values with keys between them
 abbrev keyed : List Text → List Text → List Text
@@ -61,41 +87,48 @@ values_are (key ∷ keys) (value ∷ word ∷ words) more h = by (is_text word k
   by : (is : Bool) → is_text word key ≡ is → ((found : List Text) → values keys words ≡ Some found → keyed keys found ≡ words)
       → cond is (option_map (λ found. value ∷ found) (values keys words)) None ≡ Some more → keyed (key ∷ keys) more ≡ value ∷ word ∷ words
   by true is later k =
-      let found = mapped_is (λ found. value ∷ found) (values keys words) more k in
+      let found = mapped (λ found. value ∷ found) (values keys words) more k in
       let here : word ≡ key = text_is word key is in
-      ap (keyed (key ∷ keys)) (sym found.2) ∙ rw (later found.0 found.1, here) refl
+      ap (keyed (key ∷ keys)) (sym found.same) ∙ rw (later found.from found.is, here) refl
   by false is later k = cc
+
+-- words are what is written of a reply, which is well formed
+abbrev IsReply : Version → List Text → Reply → Type 0
+IsReply version = IsOf reply_words (is_reply version)
 
 -- a form of values between keys is faithful where what its values make is
 keyed-faithful : (version : Version) (verb : Text) (keys : List Text) (made : List Text → Option Reply)
-    → ((more : List Text) (r : Reply) → made more ≡ Some r → IsOf reply_words (is_reply version) (verb ∷ keyed keys more) r)
+    → ((more : List Text) (r : Reply) → made more ≡ Some r → IsReply version (verb ∷ keyed keys more) r)
     → IsFaithful reply_words (is_reply version) (record { verb = verb; meaning = λ words. option_and_then made (values keys words) })
-keyed-faithful version verb keys made said = record {
+keyed-faithful version verb keys made each = record {
   read = λ words r h.
-      let found = chained_is made (values keys words) r h in
-      let known = said found.0 r found.2 in
-      (known.0 ∙ ap (λ (ws : List Text). verb ∷ ws) (values_are keys words found.0 found.1), known.1);
+      let found = chained made (values keys words) r h in
+      let known = each found.from r found.then in
+      (known.0 ∙ ap (λ (ws : List Text). verb ∷ ws) (values_are keys words found.from found.is), known.1);
 }
 
--- what is told of one reply is told of any that is the same
-same_reply : (version : Version) (words : List Text) (made r : Reply) → made ≡ r → IsOf reply_words (is_reply version) words made → IsOf reply_words (is_reply version) words r
-same_reply version words made r same h = (ap reply_words (sym same) ∙ h.0, ap (is_reply version) (sym same) ∙ h.1)
+abbrev spent_keys : List Text
+spent_keys = codes "phase" ∷ []
 
-spent_is : (version : Version) (more : List Text) (r : Reply) → spent_of more ≡ Some r → IsOf reply_words (is_reply version) (codes "spent" ∷ keyed (codes "phase" ∷ []) more) r
+spent_is : (version : Version) (more : List Text) (r : Reply) → spent_of more ≡ Some r → IsReply version (codes "spent" ∷ keyed spent_keys more) r
 spent_is version [] r h = cc
 spent_is version (a ∷ []) r h = cc
 spent_is version (a ∷ b ∷ c ∷ more) r h = cc
 spent_is version (units ∷ phase ∷ []) r h =
-    let one = chained_is (λ n. option_map (λ p. reply.Spent n p) (phase_of phase)) (number units) r h in
-    let two = mapped_is (λ p. reply.Spent one.0 p) (phase_of phase) r one.2 in
-    let known = number_is units one.0 one.1 in
-    same_reply version (codes "spent" ∷ units ∷ codes "phase" ∷ phase ∷ []) (reply.Spent one.0 two.0) r two.2 (rw (known.0, phase_is phase two.0 two.1) refl, and_from _ _ known.1 refl)
+    let n = chained (λ n. option_map (λ p. reply.Spent n p) (phase_of phase)) (number units) r h in
+    let p = mapped (λ p. reply.Spent n.from p) (phase_of phase) r n.then in
+    let known = number_is units n.from n.is in
+    same_of reply_words (is_reply version) (codes "spent" ∷ units ∷ codes "phase" ∷ phase ∷ []) (reply.Spent n.from p.from) r p.same
+    (rw (known.0, phase_is phase p.from p.is) refl, and_from _ _ known.1 refl)
 
-abbrev stat_words : Text → Text → Text → Text → Text → List Text
-stat_words free live old phase cycle = codes "free" ∷ free ∷ codes "live" ∷ live ∷ codes "old" ∷ old ∷ codes "phase" ∷ phase ∷ codes "cycle" ∷ cycle ∷ []
+abbrev stat_keys : List Text
+stat_keys = codes "live" ∷ codes "old" ∷ codes "phase" ∷ codes "cycle" ∷ []
 
-stat_is : (version : Version) (more : List Text) (r : Reply) → stat_of more ≡ Some r
-    → IsOf reply_words (is_reply version) (codes "free" ∷ keyed (codes "live" ∷ codes "old" ∷ codes "phase" ∷ codes "cycle" ∷ []) more) r
+-- the reply of these numbers and this phase
+abbrev stat : Phase → List ℕ → Reply
+stat p ns = reply.Stat (at ns 0) (at ns 1) (at ns 2) p (at ns 3)
+
+stat_is : (version : Version) (more : List Text) (r : Reply) → stat_of more ≡ Some r → IsReply version (codes "free" ∷ keyed stat_keys more) r
 stat_is version [] r h = cc
 stat_is version (a ∷ []) r h = cc
 stat_is version (a ∷ b ∷ []) r h = cc
@@ -103,23 +136,25 @@ stat_is version (a ∷ b ∷ c ∷ []) r h = cc
 stat_is version (a ∷ b ∷ c ∷ d ∷ []) r h = cc
 stat_is version (a ∷ b ∷ c ∷ d ∷ e ∷ f ∷ more) r h = cc
 stat_is version (free ∷ live ∷ old ∷ phase ∷ cycle ∷ []) r h =
-    let one = chained_is (λ ns. option_map (λ p. reply.Stat (at ns 0) (at ns 1) (at ns 2) p (at ns 3)) (phase_of phase)) (numbers (free ∷ live ∷ old ∷ cycle ∷ [])) r h in
-    let two = mapped_is (λ p. reply.Stat (at one.0 0) (at one.0 1) (at one.0 2) p (at one.0 3)) (phase_of phase) r one.2 in
-    let known = numbers_are (free ∷ live ∷ old ∷ cycle ∷ []) one.0 one.1 in
-    same_reply version (stat_words free live old phase cycle) (reply.Stat (at one.0 0) (at one.0 1) (at one.0 2) two.0 (at one.0 3)) r two.2
-    (of_each (free ∷ live ∷ old ∷ cycle ∷ [])
-      (λ ns. map decimal ns ≡ free ∷ live ∷ old ∷ cycle ∷ [] → are_u64 ns ≡ true → IsOf reply_words (is_reply version) (stat_words free live old phase cycle) (reply.Stat (at ns 0) (at ns 1) (at ns 2) two.0 (at ns 3)))
-      (λ a b c d same small. (of_four a b c d same (phase_is phase two.0 two.1), small)) one.0 (length-decimals one.0 (free ∷ live ∷ old ∷ cycle ∷ []) known.0) known.0 known.1) where
-  of_four : (a b c d : ℕ) → decimal a ∷ decimal b ∷ decimal c ∷ decimal d ∷ [] ≡ free ∷ live ∷ old ∷ cycle ∷ [] → {p : Text} → p ≡ phase
-      → stat_words (decimal a) (decimal b) (decimal c) p (decimal d) ≡ stat_words free live old phase cycle
-  of_four a b c d same is = cc
+    let texts : List Text = free ∷ live ∷ old ∷ cycle ∷ [] in
+    let found : List Text = codes "free" ∷ keyed stat_keys (free ∷ live ∷ old ∷ phase ∷ cycle ∷ []) in
+    let n = chained (λ ns. option_map (λ p. stat p ns) (phase_of phase)) (numbers texts) r h in
+    let p = mapped (λ p. stat p n.from) (phase_of phase) r n.then in
+    let known = numbers_are texts n.from n.is in
+    same_of reply_words (is_reply version) found (stat p.from n.from) r p.same
+    (of_each texts (λ ns. map decimal ns ≡ texts → are_u64 ns ≡ true → IsReply version found (stat p.from ns))
+    (λ a b c d same small. (all_same a b c d (phase_word p.from) same (phase_is phase p.from p.is), small)) n.from (length-decimals n.from texts known.0) known.0 known.1) where
+      all_same : (a b c d : ℕ) (p : Text) → decimal a ∷ decimal b ∷ decimal c ∷ decimal d ∷ [] ≡ free ∷ live ∷ old ∷ cycle ∷ [] → p ≡ phase
+          → codes "free" ∷ keyed stat_keys (decimal a ∷ decimal b ∷ decimal c ∷ p ∷ decimal d ∷ []) ≡ codes "free" ∷ keyed stat_keys (free ∷ live ∷ old ∷ phase ∷ cycle ∷ [])
+      all_same a b c d p same is = cc
 
-abbrev report_words : Text → Text → Text → Text → Text → Text → Text → List Text
-report_words mutator collector quanta greatest window least floor =
-    codes "mutator" ∷ mutator ∷ codes "collector" ∷ collector ∷ codes "quanta" ∷ quanta ∷ codes "greatest" ∷ greatest ∷ codes "window" ∷ window ∷ codes "least" ∷ least ∷ codes "floor" ∷ floor ∷ []
+abbrev report_keys : List Text
+report_keys = codes "collector" ∷ codes "quanta" ∷ codes "greatest" ∷ codes "window" ∷ codes "least" ∷ codes "floor" ∷ []
 
-report_is : (version : Version) (more : List Text) (r : Reply) → report_of more ≡ Some r
-    → IsOf reply_words (is_reply version) (codes "mutator" ∷ keyed (codes "collector" ∷ codes "quanta" ∷ codes "greatest" ∷ codes "window" ∷ codes "least" ∷ codes "floor" ∷ []) more) r
+abbrev report : Option ℕ → Option ℕ → List ℕ → Reply
+report x y ns = reply.Report (at ns 0) (at ns 1) (at ns 2) (at ns 3) (at ns 4) x y
+
+report_is : (version : Version) (more : List Text) (r : Reply) → report_of more ≡ Some r → IsReply version (codes "mutator" ∷ keyed report_keys more) r
 report_is version [] r h = cc
 report_is version (a ∷ []) r h = cc
 report_is version (a ∷ b ∷ []) r h = cc
@@ -129,55 +164,78 @@ report_is version (a ∷ b ∷ c ∷ d ∷ e ∷ []) r h = cc
 report_is version (a ∷ b ∷ c ∷ d ∷ e ∷ f ∷ []) r h = cc
 report_is version (a ∷ b ∷ c ∷ d ∷ e ∷ f ∷ g ∷ i ∷ more) r h = cc
 report_is version (mutator ∷ collector ∷ quanta ∷ greatest ∷ window ∷ least ∷ floor ∷ []) r h =
-    let made : List ℕ → Option ℕ → Option ℕ → Reply = λ ns x y. reply.Report (at ns 0) (at ns 1) (at ns 2) (at ns 3) (at ns 4) x y in
-    let one = chained_is (λ ns. option_and_then (λ x. option_map (λ y. reply.Report (at ns 0) (at ns 1) (at ns 2) (at ns 3) (at ns 4) x y) (optional_of floor)) (optional_of least))
-      (numbers (mutator ∷ collector ∷ quanta ∷ greatest ∷ window ∷ [])) r h in
-    let two = chained_is (λ x. option_map (λ y. made one.0 x y) (optional_of floor)) (optional_of least) r one.2 in
-    let three = mapped_is (λ y. made one.0 two.0 y) (optional_of floor) r two.2 in
-    let known = numbers_are (mutator ∷ collector ∷ quanta ∷ greatest ∷ window ∷ []) one.0 one.1 in
-    let x = optional_is least two.0 two.1 in
-    let y = optional_is floor three.0 three.1 in
-    same_reply version (report_words mutator collector quanta greatest window least floor) (made one.0 two.0 three.0) r three.2
-    (of_each (mutator ∷ collector ∷ quanta ∷ greatest ∷ window ∷ [])
-      (λ ns. map decimal ns ≡ mutator ∷ collector ∷ quanta ∷ greatest ∷ window ∷ [] → are_u64 ns ≡ true → IsOf reply_words (is_reply version) (report_words mutator collector quanta greatest window least floor) (made ns two.0 three.0))
-      (λ a b c d e same small. (all_same a b c d e same x.0 y.0, and_from _ _ small (and_from _ _ x.1 y.1)))
-      one.0 (length-decimals one.0 (mutator ∷ collector ∷ quanta ∷ greatest ∷ window ∷ []) known.0) known.0 known.1) where
-  all_same : (a b c d e : ℕ) → decimal a ∷ decimal b ∷ decimal c ∷ decimal d ∷ decimal e ∷ [] ≡ mutator ∷ collector ∷ quanta ∷ greatest ∷ window ∷ [] → {x y : Text} → x ≡ least → y ≡ floor
-      → report_words (decimal a) (decimal b) (decimal c) (decimal d) (decimal e) x y ≡ report_words mutator collector quanta greatest window least floor
-  all_same a b c d e same p q = cc
+    let texts : List Text = mutator ∷ collector ∷ quanta ∷ greatest ∷ window ∷ [] in
+    let found : List Text = codes "mutator" ∷ keyed report_keys (mutator ∷ collector ∷ quanta ∷ greatest ∷ window ∷ least ∷ floor ∷ []) in
+    let n = chained (λ ns. option_and_then (λ x. option_map (λ y. report x y ns) (optional_of floor)) (optional_of least)) (numbers texts) r h in
+    let l = chained (λ x. option_map (λ y. report x y n.from) (optional_of floor)) (optional_of least) r n.then in
+    let f = mapped (λ y. report l.from y n.from) (optional_of floor) r l.then in
+    let known = numbers_are texts n.from n.is in
+    let x = optional_is least l.from l.is in
+    let y = optional_is floor f.from f.is in
+    same_of reply_words (is_reply version) found (report l.from f.from n.from) r f.same
+    (of_each texts (λ ns. map decimal ns ≡ texts → are_u64 ns ≡ true → IsReply version found (report l.from f.from ns))
+    (λ a b c d e same small. (all_same a b c d e (optional_word l.from) (optional_word f.from) same x.0 y.0, and_from _ _ small (and_from _ _ x.1 y.1)))
+    n.from (length-decimals n.from texts known.0) known.0 known.1) where
+      all_same : (a b c d e : ℕ) (x y : Text) → decimal a ∷ decimal b ∷ decimal c ∷ decimal d ∷ decimal e ∷ [] ≡ mutator ∷ collector ∷ quanta ∷ greatest ∷ window ∷ []
+          → x ≡ least → y ≡ floor
+          → codes "mutator" ∷ keyed report_keys (decimal a ∷ decimal b ∷ decimal c ∷ decimal d ∷ decimal e ∷ x ∷ y ∷ [])
+          ≡ codes "mutator" ∷ keyed report_keys (mutator ∷ collector ∷ quanta ∷ greatest ∷ window ∷ least ∷ floor ∷ [])
+      all_same a b c d e x y same p q = cc
 
 -- Replies ----------------------------------------------------------------------------------------
 
-refused-faithful : (version : Version) → IsFaithful reply_words (is_reply version) (record { verb = codes "refused"; meaning = λ words. option_map (λ refusal. reply.Refused refusal) (formed refusal_forms words) })
+refused-faithful : (version : Version)
+    → IsFaithful reply_words (is_reply version) (record { verb = codes "refused"; meaning = λ words. option_map (λ refusal. reply.Refused refusal) (formed refusal_forms words) })
 refused-faithful version = record {
   read = λ words r h.
-      let found = mapped_is (λ refusal. reply.Refused refusal) (formed refusal_forms words) r h in
-      same_reply version (codes "refused" ∷ words) (reply.Refused found.0) r found.2 (ap (λ (ws : List Text). codes "refused" ∷ ws) (refusal_is words found.0 found.1).0, refl);
+      let found = mapped (λ refusal. reply.Refused refusal) (formed refusal_forms words) r h in
+      same_of reply_words (is_reply version) (codes "refused" ∷ words) (reply.Refused found.from) r found.same
+      (ap (λ (ws : List Text). codes "refused" ∷ ws) (refusal_is words found.from found.is).0, refl);
 }
 
 dump-faithful : (version : Version) → IsFaithful reply_words (is_reply version) (record { verb = codes "dump"; meaning = dump_of })
 dump-faithful version = record {
   read = λ words r h.
-      let one = chained_is (λ items. within (ascends None None items) (reply.Dump items)) (items_from Ready words) r h in
-      let two = within_is (ascends None None one.0) (reply.Dump one.0) r one.2 in
-      let known = items_are words Ready one.0 one.1 refl in
-      same_reply version (codes "dump" ∷ words) (reply.Dump one.0) r two.1 (ap (λ (ws : List Text). codes "dump" ∷ ws) known.0, and_from (items_in_range one.0) (ascends None None one.0) known.1 two.0);
+      let found = chained (λ items. within (ascends None None items) (reply.Dump items)) (items_from Ready words) r h in
+      let ordered = within_is (ascends None None found.from) (reply.Dump found.from) r found.then in
+      let known = items_are words Ready found.from found.is refl in
+      same_of reply_words (is_reply version) (codes "dump" ∷ words) (reply.Dump found.from) r ordered.1
+      (ap (λ (ws : List Text). codes "dump" ∷ ws) known.0, and_from (items_in_range found.from) (ascends None None found.from) known.1 ordered.0);
 }
 
-left-faithful : (version : Version) → AreFaithful reply_words (is_reply version) (where_known version (with_numbers (codes "left") (u64 ∷ []) (λ ns. reply.Left (at ns 0))))
-left-faithful One = tt
-left-faithful Two = (numbers-faithful _ _ (codes "left") (u64 ∷ []) _ (λ a. (refl, refl)), tt)
+left_reply-faithful : (version : Version) → AreFaithful reply_words (is_reply version) (where_known version (with_numbers (codes "left") (u64 ∷ []) (λ ns. reply.Left (at ns 0))))
+left_reply-faithful One = tt
+left_reply-faithful Two = (numbers-faithful _ _ (codes "left") (u64 ∷ []) _ (λ a. (refl, refl)), tt)
 
-pub reply_is : (version : Version) (words : List Text) (r : Reply) → reply_of version words ≡ Some r → IsOf reply_words (is_reply version) words r
-reply_is version = formed-faithful reply_words (is_reply version) (reply_forms version)
-    (words-faithful _ _ (codes "ok") [] reply.Done refl refl,
-    (words-faithful _ _ (codes "yes") [] reply.Yes refl refl,
-    (words-faithful _ _ (codes "no") [] reply.No refl refl,
-    (numbers-faithful _ _ (codes "number") (u64 ∷ []) _ (λ a. (refl, refl)),
-    (numbers-faithful _ _ (codes "shape") (u32 ∷ u32 ∷ []) _ (λ a b. (refl, refl)),
-    (refused-faithful version,
-    (keyed-faithful version (codes "spent") (codes "phase" ∷ []) spent_of (spent_is version),
-    (keyed-faithful version (codes "free") (codes "live" ∷ codes "old" ∷ codes "phase" ∷ codes "cycle" ∷ []) stat_of (stat_is version),
-    (dump-faithful version,
-    (keyed-faithful version (codes "mutator") (codes "collector" ∷ codes "quanta" ∷ codes "greatest" ∷ codes "window" ∷ codes "least" ∷ codes "floor" ∷ []) report_of (report_is version),
-    left-faithful version))))))))))
+pub reply_is : (version : Version) (words : List Text) (r : Reply) → reply_of version words ≡ Some r → IsReply version words r
+reply_is version = formed-faithful reply_words (is_reply version) (reply_forms version) (
+  words-faithful _ _ (codes "ok") [] reply.Done refl refl,
+  (
+    words-faithful _ _ (codes "yes") [] reply.Yes refl refl,
+    (
+      words-faithful _ _ (codes "no") [] reply.No refl refl,
+      (
+        numbers-faithful _ _ (codes "number") (u64 ∷ []) _ (λ a. (refl, refl)),
+        (
+          numbers-faithful _ _ (codes "shape") (u32 ∷ u32 ∷ []) _ (λ a b. (refl, refl)),
+          (
+            refused-faithful version,
+            (
+              keyed-faithful version (codes "spent") spent_keys spent_of (spent_is version),
+              (
+                keyed-faithful version (codes "free") stat_keys stat_of (stat_is version),
+                (
+                  dump-faithful version,
+                  (
+                    keyed-faithful version (codes "mutator") report_keys report_of (report_is version),
+                    left_reply-faithful version,
+                  ),
+                ),
+              ),
+            ),
+          ),
+        ),
+      ),
+    ),
+  ),
+)

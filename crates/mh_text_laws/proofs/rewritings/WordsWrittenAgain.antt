@@ -1,5 +1,5 @@
--- The parts of a text, joined again, are the text; a word is known by its number after a byte.
-use Rattle.std.proofs.Common.{◌≡◌, ◌∙◌, ℕ, ◌==◌, nat_lt, cond, Bool, true, false, Option, Some, None, List, [], ◌∷◌, ◌++◌, ap, refl, decimal}
+-- The parts of a text, joined again, are the text, and a word that is a number after a byte is what is written of it.
+use Rattle.std.proofs.Common.{◌≡◌, ◌∙◌, ℕ, ◌==◌, nat_lt, cond, Bool, true, false, Some, None, List, [], ◌∷◌, ◌++◌, ap, refl, decimal}
 use Rattle.std.proofs.lemmas.Bool.{and_parts, eqb-true}
 use Rattle.mh_model.specs.Bytes.{Text, Cut, cut_after, with_byte, parts_at, joined_at, joined, words, is_text, tagged, number}
 use Rattle.mh_model.specs.Forms.{u64}

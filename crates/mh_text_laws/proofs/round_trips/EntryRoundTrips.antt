@@ -1,8 +1,7 @@
 -- Entries are read as they were written.
-use Rattle.std.proofs.Common.{option_to_list, ◌≡◌, ℕ, ◌<◌, ◌^◌, nat_lt, nat_le, not, ◌&&◌, Bool, true, false, Option, Some, None, List, [], ◌∷◌, ◌++◌, length, map, flat_map, ap, ◌∙◌, refl, decimal, codes, arith, length-append, append-nil, subst, sym}
-use Rattle.std.proofs.lemmas.Bool.{and_parts, and_from, not-true, not_from_false, ltb-true, leb-true}
+use Rattle.std.proofs.Common.{option_to_list, ◌≡◌, ℕ, ◌<◌, ◌^◌, nat_lt, nat_le, not, ◌&&◌, Bool, true, false, Option, Some, None, List, [], ◌∷◌, ◌++◌, length, map, flat_map, ap, ◌∙◌, refl, decimal, codes, arith, length-append, append-nil, subst}
+use Rattle.std.proofs.lemmas.Bool.{and_parts, and_from, not-true, ltb-true, leb-true}
 use Rattle.std.specs.List.{list_all}
-use Rattle.std.proofs.lemmas.Fmt.{decimal_nonempty}
 use Rattle.mh_model.specs.declared.command.Command.{Command}
 use Rattle.mh_model.specs.declared.command.Command.TheVariants as command
 use Rattle.mh_model.specs.declared.command.Control.{Control}
@@ -19,10 +18,10 @@ use Rattle.mh_model.specs.declared.dump.DumpItem.{DumpItem}
 use Rattle.mh_model.specs.declared.dump.DumpItem.TheVariants as item
 use Rattle.mh_model.specs.declared.history.Entry.{Entry}
 use Rattle.mh_model.specs.Bytes.{Text, is_text, is_digit, number, words, joined}
-use Rattle.mh_model.specs.Forms.{are_below, u32, u64, Phrase, phrase, phrase_words, is_sayable, command_phrase, Version, One, Two, control_phrase, knows_control}
-use Rattle.mh_model.specs.Replies.{refusal_words, phase_word, flag_word, placed_word, item_words, optional_word, reply_words, are_u64, item_numbers, items_in_range, ascends, is_reply}
+use Rattle.mh_model.specs.Forms.{u32, u64, Phrase, phrase_words, is_sayable, command_phrase, Version, One, Two, control_phrase, knows_control}
+use Rattle.mh_model.specs.Replies.{refusal_words, phase_word, flag_word, placed_word, item_words, optional_word, reply_words, are_u64, item_numbers, items_in_range, is_reply}
 use Rattle.mh_model.specs.HistoryTexts.{Measured, event_words, entry_words, measured_words, is_event, is_entry, is_measured, event_of, halves_at, entry_of, measured_of}
-use Rattle.mh_text_laws.proofs.ListTests.{all_weaker, all-append}
+use Rattle.mh_text_laws.proofs.ListLemmas.{all_weaker, all-append}
 use Rattle.mh_text_laws.proofs.round_trips.WordRoundTrips.{number-decimal, numbers-decimal, decimal_word, is_word, are_words, words-joined, all-decimals, are_small, digit_other, is_numbered, numbered_first}
 use Rattle.mh_text_laws.proofs.round_trips.ReplyRoundTrips.{small_numbers, command_of-words, control_of-words, reply_of-words}
 
@@ -109,7 +108,7 @@ event_plain version (event.Session who c) h =
     and_from _ _ (and_from _ _ (decimal_word who (small_who who both.0)) refl) (phrase_plain (command_phrase c) (fine_command c) both.1)
 event_plain version (event.Control c) h = phrase_plain (control_phrase c) (fine_control c) (and_parts _ _ h).1
 
-event_of-words : (version : Version) (e : Event) → is_event version e ≡ true → event_of version (event_words e) ≡ Some e
+pub event_of-words : (version : Version) (e : Event) → is_event version e ≡ true → event_of version (event_words e) ≡ Some e
 event_of-words version (event.Session who c) h =
     let both = and_parts (nat_le who 8) (is_sayable (command_phrase c)) h in
     let n : number (decimal who) ≡ Some who = number-decimal who (small_who who both.0) in
@@ -193,7 +192,8 @@ reply_plain Two (reply.Left quanta) h = plain_decimals (quanta ∷ []) h
 
 -- Entries ----------------------------------------------------------------------------------------
 
-halves_at-words : (mark : Text) (xs ys : List Text) → is_text mark mark ≡ true → are_not mark xs ≡ true → halves_at mark (xs ++ mark ∷ ys) ≡ Some (record { before = xs; after = ys })
+halves_at-words : (mark : Text) (xs ys : List Text) → is_text mark mark ≡ true → are_not mark xs ≡ true
+    → halves_at mark (xs ++ mark ∷ ys) ≡ Some (record { before = xs; after = ys })
 halves_at-words mark [] ys same h = rw same refl
 halves_at-words mark (x ∷ xs) ys same h =
     let both = and_parts (not (is_text x mark)) (are_not mark xs) h in
@@ -203,8 +203,11 @@ halves_at-words mark (x ∷ xs) ys same h =
 entry_of-words : (version : Version) (e : Entry) → is_entry version e ≡ true → entry_of version (entry_words e) ≡ Some e
 entry_of-words version e h =
     let both = and_parts (is_event version e.event) (is_reply version e.reply) h in
-    rw (halves_at-words (codes "=") (event_words e.event) (reply_words e.reply) refl (plain_equals (event_words e.event) (event_plain version e.event both.0)),
-        event_of-words version e.event both.0, reply_of-words version e.reply both.1) refl
+    rw (
+      halves_at-words (codes "=") (event_words e.event) (reply_words e.reply) refl (plain_equals (event_words e.event) (event_plain version e.event both.0)),
+      event_of-words version e.event both.0,
+      reply_of-words version e.reply both.1,
+    ) refl
 
 pub entry_are_words : (version : Version) (e : Entry) → is_entry version e ≡ true → are_words (entry_words e) ≡ true
 entry_are_words version e h =
@@ -219,8 +222,11 @@ entry_no_units version e h =
 measured_of-words : (m : Measured) → is_measured m ≡ true → measured_of (measured_words m) ≡ Some m
 measured_of-words m h =
     let both = and_parts (is_entry Two m.entry) (are_u64 (m.mutator ∷ m.collector ∷ [])) h in
-    rw (halves_at-words (codes "units") (entry_words m.entry) (map decimal (m.mutator ∷ m.collector ∷ [])) refl (entry_no_units Two m.entry both.0),
-        entry_of-words Two m.entry both.0, numbers-decimal (m.mutator ∷ m.collector ∷ []) both.1) refl
+    rw (
+      halves_at-words (codes "units") (entry_words m.entry) (map decimal (m.mutator ∷ m.collector ∷ [])) refl (entry_no_units Two m.entry both.0),
+      entry_of-words Two m.entry both.0,
+      numbers-decimal (m.mutator ∷ m.collector ∷ []) both.1,
+    ) refl
 
 pub measured_are_words : (m : Measured) → is_measured m ≡ true → are_words (measured_words m) ≡ true
 measured_are_words m h =
@@ -244,5 +250,6 @@ entry_of-line version e h = ap (entry_of version) (words-line (entry_words e) (s
 
 pub measured_of-line : (m : Measured) → is_measured m ≡ true → measured_of (words (joined (measured_words m))) ≡ Some m
 measured_of-line m h =
-    let some : 0 < length (measured_words m) = omega (arith, some_entry m.entry, length-append (entry_words m.entry) (codes "units" ∷ decimal m.mutator ∷ decimal m.collector ∷ [])) in
+    let units : List Text = codes "units" ∷ decimal m.mutator ∷ decimal m.collector ∷ [] in
+    let some : 0 < length (measured_words m) = omega (arith, some_entry m.entry, length-append (entry_words m.entry) units) in
     ap measured_of (words-line (measured_words m) some (measured_are_words m h)) ∙ measured_of-words m h

@@ -1,8 +1,7 @@
 -- Commands, controls and replies are read as they were written.
-use Rattle.std.proofs.Common.{option_to_list, ◌≡◌, ◌∙◌, ℕ, ◌<◌, ◌≤◌, ◌^◌, ◌==◌, nat_lt, nat_le, not, ◌&&◌, Bool, true, false, Option, Some, None, List, [], ◌∷◌, ◌++◌, length, map, flat_map, refl, decimal, codes, arith}
+use Rattle.std.proofs.Common.{option_to_list, ◌≡◌, ◌∙◌, ℕ, ◌<◌, ◌≤◌, ◌==◌, nat_lt, nat_le, not, ◌&&◌, Bool, true, false, Option, Some, None, List, [], ◌∷◌, ◌++◌, map, flat_map, refl, decimal, codes, arith}
 use Rattle.std.proofs.lemmas.Bool.{and_parts, and_from, not_from_false, ltb-true, lt-ltb, leb-true}
 use Rattle.std.specs.List.{list_all}
-use Rattle.std.proofs.lemmas.Fmt.{decimal_nonempty}
 use Rattle.mh_model.specs.declared.command.Command.{Command}
 use Rattle.mh_model.specs.declared.command.Command.TheVariants as command
 use Rattle.mh_model.specs.declared.command.Control.{Control}
@@ -18,8 +17,8 @@ use Rattle.mh_model.specs.declared.dump.DumpItem.TheVariants as item
 use Rattle.mh_model.specs.Bytes.{Text, parts_at, is_digit, number, tagged}
 use Rattle.mh_model.specs.Forms.{are_below, numbered, at, u32, u64, phrase_words, is_sayable, command_phrase, command_of, Version, One, Two, control_phrase, control_of, knows_control}
 use Rattle.mh_model.specs.Replies.{refusal_words, phase_word, flag_word, placed_word, item_words, optional_word, reply_words, are_u64, items_in_range, ascends, is_reply, phase_of, flag_of, optional_of, placed_by, placed_of, Ready, HasPage, HasClass, with_item, items_from, reply_of}
-use Rattle.mh_text_laws.proofs.ListTests.{all-append}
-use Rattle.mh_text_laws.proofs.round_trips.WordRoundTrips.{number-decimal, numbers-decimal, decimal-digits, are_small, is_free, cut-free, cut-piece, parts-joined, decimal_free, digit_other, is_numbered, numbered_first}
+use Rattle.mh_text_laws.proofs.ListLemmas.{all-append}
+use Rattle.mh_text_laws.proofs.round_trips.WordRoundTrips.{number-decimal, numbers-decimal, are_small, is_free, cut-free, cut-piece, parts-joined, decimal_free, digit_other, is_numbered, numbered_first}
 
 -- Numbers after a word ---------------------------------------------------------------------------
 
@@ -52,7 +51,8 @@ command_of-words (command.Post b s) h = numbered-words (u32 ∷ u32 ∷ []) _ (b
 command_of-words (command.Take d b) h = numbered-words (u32 ∷ u32 ∷ []) _ (d ∷ b ∷ []) h refl
 command_of-words command.End h = refl
 
-pub control_of-words : (version : Version) (c : Control) → knows_control version c ≡ true → is_sayable (control_phrase c) ≡ true → control_of version (phrase_words (control_phrase c)) ≡ Some c
+pub control_of-words : (version : Version) (c : Control) → knows_control version c ≡ true → is_sayable (control_phrase c) ≡ true
+    → control_of version (phrase_words (control_phrase c)) ≡ Some c
 control_of-words version control.Quantum known h = refl
 control_of-words version control.Start known h = refl
 control_of-words version control.Stat known h = refl
@@ -107,10 +107,10 @@ placed_by-word mark made slot a b no_digit no_point h =
     parts-joined 46 (decimal a) (decimal b ∷ []) (and_from _ _ (decimal_free 46 a refl small.second) (and_from _ _ (decimal_free 46 b refl small.third) refl)) in
     rw (outer, inner) (numbered-words (u64 ∷ u64 ∷ u64 ∷ []) made (slot ∷ a ∷ b ∷ []) h refl)
 
-abbrev block : List ℕ → DumpItem
+abbrev pub block : List ℕ → DumpItem
 block ns = item.Block (at ns 0) (at ns 1) (at ns 2)
 
-abbrev forwarder : List ℕ → DumpItem
+abbrev pub forwarder : List ℕ → DumpItem
 forwarder ns = item.Forwarder (at ns 0) (at ns 1) (at ns 2)
 
 -- a forwarder is no block
@@ -142,8 +142,8 @@ step_placed mark slot a b words i items h placed later =
     let no_page : tagged 80 (placed_word mark slot a b) ≡ None =
     tagged-numbered 80 (placed_word mark slot a b) refl (numbered_first slot (mark ∷ (decimal a ++ 46 ∷ decimal b)) small.first) in
     step (placed_word mark slot a b) no_page ∙ rw (placed, later) refl where
-  step : (word : Text) → tagged 80 word ≡ None → items_from Ready (word ∷ words) ≡ with_item (placed_of word) (items_from Ready words)
-  step word is = rw (is, items_from) refl
+      step : (word : Text) → tagged 80 word ≡ None → items_from Ready (word ∷ words) ≡ with_item (placed_of word) (items_from Ready words)
+      step word is = rw (is, items_from) refl
 
 items_from-words : (items : List DumpItem) → items_in_range items ≡ true → items_from Ready (flat_map item_words items) ≡ Some items
 items_from-words [] h = refl

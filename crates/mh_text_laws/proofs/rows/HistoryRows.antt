@@ -45,15 +45,30 @@ past_the_sessions = (record { few = lit≤ tt; replies = refl }, refl)
 
 within_the_sessions : IsChecked two_pages (codes "history 1\ns0 clear 0 = refused 7 too many sessions\n") (FirstBad 1)
 unfolding history_reading worked
-within_the_sessions = record { counted = lit≤ tt; within = lit≤ tt; before = record { few = lit≤ tt; replies = refl }; bad = λ legal. let same : reply.Refused TooManySessions ∷ [] ≡ reply.Done ∷ [] = legal.replies in cc }
+within_the_sessions = record {
+  counted = lit≤ tt;
+  within = lit≤ tt;
+  before = record { few = lit≤ tt; replies = refl };
+  bad = λ legal. let same : reply.Refused TooManySessions ∷ [] ≡ reply.Done ∷ [] = legal.replies in cc;
+}
 
 wrong_kind : IsChecked two_pages (codes "history 1\ns0 clear 0 = number 5\n") (FirstBad 1)
 unfolding history_reading worked
-wrong_kind = record { counted = lit≤ tt; within = lit≤ tt; before = record { few = lit≤ tt; replies = refl }; bad = λ legal. let same : reply.Number 5 ∷ [] ≡ reply.Done ∷ [] = legal.replies in cc }
+wrong_kind = record {
+  counted = lit≤ tt;
+  within = lit≤ tt;
+  before = record { few = lit≤ tt; replies = refl };
+  bad = λ legal. let same : reply.Number 5 ∷ [] ≡ reply.Done ∷ [] = legal.replies in cc;
+}
 
 too_full : IsChecked two_pages (codes "history 1\ns0 new 0 0 61 = ok\n") (FirstBad 1)
 unfolding history_reading worked
-too_full = record { counted = lit≤ tt; within = lit≤ tt; before = record { few = lit≤ tt; replies = refl }; bad = λ legal. let same : reply.Done ∷ [] ≡ reply.Refused HeapFull ∷ [] = legal.replies in cc }
+too_full = record {
+  counted = lit≤ tt;
+  within = lit≤ tt;
+  before = record { few = lit≤ tt; replies = refl };
+  bad = λ legal. let same : reply.Done ∷ [] ≡ reply.Refused HeapFull ∷ [] = legal.replies in cc;
+}
 
 session_past_8 : IsChecked two_pages (codes "history 1\ns9 clear 0 = ok\n") (Refused 2)
 unfolding history_reading worked
@@ -99,9 +114,18 @@ posted_and_taken : IsChecked four_pages (codes "history 1\ns0 new 0 0 1 = ok\ns0
 unfolding history_reading worked
 posted_and_taken = (record { few = lit≤ tt; replies = refl }, refl)
 
+abbrev four_done : Reply → List Reply
+four_done last = reply.Done ∷ reply.Done ∷ reply.Done ∷ reply.Done ∷ last ∷ []
+
 told_of_nothing : IsChecked four_pages (codes "history 1\ns0 new 0 0 1 = ok\ns0 write 0 0 5 = ok\ns0 post 0 0 = ok\ns1 take 0 0 = ok\ns1 shape 0 = refused 2 null\n") (FirstBad 5)
 unfolding history_reading worked
-told_of_nothing = record { counted = lit≤ tt; within = lit≤ tt; before = record { few = lit≤ tt; replies = refl }; bad = λ legal. let same : reply.Done ∷ reply.Done ∷ reply.Done ∷ reply.Done ∷ reply.Refused Null ∷ [] ≡ reply.Done ∷ reply.Done ∷ reply.Done ∷ reply.Done ∷ reply.Shape (record { references = 0; numbers = 1 }) ∷ [] = legal.replies in cc }
+told_of_nothing = record {
+  counted = lit≤ tt;
+  within = lit≤ tt;
+  before = record { few = lit≤ tt; replies = refl };
+  bad = λ legal.
+      let same : four_done (reply.Refused Null) ≡ four_done (reply.Shape (record { references = 0; numbers = 1 })) = legal.replies in cc;
+}
 
 -- Migrated and audited ---------------------------------------------------------------------------
 
@@ -109,7 +133,8 @@ too_large_checked : IsChecked four_pages (codes "history 1\ns0 new 0 0 3601 = re
 unfolding history_reading worked
 too_large_checked = (record { few = lit≤ tt; replies = refl }, refl)
 
-too_large_migrated : migration_text four_pages (Legal 1) (history_reading (codes "history 1\ns0 new 0 0 3601 = refused 4 too large\n")) ≡ codes "history 2 rules 1 4 209 0 0\ns0 new 0 0 3601 = refused 4 too large units 1 0\n"
+too_large_migrated : migration_text four_pages (Legal 1) (history_reading (codes "history 1\ns0 new 0 0 3601 = refused 4 too large\n"))
+    ≡ codes "history 2 rules 1 4 209 0 0\ns0 new 0 0 3601 = refused 4 too large units 1 0\n"
 unfolding history_reading machine_record worked
 too_large_migrated = refl
 
@@ -145,11 +170,21 @@ other_units same = not_one 2 (ap units_of same) (lit≤ tt)
 
 rules_2_audited : IsAudited (codes "history 2 rules 2 4 209 0 0\ns0 new 0 0 3601 = refused 4 too large units 1 0\n") (FirstBad 1)
 unfolding recorded_reading machine_record worked
-rules_2_audited = record { counted = lit≤ tt; within = lit≤ tt; before = record { few = lit≤ tt; same = refl }; bad = λ legal. other_reply legal.same }
+rules_2_audited = record {
+  counted = lit≤ tt;
+  within = lit≤ tt;
+  before = record { few = lit≤ tt; same = refl };
+  bad = λ legal. other_reply legal.same;
+}
 
 units_2_audited : IsAudited (codes "history 2 rules 1 4 209 0 0\ns0 new 0 0 3601 = refused 4 too large units 2 0\n") (FirstBad 1)
 unfolding recorded_reading machine_record worked
-units_2_audited = record { counted = lit≤ tt; within = lit≤ tt; before = record { few = lit≤ tt; same = refl }; bad = λ legal. other_units legal.same }
+units_2_audited = record {
+  counted = lit≤ tt;
+  within = lit≤ tt;
+  before = record { few = lit≤ tt; same = refl };
+  bad = λ legal. other_units legal.same;
+}
 
 version_1_audited : IsAudited (codes "history 1\n") (Refused 1)
 unfolding recorded_reading machine_record worked

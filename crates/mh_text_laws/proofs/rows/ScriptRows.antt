@@ -1,4 +1,4 @@
--- Worked rows of texts.
+-- Worked rows of scripts: lines that are refused, and what is answered.
 use Rattle.std.proofs.Common.{◌≡◌, refl, codes, ◌∷◌, ◌++◌}
 use Rattle.mh_text_laws.proofs.rows.Worked.{worked}
 use Rattle.mh_model.specs.Output.{output}
@@ -56,7 +56,8 @@ too_many_pages : output (codes "config 4097 209 0 0\n") ≡ codes "refused 10 li
 unfolding output reading worked
 too_many_pages = refl
 
-every_above_0 : output (codes "config 4 209 0 2\na end\n* quantum\n* report 1\n") ≡ codes "ok\nspent 0 phase idle\nmutator 1 collector 0 quanta 0 greatest 0 window 1 least 1 floor 0\n"
+every_above_0 : output (codes "config 4 209 0 2\na end\n* quantum\n* report 1\n")
+    ≡ codes "ok\nspent 0 phase idle\nmutator 1 collector 0 quanta 0 greatest 0 window 1 least 1 floor 0\n"
 unfolding output reading worked
 every_above_0 = refl
 

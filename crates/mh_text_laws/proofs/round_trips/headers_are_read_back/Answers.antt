@@ -1,4 +1,4 @@
-use Rattle.mh_text_laws.proofs.round_trips.HistoryRoundTrips.{header_of-line}
+use Rattle.mh_text_laws.proofs.round_trips.HeaderRoundTrips.{header_of-line}
 use Rattle.mh_text_laws.proofs.round_trips.headers_are_read_back.Goals as goal
 
 pub returns : goal.returns

@@ -1,0 +1,68 @@
+-- A text has one verdict at most.
+use Rattle.std.proofs.Common.{◌≡◌, ◌∙◌, inl, inr, ℕ, ◌-◌, ◌<◌, List, take, ap, sym, refl, subst, arith}
+use Rattle.std.proofs.lemmas.Bool.{cases_order}
+use Rattle.std.proofs.lemmas.List.{take-take}
+use Rattle.mh_model.specs.declared.config.Config.{Config}
+use Rattle.mh_model.specs.declared.history.Entry.{Entry}
+use Rattle.mh_model.specs.History.{IsLegal, IsFirstBadOf}
+use Rattle.mh_model.specs.Bytes.{Text}
+use Rattle.mh_model.specs.Script.{Reading, BadLine, Means}
+use Rattle.mh_model.specs.HistoryTexts.{Recorded, Verdict, Refused, Legal, FirstBad, IsJudged, IsLegalRecord, history_reading, recorded_reading, IsChecked, IsAudited}
+use Rattle.mh_text_laws.proofs.verdicts.LegalHistories.{legal-begins, record_legal-begins}
+
+-- a rule that holds of the beginnings of what it holds of
+record HasBeginnings {X : Type 0} (Lawful : List X → Type 0) : Type 0 where
+  begins : (n : ℕ) (xs : List X) → Lawful xs → Lawful (take n xs)
+
+no_earlier_entry : {X : Type 0} (Lawful : List X → Type 0) → HasBeginnings Lawful → (entries : List X) (i j : ℕ) → i < j → IsFirstBadOf Lawful entries i
+    → IsFirstBadOf Lawful entries j → ⊥
+no_earlier_entry Lawful rule entries i j below h k = h.bad (subst Lawful (take-take i (j - 1) entries (omega arith)) (rule.begins i (take (j - 1) entries) k.before))
+
+first_bad-once : {X : Type 0} (Lawful : List X → Type 0) → HasBeginnings Lawful → (entries : List X) (i j : ℕ) → IsFirstBadOf Lawful entries i → IsFirstBadOf Lawful entries j
+    → i ≡ j
+first_bad-once Lawful rule entries i j h k =
+    elim (cases_order i j) as (λ _. i ≡ j) [
+      | inl same ↦ same
+      | inr other ↦ elim other as (λ _. i ≡ j) [
+        | inl below ↦ absurd (no_earlier_entry Lawful rule entries i j below h k)
+        | inr above ↦ absurd (no_earlier_entry Lawful rule entries j i above k h)
+      ]
+    ]
+
+judged-once : {X : Type 0} (Lawful : List X → Type 0) → HasBeginnings Lawful → (entries : List X) (v w : Verdict) → IsJudged Lawful entries v → IsJudged Lawful entries w → v ≡ w
+judged-once Lawful rule entries (Refused line) w h k = absurd h
+judged-once Lawful rule entries (Legal count) (Refused line) h k = absurd k
+judged-once Lawful rule entries (FirstBad i) (Refused line) h k = absurd k
+judged-once Lawful rule entries (Legal a) (Legal b) h k = ap Legal (h.1 ∙ sym k.1)
+judged-once Lawful rule entries (Legal a) (FirstBad i) h k = absurd (k.bad (rule.begins i entries h.0))
+judged-once Lawful rule entries (FirstBad i) (Legal a) h k = absurd (h.bad (rule.begins i entries k.0))
+judged-once Lawful rule entries (FirstBad i) (FirstBad j) h k = ap FirstBad (first_bad-once Lawful rule entries i j h k)
+
+-- Texts ------------------------------------------------------------------------------------------
+
+checked_by : (config : Config) (text : Text) (found : Reading (List Entry)) (v w : Verdict) → history_reading text ≡ found → IsChecked config text v → IsChecked config text w
+    → v ≡ w
+checked_by config text (BadLine line) v w is h k =
+    let one : v ≡ Refused line = rw is at h in
+    let other : w ≡ Refused line = rw is at k in
+    one ∙ sym other
+checked_by config text (Means entries) v w is h k =
+    let one : IsJudged (IsLegal config) entries v = rw is at h in
+    let other : IsJudged (IsLegal config) entries w = rw is at k in
+    judged-once (IsLegal config) (record { begins = legal-begins config }) entries v w one other
+
+pub checked-once : (config : Config) (text : Text) (v w : Verdict) → IsChecked config text v → IsChecked config text w → v ≡ w
+checked-once config text v w h k = checked_by config text (history_reading text) v w refl h k
+
+audited_by : (text : Text) (found : Reading Recorded) (v w : Verdict) → recorded_reading text ≡ found → IsAudited text v → IsAudited text w → v ≡ w
+audited_by text (BadLine line) v w is h k =
+    let one : v ≡ Refused line = rw is at h in
+    let other : w ≡ Refused line = rw is at k in
+    one ∙ sym other
+audited_by text (Means r) v w is h k =
+    let one : IsJudged (IsLegalRecord r.config) r.entries v = rw is at h in
+    let other : IsJudged (IsLegalRecord r.config) r.entries w = rw is at k in
+    judged-once (IsLegalRecord r.config) (record { begins = record_legal-begins r.config }) r.entries v w one other
+
+pub audited-once : (text : Text) (v w : Verdict) → IsAudited text v → IsAudited text w → v ≡ w
+audited-once text v w h k = audited_by text (recorded_reading text) v w refl h k
