@@ -3,7 +3,7 @@ pub mod UnitsOfCommands
 pub mod LeastInWindows
 pub mod Moves
 pub mod PageFlags
-pub mod DumpInSweep
+pub mod Dumps
 pub mod Slots
 pub mod Fields
 pub mod GreyOrder

@@ -51,6 +51,12 @@ pub shared_object : lines 8 1000 0 0 (a (New 0 0 1) ∷ a (Copy 1 0) ∷ a (Writ
 unfolding worked
 shared_object = refl
 
+-- each number is read as it was written, in the first arraylet of a spine and in the last of 60
+pub fields_of_the_greatest_spine : lines 16 1000 0 0 (a (New 0 0 3600) ∷ a (Write 0 59 1) ∷ a (Write 0 3599 2) ∷ a (Read 0 59) ∷ a (Read 0 3599) ∷ a (Read 0 3600) ∷ [])
+    ≡ codes "ok\nok\nok\nnumber 1\nnumber 2\nrefused 3 no field\n"
+unfolding worked
+fields_of_the_greatest_spine = refl
+
 -- each number is read as it was written, at both ends of the runs of three middle spines
 pub fields_of_middle_spines : lines 36 1000 0 0 (a (New 0 0 7201) ∷ a (Write 0 0 1) ∷ a (Write 0 59 2) ∷ a (Write 0 60 3) ∷ a (Write 0 3599 4) ∷ a (Write 0 3600 5) ∷ a (Write 0 7199 6) ∷ a (Write 0 7200 7) ∷ a (Read 0 0) ∷ a (Read 0 59) ∷ a (Read 0 60) ∷ a (Read 0 3599) ∷ a (Read 0 3600) ∷ a (Read 0 7199) ∷ a (Read 0 7200) ∷ [])
     ≡ (oks 8 ++ codes "number 1\nnumber 2\nnumber 3\nnumber 4\nnumber 5\nnumber 6\nnumber 7\n")

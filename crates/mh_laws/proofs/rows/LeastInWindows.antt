@@ -9,6 +9,12 @@ pub least_between_quanta : lines 4 400 0 0 (a (New 0 0 0) ∷ start ∷ quantum_
 unfolding worked
 least_between_quanta = refl
 
+-- the stretch that is all of a quantum has no unit of the mutator, and one letter more has one
+pub stretch_of_a_quantum : lines 4 209 0 0 (start ∷ a (Clear 0) ∷ quantum_asked ∷ a (Clear 0) ∷ report 208 ∷ report 209 ∷ report 210 ∷ [])
+    ≡ codes "ok\nok\nspent 208 phase roots\nok\nmutator 2 collector 208 quanta 1 greatest 208 window 208 least 0 floor none\nmutator 2 collector 208 quanta 1 greatest 208 window 209 least 1 floor none\nmutator 2 collector 208 quanta 1 greatest 208 window 210 least 2 floor none\n"
+unfolding worked
+stretch_of_a_quantum = refl
+
 -- a window of no units has the least 0 in every trace, and one past the trace has none
 pub windows_of_short_traces : lines 4 209 0 0 (report 0 ∷ a (Clear 0) ∷ report 0 ∷ report 1 ∷ report 2 ∷ [])
     ≡ codes "mutator 0 collector 0 quanta 0 greatest 0 window 0 least 0 floor none\nok\nmutator 1 collector 0 quanta 0 greatest 0 window 0 least 0 floor none\nmutator 1 collector 0 quanta 0 greatest 0 window 1 least 1 floor none\nmutator 1 collector 0 quanta 0 greatest 0 window 2 least none floor none\n"

@@ -18,9 +18,17 @@ taken = refl
 pub tried : with_take taken_by_second 0 ≡ taken_by_second
 tried = refl
 
+-- whether it is at home is told by the word
+pub tried_by_the_word : with_take (record free { word = 1 }) 1 ≡ record free { word = 1 }
+tried_by_the_word = refl
+
 -- the value comes back with the entry of the call, which the seat's log gets too
 pub given_with_entry : with_give taken_by_second 1 (Some 7) ≡ record { word = 0; home = Some (5 ∷ 7 ∷ []); logs = (5 ∷ []) ∷ (7 ∷ []) ∷ []; taken = None ∷ None ∷ [] }
 given_with_entry = refl
+
+-- at the end of both
+pub given_after_others : with_give (with_take free 0) 0 (Some 7) ≡ record { word = 0; home = Some (5 ∷ 7 ∷ []); logs = (5 ∷ 7 ∷ []) ∷ [] ∷ []; taken = None ∷ None ∷ [] }
+given_after_others = refl
 
 -- and as it was where the call has no entry
 pub given_without_entry : with_give taken_by_second 1 None ≡ free

@@ -12,15 +12,15 @@ use Rattle.mh_laws.proofs.Worked.{a, b, quantum_asked, session, start, worked}
 abbrev ended_shown : Option Config → List Event → Option (List Bool)
 ended_shown config events = option_map (λ moment. (heap_view moment.machine.heap).ended ++ moment.world.ended) (moment_of config events)
 
--- an object that is still to be swept away is not shown, as an object is that was made before its place is swept
-pub condemned : shown (configured 1 290 0 0) (a (New 0 0 60) ∷ a (New 1 0 60) ∷ a (Clear 1) ∷ start ∷ quantum_asked ∷ a (New 2 0 60) ∷ []) ≡ Some (true ∷ false ∷ true ∷ [])
+-- objects that are still to be swept away are not shown, and one is that was made where the sweep has not come
+pub condemned : shown (configured 1 290 0 0) (a (New 0 0 60) ∷ a (New 1 0 60) ∷ a (New 2 0 60) ∷ a (Clear 1) ∷ a (Clear 2) ∷ start ∷ quantum_asked ∷ a (New 3 0 60) ∷ []) ≡ Some (true ∷ false ∷ false ∷ true ∷ [])
 unfolding worked
 condemned = refl
 
--- an object that is not marked is shown before the sweep
-pub unmarked_in_roots : shown (configured 1 209 0 0) (a (New 0 0 60) ∷ a (New 1 0 60) ∷ a (Clear 1) ∷ start ∷ quantum_asked ∷ []) ≡ Some (true ∷ true ∷ [])
+-- an object that is not marked is shown while blocks are marked
+pub unmarked_in_mark : shown (configured 8 289 0 0) (a (New 0 60 0) ∷ a (New 1 0 0) ∷ a (New 2 0 0) ∷ a (Clear 2) ∷ start ∷ quantum_asked ∷ []) ≡ Some (true ∷ true ∷ true ∷ [])
 unfolding worked
-unmarked_in_roots = refl
+unmarked_in_mark = refl
 
 -- a number is written into an object that moved to a later page
 pub moved_later_agrees : is_agreed (configured 4 1000 0 0) (a (New 0 0 60) ∷ a (New 1 0 60) ∷ a (New 2 0 60) ∷ a (New 3 0 60) ∷ a (New 4 0 60) ∷ a (New 5 0 60) ∷ a (New 6 0 60) ∷ a (New 7 0 60) ∷ a (New 8 0 60) ∷ a (New 9 0 60) ∷ a (New 10 0 60) ∷ a (New 11 0 60) ∷ a (Clear 5) ∷ a (Clear 6) ∷ a (Clear 7) ∷ a (Clear 10) ∷ a (Clear 11) ∷ start ∷ quantum_asked ∷ a (Write 4 0 7) ∷ []) ≡ Some true

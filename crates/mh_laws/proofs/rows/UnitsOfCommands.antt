@@ -21,6 +21,12 @@ pub units_past_the_scheduled : lines 8 209 0 2 (a (New 0 0 61) ∷ a (Clear 1) �
 unfolding worked
 units_past_the_scheduled = refl
 
+-- however many units a command is, one quantum is run after it
+pub one_quantum_for_many_units : lines 8 209 0 1 (a (New 0 0 61) ∷ report 1 ∷ a (Clear 1) ∷ report 1 ∷ [])
+    ≡ codes "ok\nmutator 3 collector 0 quanta 1 greatest 0 window 1 least 1 floor 0\nok\nmutator 4 collector 0 quanta 2 greatest 0 window 1 least 1 floor 0\n"
+unfolding worked
+one_quantum_for_many_units = refl
+
 -- under the first rules such an object is one unit
 pub one_unit_under_the_first_rules : first_lines 8 209 0 2 (a (New 0 0 61) ∷ report 1 ∷ [])
     ≡ codes "ok\nmutator 1 collector 0 quanta 0 greatest 0 window 1 least 1 floor 0\n"

@@ -1,4 +1,4 @@
--- Dumps while pages are swept.
+-- What dumps tell, also while pages are swept.
 use Rattle.std.proofs.Common.{[], codes, refl, ◌++◌, ◌∷◌, ◌≡◌}
 use Rattle.mh_model.specs.declared.command.Command.TheVariants.{Clear, New}
 use Rattle.mh_laws.proofs.Worked.{a, dump, lines, oks, quantum_asked, start, stat, worked}
@@ -14,3 +14,9 @@ pub page_without_blocks : lines 1 291 0 0 (a (New 0 0 60) ∷ a (New 1 0 60) ∷
     ≡ (oks 5 ++ codes "spent 291 phase sweep\ndump P0 C64 -\nfree 0 live 0 old 0 phase sweep cycle 1\nspent 2 phase idle\ndump\n")
 unfolding worked
 page_without_blocks = refl
+
+-- a page has its own number after pages that are free
+pub page_after_a_free_page : lines 4 1000 0 0 (a (New 0 0 60) ∷ a (New 1 0 0) ∷ a (Clear 0) ∷ start ∷ quantum_asked ∷ dump ∷ [])
+    ≡ codes "ok\nok\nok\nok\nspent 363 phase idle\ndump P1 C4 - 0=1.0\n"
+unfolding worked
+page_after_a_free_page = refl
