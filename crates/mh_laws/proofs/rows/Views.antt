@@ -33,22 +33,22 @@ same_objects _ _ = false
 abbrev agrees : Moment → Bool
 agrees moment = same_references (heap_view moment.machine.heap).slots moment.world.slots && same_objects (heap_view moment.machine.heap).objects moment.world.objects
 
-abbrev moment_of : Option Config → List Event → Option Moment
+abbrev pub moment_of : Option Config → List Event → Option Moment
 moment_of config events = option_map (λ c. moment_after (first_moment c) events) config
 
-abbrev is_agreed : Option Config → List Event → Option Bool
+abbrev pub is_agreed : Option Config → List Event → Option Bool
 is_agreed config events = option_map agrees (moment_of config events)
 
 -- at which births something is shown
-abbrev shown : Option Config → List Event → Option (List Bool)
+abbrev pub shown : Option Config → List Event → Option (List Bool)
 shown config events = option_map (λ moment. map is_some (heap_view moment.machine.heap).objects) (moment_of config events)
 
 -- at which births something was in the snapshot
-abbrev snapped : Option Config → List Event → Option (List Bool)
+abbrev pub snapped : Option Config → List Event → Option (List Bool)
 snapped config events = option_map (λ moment. map is_some moment.snapshot.objects) (moment_of config events)
 
 -- how many quanta the running cycle has had
-abbrev counted : Option Config → List Event → Option ℕ
+abbrev pub counted : Option Config → List Event → Option ℕ
 counted config events = option_map (λ moment. moment.machine.heap.collector.quanta) (moment_of config events)
 
 -- Rows -------------------------------------------------------------------------------------------

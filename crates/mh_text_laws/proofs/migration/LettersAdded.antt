@@ -15,8 +15,8 @@ use Rattle.mh_model.specs.Trace.{Letter, M, C, mutator_count, collector_count}
 use Rattle.mh_model.specs.Collector.{quantum}
 use Rattle.mh_model.specs.Mutator.{mutator_step}
 use Rattle.mh_model.specs.Machine.{Machine, command_units, command_step, control_step, quantum_run, is_quantum_due, event_step}
-use Rattle.mh_laws.proofs.Quanta.{units-quantum}
-use Rattle.mh_laws.proofs.Runs.{config-mutator_step}
+use Rattle.mh_laws.proofs.costs.Quanta.{units-quantum}
+use Rattle.mh_laws.proofs.runs.EveryMoment.{config-mutator_step}
 
 -- Letters ----------------------------------------------------------------------------------------
 
