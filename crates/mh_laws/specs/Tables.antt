@@ -1,12 +1,15 @@
 -- Tables whose pages have the slots of their classes, and blocks within the limits of objects.
 use Rattle.std.specs.Prelude.{◌≡◌, ℕ, ◌+◌, ◌*◌, ◌<◌, ◌≤◌, Some, List, length}
 use Rattle.mh_model.specs.declared.config.Config.{Config}
+use Rattle.mh_model.specs.declared.command.Command.{Command}
 use Rattle.mh_model.specs.declared.command.Event.{Event}
 use Rattle.mh_model.specs.World.{most_fields}
 use Rattle.mh_model.specs.Pages.{Page, Table, page_number, slot_number, page_at, block_in, block_at, HaveTheirSlots}
 use Rattle.mh_model.specs.Classes.{parts}
 use Rattle.mh_model.specs.Table.{Block, IsWithinLimits, HasSmallBlocks, Made, made_group}
 use Rattle.mh_model.specs.Collector.{Collector, first_collector, collector_step, quantum}
+use Rattle.mh_model.specs.Mutator.{HeapState, mutator_step}
+use Rattle.mh_model.specs.Invariant.{HasItsPages}
 use Rattle.mh_model.specs.Machine.{Machine, first_machine, half_step, event_step, machine_after}
 
 -- As many pages, each in use with the slots of its class where that was so before, and each block within the limits where that was so, if the objects made meanwhile have at most so many fields
@@ -36,12 +39,6 @@ EventKeepsThePages = (machine : Machine) (event : Event) → EventKeeps machine 
 abbrev pub MakingKeepsThePages : Type 0
 MakingKeepsThePages = (table : Table Block) (birth stamp references numbers : ℕ) (made : Made) → made_group table birth stamp (parts references numbers) ≡ Some made → KeepsItsPages (references + numbers) table made.table
 
--- a table has the pages that are configured, each in use has the slots of its class, and blocks are within the limits
-pub record HasItsPages (config : Config) (table : Table Block) : Type 0 where
-  pub pages : length table ≡ config.pages
-  pub slots : HaveTheirSlots table
-  pub limits : HasSmallBlocks (most_fields config) table
-
 -- The first table has its pages
 abbrev pub FirstTableHasItsPages : Type 0
 FirstTableHasItsPages = (config : Config) → HasItsPages config (first_collector config).table
@@ -55,3 +52,10 @@ pub record BlocksAreInPages : Type 0 where
   pub below : (table : Table Block) (place : ℕ) (block : Block) → block_at table place ≡ Some block → place < 64 * length table
   pub page : (table : Table Block) (place : ℕ) (block : Block) → block_at table place ≡ Some block → (page : Page Block) × (page_at table (page_number place) ≡ Some page) × (block_in (slot_number place) page ≡ Some block) × (slot_number place < length page.slots)
   pub limits : (most : ℕ) (table : Table Block) (place : ℕ) (block : Block) → HasSmallBlocks most table → block_at table place ≡ Some block → IsWithinLimits most block
+
+-- A heap's table keeps its pages in each command, step and quantum, and in making an object that the rules allow
+pub record TablesKeepTheirPages : Type 0 where
+  pub commands : (heap : HeapState) (who : ℕ) (command : Command) → HasItsPages heap.config heap.collector.table → HasItsPages heap.config (mutator_step heap who command).state.collector.table
+  pub steps : (config : Config) (collector : Collector) → HasItsPages config collector.table → HasItsPages config (collector_step collector).table
+  pub quanta : (config : Config) (collector : Collector) → HasItsPages config collector.table → HasItsPages config (quantum config collector).collector.table
+  pub made : (config : Config) (table : Table Block) (birth stamp references numbers : ℕ) (made : Made) → references + numbers ≤ most_fields config → made_group table birth stamp (parts references numbers) ≡ Some made → HasItsPages config table → HasItsPages config made.table

@@ -19,7 +19,8 @@ use Rattle.mh_model.specs.Table.{Block, IsWithinLimits, HasSmallBlocks, number_i
 use Rattle.mh_model.specs.Collector.{Collector, first_collector, Marking, is_marked, with_grey, shade_block, shade, mark_reference, mark_references, mark_first, is_last_slot, survivor, judged_page, swept_page, swept_table, next_move, Move, with_move, with_phase, with_shade, marking_of, after_mark, is_past, step_in, phase_after, collector_step, step_cost, is_moving, is_idle, cycle_end, quantum_start, Spending, steps, quantum}
 use Rattle.mh_model.specs.Mutator.{HeapState, in_roots, in_roots_or_mark, before_field, with_root, with_roots_cleared, with_session_cleared, with_reference_stored, with_number_stored, field_of, number_field, new_group, with_born, heap_sight, heap_effect, mutator_step}
 use Rattle.mh_model.specs.Machine.{Machine, first_machine, with_collector, quantum_run, command_step, machine_after}
-use Rattle.mh_laws.specs.Tables.{KeepsItsPages, EventKeeps, HasItsPages}
+use Rattle.mh_model.specs.Invariant.{HasItsPages}
+use Rattle.mh_laws.specs.Tables.{KeepsItsPages, EventKeeps, TablesKeepTheirPages}
 use Rattle.mh_laws.specs.Commands.{IsOnCourse}
 use Rattle.mh_laws.proofs.Lists.{none_at}
 use Rattle.mh_laws.proofs.tables.PageSlots.{IsSmallPage, class_of-class_size, judged_page-is, page_with-slots, page_with-small, small_page, small_block, same_limits, keeps_same, keeps_then, set-keeps, with_block-slots, with_block-limits, with_block-keeps, change-keeps, with_taken-keeps}
@@ -425,3 +426,15 @@ machine_after-pages config events =
     let table : Table Block = (first_collector config).table in
     let kept = (machine_after-keeps (Keeps config table) (by_command config table) (by_quantum config table) (by_asking config table) events (first_machine config) (refl, keeps_same (most_fields config) table)).1 in
     record { pages = kept.pages ∙ first.pages; slots = kept.slots first.slots; limits = kept.limits (most_fields config) (omega arith) first.limits }
+
+kept-pages : (config : Config) (made : ℕ) (old new : Table Block) → made ≤ most_fields config → KeepsItsPages made old new → HasItsPages config old → HasItsPages config new
+kept-pages config made old new room keeps has = record { pages = keeps.pages ∙ has.pages; slots = keeps.slots has.slots; limits = keeps.limits (most_fields config) room has.limits }
+
+-- A heap's table keeps its pages
+pub tables-keep : TablesKeepTheirPages
+tables-keep = record {
+  commands = λ heap who command has. let course = mutator_step-course heap who command in kept-pages heap.config (most_fields heap.config) heap.collector.table _ (omega arith) (record { pages = course.pages; slots = course.slots; limits = course.limits }) has;
+  steps = λ config collector has. kept-pages config 0 collector.table _ (omega arith) (collector_step-keeps 0 collector) has;
+  quanta = λ config collector has. kept-pages config 0 collector.table _ (omega arith) (quantum-keeps 0 config collector) has;
+  made = λ config table birth stamp references numbers made fields e has. kept-pages config (references + numbers) table made.table fields (made_group-keeps (references + numbers) table birth stamp references numbers made (omega arith) e) has;
+}
