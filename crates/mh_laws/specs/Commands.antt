@@ -1,21 +1,21 @@
 -- What commands of sessions leave as it was.
-use Rattle.std.specs.Prelude.{◌≡◌, ℕ, ◌+◌, ◌-◌, ◌<◌, true, Some, None, length, set}
+use Rattle.std.specs.Prelude.{◌≡◌, ℕ, ◌+◌, ◌-◌, ◌<◌, ◌≤◌, true, Some, None, length, set}
 use Rattle.mh_model.specs.declared.command.Command.{Command}
 use Rattle.mh_model.specs.declared.command.Command.TheVariants as command
 use Rattle.mh_model.specs.declared.reply.Refusal.{Refusal}
 use Rattle.mh_model.specs.declared.reply.Refusal.TheVariants.{HeapFull}
 use Rattle.mh_model.specs.declared.reply.Reply.TheVariants as reply
-use Rattle.mh_model.specs.World.{own_slot, refusal, never_full, done, says}
+use Rattle.mh_model.specs.World.{most_fields, own_slot, refusal, never_full, done, says}
 use Rattle.mh_model.specs.Table.{HasSmallBlocks, Made}
 use Rattle.mh_model.specs.Collector.{Collector}
 use Rattle.mh_model.specs.Mutator.{HeapState, with_root, with_roots_cleared, new_group, with_born, heap_sight, heap_effect, mutator_step}
 use Rattle.mh_model.specs.Pages.{HaveTheirSlots}
 
--- a collector on the same course: only blocks, slots and the grey list may differ
-pub record IsOnCourse (old new : Collector) : Type 0 where
+-- a collector on the same course: only blocks, slots and the grey list may differ, and an object made meanwhile has at most so many fields
+pub record IsOnCourse (made : ℕ) (old new : Collector) : Type 0 where
   pub pages : length new.table ≡ length old.table
   pub slots : HaveTheirSlots old.table → HaveTheirSlots new.table
-  pub limits : HasSmallBlocks old.table → HasSmallBlocks new.table
+  pub limits : (most : ℕ) → made ≤ most → HasSmallBlocks most old.table → HasSmallBlocks most new.table
   pub phase : new.phase ≡ old.phase
   pub cursor : new.cursor ≡ old.cursor
   pub cycle : new.cycle ≡ old.cycle
@@ -30,7 +30,7 @@ pub record IsBorn (heap : HeapState) (who slot references numbers : ℕ) : Type 
 
 -- A command leaves the collector's phase, cursor, cycle number, asking and quanta, and keeps the pages
 abbrev pub CommandKeepsTheCourse : Type 0
-CommandKeepsTheCourse = (heap : HeapState) (who : ℕ) (command : Command) → IsOnCourse heap.collector (mutator_step heap who command).state.collector
+CommandKeepsTheCourse = (heap : HeapState) (who : ℕ) (command : Command) → IsOnCourse (most_fields heap.config) heap.collector (mutator_step heap who command).state.collector
 
 -- A refused command leaves the heap as it was, also where the heap is full
 abbrev pub RefusalLeavesTheHeap : Type 0

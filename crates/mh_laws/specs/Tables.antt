@@ -1,31 +1,35 @@
 -- Tables whose pages have the slots of their classes, and blocks within the limits of objects.
-use Rattle.std.specs.Prelude.{◌≡◌, ℕ, ◌*◌, ◌<◌, Some, List, length}
+use Rattle.std.specs.Prelude.{◌≡◌, ℕ, ◌+◌, ◌*◌, ◌<◌, ◌≤◌, Some, List, length}
 use Rattle.mh_model.specs.declared.config.Config.{Config}
+use Rattle.mh_model.specs.declared.command.Command.{Command}
 use Rattle.mh_model.specs.declared.command.Event.{Event}
+use Rattle.mh_model.specs.World.{most_fields}
 use Rattle.mh_model.specs.Pages.{Page, Table, page_number, slot_number, page_at, block_in, block_at, HaveTheirSlots}
 use Rattle.mh_model.specs.Classes.{parts}
 use Rattle.mh_model.specs.Table.{Block, IsWithinLimits, HasSmallBlocks, Made, made_group}
 use Rattle.mh_model.specs.Collector.{Collector, first_collector, collector_step, quantum}
+use Rattle.mh_model.specs.Mutator.{HeapState, mutator_step}
+use Rattle.mh_model.specs.Invariant.{HasItsPages}
 use Rattle.mh_model.specs.Machine.{Machine, first_machine, half_step, event_step, machine_after}
 
--- as many pages, each in use with the slots of its class where that was so before, and each block within the limits of objects where that was so
-pub record KeepsItsPages (old new : Table Block) : Type 0 where
+-- As many pages, each in use with the slots of its class where that was so before, and each block within the limits where that was so, if the objects made meanwhile have at most so many fields
+pub record KeepsItsPages (made : ℕ) (old new : Table Block) : Type 0 where
   pub pages : length new ≡ length old
   pub slots : HaveTheirSlots old → HaveTheirSlots new
-  pub limits : HasSmallBlocks old → HasSmallBlocks new
+  pub limits : (most : ℕ) → made ≤ most → HasSmallBlocks most old → HasSmallBlocks most new
 
 -- A step of the collector keeps the pages
 abbrev pub StepKeepsThePages : Type 0
-StepKeepsThePages = (collector : Collector) → KeepsItsPages collector.table (collector_step collector).table
+StepKeepsThePages = (collector : Collector) → KeepsItsPages 0 collector.table (collector_step collector).table
 
 -- A quantum keeps the pages
 abbrev pub QuantumKeepsThePages : Type 0
-QuantumKeepsThePages = (config : Config) (collector : Collector) → KeepsItsPages collector.table (quantum config collector).collector.table
+QuantumKeepsThePages = (config : Config) (collector : Collector) → KeepsItsPages 0 collector.table (quantum config collector).collector.table
 
 -- an event keeps the pages, and so does its half step
 pub record EventKeeps (machine : Machine) (event : Event) : Type 0 where
-  pub half : KeepsItsPages machine.heap.collector.table (half_step machine event).heap.collector.table
-  pub whole : KeepsItsPages machine.heap.collector.table (event_step machine event).state.heap.collector.table
+  pub half : KeepsItsPages (most_fields machine.heap.config) machine.heap.collector.table (half_step machine event).heap.collector.table
+  pub whole : KeepsItsPages (most_fields machine.heap.config) machine.heap.collector.table (event_step machine event).state.heap.collector.table
 
 -- Every event keeps the pages
 abbrev pub EventKeepsThePages : Type 0
@@ -33,13 +37,7 @@ EventKeepsThePages = (machine : Machine) (event : Event) → EventKeeps machine 
 
 -- Making an object keeps the pages
 abbrev pub MakingKeepsThePages : Type 0
-MakingKeepsThePages = (table : Table Block) (birth stamp references numbers : ℕ) (made : Made) → made_group table birth stamp (parts references numbers) ≡ Some made → KeepsItsPages table made.table
-
--- a table has the pages that are configured, each in use has the slots of its class, and blocks are within the limits of objects
-pub record HasItsPages (config : Config) (table : Table Block) : Type 0 where
-  pub pages : length table ≡ config.pages
-  pub slots : HaveTheirSlots table
-  pub limits : HasSmallBlocks table
+MakingKeepsThePages = (table : Table Block) (birth stamp references numbers : ℕ) (made : Made) → made_group table birth stamp (parts references numbers) ≡ Some made → KeepsItsPages (references + numbers) table made.table
 
 -- The first table has its pages
 abbrev pub FirstTableHasItsPages : Type 0
@@ -53,4 +51,11 @@ EveryTableHasItsPages = (config : Config) (events : List Event) → HasItsPages 
 pub record BlocksAreInPages : Type 0 where
   pub below : (table : Table Block) (place : ℕ) (block : Block) → block_at table place ≡ Some block → place < 64 * length table
   pub page : (table : Table Block) (place : ℕ) (block : Block) → block_at table place ≡ Some block → (page : Page Block) × (page_at table (page_number place) ≡ Some page) × (block_in (slot_number place) page ≡ Some block) × (slot_number place < length page.slots)
-  pub limits : (table : Table Block) (place : ℕ) (block : Block) → HasSmallBlocks table → block_at table place ≡ Some block → IsWithinLimits block
+  pub limits : (most : ℕ) (table : Table Block) (place : ℕ) (block : Block) → HasSmallBlocks most table → block_at table place ≡ Some block → IsWithinLimits most block
+
+-- A heap's table keeps its pages in each command, step and quantum, and in making an object that the rules allow
+pub record TablesKeepTheirPages : Type 0 where
+  pub commands : (heap : HeapState) (who : ℕ) (command : Command) → HasItsPages heap.config heap.collector.table → HasItsPages heap.config (mutator_step heap who command).state.collector.table
+  pub steps : (config : Config) (collector : Collector) → HasItsPages config collector.table → HasItsPages config (collector_step collector).table
+  pub quanta : (config : Config) (collector : Collector) → HasItsPages config collector.table → HasItsPages config (quantum config collector).collector.table
+  pub made : (config : Config) (table : Table Block) (birth stamp references numbers : ℕ) (made : Made) → references + numbers ≤ most_fields config → made_group table birth stamp (parts references numbers) ≡ Some made → HasItsPages config table → HasItsPages config made.table

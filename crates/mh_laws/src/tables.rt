@@ -1,5 +1,5 @@
 //! Laws of tables and the slots of their pages.
-ghost use Rattle.mh_laws.specs.Tables.{FirstTableHasItsPages, StepKeepsThePages, QuantumKeepsThePages, EventKeepsThePages, EveryTableHasItsPages, MakingKeepsThePages, BlocksAreInPages};
+ghost use Rattle.mh_laws.specs.Tables.{FirstTableHasItsPages, StepKeepsThePages, QuantumKeepsThePages, EventKeepsThePages, EveryTableHasItsPages, MakingKeepsThePages, BlocksAreInPages, TablesKeepTheirPages};
 
 /// The first table has as many pages as are configured.
 pub fn first_table_has_its_pages()
@@ -34,4 +34,9 @@ pub fn making_keeps_the_pages()
 /// A block is at a place of the table, in a page in use.
 pub fn blocks_are_in_pages()
     ensures { BlocksAreInPages }
+{}
+
+/// A heap's table keeps its pages, their slots and blocks within the limits of the rules.
+pub fn tables_keep_their_pages()
+    ensures { TablesKeepTheirPages }
 {}

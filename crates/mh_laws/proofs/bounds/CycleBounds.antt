@@ -34,7 +34,7 @@ words-kept old new number slot kept = go (class_at old number) refl
     go None e = omega arith
     go (Some size) e = rw (kept size e) (omega arith)
 
-module _ (old new : Collector) (course : IsOnCourse old new) (carried : Carried old new) (under : IsUnderway old) where
+module _ (old new : Collector) {made : ℕ} (course : IsOnCourse made old new) (carried : Carried old new) (under : IsUnderway old) where
   grey-outside : in_roots_or_mark old.phase ≡ false → old.grey ≡ [] → new.grey ≡ []
   grey-outside outside none = carried.grey outside ∙ none
 

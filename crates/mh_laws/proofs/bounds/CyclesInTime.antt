@@ -180,7 +180,7 @@ quantum-started config old new started =
     let (count, back) = steps-count config.quantum config.quantum false new (λ idle. absurd (true≢false (sym idle ∙ started.runs))) in
     record {
       bounds = record {
-        pages = (steps-keeps config.quantum config.quantum false new).pages ∙ started.pages;
+        pages = (steps-keeps 0 config.quantum config.quantum false new).pages ∙ started.pages;
         under = spent.under;
         idle = count.ended;
         within = started-within config old new started (steps config.quantum config.quantum false new) spent some count;

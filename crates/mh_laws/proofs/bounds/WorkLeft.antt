@@ -106,7 +106,7 @@ roots-paid collector some sound inside = go (new.cursor == 144) refl
     carries = with_shade-carries collector reference sound
 
     pages : length new.table ≡ length collector.table
-    pages = (shade-keeps (marking_of collector) reference).pages
+    pages = (shade-keeps 0 (marking_of collector) reference).pages
 
     some' : 0 < length new.table
     some' = omega (arith, pages)
@@ -140,7 +140,7 @@ mark-paid collector some sound stage = go collector.grey refl stage
         let new : Collector = with_marking collector marked in
         let pays : MarksThrough (marking_of collector) (marking_of new) (count_at collector.table place) =
         subst (λ n. MarksThrough (marking_of collector) (record { table = marked.table; grey = marked.grey; cycle = n }) (count_at collector.table place)) (cycle-mark_first (marking_of collector) (place ∷ grey)) (mark_first-pays (marking_of collector) place grey e sound) in
-        let pages : length marked.table ≡ length collector.table = (mark_first-keeps (marking_of collector) (place ∷ grey)).pages in
+        let pages : length marked.table ≡ length collector.table = (mark_first-keeps 0 (marking_of collector) (place ∷ grey)).pages in
         let steps : weight in_steps (marking_of new) + 1 ≤ weight in_steps (marking_of collector) = pays.paid in_steps in
         let units : weight in_units (marking_of new) + (1 + count_at collector.table place) ≤ weight in_units (marking_of collector) = pays.paid in_units in
         paid_more _ _ _ _ _ _ (after_mark new marked.grey) (omega (arith, steps, pages)) (omega (arith, units, pages)) (after_mark-paid new (omega (arith, pages)) pays.sound marked.grey refl)
@@ -153,7 +153,7 @@ sweep-paid collector phase some sound (none, inside) = go (is_past new.table new
     new = step_in Sweep collector
 
     pages : length new.table ≡ length collector.table
-    pages = (step_in-keeps Sweep collector).pages
+    pages = (step_in-keeps 0 Sweep collector).pages
 
     next : IsNext collector.cursor new.cursor
     next = next_place-next collector.cursor (page_at collector.table (page_number collector.cursor))

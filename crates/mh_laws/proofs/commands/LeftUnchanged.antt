@@ -1,6 +1,6 @@
 -- What commands, steps, quanta and events leave as it was: the collector's course, the pages, and the heap of a refused command.
-use Rattle.std.proofs.Common.{◌≡◌, ℕ, zero, suc, ◌+◌, ◌-◌, ◌==◌, nat_lt, Bool, true, false, ◌||◌, if◌then◌else◌, inl, inr, Option, Some, None, option_and_then, option_map, unwrap_or, List, [], ◌∷◌, length, get_or, set, slice_get, ◌<◌, ◌≤◌, refl, sym, ap, ◌∙◌, subst, arith}
-use Rattle.std.proofs.lemmas.Bool.{cases_Bool}
+use Rattle.std.proofs.Common.{◌≡◌, ℕ, zero, suc, ◌+◌, ◌-◌, ◌==◌, nat_lt, Bool, true, false, ◌||◌, if◌then◌else◌, inl, inr, Option, Some, None, option_and_then, option_map, unwrap_or, List, [], ◌∷◌, length, get_or, set, slice_get, ◌<◌, ◌≤◌, refl, sym, ap, ◌∙◌, subst, arith, nat_le, is_none}
+use Rattle.std.proofs.lemmas.Bool.{cases_Bool, ltb-false}
 use Rattle.std.proofs.lemmas.List.{length-replicate, length-set}
 use Rattle.std.proofs.lemmas.Option.{none-some, same_Some}
 use Rattle.mh_model.specs.declared.command.Command.{Command}
@@ -10,102 +10,28 @@ use Rattle.mh_model.specs.declared.config.Config.{Config}
 use Rattle.mh_model.specs.declared.cycle.Phase.{Phase}
 use Rattle.mh_model.specs.declared.cycle.Phase.TheVariants.{Idle, Roots, Mark, Sweep, Defrag}
 use Rattle.mh_model.specs.declared.reply.Refusal.{Refusal}
+use Rattle.mh_model.specs.declared.reply.Refusal.TheVariants.{BadSlot, TooLarge, HeapFull, Ended, TooManySessions}
 use Rattle.mh_model.specs.declared.reply.Reply.TheVariants as reply
-use Rattle.mh_model.specs.World.{own_slot, board_slot, refusal, unless_refused}
+use Rattle.mh_model.specs.World.{own_slot, board_slot, refusal, unless_refused, most_fields, first_refusal, is_bad}
 use Rattle.mh_model.specs.Classes.{Part, class_of, part_words, parts, slots_in, is_class_size}
 use Rattle.mh_model.specs.Pages.{Page, Table, page_number, slot_number, page_at, block_in, block_at, least_place, page_with, with_taken, HasItsSlots}
 use Rattle.mh_model.specs.Table.{Block, IsWithinLimits, HasSmallBlocks, number_index, Made, MadeParts, Position, references_at, with_reference_at, resolve, target_of, new_block, made_in_class, made_parts, with_block_change, linked_block, linked_parts, group_of, made_group, reference_in}
 use Rattle.mh_model.specs.Collector.{Collector, first_collector, Marking, is_marked, with_grey, shade_block, shade, mark_reference, mark_references, mark_first, is_last_slot, survivor, judged_page, swept_page, swept_table, next_move, Move, with_move, with_phase, with_shade, marking_of, after_mark, is_past, step_in, phase_after, collector_step, step_cost, is_moving, is_idle, cycle_end, quantum_start, Spending, steps, quantum}
 use Rattle.mh_model.specs.Mutator.{HeapState, in_roots, in_roots_or_mark, before_field, with_root, with_roots_cleared, with_session_cleared, with_reference_stored, with_number_stored, field_of, number_field, new_group, with_born, heap_sight, heap_effect, mutator_step}
 use Rattle.mh_model.specs.Machine.{Machine, first_machine, with_collector, quantum_run, command_step, machine_after}
-use Rattle.mh_laws.specs.Tables.{KeepsItsPages, EventKeeps, HasItsPages}
+use Rattle.mh_model.specs.Invariant.{HasItsPages}
+use Rattle.mh_laws.specs.Tables.{KeepsItsPages, EventKeeps, TablesKeepTheirPages}
 use Rattle.mh_laws.specs.Commands.{IsOnCourse}
 use Rattle.mh_laws.proofs.Lists.{none_at}
 use Rattle.mh_laws.proofs.tables.PageSlots.{IsSmallPage, class_of-class_size, judged_page-is, page_with-slots, page_with-small, small_page, small_block, same_limits, keeps_same, keeps_then, set-keeps, with_block-slots, with_block-limits, with_block-keeps, change-keeps, with_taken-keeps}
-use Rattle.mh_laws.proofs.runs.EveryMoment.{half_step-keeps, event_step-keeps, machine_after-keeps}
+use Rattle.mh_laws.proofs.runs.EveryMoment.{config-mutator_step, half_step-keeps, event_step-keeps, machine_after-keeps}
 use Rattle.mh_laws.proofs.costs.Quanta.{steps-stop, steps-go}
 use Rattle.mh_laws.proofs.moving.NextMove.{IsNextMove, next_move-is}
 use Rattle.mh_laws.proofs.objects.Parts.{some_parts, few_fields, small_parts}
 use Rattle.mh_laws.proofs.tables.BlockRoom.{class_of-is, class_of-fits, survivor-same}
 use Rattle.mh_laws.proofs.costs.QuantumStarts.{begins}
 
--- Tables -----------------------------------------------------------------------------------------
-
-shade_block-keeps : (marking : Marking) (place : ℕ) (block : Option Block) → block_at marking.table place ≡ block → KeepsItsPages marking.table (shade_block marking place block).table
-shade_block-keeps marking place None at = keeps_same marking.table
-shade_block-keeps marking place (Some block) at = go (is_marked marking.cycle block)
-  where
-    go : (marked : Bool) → KeepsItsPages marking.table (if marked then marking else with_grey marking place block).table
-    go true = keeps_same marking.table
-    go false = with_block-keeps marking.table place _ (λ small new e. subst IsWithinLimits (same_Some (record block { stamp = marking.cycle }) new e) (same_limits block (record block { stamp = marking.cycle }) refl refl (small_block marking.table place block small at)))
-
-pub shade-keeps : (marking : Marking) (reference : Option ℕ) → KeepsItsPages marking.table (shade marking reference).table
-shade-keeps marking None = keeps_same marking.table
-shade-keeps marking (Some place) = shade_block-keeps marking (resolve marking.table place) (block_at marking.table (resolve marking.table place)) refl
-
-mark_references-keeps : (marking : Marking) (place index : ℕ) (references : List (Option ℕ)) → KeepsItsPages marking.table (mark_references marking place index references).table
-mark_references-keeps marking place index [] = keeps_same marking.table
-mark_references-keeps marking place index (reference ∷ references) =
-    let target = target_of marking.table reference in
-    let written : Table Block = with_reference_at marking.table place index target in
-    let next : Marking = mark_reference marking place index reference in
-    keeps_then marking.table next.table (mark_references next place (suc index) references).table
-    (keeps_then marking.table written next.table (change-keeps marking.table place _ (λ block. (refl, refl))) (shade-keeps (record marking { table = written }) target))
-    (mark_references-keeps next place (suc index) references)
-
-pub mark_first-keeps : (marking : Marking) (grey : List ℕ) → KeepsItsPages marking.table (mark_first marking grey).table
-mark_first-keeps marking [] = keeps_same marking.table
-mark_first-keeps marking (place ∷ grey) = mark_references-keeps (record marking { grey = grey }) place 0 (references_at marking.table place)
-
--- the parts from this number on are within the limits
-abbrev AreSmallParts : ℕ → List Part → Type 0
-AreSmallParts index parts = (i : ℕ) (part : Part) → slice_get parts i ≡ Some part → (part.header.references + part.header.numbers ≤ 216000) × (index + i < 3661)
-
-made_parts-keeps : (parts : List Part) (table : Table Block) (birth stamp index : ℕ) (made : MadeParts) → AreSmallParts index parts → made_parts table birth stamp index parts ≡ Some made → KeepsItsPages table made.table
-made_parts-keeps [] table birth stamp index made few e = subst (λ m. KeepsItsPages table m.table) (same_Some (record { places = []; table = table }) made e) (keeps_same table)
-made_parts-keeps (part ∷ after) table birth stamp index made few e = by_class (class_of (part_words part)) refl e (λ t m. made_parts-keeps after t birth stamp (suc index) m later)
-  where
-    later : AreSmallParts (suc index) after
-    later i next at = let (fields, number) = few (suc i) next at in (fields, omega (arith, number))
-
-    here : IsWithinLimits (new_block birth stamp index part)
-    here = let (fields, number) = few 0 part refl in record { fields = fields; part = omega (arith, number) }
-
-    block : Block
-    block = new_block birth stamp index part
-
-    -- the parts after a first one
-    rest_of : Made → Option MadeParts
-    rest_of first = option_map (λ (r : MadeParts). record { places = first.place ∷ r.places; table = r.table }) (made_parts first.table birth stamp (suc index) after)
-
-    by_rest : (first : Made) (rest : Option MadeParts) → made_parts first.table birth stamp (suc index) after ≡ rest → option_map (λ (r : MadeParts). record { places = first.place ∷ r.places; table = r.table }) rest ≡ Some made
-        → ((m : MadeParts) → made_parts first.table birth stamp (suc index) after ≡ Some m → KeepsItsPages first.table m.table) → KeepsItsPages first.table made.table
-    by_rest first None is h more = absurd (none-some made h)
-    by_rest first (Some rest) is h more = subst (λ m. KeepsItsPages first.table m.table) (same_Some (record { places = first.place ∷ rest.places; table = rest.table }) made h) (more rest is)
-
-    by_place : (size : ℕ) → class_of (part_words part) ≡ Some size → (place : Option ℕ) → option_and_then rest_of (option_map (λ p. record { place = p; table = with_taken table size p block }) place) ≡ Some made
-        → ((t : Table Block) (m : MadeParts) → made_parts t birth stamp (suc index) after ≡ Some m → KeepsItsPages t m.table) → KeepsItsPages table made.table
-    by_place size is None h more = absurd (none-some made h)
-    by_place size is (Some p) h more =
-        let first : Made = record { place = p; table = with_taken table size p block } in
-        keeps_then table first.table made.table (with_taken-keeps table size p block (λ shaped. class_of-class_size (part_words part) size is) (λ small. here)) (by_rest first (made_parts first.table birth stamp (suc index) after) refl h (more first.table))
-
-    by_class : (size : Option ℕ) → class_of (part_words part) ≡ size → option_and_then rest_of (option_and_then (made_in_class table block) size) ≡ Some made
-        → ((t : Table Block) (m : MadeParts) → made_parts t birth stamp (suc index) after ≡ Some m → KeepsItsPages t m.table) → KeepsItsPages table made.table
-    by_class None is h more = absurd (none-some made h)
-    by_class (Some size) is h more = by_place size is (least_place table size) h more
-
-linked_parts-keeps : (all places : List ℕ) (parts : List Part) (table : Table Block) → KeepsItsPages table (linked_parts all table places parts)
-linked_parts-keeps all [] parts table = keeps_same table
-linked_parts-keeps all (place ∷ places) [] table = keeps_same table
-linked_parts-keeps all (place ∷ places) (part ∷ parts) table =
-    let one : Table Block = with_block_change table place (linked_block all part) in
-    keeps_then table one (linked_parts all one places parts) (change-keeps table place _ (λ block. (refl, refl))) (linked_parts-keeps all places parts one)
-
-group_of-keeps : (table : Table Block) (places : List ℕ) (parts : List Part) (made : Made) → group_of table places parts ≡ Some made → KeepsItsPages table made.table
-group_of-keeps table [] parts made e = absurd (none-some made e)
-group_of-keeps table (place ∷ places) parts made e =
-    subst (λ m. KeepsItsPages table m.table) (same_Some (record { place = place; table = linked_parts (place ∷ places) table (place ∷ places) parts }) made e) (linked_parts-keeps (place ∷ places) (place ∷ places) parts table)
+-- New objects ------------------------------------------------------------------------------------
 
 -- an object that is made isn't too large, for its first part has a class
 made_parts-class : (part : Part) (after : List Part) (table : Table Block) (birth stamp index : ℕ) (made : MadeParts) → made_parts table birth stamp index (part ∷ after) ≡ Some made → part_words part ≤ 64
@@ -127,85 +53,304 @@ made_group-fields table birth stamp references numbers made e = by_parts (made_p
     by_parts None is h = absurd (none-some made h)
     by_parts (Some all) is h = by_list (parts references numbers) refl all is
 
--- making an object keeps the pages
-pub made_group-keeps : (table : Table Block) (birth stamp references numbers : ℕ) (made : Made) → made_group table birth stamp (parts references numbers) ≡ Some made → KeepsItsPages table made.table
-made_group-keeps table birth stamp references numbers made e = go (made_parts table birth stamp 0 (parts references numbers)) refl e
-  where
-    few : AreSmallParts 0 (parts references numbers)
-    few i part at = small_parts references numbers i part (made_group-fields table birth stamp references numbers made e) at
+-- Steps ------------------------------------------------------------------------------------------
 
-    go : (all : Option MadeParts) → made_parts table birth stamp 0 (parts references numbers) ≡ all → option_and_then (λ m. group_of m.table m.places (parts references numbers)) all ≡ Some made → KeepsItsPages table made.table
-    go None is h = absurd (none-some made h)
-    go (Some all) is h = keeps_then table all.table made.table (made_parts-keeps (parts references numbers) table birth stamp 0 all few is) (group_of-keeps all.table all.places (parts references numbers) made h)
+-- what follows a step leaves the table
+table-after_mark : (collector : Collector) (grey : List ℕ) → (after_mark collector grey).table ≡ collector.table
+table-after_mark collector [] = refl
+table-after_mark collector (place ∷ grey) = refl
+
+table-if : (test : Bool) (collector other : Collector) → other.table ≡ collector.table → (if test then other else collector).table ≡ collector.table
+table-if true collector other e = e
+table-if false collector other e = refl
+
+table-phase_after : (phase : Phase) (collector : Collector) → (phase_after phase collector).table ≡ collector.table
+table-phase_after Idle collector = refl
+table-phase_after Roots collector = table-if (collector.cursor == 144) collector (after_mark collector collector.grey) (table-after_mark collector collector.grey)
+table-phase_after Mark collector = table-after_mark collector collector.grey
+table-phase_after Sweep collector = table-if (is_past collector.table collector.cursor) collector (with_phase collector Defrag 0) refl
+table-phase_after Defrag collector = table-if (is_past collector.table collector.cursor) collector (cycle_end collector) refl
+
+table-quantum_start : (config : Config) (collector : Collector) → (quantum_start config collector).table ≡ collector.table
+table-quantum_start config collector = elim (begins config collector).case [
+  | inl starts ↦ ap (λ c. c.table) starts.2
+  | inr other ↦ elim other [ inl runs ↦ ap (λ c. c.table) runs.1 | inr rests ↦ ap (λ c. c.table) rests.2 ]
+]
+
+judged_page-slots : (table : Table Block) (number : ℕ) (page new : Page Block) → HasItsSlots page → judged_page table number page ≡ Some new → HasItsSlots new
+judged_page-slots table number page new has e =
+    let judged = judged_page-is table number page new e in
+    record { class = ap is_class_size judged.class ∙ has.class; slots = ap length judged.slots ∙ has.slots ∙ ap slots_in (sym judged.class) }
+
+swept_page-slots : (cycle : ℕ) (table : Table Block) (place : ℕ) (page new : Page Block) → HasItsSlots page → swept_page cycle table place page ≡ Some new → HasItsSlots new
+swept_page-slots cycle table place page new has e = go (is_last_slot place page) e
+  where
+    swept : Page Block
+    swept = page_with (slot_number place) (option_and_then (survivor cycle) (block_in (slot_number place) page)) page
+
+    swept_has : HasItsSlots swept
+    swept_has = page_with-slots page (slot_number place) (option_and_then (survivor cycle) (block_in (slot_number place) page)) has
+
+    go : (last : Bool) → (if last then judged_page table (page_number place) swept else Some swept) ≡ Some new → HasItsSlots new
+    go true h = judged_page-slots table (page_number place) swept new swept_has h
+    go false h = subst HasItsSlots (same_Some swept new h) swept_has
+
+-- If the objects that are made have at most so many fields
+module _ (room : ℕ) where
+  -- Tables ---------------------------------------------------------------------------------------
+
+  shade_block-keeps : (marking : Marking) (place : ℕ) (block : Option Block) → block_at marking.table place ≡ block → KeepsItsPages room marking.table (shade_block marking place block).table
+  shade_block-keeps marking place None at = keeps_same room marking.table
+  shade_block-keeps marking place (Some block) at = go (is_marked marking.cycle block)
+    where
+      go : (marked : Bool) → KeepsItsPages room marking.table (if marked then marking else with_grey marking place block).table
+      go true = keeps_same room marking.table
+      go false = with_block-keeps room marking.table place _ (λ most large small new e. subst (IsWithinLimits most) (same_Some (record block { stamp = marking.cycle }) new e) (same_limits most block (record block { stamp = marking.cycle }) refl refl (small_block most marking.table place block small at)))
+
+  pub shade-keeps : (marking : Marking) (reference : Option ℕ) → KeepsItsPages room marking.table (shade marking reference).table
+  shade-keeps marking None = keeps_same room marking.table
+  shade-keeps marking (Some place) = shade_block-keeps marking (resolve marking.table place) (block_at marking.table (resolve marking.table place)) refl
+
+  mark_references-keeps : (marking : Marking) (place index : ℕ) (references : List (Option ℕ)) → KeepsItsPages room marking.table (mark_references marking place index references).table
+  mark_references-keeps marking place index [] = keeps_same room marking.table
+  mark_references-keeps marking place index (reference ∷ references) =
+      let target = target_of marking.table reference in
+      let written : Table Block = with_reference_at marking.table place index target in
+      let next : Marking = mark_reference marking place index reference in
+      keeps_then room marking.table next.table (mark_references next place (suc index) references).table
+      (keeps_then room marking.table written next.table (change-keeps room marking.table place _ (λ block. (refl, refl))) (shade-keeps (record marking { table = written }) target))
+      (mark_references-keeps next place (suc index) references)
+
+  pub mark_first-keeps : (marking : Marking) (grey : List ℕ) → KeepsItsPages room marking.table (mark_first marking grey).table
+  mark_first-keeps marking [] = keeps_same room marking.table
+  mark_first-keeps marking (place ∷ grey) = mark_references-keeps (record marking { grey = grey }) place 0 (references_at marking.table place)
+
+  -- the parts from this number on are within the limits
+  abbrev AreSmallParts : ℕ → List Part → Type 0
+  AreSmallParts index parts = (i : ℕ) (part : Part) → slice_get parts i ≡ Some part → (part.header.references + part.header.numbers ≤ room) × (index + i < 3661)
+
+  made_parts-keeps : (parts : List Part) (table : Table Block) (birth stamp index : ℕ) (made : MadeParts) → AreSmallParts index parts → made_parts table birth stamp index parts ≡ Some made → KeepsItsPages room table made.table
+  made_parts-keeps [] table birth stamp index made few e = subst (λ m. KeepsItsPages room table m.table) (same_Some (record { places = []; table = table }) made e) (keeps_same room table)
+  made_parts-keeps (part ∷ after) table birth stamp index made few e = by_class (class_of (part_words part)) refl e (λ t m. made_parts-keeps after t birth stamp (suc index) m later)
+    where
+      later : AreSmallParts (suc index) after
+      later i next at = let (fields, number) = few (suc i) next at in (fields, omega (arith, number))
+
+      here : (most : ℕ) → room ≤ most → IsWithinLimits most (new_block birth stamp index part)
+      here most large = let (fields, number) = few 0 part refl in record { fields = omega (arith, fields, large); part = omega (arith, number) }
+
+      block : Block
+      block = new_block birth stamp index part
+
+      -- the parts after a first one
+      rest_of : Made → Option MadeParts
+      rest_of first = option_map (λ (r : MadeParts). record { places = first.place ∷ r.places; table = r.table }) (made_parts first.table birth stamp (suc index) after)
+
+      by_rest : (first : Made) (rest : Option MadeParts) → made_parts first.table birth stamp (suc index) after ≡ rest → option_map (λ (r : MadeParts). record { places = first.place ∷ r.places; table = r.table }) rest ≡ Some made
+          → ((m : MadeParts) → made_parts first.table birth stamp (suc index) after ≡ Some m → KeepsItsPages room first.table m.table) → KeepsItsPages room first.table made.table
+      by_rest first None is h more = absurd (none-some made h)
+      by_rest first (Some rest) is h more = subst (λ m. KeepsItsPages room first.table m.table) (same_Some (record { places = first.place ∷ rest.places; table = rest.table }) made h) (more rest is)
+
+      by_place : (size : ℕ) → class_of (part_words part) ≡ Some size → (place : Option ℕ) → option_and_then rest_of (option_map (λ p. record { place = p; table = with_taken table size p block }) place) ≡ Some made
+          → ((t : Table Block) (m : MadeParts) → made_parts t birth stamp (suc index) after ≡ Some m → KeepsItsPages room t m.table) → KeepsItsPages room table made.table
+      by_place size is None h more = absurd (none-some made h)
+      by_place size is (Some p) h more =
+          let first : Made = record { place = p; table = with_taken table size p block } in
+          keeps_then room table first.table made.table (with_taken-keeps room table size p block (λ shaped. class_of-class_size (part_words part) size is) (λ most large small. here most large)) (by_rest first (made_parts first.table birth stamp (suc index) after) refl h (more first.table))
+
+      by_class : (size : Option ℕ) → class_of (part_words part) ≡ size → option_and_then rest_of (option_and_then (made_in_class table block) size) ≡ Some made
+          → ((t : Table Block) (m : MadeParts) → made_parts t birth stamp (suc index) after ≡ Some m → KeepsItsPages room t m.table) → KeepsItsPages room table made.table
+      by_class None is h more = absurd (none-some made h)
+      by_class (Some size) is h more = by_place size is (least_place table size) h more
+
+  linked_parts-keeps : (all places : List ℕ) (parts : List Part) (table : Table Block) → KeepsItsPages room table (linked_parts all table places parts)
+  linked_parts-keeps all [] parts table = keeps_same room table
+  linked_parts-keeps all (place ∷ places) [] table = keeps_same room table
+  linked_parts-keeps all (place ∷ places) (part ∷ parts) table =
+      let one : Table Block = with_block_change table place (linked_block all part) in
+      keeps_then room table one (linked_parts all one places parts) (change-keeps room table place _ (λ block. (refl, refl))) (linked_parts-keeps all places parts one)
+
+  group_of-keeps : (table : Table Block) (places : List ℕ) (parts : List Part) (made : Made) → group_of table places parts ≡ Some made → KeepsItsPages room table made.table
+  group_of-keeps table [] parts made e = absurd (none-some made e)
+  group_of-keeps table (place ∷ places) parts made e =
+      subst (λ m. KeepsItsPages room table m.table) (same_Some (record { place = place; table = linked_parts (place ∷ places) table (place ∷ places) parts }) made e) (linked_parts-keeps (place ∷ places) (place ∷ places) parts table)
+
+  -- making an object keeps the pages
+  pub made_group-keeps : (table : Table Block) (birth stamp references numbers : ℕ) (made : Made) → references + numbers ≤ room → made_group table birth stamp (parts references numbers) ≡ Some made → KeepsItsPages room table made.table
+  made_group-keeps table birth stamp references numbers made fields e = go (made_parts table birth stamp 0 (parts references numbers)) refl e
+    where
+      few : AreSmallParts 0 (parts references numbers)
+      few i part at = let (header, number) = small_parts references numbers i part (made_group-fields table birth stamp references numbers made e) at in (omega (arith, header, fields), number)
+
+      go : (all : Option MadeParts) → made_parts table birth stamp 0 (parts references numbers) ≡ all → option_and_then (λ m. group_of m.table m.places (parts references numbers)) all ≡ Some made → KeepsItsPages room table made.table
+      go None is h = absurd (none-some made h)
+      go (Some all) is h = keeps_then room table all.table made.table (made_parts-keeps (parts references numbers) table birth stamp 0 all few is) (group_of-keeps all.table all.places (parts references numbers) made h)
+
+  -- Commands -------------------------------------------------------------------------------------
+
+  on_course : (collector : Collector) → IsOnCourse room collector collector
+  on_course collector = record { pages = refl; slots = λ slots. slots; limits = λ most large small. small; phase = refl; cursor = refl; cycle = refl; is_asked = refl; quanta = refl }
+
+  then_on_course : (first second third : Collector) → IsOnCourse room first second → IsOnCourse room second third → IsOnCourse room first third
+  then_on_course first second third one two = record { pages = two.pages ∙ one.pages; slots = λ slots. two.slots (one.slots slots); limits = λ most large small. two.limits most large (one.limits most large small); phase = two.phase ∙ one.phase; cursor = two.cursor ∙ one.cursor; cycle = two.cycle ∙ one.cycle; is_asked = two.is_asked ∙ one.is_asked; quanta = two.quanta ∙ one.quanta }
+
+  with_shade-course : (collector : Collector) (reference : Option ℕ) → IsOnCourse room collector (with_shade collector reference)
+  with_shade-course collector reference = let kept = shade-keeps (marking_of collector) reference in record { pages = kept.pages; slots = kept.slots; limits = kept.limits; phase = refl; cursor = refl; cycle = refl; is_asked = refl; quanta = refl }
+
+  if-course : (test : Bool) (collector other : Collector) → IsOnCourse room collector other → IsOnCourse room collector (if test then other else collector)
+  if-course true collector other course = course
+  if-course false collector other course = on_course collector
+
+  with_root-course : (collector : Collector) (slot : ℕ) (reference : Option ℕ) → IsOnCourse room collector (with_root collector slot reference)
+  with_root-course collector slot reference =
+      let course = if-course (in_roots collector.phase) collector (with_shade collector (get_or collector.slots slot None)) (with_shade-course collector (get_or collector.slots slot None)) in
+      record { pages = course.pages; slots = course.slots; limits = course.limits; phase = course.phase; cursor = course.cursor; cycle = course.cycle; is_asked = course.is_asked; quanta = course.quanta }
+
+  with_roots_cleared-course : (count : ℕ) (collector : Collector) (slot : ℕ) → IsOnCourse room collector (with_roots_cleared collector slot count)
+  with_roots_cleared-course zero collector slot = on_course collector
+  with_roots_cleared-course (suc count) collector slot = then_on_course collector (with_root collector slot None) (with_roots_cleared collector slot (suc count)) (with_root-course collector slot None) (with_roots_cleared-course count (with_root collector slot None) (suc slot))
+
+  with_session_cleared-course : (collector : Collector) (who : ℕ) → IsOnCourse room collector (with_session_cleared collector who)
+  unfolding with_session_cleared
+  with_session_cleared-course collector who = with_roots_cleared-course 16 collector (own_slot who 0)
+
+  with_reference_stored-course : (collector : Collector) (position : Position) (reference : Option ℕ) → IsOnCourse room collector (with_reference_stored collector position reference)
+  with_reference_stored-course collector position reference =
+      let shaded : Collector = before_field collector position in
+      let course = if-course (in_roots_or_mark collector.phase) collector (with_shade collector (reference_in collector.table position)) (with_shade-course collector (reference_in collector.table position)) in
+      let kept = change-keeps room shaded.table position.place (λ (block : Block). record block { references = set block.references position.index reference }) (λ block. (refl, refl)) in
+      record { pages = kept.pages ∙ course.pages; slots = λ slots. kept.slots (course.slots slots); limits = λ most large small. kept.limits most large (course.limits most large small); phase = course.phase; cursor = course.cursor; cycle = course.cycle; is_asked = course.is_asked; quanta = course.quanta }
+
+  with_number_stored-course : (collector : Collector) (position : Position) (number : ℕ) → IsOnCourse room collector (with_number_stored collector position number)
+  with_number_stored-course collector position number = let kept = change-keeps room collector.table position.place (λ (block : Block). record block { numbers = set block.numbers (number_index collector.table position) number }) (λ block. (refl, refl)) in record { pages = kept.pages; slots = kept.slots; limits = kept.limits; phase = refl; cursor = refl; cycle = refl; is_asked = refl; quanta = refl }
+
+  new-course : (heap : HeapState) (slot : ℕ) (group : Option Made) → ((made : Made) → group ≡ Some made → KeepsItsPages room heap.collector.table made.table) → IsOnCourse room heap.collector (unwrap_or (option_map (with_born heap slot) group) heap).collector
+  new-course heap slot None pages = on_course heap.collector
+  new-course heap slot (Some made) pages =
+      let course = with_root-course (record (heap.collector) { table = made.table }) slot (Some made.place) in
+      let kept = pages made refl in
+      record { pages = course.pages ∙ kept.pages; slots = λ slots. course.slots (kept.slots slots); limits = λ most large small. course.limits most large (kept.limits most large small); phase = course.phase; cursor = course.cursor; cycle = course.cycle; is_asked = course.is_asked; quanta = course.quanta }
+
+  heap_effect-course : (heap : HeapState) (who : ℕ) (c : Command) → ((slot references numbers : ℕ) → c ≡ command.New slot references numbers → references + numbers ≤ room) → IsOnCourse room heap.collector (heap_effect heap who c).state.collector
+  unfolding heap_effect
+  heap_effect-course heap who (command.New slot references numbers) fields =
+      new-course heap (own_slot who slot) (new_group heap references numbers) (λ made e. made_group-keeps heap.collector.table heap.next_birth heap.collector.cycle references numbers made (fields slot references numbers refl) e)
+  heap_effect-course heap who (command.Get slot source field) fields = with_root-course heap.collector (own_slot who slot) _
+  heap_effect-course heap who (command.Put slot field value) fields = with_reference_stored-course heap.collector (field_of heap (own_slot who slot) field) _
+  heap_effect-course heap who (command.Copy slot source) fields = with_root-course heap.collector (own_slot who slot) _
+  heap_effect-course heap who (command.Clear slot) fields = with_root-course heap.collector (own_slot who slot) None
+  heap_effect-course heap who (command.Read slot index) fields = on_course heap.collector
+  heap_effect-course heap who (command.Write slot index number) fields = with_number_stored-course heap.collector (number_field heap (own_slot who slot) index) number
+  heap_effect-course heap who (command.Same left right) fields = on_course heap.collector
+  heap_effect-course heap who (command.Shape slot) fields = on_course heap.collector
+  heap_effect-course heap who (command.Post board slot) fields = with_root-course heap.collector (board_slot board) _
+  heap_effect-course heap who (command.Take slot board) fields = with_root-course heap.collector (own_slot who slot) _
+  heap_effect-course heap who command.End fields = with_session_cleared-course heap.collector who
+
+  -- Steps and quanta -----------------------------------------------------------------------------
+
+  swept_page-small : (most cycle : ℕ) (table : Table Block) (place : ℕ) (page new : Page Block) → IsSmallPage most page → swept_page cycle table place page ≡ Some new → IsSmallPage most new
+  swept_page-small most cycle table place page new small e = go (is_last_slot place page) e
+    where
+      swept : Page Block
+      swept = page_with (slot_number place) (option_and_then (survivor cycle) (block_in (slot_number place) page)) page
+
+      swept_small : IsSmallPage most swept
+      swept_small = page_with-small most page (slot_number place) _ small (λ block left. by_slot (block_in (slot_number place) page) refl block left)
+        where
+          by_slot : (content : Option Block) → block_in (slot_number place) page ≡ content → (block : Block) → option_and_then (survivor cycle) content ≡ Some block → IsWithinLimits most block
+          by_slot None at block left = absurd (none-some block left)
+          by_slot (Some old) at block left = subst (IsWithinLimits most) (survivor-same cycle old block left) (small.blocks (slot_number place) old at)
+
+      go : (last : Bool) → (if last then judged_page table (page_number place) swept else Some swept) ≡ Some new → IsSmallPage most new
+      go true h = record { blocks = λ slot block at. swept_small.blocks slot block (ap (λ slots. get_or slots slot None) (sym (judged_page-is table (page_number place) swept new h).slots) ∙ at) }
+      go false h = subst (IsSmallPage most) (same_Some swept new h) swept_small
+
+  swept_table-keeps : (cycle : ℕ) (table : Table Block) (place : ℕ) → KeepsItsPages room table (swept_table cycle table place)
+  swept_table-keeps cycle table place =
+      set-keeps room table (page_number place) _ (λ shaped new e. slots (page_at table (page_number place)) (λ p at. shaped (page_number place) p at) new e)
+      (λ most large small new e. limits most (page_at table (page_number place)) (λ p at. small_page most table (page_number place) p small at) new e)
+    where
+      slots : (content : Option (Page Block)) → ((p : Page Block) → content ≡ Some p → HasItsSlots p) → (new : Page Block) → option_and_then (swept_page cycle table place) content ≡ Some new → HasItsSlots new
+      slots None has new e = absurd (none-some new e)
+      slots (Some page) has new e = swept_page-slots cycle table place page new (has page refl) e
+
+      limits : (most : ℕ) (content : Option (Page Block)) → ((p : Page Block) → content ≡ Some p → IsSmallPage most p) → (new : Page Block) → option_and_then (swept_page cycle table place) content ≡ Some new → IsSmallPage most new
+      limits most None small new e = absurd (none-some new e)
+      limits most (Some page) small new e = swept_page-small most cycle table place page new (small page refl) e
+
+  pub with_move-keeps : (collector : Collector) (move : Option Move) → next_move collector.table collector.cursor ≡ move → KeepsItsPages room collector.table (with_move collector move).table
+  with_move-keeps collector None is = keeps_same room collector.table
+  with_move-keeps collector (Some move) is = record {
+    pages = length-set taken (page_number collector.cursor) _ ∙ first.pages;
+    slots = λ shaped. with_block-slots taken collector.cursor (Some forwarder) (first.slots shaped);
+    limits = λ most large small. with_block-limits most taken collector.cursor (Some forwarder) (λ block e. subst (IsWithinLimits most) (same_Some forwarder block e) (same_limits most move.block forwarder refl refl (moved most large small))) (first.limits most large small);
+  }
+    where
+      taken : Table Block
+      taken = with_taken collector.table move.class_size move.target move.block
+
+      forwarder : Block
+      forwarder = record (move.block) { forward = Some move.target }
+
+      one : IsNextMove collector.table collector.cursor move
+      one = next_move-is collector.table collector.cursor move is
+
+      moved : (most : ℕ) → room ≤ most → HasSmallBlocks most collector.table → IsWithinLimits most move.block
+      moved most large small = small.blocks (page_number collector.cursor) (slot_number collector.cursor) one.page move.block one.in_use one.there
+
+      first : KeepsItsPages room collector.table taken
+      first = with_taken-keeps room collector.table move.class_size move.target move.block (λ shaped. ap is_class_size (sym one.class) ∙ (shaped (page_number collector.cursor) one.page one.in_use).class) moved
+
+  pub step_in-keeps : (phase : Phase) (collector : Collector) → KeepsItsPages room collector.table (step_in phase collector).table
+  step_in-keeps Idle collector = keeps_same room collector.table
+  step_in-keeps Roots collector = shade-keeps (marking_of collector) _
+  step_in-keeps Mark collector = mark_first-keeps (marking_of collector) collector.grey
+  step_in-keeps Sweep collector = swept_table-keeps collector.cycle collector.table collector.cursor
+  step_in-keeps Defrag collector = with_move-keeps collector (next_move collector.table collector.cursor) refl
+
+  -- A step keeps the pages
+  pub collector_step-keeps : (collector : Collector) → KeepsItsPages room collector.table (collector_step collector).table
+  unfolding collector_step
+  collector_step-keeps collector = rw (table-phase_after collector.phase (step_in collector.phase collector)) (step_in-keeps collector.phase collector)
+
+  pub steps-keeps : (more left : ℕ) (has_moved : Bool) (collector : Collector) → KeepsItsPages room collector.table (steps more left has_moved collector).collector.table
+  unfolding steps
+  steps-keeps zero left has_moved collector = keeps_same room collector.table
+  steps-keeps (suc more) left has_moved collector = elim (cases_Bool (is_idle collector.phase || nat_lt left (step_cost collector has_moved))) [
+    | inl stops ↦ subst (λ s. KeepsItsPages room collector.table s.collector.table) (sym (steps-stop more left has_moved collector stops)) (keeps_same room collector.table)
+    | inr goes ↦
+        let rest : Spending = steps more (left - step_cost collector has_moved) (has_moved || is_moving collector) (collector_step collector) in
+        subst (λ s. KeepsItsPages room collector.table s.collector.table) (sym (steps-go more left has_moved collector goes))
+        (keeps_then room collector.table (collector_step collector).table rest.collector.table (collector_step-keeps collector) (steps-keeps more (left - step_cost collector has_moved) (has_moved || is_moving collector) (collector_step collector)))
+  ]
+
+  -- and so does a quantum
+  pub quantum-keeps : (config : Config) (collector : Collector) → KeepsItsPages room collector.table (quantum config collector).collector.table
+  unfolding quantum
+  quantum-keeps config collector = subst (λ t. KeepsItsPages room t (quantum config collector).collector.table) (table-quantum_start config collector) (steps-keeps config.quantum config.quantum false (quantum_start config collector))
 
 -- Commands ---------------------------------------------------------------------------------------
 
-on_course : (collector : Collector) → IsOnCourse collector collector
-on_course collector = record { pages = refl; slots = λ slots. slots; limits = λ small. small; phase = refl; cursor = refl; cycle = refl; is_asked = refl; quanta = refl }
-
-then_on_course : (first second third : Collector) → IsOnCourse first second → IsOnCourse second third → IsOnCourse first third
-then_on_course first second third one two = record { pages = two.pages ∙ one.pages; slots = λ slots. two.slots (one.slots slots); limits = λ small. two.limits (one.limits small); phase = two.phase ∙ one.phase; cursor = two.cursor ∙ one.cursor; cycle = two.cycle ∙ one.cycle; is_asked = two.is_asked ∙ one.is_asked; quanta = two.quanta ∙ one.quanta }
-
-with_shade-course : (collector : Collector) (reference : Option ℕ) → IsOnCourse collector (with_shade collector reference)
-with_shade-course collector reference = let kept = shade-keeps (marking_of collector) reference in record { pages = kept.pages; slots = kept.slots; limits = kept.limits; phase = refl; cursor = refl; cycle = refl; is_asked = refl; quanta = refl }
-
-if-course : (test : Bool) (collector other : Collector) → IsOnCourse collector other → IsOnCourse collector (if test then other else collector)
-if-course true collector other course = course
-if-course false collector other course = on_course collector
-
-with_root-course : (collector : Collector) (slot : ℕ) (reference : Option ℕ) → IsOnCourse collector (with_root collector slot reference)
-with_root-course collector slot reference =
-    let course = if-course (in_roots collector.phase) collector (with_shade collector (get_or collector.slots slot None)) (with_shade-course collector (get_or collector.slots slot None)) in
-    record { pages = course.pages; slots = course.slots; limits = course.limits; phase = course.phase; cursor = course.cursor; cycle = course.cycle; is_asked = course.is_asked; quanta = course.quanta }
-
-with_roots_cleared-course : (count : ℕ) (collector : Collector) (slot : ℕ) → IsOnCourse collector (with_roots_cleared collector slot count)
-with_roots_cleared-course zero collector slot = on_course collector
-with_roots_cleared-course (suc count) collector slot = then_on_course collector (with_root collector slot None) (with_roots_cleared collector slot (suc count)) (with_root-course collector slot None) (with_roots_cleared-course count (with_root collector slot None) (suc slot))
-
-with_session_cleared-course : (collector : Collector) (who : ℕ) → IsOnCourse collector (with_session_cleared collector who)
-unfolding with_session_cleared
-with_session_cleared-course collector who = with_roots_cleared-course 16 collector (own_slot who 0)
-
-with_reference_stored-course : (collector : Collector) (position : Position) (reference : Option ℕ) → IsOnCourse collector (with_reference_stored collector position reference)
-with_reference_stored-course collector position reference =
-    let shaded : Collector = before_field collector position in
-    let course = if-course (in_roots_or_mark collector.phase) collector (with_shade collector (reference_in collector.table position)) (with_shade-course collector (reference_in collector.table position)) in
-    let kept = change-keeps shaded.table position.place (λ (block : Block). record block { references = set block.references position.index reference }) (λ block. (refl, refl)) in
-    record { pages = kept.pages ∙ course.pages; slots = λ slots. kept.slots (course.slots slots); limits = λ small. kept.limits (course.limits small); phase = course.phase; cursor = course.cursor; cycle = course.cycle; is_asked = course.is_asked; quanta = course.quanta }
-
-with_number_stored-course : (collector : Collector) (position : Position) (number : ℕ) → IsOnCourse collector (with_number_stored collector position number)
-with_number_stored-course collector position number = let kept = change-keeps collector.table position.place (λ (block : Block). record block { numbers = set block.numbers (number_index collector.table position) number }) (λ block. (refl, refl)) in record { pages = kept.pages; slots = kept.slots; limits = kept.limits; phase = refl; cursor = refl; cycle = refl; is_asked = refl; quanta = refl }
-
-new-course : (heap : HeapState) (slot : ℕ) (group : Option Made) → ((made : Made) → group ≡ Some made → KeepsItsPages heap.collector.table made.table) → IsOnCourse heap.collector (unwrap_or (option_map (with_born heap slot) group) heap).collector
-new-course heap slot None pages = on_course heap.collector
-new-course heap slot (Some made) pages =
-    let course = with_root-course (record (heap.collector) { table = made.table }) slot (Some made.place) in
-    let kept = pages made refl in
-    record { pages = course.pages ∙ kept.pages; slots = λ slots. course.slots (kept.slots slots); limits = λ small. course.limits (kept.limits small); phase = course.phase; cursor = course.cursor; cycle = course.cycle; is_asked = course.is_asked; quanta = course.quanta }
-
-heap_effect-course : (heap : HeapState) (who : ℕ) (command : Command) → IsOnCourse heap.collector (heap_effect heap who command).state.collector
-unfolding heap_effect
-heap_effect-course heap who (command.New slot references numbers) = new-course heap (own_slot who slot) (new_group heap references numbers) (made_group-keeps heap.collector.table heap.next_birth heap.collector.cycle references numbers)
-heap_effect-course heap who (command.Get slot source field) = with_root-course heap.collector (own_slot who slot) _
-heap_effect-course heap who (command.Put slot field value) = with_reference_stored-course heap.collector (field_of heap (own_slot who slot) field) _
-heap_effect-course heap who (command.Copy slot source) = with_root-course heap.collector (own_slot who slot) _
-heap_effect-course heap who (command.Clear slot) = with_root-course heap.collector (own_slot who slot) None
-heap_effect-course heap who (command.Read slot index) = on_course heap.collector
-heap_effect-course heap who (command.Write slot index number) = with_number_stored-course heap.collector (number_field heap (own_slot who slot) index) number
-heap_effect-course heap who (command.Same left right) = on_course heap.collector
-heap_effect-course heap who (command.Shape slot) = on_course heap.collector
-heap_effect-course heap who (command.Post board slot) = with_root-course heap.collector (board_slot board) _
-heap_effect-course heap who (command.Take slot board) = with_root-course heap.collector (own_slot who slot) _
-heap_effect-course heap who command.End = with_session_cleared-course heap.collector who
-
 -- A command of a session leaves the collector's course: its pages, phase, cursor, cycle number, asking and quanta
-pub mutator_step-course : (heap : HeapState) (who : ℕ) (command : Command) → IsOnCourse heap.collector (mutator_step heap who command).state.collector
+pub mutator_step-course : (heap : HeapState) (who : ℕ) (c : Command) → IsOnCourse (most_fields heap.config) heap.collector (mutator_step heap who c).state.collector
 unfolding mutator_step
-mutator_step-course heap who command = go (refusal (heap_sight heap) who command)
+mutator_step-course heap who c = go (refusal (heap_sight heap) who c) refl
   where
-    go : (refused : Option Refusal) → IsOnCourse heap.collector (unless_refused refused heap (heap_effect heap who command)).state.collector
-    go None = heap_effect-course heap who command
-    go (Some refused) = on_course heap.collector
+    allowed : (slot references numbers : ℕ) → refusal (heap_sight heap) who (command.New slot references numbers) ≡ None → references + numbers ≤ most_fields heap.config
+    allowed slot references numbers e =
+        ltb-false (most_fields heap.config) (references + numbers) (by_tests (nat_le 8 who) (get_or heap.ended who false) (is_bad slot) (nat_lt (most_fields heap.config) (references + numbers)) (is_none (new_group heap references numbers)) e)
+      where
+        by_tests : (many ended bad large full : Bool) → first_refusal ((many, TooManySessions) ∷ (ended, Ended) ∷ (bad, BadSlot) ∷ (large, TooLarge) ∷ (full, HeapFull) ∷ []) ≡ None → large ≡ false
+        by_tests true ended bad large full h = absurd (none-some TooManySessions (sym h))
+        by_tests false true bad large full h = absurd (none-some Ended (sym h))
+        by_tests false false true large full h = absurd (none-some BadSlot (sym h))
+        by_tests false false false true full h = absurd (none-some TooLarge (sym h))
+        by_tests false false false false full h = refl
+
+    go : (refused : Option Refusal) → refusal (heap_sight heap) who c ≡ refused → IsOnCourse (most_fields heap.config) heap.collector (unless_refused refused heap (heap_effect heap who c)).state.collector
+    go None e = heap_effect-course (most_fields heap.config) heap who c (λ slot references numbers is. allowed slot references numbers (ap (refusal (heap_sight heap) who) (sym is) ∙ e))
+    go (Some refused) e = on_course (most_fields heap.config) heap.collector
 
 effect-refused : (heap : HeapState) (who : ℕ) (command : Command) (refused : Refusal) → (heap_effect heap who command).reply ≡ reply.Refused refused → (heap_effect heap who command).state ≡ heap
 unfolding heap_effect
@@ -231,149 +376,32 @@ mutator_step-refused heap who command refused e = go (refusal (heap_sight heap) 
     go None h = effect-refused heap who command refused h
     go (Some answer) h = refl
 
--- Steps and quanta -------------------------------------------------------------------------------
-
-judged_page-slots : (table : Table Block) (number : ℕ) (page new : Page Block) → HasItsSlots page → judged_page table number page ≡ Some new → HasItsSlots new
-judged_page-slots table number page new has e =
-    let judged = judged_page-is table number page new e in
-    record { class = ap is_class_size judged.class ∙ has.class; slots = ap length judged.slots ∙ has.slots ∙ ap slots_in (sym judged.class) }
-
-swept_page-slots : (cycle : ℕ) (table : Table Block) (place : ℕ) (page new : Page Block) → HasItsSlots page → swept_page cycle table place page ≡ Some new → HasItsSlots new
-swept_page-slots cycle table place page new has e = go (is_last_slot place page) e
-  where
-    swept : Page Block
-    swept = page_with (slot_number place) (option_and_then (survivor cycle) (block_in (slot_number place) page)) page
-
-    swept_has : HasItsSlots swept
-    swept_has = page_with-slots page (slot_number place) (option_and_then (survivor cycle) (block_in (slot_number place) page)) has
-
-    go : (last : Bool) → (if last then judged_page table (page_number place) swept else Some swept) ≡ Some new → HasItsSlots new
-    go true h = judged_page-slots table (page_number place) swept new swept_has h
-    go false h = subst HasItsSlots (same_Some swept new h) swept_has
-
-swept_page-small : (cycle : ℕ) (table : Table Block) (place : ℕ) (page new : Page Block) → IsSmallPage page → swept_page cycle table place page ≡ Some new → IsSmallPage new
-swept_page-small cycle table place page new small e = go (is_last_slot place page) e
-  where
-    swept : Page Block
-    swept = page_with (slot_number place) (option_and_then (survivor cycle) (block_in (slot_number place) page)) page
-
-    swept_small : IsSmallPage swept
-    swept_small = page_with-small page (slot_number place) _ small (λ block left. by_slot (block_in (slot_number place) page) refl block left)
-      where
-        by_slot : (content : Option Block) → block_in (slot_number place) page ≡ content → (block : Block) → option_and_then (survivor cycle) content ≡ Some block → IsWithinLimits block
-        by_slot None at block left = absurd (none-some block left)
-        by_slot (Some old) at block left = subst IsWithinLimits (survivor-same cycle old block left) (small.blocks (slot_number place) old at)
-
-    go : (last : Bool) → (if last then judged_page table (page_number place) swept else Some swept) ≡ Some new → IsSmallPage new
-    go true h = record { blocks = λ slot block at. swept_small.blocks slot block (ap (λ slots. get_or slots slot None) (sym (judged_page-is table (page_number place) swept new h).slots) ∙ at) }
-    go false h = subst IsSmallPage (same_Some swept new h) swept_small
-
-swept_table-keeps : (cycle : ℕ) (table : Table Block) (place : ℕ) → KeepsItsPages table (swept_table cycle table place)
-swept_table-keeps cycle table place =
-    set-keeps table (page_number place) _ (λ shaped new e. slots (page_at table (page_number place)) (λ p at. shaped (page_number place) p at) new e)
-    (λ small new e. limits (page_at table (page_number place)) (λ p at. small_page table (page_number place) p small at) new e)
-  where
-    slots : (content : Option (Page Block)) → ((p : Page Block) → content ≡ Some p → HasItsSlots p) → (new : Page Block) → option_and_then (swept_page cycle table place) content ≡ Some new → HasItsSlots new
-    slots None has new e = absurd (none-some new e)
-    slots (Some page) has new e = swept_page-slots cycle table place page new (has page refl) e
-
-    limits : (content : Option (Page Block)) → ((p : Page Block) → content ≡ Some p → IsSmallPage p) → (new : Page Block) → option_and_then (swept_page cycle table place) content ≡ Some new → IsSmallPage new
-    limits None small new e = absurd (none-some new e)
-    limits (Some page) small new e = swept_page-small cycle table place page new (small page refl) e
-
-pub with_move-keeps : (collector : Collector) (move : Option Move) → next_move collector.table collector.cursor ≡ move → KeepsItsPages collector.table (with_move collector move).table
-with_move-keeps collector None is = keeps_same collector.table
-with_move-keeps collector (Some move) is = record {
-  pages = length-set taken (page_number collector.cursor) _ ∙ first.pages;
-  slots = λ shaped. with_block-slots taken collector.cursor (Some forwarder) (first.slots shaped);
-  limits = λ small. with_block-limits taken collector.cursor (Some forwarder) (λ block e. subst IsWithinLimits (same_Some forwarder block e) (same_limits move.block forwarder refl refl (moved small))) (first.limits small);
-}
-  where
-    taken : Table Block
-    taken = with_taken collector.table move.class_size move.target move.block
-
-    forwarder : Block
-    forwarder = record (move.block) { forward = Some move.target }
-
-    one : IsNextMove collector.table collector.cursor move
-    one = next_move-is collector.table collector.cursor move is
-
-    moved : HasSmallBlocks collector.table → IsWithinLimits move.block
-    moved small = small.blocks (page_number collector.cursor) (slot_number collector.cursor) one.page move.block one.in_use one.there
-
-    first : KeepsItsPages collector.table taken
-    first = with_taken-keeps collector.table move.class_size move.target move.block (λ shaped. ap is_class_size (sym one.class) ∙ (shaped (page_number collector.cursor) one.page one.in_use).class) moved
-
-pub step_in-keeps : (phase : Phase) (collector : Collector) → KeepsItsPages collector.table (step_in phase collector).table
-step_in-keeps Idle collector = keeps_same collector.table
-step_in-keeps Roots collector = shade-keeps (marking_of collector) _
-step_in-keeps Mark collector = mark_first-keeps (marking_of collector) collector.grey
-step_in-keeps Sweep collector = swept_table-keeps collector.cycle collector.table collector.cursor
-step_in-keeps Defrag collector = with_move-keeps collector (next_move collector.table collector.cursor) refl
-
--- what follows a step leaves the table
-table-after_mark : (collector : Collector) (grey : List ℕ) → (after_mark collector grey).table ≡ collector.table
-table-after_mark collector [] = refl
-table-after_mark collector (place ∷ grey) = refl
-
-table-if : (test : Bool) (collector other : Collector) → other.table ≡ collector.table → (if test then other else collector).table ≡ collector.table
-table-if true collector other e = e
-table-if false collector other e = refl
-
-table-phase_after : (phase : Phase) (collector : Collector) → (phase_after phase collector).table ≡ collector.table
-table-phase_after Idle collector = refl
-table-phase_after Roots collector = table-if (collector.cursor == 144) collector (after_mark collector collector.grey) (table-after_mark collector collector.grey)
-table-phase_after Mark collector = table-after_mark collector collector.grey
-table-phase_after Sweep collector = table-if (is_past collector.table collector.cursor) collector (with_phase collector Defrag 0) refl
-table-phase_after Defrag collector = table-if (is_past collector.table collector.cursor) collector (cycle_end collector) refl
-
--- A step keeps the pages
-pub collector_step-keeps : (collector : Collector) → KeepsItsPages collector.table (collector_step collector).table
-unfolding collector_step
-collector_step-keeps collector = rw (table-phase_after collector.phase (step_in collector.phase collector)) (step_in-keeps collector.phase collector)
-
-pub steps-keeps : (more left : ℕ) (has_moved : Bool) (collector : Collector) → KeepsItsPages collector.table (steps more left has_moved collector).collector.table
-unfolding steps
-steps-keeps zero left has_moved collector = keeps_same collector.table
-steps-keeps (suc more) left has_moved collector = elim (cases_Bool (is_idle collector.phase || nat_lt left (step_cost collector has_moved))) [
-  | inl stops ↦ subst (λ s. KeepsItsPages collector.table s.collector.table) (sym (steps-stop more left has_moved collector stops)) (keeps_same collector.table)
-  | inr goes ↦
-      let rest : Spending = steps more (left - step_cost collector has_moved) (has_moved || is_moving collector) (collector_step collector) in
-      subst (λ s. KeepsItsPages collector.table s.collector.table) (sym (steps-go more left has_moved collector goes))
-      (keeps_then collector.table (collector_step collector).table rest.collector.table (collector_step-keeps collector) (steps-keeps more (left - step_cost collector has_moved) (has_moved || is_moving collector) (collector_step collector)))
-]
-
-table-quantum_start : (config : Config) (collector : Collector) → (quantum_start config collector).table ≡ collector.table
-table-quantum_start config collector = elim (begins config collector).case [
-  | inl starts ↦ ap (λ c. c.table) starts.2
-  | inr other ↦ elim other [ inl runs ↦ ap (λ c. c.table) runs.1 | inr rests ↦ ap (λ c. c.table) rests.2 ]
-]
-
--- and so does a quantum
-pub quantum-keeps : (config : Config) (collector : Collector) → KeepsItsPages collector.table (quantum config collector).collector.table
-unfolding quantum
-quantum-keeps config collector = subst (λ t. KeepsItsPages t (quantum config collector).collector.table) (table-quantum_start config collector) (steps-keeps config.quantum config.quantum false (quantum_start config collector))
-
 -- Events -----------------------------------------------------------------------------------------
 
-quantum_run-keeps : (machine : Machine) → KeepsItsPages machine.heap.collector.table (quantum_run machine).state.heap.collector.table
+quantum_run-keeps : (machine : Machine) → KeepsItsPages (most_fields machine.heap.config) machine.heap.collector.table (quantum_run machine).state.heap.collector.table
 unfolding quantum_run
-quantum_run-keeps machine = quantum-keeps machine.heap.config machine.heap.collector
+quantum_run-keeps machine = quantum-keeps (most_fields machine.heap.config) machine.heap.config machine.heap.collector
 
-command_step-keeps : (machine : Machine) (who : ℕ) (command : Command) → KeepsItsPages machine.heap.collector.table (command_step machine who command).state.heap.collector.table
+command_step-keeps : (machine : Machine) (who : ℕ) (command : Command) → KeepsItsPages (most_fields machine.heap.config) machine.heap.collector.table (command_step machine who command).state.heap.collector.table
 unfolding command_step
 command_step-keeps machine who command = let course = mutator_step-course machine.heap who command in record { pages = course.pages; slots = course.slots; limits = course.limits }
 
--- the pages of this table are kept by what happens to a machine
-module _ (table : Table Block) where
+-- the pages of this table are kept by what happens to a machine of this configuration
+module _ (config : Config) (table : Table Block) where
   abbrev Keeps : Machine → Type 0
-  Keeps machine = KeepsItsPages table machine.heap.collector.table
+  Keeps machine = (machine.heap.config ≡ config) × KeepsItsPages (most_fields config) table machine.heap.collector.table
+
+  -- what is kept of a machine's own table
+  kept-on : (machine : Machine) (new : Table Block) → Keeps machine → KeepsItsPages (most_fields machine.heap.config) machine.heap.collector.table new → KeepsItsPages (most_fields config) table new
+  kept-on machine new (same, keeps) more = keeps_then (most_fields config) table machine.heap.collector.table new keeps (subst (λ c. KeepsItsPages (most_fields c) machine.heap.collector.table new) same more)
 
   by_command : (machine : Machine) (who : ℕ) (command : Command) → Keeps machine → Keeps (command_step machine who command).state
-  by_command machine who command keeps = keeps_then table machine.heap.collector.table (command_step machine who command).state.heap.collector.table keeps (command_step-keeps machine who command)
+  unfolding command_step
+  by_command machine who command keeps = (config-mutator_step machine.heap who command ∙ keeps.0, kept-on machine (command_step machine who command).state.heap.collector.table keeps (command_step-keeps machine who command))
 
   by_quantum : (machine : Machine) → Keeps machine → Keeps (quantum_run machine).state
-  by_quantum machine keeps = keeps_then table machine.heap.collector.table (quantum_run machine).state.heap.collector.table keeps (quantum_run-keeps machine)
+  unfolding quantum_run
+  by_quantum machine keeps = (keeps.0, kept-on machine (quantum_run machine).state.heap.collector.table keeps (quantum_run-keeps machine))
 
   by_asking : (machine : Machine) → Keeps machine → Keeps (with_collector machine (record (machine.heap.collector) { is_asked = true }))
   by_asking machine keeps = keeps
@@ -381,10 +409,11 @@ module _ (table : Table Block) where
 -- An event keeps the pages
 pub event-keeps : (machine : Machine) (event : Event) → EventKeeps machine event
 event-keeps machine event =
+    let config : Config = machine.heap.config in
     let table : Table Block = machine.heap.collector.table in
     record {
-      half = half_step-keeps (Keeps table) (by_command table) (by_quantum table) (by_asking table) machine event (keeps_same table);
-      whole = event_step-keeps (Keeps table) (by_command table) (by_quantum table) (by_asking table) machine event (keeps_same table);
+      half = (half_step-keeps (Keeps config table) (by_command config table) (by_quantum config table) (by_asking config table) machine event (refl, keeps_same (most_fields config) table)).1;
+      whole = (event_step-keeps (Keeps config table) (by_command config table) (by_quantum config table) (by_asking config table) machine event (refl, keeps_same (most_fields config) table)).1;
     }
 
 -- the pages of the first table are free
@@ -395,5 +424,17 @@ pub machine_after-pages : (config : Config) (events : List Event) → HasItsPage
 machine_after-pages config events =
     let first = first_table-pages config in
     let table : Table Block = (first_collector config).table in
-    let kept = machine_after-keeps (Keeps table) (by_command table) (by_quantum table) (by_asking table) events (first_machine config) (keeps_same table) in
-    record { pages = kept.pages ∙ first.pages; slots = kept.slots first.slots; limits = kept.limits first.limits }
+    let kept = (machine_after-keeps (Keeps config table) (by_command config table) (by_quantum config table) (by_asking config table) events (first_machine config) (refl, keeps_same (most_fields config) table)).1 in
+    record { pages = kept.pages ∙ first.pages; slots = kept.slots first.slots; limits = kept.limits (most_fields config) (omega arith) first.limits }
+
+kept-pages : (config : Config) (made : ℕ) (old new : Table Block) → made ≤ most_fields config → KeepsItsPages made old new → HasItsPages config old → HasItsPages config new
+kept-pages config made old new room keeps has = record { pages = keeps.pages ∙ has.pages; slots = keeps.slots has.slots; limits = keeps.limits (most_fields config) room has.limits }
+
+-- A heap's table keeps its pages
+pub tables-keep : TablesKeepTheirPages
+tables-keep = record {
+  commands = λ heap who command has. let course = mutator_step-course heap who command in kept-pages heap.config (most_fields heap.config) heap.collector.table _ (omega arith) (record { pages = course.pages; slots = course.slots; limits = course.limits }) has;
+  steps = λ config collector has. kept-pages config 0 collector.table _ (omega arith) (collector_step-keeps 0 collector) has;
+  quanta = λ config collector has. kept-pages config 0 collector.table _ (omega arith) (quantum-keeps 0 config collector) has;
+  made = λ config table birth stamp references numbers made fields e has. kept-pages config (references + numbers) table made.table fields (made_group-keeps (references + numbers) table birth stamp references numbers made (omega arith) e) has;
+}
