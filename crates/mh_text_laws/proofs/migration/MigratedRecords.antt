@@ -19,14 +19,9 @@ use Rattle.mh_model.specs.Machine.{Machine, first_machine, event_step, machine_r
 use Rattle.mh_model.specs.History.{IsLegal}
 use Rattle.mh_model.specs.HistoryTexts.{Refused, Legal, is_event, is_entry, is_measured, measured_step, machine_record, history_text, history_reading, migrated, migration_text, IsJudged, IsChecked, IsAudited}
 use Rattle.mh_text_laws.specs.Migration.{IsMigrated}
-<<<<<<< HEAD
-use Rattle.mh_laws.proofs.costs.Quanta.{units-quantum}
-use Rattle.mh_laws.proofs.runs.EveryMoment.{config-mutator_step}
-=======
 use Rattle.mh_text_laws.proofs.ListLemmas.{first_same, others_same}
 use Rattle.mh_text_laws.proofs.round_trips.HeaderRoundTrips.{config_limits}
 use Rattle.mh_text_laws.proofs.round_trips.HistoryRoundTrips.{recorded_reading-text}
->>>>>>> h_tlaws
 use Rattle.mh_text_laws.proofs.rewritings.HistoriesWrittenAgain.{history_reading_is}
 use Rattle.mh_text_laws.proofs.verdicts.LegalHistories.{events_of, replies_of, measured_events}
 use Rattle.mh_text_laws.proofs.migration.LettersAdded.{event_adds}
