@@ -7,7 +7,7 @@ use Rattle.mh_model.specs.Bytes.{Text}
 use Rattle.mh_model.specs.Output.{most_entries}
 use Rattle.mh_model.specs.Script.{Reading, Meaning, Means, BadLine}
 use Rattle.mh_text.specs.Stream.{AppendsBeginning}
-use Rattle.mh_script.specs.Run.{Answers, IsScriptOf, RefusesAt, RunsToEnd, FillsHistory, ReadsScript, WritesBeginning}
+use Rattle.mh_script.specs.Run.{Answers, IsScriptOf, RefusesAt, RunsToEnd, FillsHistory, WritesBeginning}
 use Rattle.mh_script.specs.Stage.{served_reading, served_output, served_output_of}
 use Rattle.mh_script.proofs.StageLemmas.{served_reading-append}
 

@@ -1,8 +1,8 @@
 -- The first line that isn't served, and a text after one that is too long.
-use Rattle.std.proofs.Common.{◌≡◌, ℕ, ◌+◌, ◌≤◌, ◌<◌, Bool, true, false, nat_lt, min, Option, Some, None, List, [], ◌++◌, length, refl, sym, ap, ◌∙◌, arith, length-append, append-nil}
+use Rattle.std.proofs.Common.{◌≡◌, ℕ, ◌≤◌, ◌<◌, Bool, true, false, nat_lt, Option, Some, None, [], ◌++◌, length, refl, sym, ap, ◌∙◌, arith, length-append, append-nil}
 use Rattle.std.proofs.lemmas.Bool.Decides.{nat_tests}
 use Rattle.mh_model.specs.Bytes.{Text}
-use Rattle.mh_model.specs.Script.{Reading, Meaning, BadLine, reading}
+use Rattle.mh_model.specs.Script.{BadLine}
 use Rattle.mh_model.proofs.ScriptLemmas.{reading-long}
 use Rattle.mh_script.specs.Stage.{ended_at, unserved_line, served_reading}
 

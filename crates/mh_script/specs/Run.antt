@@ -1,7 +1,6 @@
 -- What a run of a script has read and written.
-use Rattle.std.specs.Prelude.{◌≡◌, ℕ, ◌<◌, ◌≤◌, List, ◌++◌, length, Option, IfSome, Result, Ok, Err, IfOk, OnErr, IsErrOf}
+use Rattle.std.specs.Prelude.{◌≡◌, ℕ, ◌<◌, ◌≤◌, ◌++◌, length, Option, IfSome, Result, Err, IfOk, OnErr, IsErrOf}
 use Rattle.std.specs.Io.KnownBytes.{Appends, Consumes, IsAtEnd, Keeps}
-use Rattle.mh_model.specs.declared.command.Event.{Event}
 use Rattle.mh_model.specs.Bytes.{Text}
 use Rattle.mh_model.specs.Output.{most_entries}
 use Rattle.mh_model.specs.Script.{BadLine, Means, Meaning}

@@ -1,5 +1,5 @@
 -- What is served while the heap that never collects is the only one: commands of one session on objects and their fields under the first rules, and no quanta of the scheduler. A line of another form is refused like one outside the grammar.
-use Rattle.std.specs.Prelude.{ℕ, suc, nat_lt, min, Bool, true, false, if◌then◌else◌, Option, Some, None, List, [], ◌∷◌, length, map, take}
+use Rattle.std.specs.Prelude.{ℕ, suc, nat_lt, min, Bool, true, false, if◌then◌else◌, Option, Some, None, List, [], ◌∷◌, map, take}
 use Rattle.mh_model.specs.declared.command.Command.{Command}
 use Rattle.mh_model.specs.declared.command.Command.TheVariants as command
 use Rattle.mh_model.specs.declared.config.Config.{Config}

@@ -25,7 +25,11 @@ fn command<'a>(alloc: Global) -> Result<Command<'a>, AllocError>
     ensures { IfOk result (λ command. app_of command ≡ metroheap) }
 {
     let command = optional(alloc)?;
-    Ok(command.subcommand_required(true).disable_help_subcommand(true))
+    Ok(
+        command
+            .subcommand_required(true)
+            .disable_help_subcommand(true),
+    )
 }
 
 /// The order of a subcommand that `clap` found, of which there is one.

@@ -17,7 +17,13 @@ fn words(alloc: Global, words: &[&str]) -> Result<Args, AllocError> {
 }
 
 /// What the program writes, tells and answers on a script.
-fn check(rt: &impl Abort, alloc: Global, line: io::Result<Args>, script: &[u8], wanted: (&[u8], &[u8], u8)) {
+fn check(
+    rt: &impl Abort,
+    alloc: Global,
+    line: io::Result<Args>,
+    script: &[u8],
+    wanted: (&[u8], &[u8], u8),
+) {
     let mut source = StdSource::new(script);
     let mut sink = StdSink::new(Vec::new(alloc));
     let mut errors = StdSink::new(Vec::new(alloc));
@@ -33,17 +39,39 @@ fn runs_a_script(rt: HostRuntime) -> Result<(), Fail> {
     let script = b"config 4 209 0 0\na new 0 0 0\n";
     check(&rt, rt.alloc(), Ok(line), script, (b"ok\n", b"", 0));
     let line = words(rt.alloc(), &["metroheap", "run"])?;
-    check(&rt, rt.alloc(), Ok(line), b"config\n", (b"refused 10 line 1\n", b"", 1));
+    check(
+        &rt,
+        rt.alloc(),
+        Ok(line),
+        b"config\n",
+        (b"refused 10 line 1\n", b"", 1),
+    );
     Ok(())
 }
 
 #[test]
 fn tells_why_the_words_give_no_order(rt: HostRuntime) -> Result<(), Fail> {
     let error = io::Error::from(io::ErrorKind::InvalidData);
-    check(&rt, rt.alloc(), Err(error), b"", (b"", b"metroheap: a word is not text\n", 2));
+    check(
+        &rt,
+        rt.alloc(),
+        Err(error),
+        b"",
+        (b"", b"metroheap: a word is not text\n", 2),
+    );
     let error = io::Error::from(io::ErrorKind::OutOfMemory);
-    check(&rt, rt.alloc(), Err(error), b"", (b"", b"metroheap: no memory\n", 3));
-    for line in [["metroheap", "walk"].as_slice(), ["metroheap", "help"].as_slice(), ["metroheap"].as_slice()] {
+    check(
+        &rt,
+        rt.alloc(),
+        Err(error),
+        b"",
+        (b"", b"metroheap: no memory\n", 3),
+    );
+    for line in [
+        ["metroheap", "walk"].as_slice(),
+        ["metroheap", "help"].as_slice(),
+        ["metroheap"].as_slice(),
+    ] {
         let line = words(rt.alloc(), line)?;
         let mut source = StdSource::new(b"config 4 209 0 0\n".as_slice());
         let mut sink = StdSink::new(Vec::new(rt.alloc()));
@@ -64,14 +92,20 @@ fn tells_which_device_failed(rt: HostRuntime) -> Result<(), Fail> {
     let mut sink = ShortSink::new(rt.alloc(), 5, 0);
     let mut errors = StdSink::new(Vec::new(rt.alloc()));
     let status = program(rt.alloc(), Ok(line), &mut source, &mut sink, &mut errors);
-    assert_eq!(rt; errors.writer.as_slice(), b"metroheap: read failed\n".as_slice());
+    assert_eq!(rt;
+        errors.writer.as_slice(),
+        b"metroheap: read failed\n".as_slice()
+    );
     assert_eq!(rt; status, 3);
     let line = words(rt.alloc(), &["metroheap", "run"])?;
     let mut source = ShortSource::new(script, 0);
     let mut sink = ShortSink::new(rt.alloc(), 5, 1);
     let mut errors = StdSink::new(Vec::new(rt.alloc()));
     let status = program(rt.alloc(), Ok(line), &mut source, &mut sink, &mut errors);
-    assert_eq!(rt; errors.writer.as_slice(), b"metroheap: write failed\n".as_slice());
+    assert_eq!(rt;
+        errors.writer.as_slice(),
+        b"metroheap: write failed\n".as_slice()
+    );
     assert_eq!(rt; status, 3);
     Ok(())
 }
