@@ -1,2 +1,5 @@
 pub mod LegalHistories
 pub mod OneVerdict
+pub mod EqualReplies
+pub mod FirstFailure
+pub mod SomeVerdict
