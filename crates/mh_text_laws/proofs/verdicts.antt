@@ -1,5 +1,5 @@
+pub mod EqualReplies
+pub mod StepRules
 pub mod LegalHistories
 pub mod OneVerdict
-pub mod EqualReplies
-pub mod FirstFailure
 pub mod SomeVerdict

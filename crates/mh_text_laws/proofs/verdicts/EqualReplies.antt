@@ -24,5 +24,6 @@ same_or_other version r s in_range = by (is_reply version s) (are_texts (reply_w
       let words : reply_words r ≡ reply_words s = texts_are (reply_words r) (reply_words s) alike in
       inl (same_Some r s (sym (reply_of-words version r in_range) ∙ ap (reply_of version) words ∙ reply_of-words version s is))
   by true false is unlike =
-      inr (λ same. both_ways (are_texts (reply_words r) (reply_words s)) unlike (subst (λ (x : Reply). are_texts (reply_words r) (reply_words x) ≡ true) same (are_texts-themselves (reply_words r))))
+      let alike : List Text → Type 0 = λ words. are_texts (reply_words r) words ≡ true in
+      inr (λ same. both_ways (are_texts (reply_words r) (reply_words s)) unlike (subst alike (ap reply_words same) (are_texts-themselves (reply_words r))))
   by false alike is told = inr (λ same. both_ways (is_reply version s) is (subst (λ (x : Reply). is_reply version x ≡ true) same in_range))

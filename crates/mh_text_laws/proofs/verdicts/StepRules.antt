@@ -1,8 +1,8 @@
--- A list whose elements each fit a state or don't, where each leads to the next state, fits whole or has a first element that doesn't.
+-- Rules that a list keeps step by step: each element fits a state and leads to the next, and there are 1,000,000 at most.
 use Rattle.std.proofs.Common.{◌≡◌, ◌⊎◌, inl, inr, ℕ, zero, suc, ◌-◌, ◌<◌, ◌≤◌, Bool, true, List, [], ◌∷◌, length, take, refl, subst, arith}
 use Rattle.std.specs.List.{list_all}
 use Rattle.std.proofs.lemmas.Bool.{and_parts, cases_lt}
-use Rattle.std.proofs.lemmas.List.{length-take-le, take-take}
+use Rattle.std.proofs.lemmas.List.{length-take, length-take-le, take-take}
 use Rattle.mh_model.specs.History.{IsFirstBadOf}
 use Rattle.mh_model.specs.HistoryTexts.{Verdict, Legal, FirstBad, IsJudged}
 
@@ -33,11 +33,16 @@ follows-take Fits next zero state xs h = tt
 follows-take Fits next (suc n) state [] h = tt
 follows-take Fits next (suc n) state (x ∷ xs) h = (h.0, follows-take Fits next n (next state x) xs h.1)
 
--- a rule: at most 1,000,000 elements, which follow
+-- what is lawful is at most 1,000,000 elements, which follow
 pub record IsRule {S X : Type 0} (Fits : S → X → Type 0) (next : S → X → S) (state : S) (Lawful : List X → Type 0) : Type 0 where
   pub lawful : (xs : List X) → length xs ≤ 1000000 → Follows Fits next state xs → Lawful xs
   pub few : (xs : List X) → Lawful xs → length xs ≤ 1000000
   pub follows : (xs : List X) → Lawful xs → Follows Fits next state xs
+
+-- a beginning of what is lawful is lawful
+pub rule-begins : {S X : Type 0} (Fits : S → X → Type 0) (next : S → X → S) (state : S) (Lawful : List X → Type 0) → IsRule Fits next state Lawful
+    → (n : ℕ) (xs : List X) → Lawful xs → Lawful (take n xs)
+rule-begins Fits next state Lawful rule n xs h = rule.lawful (take n xs) (omega (arith, rule.few xs h, length-take n xs)) (follows-take Fits next n state xs (rule.follows xs h))
 
 too_many : {S X : Type 0} (Fits : S → X → Type 0) (next : S → X → S) (state : S) (Lawful : List X → Type 0) → IsRule Fits next state Lawful → (xs : List X) → 1000000 < length xs
     → Follows Fits next state (take 1000000 xs) → IsFirstBadOf Lawful xs 1000001
