@@ -1,2 +1,5 @@
+pub mod EqualReplies
+pub mod StepRules
 pub mod LegalHistories
 pub mod OneVerdict
+pub mod SomeVerdict

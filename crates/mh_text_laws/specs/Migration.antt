@@ -6,7 +6,7 @@ use Rattle.mh_model.specs.declared.history.Entry.{Entry}
 use Rattle.mh_model.specs.Bytes.{Text}
 use Rattle.mh_model.specs.Script.{Means}
 use Rattle.mh_model.specs.History.{IsLegal}
-use Rattle.mh_model.specs.HistoryTexts.{history_reading, recorded_text, recorded_reading, IsLegalRecord, Legal, IsChecked, IsAudited, migrated, migration_text}
+use Rattle.mh_model.specs.HistoryTexts.{history_reading, recorded_text, recorded_reading, IsLegalRecord, Legal, IsChecked, IsAudited, migrated, IsMigratedTo}
 
 -- What migration makes of a legal history: a text that is read as the record of its events, which is legal, with the same entries
 pub record IsMigrated (config : Config) (entries : List Entry) : Type 0 where
@@ -20,7 +20,14 @@ abbrev pub MigrationKeepsHistories : Type 0
 MigrationKeepsHistories = (config : Config) (text : Text) (entries : List Entry) → config.rules ≡ First → history_reading text ≡ Means entries → IsLegal config entries
     → IsMigrated config entries
 
--- what is written for a text that is checked and found legal is audited and found legal, with as many entries
+-- what is written of a text that is checked and found legal is audited and found legal, with as many entries
 abbrev pub MigratedTextsAreLegal : Type 0
-MigratedTextsAreLegal = (config : Config) (text : Text) (count : ℕ) → config.rules ≡ First → IsChecked config text (Legal count)
-    → IsAudited (migration_text config (Legal count) (history_reading text)) (Legal count)
+MigratedTextsAreLegal = (config : Config) (text written : Text) (count : ℕ) → config.rules ≡ First → IsMigratedTo config text written → IsChecked config text (Legal count)
+    → IsAudited written (Legal count)
+
+-- every text is migrated to one text, and to no other
+abbrev pub TextsAreMigrated : Type 0
+TextsAreMigrated = (config : Config) (text : Text) → (written : Text) × IsMigratedTo config text written
+
+abbrev pub TextsAreMigratedToOne : Type 0
+TextsAreMigratedToOne = (config : Config) (text one other : Text) → IsMigratedTo config text one → IsMigratedTo config text other → one ≡ other

@@ -17,13 +17,15 @@ use Rattle.mh_model.specs.Script.{Reading, BadLine, Means}
 use Rattle.mh_model.specs.Trace.{mutator_count, collector_count}
 use Rattle.mh_model.specs.Machine.{Machine, first_machine, event_step, machine_replies}
 use Rattle.mh_model.specs.History.{IsLegal}
-use Rattle.mh_model.specs.HistoryTexts.{Refused, Legal, is_event, is_entry, is_measured, measured_step, machine_record, history_text, history_reading, migrated, migration_text, IsJudged, IsChecked, IsAudited}
+use Rattle.mh_model.specs.HistoryTexts.{Verdict, IsMigratedTo, Refused, Legal, is_event, is_entry, is_measured, measured_step, machine_record, history_text, history_reading, migrated, migration_text, IsJudged, IsChecked, IsAudited}
 use Rattle.mh_text_laws.specs.Migration.{IsMigrated}
 use Rattle.mh_text_laws.proofs.ListLemmas.{first_same, others_same}
 use Rattle.mh_text_laws.proofs.round_trips.HeaderRoundTrips.{config_limits}
 use Rattle.mh_text_laws.proofs.round_trips.HistoryRoundTrips.{recorded_reading-text}
 use Rattle.mh_text_laws.proofs.rewritings.HistoriesWrittenAgain.{history_reading_is}
 use Rattle.mh_text_laws.proofs.verdicts.LegalHistories.{events_of, replies_of, measured_events}
+use Rattle.mh_text_laws.proofs.verdicts.OneVerdict.{checked-once}
+use Rattle.mh_text_laws.proofs.verdicts.SomeVerdict.{texts_checked}
 use Rattle.mh_text_laws.proofs.migration.LettersAdded.{event_adds}
 use Rattle.mh_text_laws.proofs.migration.RecordLength.{recorded_length}
 
@@ -110,6 +112,19 @@ migrated_by config text count (Means entries) is first h =
     let kept = migration_keeps config text entries first is legal.0 in
     rw kept.read (kept.legal, legal.1 ∙ sym kept.count)
 
-pub migrated_legal : (config : Config) (text : Text) (count : ℕ) → config.rules ≡ First → IsChecked config text (Legal count)
-    → IsAudited (migration_text config (Legal count) (history_reading text)) (Legal count)
-migrated_legal config text count first h = migrated_by config text count (history_reading text) refl first h
+pub migrated_legal : (config : Config) (text written : Text) (count : ℕ) → config.rules ≡ First → IsMigratedTo config text written → IsChecked config text (Legal count)
+    → IsAudited written (Legal count)
+migrated_legal config text written count first made h =
+    let verdict : made.0 ≡ Legal count = checked-once config text made.0 (Legal count) made.1 h in
+    let same : written ≡ migration_text config (Legal count) (history_reading text) = made.2 ∙ ap (λ (v : Verdict). migration_text config v (history_reading text)) verdict in
+    subst (λ (t : Text). IsAudited t (Legal count)) (sym same) (migrated_by config text count (history_reading text) refl first h)
+
+pub migrated-once : (config : Config) (text one other : Text) → IsMigratedTo config text one → IsMigratedTo config text other → one ≡ other
+migrated-once config text one other h k =
+    let verdict : h.0 ≡ k.0 = checked-once config text h.0 k.0 h.1 k.1 in
+    h.2 ∙ ap (λ (v : Verdict). migration_text config v (history_reading text)) verdict ∙ sym k.2
+
+pub texts_migrated : (config : Config) (text : Text) → (written : Text) × IsMigratedTo config text written
+texts_migrated config text =
+    let found = texts_checked config text in
+    (migration_text config found.0 (history_reading text), (found.0, found.1, refl))

@@ -71,7 +71,7 @@ numbers-faithful written passes verb bounds made each = record {
 
 -- Forms of words ---------------------------------------------------------------------------------
 
-texts_are : (xs ys : List Text) → are_texts xs ys ≡ true → xs ≡ ys
+pub texts_are : (xs ys : List Text) → are_texts xs ys ≡ true → xs ≡ ys
 texts_are [] [] h = refl
 texts_are [] (y ∷ ys) h = cc
 texts_are (x ∷ xs) [] h = cc

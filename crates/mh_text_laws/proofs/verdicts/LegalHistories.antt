@@ -1,14 +1,19 @@
--- A beginning of a legal history of either version is legal.
-use Rattle.std.proofs.Common.{◌≡◌, ℕ, zero, suc, List, [], ◌∷◌, map, take, refl, arith}
-use Rattle.std.proofs.lemmas.List.{length-take}
+-- Legal histories of both versions keep their rule step by step.
+use Rattle.std.proofs.Common.{◌≡◌, ◌∙◌, ◌⊎◌, inl, inr, ℕ, true, List, [], ◌∷◌, map, ap, refl}
+use Rattle.std.proofs.lemmas.Bool.{and_parts, cases_eq}
 use Rattle.mh_model.specs.declared.config.Config.{Config}
 use Rattle.mh_model.specs.declared.command.Event.{Event}
 use Rattle.mh_model.specs.declared.reply.Reply.{Reply}
 use Rattle.mh_model.specs.declared.history.Entry.{Entry}
+use Rattle.mh_model.specs.Forms.{One, Two}
 use Rattle.mh_model.specs.Machine.{Machine, first_machine, event_step, machine_replies}
 use Rattle.mh_model.specs.History.{IsLegal}
-use Rattle.mh_model.specs.HistoryTexts.{Measured, IsLegalRecord, measured_step, machine_record}
+use Rattle.mh_model.specs.HistoryTexts.{Measured, is_entry, is_measured, measured_step, machine_record, IsLegalRecord}
 use Rattle.mh_text_laws.proofs.ListLemmas.{first_same, others_same}
+use Rattle.mh_text_laws.proofs.verdicts.EqualReplies.{same_or_other}
+use Rattle.mh_text_laws.proofs.verdicts.StepRules.{Follows, IsRule}
+
+-- Version 1 --------------------------------------------------------------------------------------
 
 abbrev pub events_of : List Entry → List Event
 events_of entries = map (λ entry. entry.event) entries
@@ -16,31 +21,85 @@ events_of entries = map (λ entry. entry.event) entries
 abbrev pub replies_of : List Entry → List Reply
 replies_of entries = map (λ entry. entry.reply) entries
 
-replies-begin : (machine : Machine) (n : ℕ) (entries : List Entry) → replies_of entries ≡ machine_replies machine (events_of entries)
-    → replies_of (take n entries) ≡ machine_replies machine (events_of (take n entries))
+-- an entry has the machine's reply to its event
+abbrev pub IsAnswered : Machine → Entry → Type 0
+IsAnswered machine e = e.reply ≡ (event_step machine e.event).reply
+
+abbrev pub after_entry : Machine → Entry → Machine
+after_entry machine e = (event_step machine e.event).state
+
+pub answered_or_not : (machine : Machine) (e : Entry) → is_entry One e ≡ true → IsAnswered machine e ⊎ (IsAnswered machine e → ⊥)
+answered_or_not machine e h = same_or_other One e.reply (event_step machine e.event).reply (and_parts _ _ h).1
+
+replies-follow : (machine : Machine) (entries : List Entry) → Follows IsAnswered after_entry machine entries → replies_of entries ≡ machine_replies machine (events_of entries)
 unfolding machine_replies
-replies-begin machine zero entries h = refl
-replies-begin machine (suc n) [] h = refl
-replies-begin machine (suc n) (e ∷ entries) h =
-    let here : e.reply ≡ (event_step machine e.event).reply = first_same h in
-    let more = replies-begin (event_step machine e.event).state n entries (others_same h) in
+replies-follow machine [] h = refl
+replies-follow machine (e ∷ entries) h =
+    let here : e.reply ≡ (event_step machine e.event).reply = h.0 in
+    let later = replies-follow (after_entry machine e) entries h.1 in
     cc
 
-pub legal-begins : (config : Config) (n : ℕ) (entries : List Entry) → IsLegal config entries → IsLegal config (take n entries)
-legal-begins config n entries legal = record { few = omega (arith, legal.few, length-take n entries); replies = replies-begin (first_machine config) n entries legal.replies }
+follow-replies : (machine : Machine) (entries : List Entry) → replies_of entries ≡ machine_replies machine (events_of entries) → Follows IsAnswered after_entry machine entries
+unfolding machine_replies
+follow-replies machine [] h = tt
+follow-replies machine (e ∷ entries) h = (first_same h, follow-replies (after_entry machine e) entries (others_same h))
+
+pub legal_rule : (config : Config) → IsRule IsAnswered after_entry (first_machine config) (IsLegal config)
+legal_rule config = record {
+  lawful = λ entries few follows. record { few = few; replies = replies-follow (first_machine config) entries follows };
+  few = λ entries legal. legal.few;
+  follows = λ entries legal. follow-replies (first_machine config) entries legal.replies;
+}
+
+-- Version 2 --------------------------------------------------------------------------------------
 
 abbrev pub measured_events : List Measured → List Event
 measured_events entries = map (λ measured. measured.entry.event) entries
 
-record-begins : (machine : Machine) (n : ℕ) (entries : List Measured) → entries ≡ machine_record machine (measured_events entries)
-    → take n entries ≡ machine_record machine (measured_events (take n entries))
+-- an entry has the machine's reply to its event, and the letters that it adds
+abbrev pub IsRight : Machine → Measured → Type 0
+IsRight machine m = m ≡ measured_step machine m.entry.event (event_step machine m.entry.event)
+
+abbrev pub after_measured : Machine → Measured → Machine
+after_measured machine m = (event_step machine m.entry.event).state
+
+abbrev with_parts : Measured → Reply → ℕ → ℕ → Measured
+with_parts m reply a b = record { entry = record { event = m.entry.event; reply = reply }; mutator = a; collector = b }
+
+parts_same : (m : Measured) (reply : Reply) (a b : ℕ) → m.entry.reply ≡ reply → m.mutator ≡ a → m.collector ≡ b → m ≡ with_parts m reply a b
+parts_same m reply a b p q s =
+    ap (λ (r : Reply). with_parts m r m.mutator m.collector) p ∙ ap (λ (n : ℕ). with_parts m reply n m.collector) q ∙ ap (λ (n : ℕ). with_parts m reply a n) s
+
+parts_or_not : (m : Measured) (reply : Reply) (a b : ℕ) → (m.entry.reply ≡ reply) ⊎ (m.entry.reply ≡ reply → ⊥) → (m.mutator ≡ a) ⊎ (m.mutator ≡ a → ⊥)
+    → (m.collector ≡ b) ⊎ (m.collector ≡ b → ⊥)
+    → (m ≡ with_parts m reply a b) ⊎ (m ≡ with_parts m reply a b → ⊥)
+parts_or_not m reply a b (inl p) (inl q) (inl s) = inl (parts_same m reply a b p q s)
+parts_or_not m reply a b (inr other) second third = inr (λ same. other (ap (λ (x : Measured). x.entry.reply) same))
+parts_or_not m reply a b (inl p) (inr other) third = inr (λ same. other (ap (λ (x : Measured). x.mutator) same))
+parts_or_not m reply a b (inl p) (inl q) (inr other) = inr (λ same. other (ap (λ (x : Measured). x.collector) same))
+
+pub right_or_not : (machine : Machine) (m : Measured) → is_measured m ≡ true → IsRight machine m ⊎ (IsRight machine m → ⊥)
+right_or_not machine m h =
+    let step : Measured = measured_step machine m.entry.event (event_step machine m.entry.event) in
+    parts_or_not m step.entry.reply step.mutator step.collector (same_or_other Two m.entry.reply step.entry.reply (and_parts _ _ (and_parts _ _ h).0).1)
+    (cases_eq m.mutator step.mutator) (cases_eq m.collector step.collector)
+
+record-follows : (machine : Machine) (entries : List Measured) → Follows IsRight after_measured machine entries → entries ≡ machine_record machine (measured_events entries)
 unfolding machine_record
-record-begins machine zero entries h = refl
-record-begins machine (suc n) [] h = refl
-record-begins machine (suc n) (m ∷ entries) h =
-    let here : m ≡ measured_step machine m.entry.event (event_step machine m.entry.event) = first_same h in
-    let more = record-begins (event_step machine m.entry.event).state n entries (others_same h) in
+record-follows machine [] h = refl
+record-follows machine (m ∷ entries) h =
+    let here : m ≡ measured_step machine m.entry.event (event_step machine m.entry.event) = h.0 in
+    let later = record-follows (after_measured machine m) entries h.1 in
     cc
 
-pub record_legal-begins : (config : Config) (n : ℕ) (entries : List Measured) → IsLegalRecord config entries → IsLegalRecord config (take n entries)
-record_legal-begins config n entries legal = record { few = omega (arith, legal.few, length-take n entries); same = record-begins (first_machine config) n entries legal.same }
+follow-record : (machine : Machine) (entries : List Measured) → entries ≡ machine_record machine (measured_events entries) → Follows IsRight after_measured machine entries
+unfolding machine_record
+follow-record machine [] h = tt
+follow-record machine (m ∷ entries) h = (first_same h, follow-record (after_measured machine m) entries (others_same h))
+
+pub record_rule : (config : Config) → IsRule IsRight after_measured (first_machine config) (IsLegalRecord config)
+record_rule config = record {
+  lawful = λ entries few follows. record { few = few; same = record-follows (first_machine config) entries follows };
+  few = λ entries legal. legal.few;
+  follows = λ entries legal. follow-record (first_machine config) entries legal.same;
+}

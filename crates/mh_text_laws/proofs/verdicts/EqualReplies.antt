@@ -1,0 +1,29 @@
+-- A reply in range is another, or it isn't: their words tell.
+use Rattle.std.proofs.Common.{◌≡◌, ◌∙◌, ◌⊎◌, inl, inr, Bool, true, false, List, [], ◌∷◌, ap, sym, refl, subst}
+use Rattle.std.proofs.lemmas.Bool.{and_from, both_ways, eq-eqb}
+use Rattle.std.proofs.lemmas.Option.{same_Some}
+use Rattle.mh_model.specs.declared.reply.Reply.{Reply}
+use Rattle.mh_model.specs.Bytes.{Text, is_text}
+use Rattle.mh_model.specs.Forms.{Version}
+use Rattle.mh_model.specs.Replies.{reply_words, reply_of, is_reply, are_texts}
+use Rattle.mh_text_laws.proofs.round_trips.ReplyRoundTrips.{reply_of-words}
+use Rattle.mh_text_laws.proofs.rewritings.FormsWrittenAgain.{texts_are}
+
+is_text-itself : (text : Text) → is_text text text ≡ true
+is_text-itself [] = refl
+is_text-itself (byte ∷ bytes) = and_from _ _ (eq-eqb byte byte refl) (is_text-itself bytes)
+
+are_texts-themselves : (texts : List Text) → are_texts texts texts ≡ true
+are_texts-themselves [] = refl
+are_texts-themselves (text ∷ texts) = and_from _ _ (is_text-itself text) (are_texts-themselves texts)
+
+pub same_or_other : (version : Version) (r s : Reply) → is_reply version r ≡ true → (r ≡ s) ⊎ (r ≡ s → ⊥)
+same_or_other version r s in_range = by (is_reply version s) (are_texts (reply_words r) (reply_words s)) refl refl where
+  by : (known alike : Bool) → is_reply version s ≡ known → are_texts (reply_words r) (reply_words s) ≡ alike → (r ≡ s) ⊎ (r ≡ s → ⊥)
+  by true true is alike =
+      let words : reply_words r ≡ reply_words s = texts_are (reply_words r) (reply_words s) alike in
+      inl (same_Some r s (sym (reply_of-words version r in_range) ∙ ap (reply_of version) words ∙ reply_of-words version s is))
+  by true false is unlike =
+      let alike : List Text → Type 0 = λ words. are_texts (reply_words r) words ≡ true in
+      inr (λ same. both_ways (are_texts (reply_words r) (reply_words s)) unlike (subst alike (ap reply_words same) (are_texts-themselves (reply_words r))))
+  by false alike is told = inr (λ same. both_ways (is_reply version s) is (subst (λ (x : Reply). is_reply version x ≡ true) same in_range))
