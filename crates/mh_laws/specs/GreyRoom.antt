@@ -6,7 +6,7 @@ use Rattle.mh_model.specs.declared.config.Config.{Config}
 use Rattle.mh_model.specs.Collector.{Collector, Marking}
 use Rattle.mh_model.specs.Machine.{first_machine, half_step, machine_after}
 use Rattle.mh_model.specs.Batches.{NoneTwice}
-use Rattle.mh_model.specs.Bound.{IsMarkedIn, IsInBounds}
+use Rattle.mh_model.specs.CycleBounds.{IsMarkedIn, IsInBounds}
 
 -- a place holds a marked block, and isn't in the grey list
 pub record IsSettled (marking : Marking) (place : ℕ) : Type 0 where

@@ -4,6 +4,8 @@ use Rattle.mh_model.specs.declared.command.Command.{Command}
 use Rattle.mh_model.specs.declared.command.Command.TheVariants as command
 use Rattle.mh_model.specs.declared.command.Control.{Control}
 use Rattle.mh_model.specs.declared.command.Control.TheVariants as control
+use Rattle.mh_model.specs.declared.history.Version.{Version}
+use Rattle.mh_model.specs.declared.history.Version.TheVariants.{One, Two}
 use Rattle.mh_model.specs.Bytes.{Text, is_text, numbers}
 
 -- Forms ------------------------------------------------------------------------------------------
@@ -107,10 +109,7 @@ command_of words = formed command_forms words
 
 -- Controls ---------------------------------------------------------------------------------------
 
--- what a text knows: the second version of histories, as scripts, has one control and its reply more
-pub data Version : Type 0 where
-  One Two : Version
-
+-- what the second version knows, as scripts do, and the first does not
 abbrev pub where_known : {X : Type 0} → Version → X → List X
 where_known One x = []
 where_known Two x = x ∷ []

@@ -10,7 +10,9 @@ use Rattle.mh_model.specs.declared.cycle.Phase.TheVariants.{Idle, Roots, Mark, S
 use Rattle.mh_model.specs.declared.dump.DumpItem.{DumpItem}
 use Rattle.mh_model.specs.declared.dump.DumpItem.TheVariants as item
 use Rattle.mh_model.specs.Bytes.{Text, parts_at, joined, line_text, is_text, number, numbers, tagged}
-use Rattle.mh_model.specs.Forms.{within, Form, formed, numbered, with_numbers, are_below, at, u32, u64, Version, One, Two, where_known}
+use Rattle.mh_model.specs.Forms.{within, Form, formed, numbered, with_numbers, are_below, at, u32, u64, where_known}
+use Rattle.mh_model.specs.declared.history.Version.{Version}
+use Rattle.mh_model.specs.declared.history.Version.TheVariants.{One, Two}
 
 -- Written ----------------------------------------------------------------------------------------
 

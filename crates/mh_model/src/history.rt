@@ -7,3 +7,19 @@ pub struct Entry {
     pub event: Event,
     pub reply: Reply,
 }
+
+/// An entry with the units that its event added to the trace.
+#[derive(Debug, Drop)]
+pub struct Measured {
+    pub entry: Entry,
+    pub mutator: u64,
+    pub collector: u64,
+}
+
+/// The version of a history's text. The second tells the rules and each entry's units, and knows one control and its reply
+/// more.
+#[derive(Clone, Copy, Debug, PartialEq, Eq)]
+pub enum Version {
+    One,
+    Two,
+}

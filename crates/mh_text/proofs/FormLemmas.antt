@@ -5,7 +5,8 @@ use Rattle.std.proofs.lemmas.Bool.Decides.{nat_tests}
 use Rattle.mh_model.specs.declared.command.Command.TheVariants as command
 use Rattle.mh_model.specs.declared.command.Control.TheVariants as control
 use Rattle.mh_model.specs.Bytes.{Text, is_text}
-use Rattle.mh_model.specs.Forms.{Two, within, u32, u64, command_of, control_of}
+use Rattle.mh_model.specs.Forms.{within, u32, u64, command_of, control_of}
+use Rattle.mh_model.specs.declared.history.Version.TheVariants.{Two}
 use Rattle.mh_text.specs.Words.{few_numbers}
 use Rattle.mh_text.specs.Rows.{said, command_rows, three_rows, two_rows, one_rows, no_rows, control_rows, plain_rows}
 use Rattle.mh_text.proofs.WordLemmas.{few_same, none_of}

@@ -1,5 +1,6 @@
 ghost use Rattle.std.specs.Prelude.{◌≡◌, nat_lt, [], ◌∷◌};
-ghost use Rattle.mh_model.specs.Forms.{Two, within, u32, command_of, control_of};
+ghost use Rattle.mh_model.specs.Forms.{within, u32, command_of, control_of};
+ghost use Rattle.mh_model.specs.declared.history.Version.TheVariants.{Two};
 ghost use Rattle.mh_text.specs.Rows.{said, command_rows, three_rows, two_rows, one_rows, control_rows, plain_rows};
 
 use crate::pieces::Words;

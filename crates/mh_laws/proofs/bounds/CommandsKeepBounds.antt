@@ -12,7 +12,7 @@ use Rattle.mh_model.specs.Pages.{Table, block_at, least_place, with_taken, IsFre
 use Rattle.mh_model.specs.Table.{Block, Made, MadeParts, Position, new_block, made_in_class, made_part, made_parts, with_block_change, words_of, linked_block, linked_parts, group_of, made_group, reference_in}
 use Rattle.mh_model.specs.Collector.{Collector, Marking, shade, marking_of, with_shade}
 use Rattle.mh_model.specs.Mutator.{HeapState, in_roots, in_roots_or_mark, before_field, with_root, with_roots_cleared, with_session_cleared, with_reference_stored, with_number_stored, field_of, number_field, new_group, with_born, heap_sight, heap_effect, mutator_step}
-use Rattle.mh_model.specs.Bound.{count_at, grey_weight, IsGreySound, IsMarkedIn}
+use Rattle.mh_model.specs.CycleBounds.{count_at, grey_weight, IsGreySound, IsMarkedIn}
 use Rattle.mh_laws.specs.NewObjects.{AreMade}
 use Rattle.mh_laws.proofs.placing.Places.{block_at-with_block_same, block_at-with_block_other, least_place-free, block_at-with_taken_other, block-slot}
 use Rattle.mh_laws.proofs.objects.Parts.{children_inside}

@@ -11,7 +11,7 @@ use Rattle.mh_model.specs.Pages.{Page, Table, page_number, slot_number, page_at,
 use Rattle.mh_model.specs.Table.{Block}
 use Rattle.mh_model.specs.Collector.{Collector, Spending, Move, is_marked, next_move, with_move, move_cost, after_mark, cost_in, step_cost, is_moving_in, is_moving, step_in, is_past, with_phase, cycle_end, phase_after, collector_step, is_idle, quantum_start, steps, quantum}
 use Rattle.mh_model.specs.Mutator.{in_roots_or_mark}
-use Rattle.mh_model.specs.Bound.{IsRoomyPage, IsRoomy, class_at, slot_weight, page_weight, table_weight, in_steps, in_units, words_at, movable, movable_words, steps_left, units_left, StageOf, IsUnderway}
+use Rattle.mh_model.specs.CycleBounds.{IsRoomyPage, IsRoomy, class_at, slot_weight, page_weight, table_weight, in_steps, in_units, words_at, movable, movable_words, steps_left, units_left, StageOf, IsUnderway}
 use Rattle.mh_laws.proofs.costs.Quanta.{steps-stop, steps-go, step_cost-positive, step_cost-bounded}
 use Rattle.mh_laws.specs.Commands.{IsOnCourse}
 use Rattle.mh_laws.proofs.tables.BlockRoom.{few_slots, roomy-sized}

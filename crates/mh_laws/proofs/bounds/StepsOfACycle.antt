@@ -6,7 +6,8 @@ use Rattle.mh_model.specs.declared.cycle.Phase.{Phase}
 use Rattle.mh_model.specs.declared.cycle.Phase.TheVariants.{Idle, Roots, Mark, Sweep, Defrag}
 use Rattle.mh_model.specs.Collector.{Collector, cycle_start, cost_in, step_in, phase_after, collector_step, is_idle}
 use Rattle.mh_model.specs.Mutator.{HeapState, mutator_step}
-use Rattle.mh_model.specs.Bound.{most_steps, most_units, steps_left, units_left, IsUnderway, IsInBounds}
+use Rattle.mh_model.specs.Bound.{most_steps, most_units}
+use Rattle.mh_model.specs.CycleBounds.{steps_left, units_left, IsUnderway, IsInBounds}
 use Rattle.mh_laws.specs.Deeds.{Deed, Step, Perform, with_step, heap_after, step_count, cost_of, with_cycle, CycleTakesBoundedSteps}
 use Rattle.mh_laws.proofs.commands.LeftUnchanged.{mutator_step-course}
 use Rattle.mh_laws.proofs.bounds.CommandsKeepBounds.{mutator_step-carried}

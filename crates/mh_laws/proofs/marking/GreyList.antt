@@ -10,7 +10,7 @@ use Rattle.mh_model.specs.Pages.{Page, Table, page_number, slot_number, page_at,
 use Rattle.mh_model.specs.Table.{Block, references_at, with_block_change, with_reference_at, resolve, target_of}
 use Rattle.mh_model.specs.Collector.{Marking, is_marked, with_grey, shade_block, shade, mark_reference, mark_references, mark_first}
 use Rattle.mh_laws.specs.GreyRoom.{IsSettled}
-use Rattle.mh_model.specs.Bound.{count_at, class_at, slot_weight, page_weight, table_weight, grey_weight, weight, IsGreySound, IsMarkedIn}
+use Rattle.mh_model.specs.CycleBounds.{count_at, class_at, slot_weight, page_weight, table_weight, grey_weight, weight, IsGreySound, IsMarkedIn}
 use Rattle.mh_laws.proofs.placing.Places.{IsSlot, block_in-page_for, block_at-with_block_same, block_at-with_block_other, block-slot}
 use Rattle.mh_laws.proofs.tables.BlockRoom.{rewritten-roomy, with_block-none}
 use Rattle.mh_laws.proofs.Lists.{below_length}

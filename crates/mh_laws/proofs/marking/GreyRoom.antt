@@ -8,7 +8,7 @@ use Rattle.mh_model.specs.declared.config.Config.{Config}
 use Rattle.mh_model.specs.Pages.{Page, Table, page_number, slot_number, page_at, block_in}
 use Rattle.mh_model.specs.Table.{Block}
 use Rattle.mh_model.specs.Collector.{Collector}
-use Rattle.mh_model.specs.Bound.{IsMarkedIn, IsInBounds}
+use Rattle.mh_model.specs.CycleBounds.{IsMarkedIn, IsInBounds}
 use Rattle.mh_laws.specs.GreyRoom.{HasGreyRoom, GreyListHasRoom}
 use Rattle.mh_laws.proofs.bounds.CyclesInTime.{run-stays, half-stays}
 use Rattle.mh_laws.proofs.Lists.{below_length}

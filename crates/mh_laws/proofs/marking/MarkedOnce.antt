@@ -6,7 +6,7 @@ use Rattle.mh_model.specs.declared.cycle.Phase.{Phase}
 use Rattle.mh_model.specs.declared.cycle.Phase.TheVariants.{Idle, Roots, Mark, Sweep, Defrag}
 use Rattle.mh_model.specs.Collector.{Collector, Marking, marking_of, with_marking, with_phase, mark_first, after_mark, is_past, cycle_end, step_in, phase_after, collector_step}
 use Rattle.mh_model.specs.Mutator.{HeapState, in_roots_or_mark, mutator_step}
-use Rattle.mh_model.specs.Bound.{count_at, IsGreySound, StageOf, IsUnderway}
+use Rattle.mh_model.specs.CycleBounds.{count_at, IsGreySound, StageOf, IsUnderway}
 use Rattle.mh_laws.specs.Deeds.{Deed, Step, Perform, with_step, heap_after, StaysOut, NoPlaceTurnsGreyAgain}
 use Rattle.mh_laws.specs.GreyRoom.{IsSettled}
 use Rattle.mh_laws.proofs.commands.LeftUnchanged.{mutator_step-course}

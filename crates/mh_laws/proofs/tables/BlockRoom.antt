@@ -8,7 +8,7 @@ use Rattle.mh_model.specs.Classes.{class_sizes, class_of, slots_in}
 use Rattle.mh_model.specs.Pages.{Page, Table, page_number, slot_number, page_at, block_in, block_at, page_with, with_block, page_for, with_taken}
 use Rattle.mh_model.specs.Table.{Block, is_forwarder}
 use Rattle.mh_model.specs.Collector.{survivor, is_last_slot, is_marked, judged_page, swept_page, swept_table}
-use Rattle.mh_model.specs.Bound.{IsRoomyPage, IsRoomy}
+use Rattle.mh_model.specs.CycleBounds.{IsRoomyPage, IsRoomy}
 use Rattle.mh_laws.proofs.Lists.{find-passes, get_or-set_either, none_at}
 use Rattle.mh_laws.proofs.placing.Places.{IsShaped}
 use Rattle.mh_laws.proofs.tables.PageSlots.{judged_page-is}

@@ -3,9 +3,10 @@ use Rattle.std.proofs.Common.{◌≡◌, ℕ, suc, cond, Bool, true, false, Opti
 use Rattle.mh_model.specs.declared.config.Config.{Config}
 use Rattle.mh_model.specs.declared.history.Entry.{Entry}
 use Rattle.mh_model.specs.Bytes.{Text, words, is_text}
-use Rattle.mh_model.specs.Forms.{One}
+use Rattle.mh_model.specs.declared.history.Version.TheVariants.{One}
 use Rattle.mh_model.specs.Script.{Reading, BadLine, Means, reading_map}
-use Rattle.mh_model.specs.HistoryTexts.{Measured, Recorded, entry_of, measured_of, header_of, entries_from, history_of, recorded_by, recorded_of}
+use Rattle.mh_model.specs.HistoryTexts.{Recorded, entry_of, measured_of, header_of, entries_from, history_of, recorded_by, recorded_of}
+use Rattle.mh_model.specs.declared.history.Measured.{Measured}
 use Rattle.mh_text_laws.proofs.beginnings.LineReaders.{Breaks, breaks-step, breaks-here, breaks-end, end-breaks, bad-map, map-itself}
 
 -- Entries ----------------------------------------------------------------------------------------

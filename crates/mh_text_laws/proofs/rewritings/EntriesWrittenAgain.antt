@@ -6,9 +6,12 @@ use Rattle.mh_model.specs.declared.command.Event.TheVariants as event
 use Rattle.mh_model.specs.declared.reply.Reply.{Reply}
 use Rattle.mh_model.specs.declared.history.Entry.{Entry}
 use Rattle.mh_model.specs.Bytes.{Text, joined, words, is_text, numbers, tagged}
-use Rattle.mh_model.specs.Forms.{within, Version, Two, command_of, control_of}
+use Rattle.mh_model.specs.Forms.{within, command_of, control_of}
+use Rattle.mh_model.specs.declared.history.Version.{Version}
+use Rattle.mh_model.specs.declared.history.Version.TheVariants.{Two}
 use Rattle.mh_model.specs.Replies.{reply_words, reply_of, are_u64}
-use Rattle.mh_model.specs.HistoryTexts.{Measured, event_words, is_event, event_of, session_of, entry_words, is_entry, entry_by, entry_of, measured_words, is_measured, measured_with, measured_by, measured_of, Halves, halves_at}
+use Rattle.mh_model.specs.HistoryTexts.{event_words, is_event, event_of, session_of, entry_words, is_entry, entry_by, entry_of, measured_words, is_measured, measured_with, measured_by, measured_of, Halves, halves_at}
+use Rattle.mh_model.specs.declared.history.Measured.{Measured}
 use Rattle.mh_text_laws.proofs.rewritings.NumbersWrittenAgain.{mapped, chained, within_is, numbers_are}
 use Rattle.mh_text_laws.proofs.rewritings.WordsWrittenAgain.{text_is, joined-words, tagged_is}
 use Rattle.mh_text_laws.proofs.rewritings.FormsWrittenAgain.{IsOf, same_of, command_is, control_is}

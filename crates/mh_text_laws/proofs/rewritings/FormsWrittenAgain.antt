@@ -5,7 +5,9 @@ use Rattle.mh_model.specs.declared.command.Command.{Command}
 use Rattle.mh_model.specs.declared.command.Control.{Control}
 use Rattle.mh_model.specs.declared.command.Control.TheVariants as control
 use Rattle.mh_model.specs.Bytes.{Text, is_text}
-use Rattle.mh_model.specs.Forms.{Form, form_of, formed, are_below, with_numbers, u32, u64, phrase_words, is_sayable, command_forms, command_phrase, command_of, Version, One, Two, control_forms, control_phrase, control_of, knows_control, where_known}
+use Rattle.mh_model.specs.Forms.{Form, form_of, formed, are_below, with_numbers, u32, u64, phrase_words, is_sayable, command_forms, command_phrase, command_of, control_forms, control_phrase, control_of, knows_control, where_known}
+use Rattle.mh_model.specs.declared.history.Version.{Version}
+use Rattle.mh_model.specs.declared.history.Version.TheVariants.{One, Two}
 use Rattle.mh_model.specs.Replies.{are_texts, with_words}
 use Rattle.mh_text_laws.proofs.rewritings.NumbersWrittenAgain.{within_is, numbered_is, OfEach, of_each, length-below}
 use Rattle.mh_text_laws.proofs.rewritings.WordsWrittenAgain.{text_is}

@@ -5,7 +5,7 @@ use Rattle.std.proofs.lemmas.Bool.{and_from, ltb-false}
 use Rattle.mh_model.specs.declared.config.Config.{Config}
 use Rattle.mh_model.specs.declared.history.Entry.{Entry}
 use Rattle.mh_model.specs.Bytes.{Text, cut_after, words, joined, lines_text, is_text}
-use Rattle.mh_model.specs.Forms.{One}
+use Rattle.mh_model.specs.declared.history.Version.TheVariants.{One}
 use Rattle.mh_model.specs.Script.{Reading, BadLine, Means, reading_map, at_end}
 use Rattle.mh_model.specs.HistoryTexts.{Recorded, is_entry, entry_of, is_measured, measured_of, header_words, header_of, entries_from, history_text, history_of, history_reading, recorded_text, recorded_by, recorded_of, recorded_reading}
 use Rattle.mh_text_laws.proofs.round_trips.HistoryRoundTrips.{entry_line, measured_line}

@@ -8,7 +8,9 @@ use Rattle.mh_model.specs.declared.reply.Refusal.TheVariants.{BadSlot, Null, NoF
 use Rattle.mh_model.specs.declared.cycle.Phase.{Phase}
 use Rattle.mh_model.specs.declared.cycle.Phase.TheVariants.{Idle, Roots, Mark, Sweep, Defrag}
 use Rattle.mh_model.specs.Bytes.{Text, is_text, number, numbers}
-use Rattle.mh_model.specs.Forms.{within, formed, with_numbers, at, u32, u64, Version, One, Two, where_known}
+use Rattle.mh_model.specs.Forms.{within, formed, with_numbers, at, u32, u64, where_known}
+use Rattle.mh_model.specs.declared.history.Version.{Version}
+use Rattle.mh_model.specs.declared.history.Version.TheVariants.{One, Two}
 use Rattle.mh_model.specs.Replies.{refusal_words, phase_word, optional_word, reply_words, are_u64, is_reply, refusal_forms, phase_forms, phase_of, ascends, items_in_range, Ready, items_from, values, spent_of, stat_of, optional_by, optional_of, report_of, dump_of, reply_forms, reply_of}
 use Rattle.mh_text_laws.proofs.rewritings.NumbersWrittenAgain.{within_is, mapped, chained, number_is, numbers_are, of_each, length-decimals}
 use Rattle.mh_text_laws.proofs.rewritings.WordsWrittenAgain.{text_is}

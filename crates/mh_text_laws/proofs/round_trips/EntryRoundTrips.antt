@@ -18,9 +18,12 @@ use Rattle.mh_model.specs.declared.dump.DumpItem.{DumpItem}
 use Rattle.mh_model.specs.declared.dump.DumpItem.TheVariants as item
 use Rattle.mh_model.specs.declared.history.Entry.{Entry}
 use Rattle.mh_model.specs.Bytes.{Text, is_text, is_digit, number, words, joined}
-use Rattle.mh_model.specs.Forms.{u32, u64, Phrase, phrase_words, is_sayable, command_phrase, Version, One, Two, control_phrase, knows_control}
+use Rattle.mh_model.specs.Forms.{u32, u64, Phrase, phrase_words, is_sayable, command_phrase, control_phrase, knows_control}
+use Rattle.mh_model.specs.declared.history.Version.{Version}
+use Rattle.mh_model.specs.declared.history.Version.TheVariants.{One, Two}
 use Rattle.mh_model.specs.Replies.{refusal_words, phase_word, flag_word, placed_word, item_words, optional_word, reply_words, are_u64, item_numbers, items_in_range, is_reply}
-use Rattle.mh_model.specs.HistoryTexts.{Measured, event_words, entry_words, measured_words, is_event, is_entry, is_measured, event_of, halves_at, entry_of, measured_of}
+use Rattle.mh_model.specs.HistoryTexts.{event_words, entry_words, measured_words, is_event, is_entry, is_measured, event_of, halves_at, entry_of, measured_of}
+use Rattle.mh_model.specs.declared.history.Measured.{Measured}
 use Rattle.mh_text_laws.proofs.ListLemmas.{all_weaker, all-append}
 use Rattle.mh_text_laws.proofs.round_trips.WordRoundTrips.{number-decimal, numbers-decimal, decimal_word, is_word, are_words, words-joined, all-decimals, are_small, digit_other, is_numbered, numbered_first}
 use Rattle.mh_text_laws.proofs.round_trips.ReplyRoundTrips.{small_numbers, command_of-words, control_of-words, reply_of-words}

@@ -5,9 +5,10 @@ use Rattle.std.proofs.lemmas.Bool.{and_parts, and_from, le-ltb}
 use Rattle.mh_model.specs.declared.config.Config.{Config}
 use Rattle.mh_model.specs.declared.history.Entry.{Entry}
 use Rattle.mh_model.specs.Bytes.{Text, cut_after, words, joined, lines_text}
-use Rattle.mh_model.specs.Forms.{One}
+use Rattle.mh_model.specs.declared.history.Version.TheVariants.{One}
 use Rattle.mh_model.specs.Script.{Means, reading_map}
-use Rattle.mh_model.specs.HistoryTexts.{Measured, Recorded, entry_words, measured_words, is_entry, is_measured, entry_of, measured_of, header_words, header_of, history_text, recorded_text, entries_from, history_of, history_reading, recorded_by, recorded_of, recorded_reading}
+use Rattle.mh_model.specs.HistoryTexts.{Recorded, entry_words, measured_words, is_entry, is_measured, entry_of, measured_of, header_words, header_of, history_text, recorded_text, entries_from, history_of, history_reading, recorded_by, recorded_of, recorded_reading}
+use Rattle.mh_model.specs.declared.history.Measured.{Measured}
 use Rattle.mh_text_laws.proofs.ListLemmas.{all-map}
 use Rattle.mh_text_laws.proofs.round_trips.WordRoundTrips.{is_free, are_free, cut-lines, joined_free}
 use Rattle.mh_text_laws.proofs.round_trips.EntryRoundTrips.{entry_of-line, measured_of-line, entry_are_words, measured_are_words}

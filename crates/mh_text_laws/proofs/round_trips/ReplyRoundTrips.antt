@@ -15,7 +15,9 @@ use Rattle.mh_model.specs.declared.cycle.Phase.TheVariants.{Idle, Roots, Mark, S
 use Rattle.mh_model.specs.declared.dump.DumpItem.{DumpItem}
 use Rattle.mh_model.specs.declared.dump.DumpItem.TheVariants as item
 use Rattle.mh_model.specs.Bytes.{Text, parts_at, is_digit, number, tagged}
-use Rattle.mh_model.specs.Forms.{are_below, numbered, at, u32, u64, phrase_words, is_sayable, command_phrase, command_of, Version, One, Two, control_phrase, control_of, knows_control}
+use Rattle.mh_model.specs.Forms.{are_below, numbered, at, u32, u64, phrase_words, is_sayable, command_phrase, command_of, control_phrase, control_of, knows_control}
+use Rattle.mh_model.specs.declared.history.Version.{Version}
+use Rattle.mh_model.specs.declared.history.Version.TheVariants.{One, Two}
 use Rattle.mh_model.specs.Replies.{refusal_words, phase_word, flag_word, placed_word, item_words, optional_word, reply_words, are_u64, items_in_range, ascends, is_reply, phase_of, flag_of, optional_of, placed_by, placed_of, Ready, HasPage, HasClass, with_item, items_from, reply_of}
 use Rattle.mh_text_laws.proofs.ListLemmas.{all-append}
 use Rattle.mh_text_laws.proofs.round_trips.WordRoundTrips.{number-decimal, numbers-decimal, are_small, is_free, cut-free, cut-piece, parts-joined, decimal_free, digit_other, is_numbered, numbered_first}

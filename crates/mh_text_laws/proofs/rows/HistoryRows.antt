@@ -9,7 +9,8 @@ use Rattle.mh_model.specs.declared.reply.Reply.TheVariants as reply
 use Rattle.mh_model.specs.declared.reply.Refusal.TheVariants.{Null, TooLarge, HeapFull, TooManySessions}
 use Rattle.mh_model.specs.Output.{output}
 use Rattle.mh_model.specs.Script.{reading}
-use Rattle.mh_model.specs.HistoryTexts.{Measured, history_reading, recorded_reading, machine_record, Refused, Legal, FirstBad, verdict_text, IsChecked, IsAudited, migration_text}
+use Rattle.mh_model.specs.HistoryTexts.{history_reading, recorded_reading, machine_record, Refused, Legal, FirstBad, verdict_text, IsChecked, IsAudited, migration_text}
+use Rattle.mh_model.specs.declared.history.Measured.{Measured}
 use Rattle.mh_text_laws.proofs.rows.Worked.{worked}
 
 nine_names : output (codes "config 4 209 0 0\na clear 0\nb clear 0\nc clear 0\nd clear 0\ne clear 0\nf clear 0\ng clear 0\nh clear 0\ni clear 0\nj clear 0\na clear 0\n")

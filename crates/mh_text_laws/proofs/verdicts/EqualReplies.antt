@@ -4,7 +4,7 @@ use Rattle.std.proofs.lemmas.Bool.{and_from, both_ways, eq-eqb}
 use Rattle.std.proofs.lemmas.Option.{same_Some}
 use Rattle.mh_model.specs.declared.reply.Reply.{Reply}
 use Rattle.mh_model.specs.Bytes.{Text, is_text}
-use Rattle.mh_model.specs.Forms.{Version}
+use Rattle.mh_model.specs.declared.history.Version.{Version}
 use Rattle.mh_model.specs.Replies.{reply_words, reply_of, is_reply, are_texts}
 use Rattle.mh_text_laws.proofs.round_trips.ReplyRoundTrips.{reply_of-words}
 use Rattle.mh_text_laws.proofs.rewritings.FormsWrittenAgain.{texts_are}

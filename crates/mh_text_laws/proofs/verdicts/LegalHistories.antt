@@ -5,10 +5,11 @@ use Rattle.mh_model.specs.declared.config.Config.{Config}
 use Rattle.mh_model.specs.declared.command.Event.{Event}
 use Rattle.mh_model.specs.declared.reply.Reply.{Reply}
 use Rattle.mh_model.specs.declared.history.Entry.{Entry}
-use Rattle.mh_model.specs.Forms.{One, Two}
+use Rattle.mh_model.specs.declared.history.Version.TheVariants.{One, Two}
 use Rattle.mh_model.specs.Machine.{Machine, first_machine, event_step, machine_replies}
 use Rattle.mh_model.specs.History.{IsLegal}
-use Rattle.mh_model.specs.HistoryTexts.{Measured, is_entry, is_measured, measured_step, machine_record, IsLegalRecord}
+use Rattle.mh_model.specs.HistoryTexts.{is_entry, is_measured, measured_step, machine_record, IsLegalRecord}
+use Rattle.mh_model.specs.declared.history.Measured.{Measured}
 use Rattle.mh_text_laws.proofs.ListLemmas.{first_same, others_same}
 use Rattle.mh_text_laws.proofs.verdicts.EqualReplies.{same_or_other}
 use Rattle.mh_text_laws.proofs.verdicts.StepRules.{Follows, IsRule}

@@ -4,7 +4,7 @@ use Rattle.std.specs.List.{list_all}
 use Rattle.mh_model.specs.declared.config.Config.{Config}
 use Rattle.mh_model.specs.declared.history.Entry.{Entry}
 use Rattle.mh_model.specs.Bytes.{Text}
-use Rattle.mh_model.specs.Forms.{One}
+use Rattle.mh_model.specs.declared.history.Version.TheVariants.{One}
 use Rattle.mh_model.specs.Script.{Reading, BadLine, Means}
 use Rattle.mh_model.specs.Machine.{first_machine}
 use Rattle.mh_model.specs.History.{IsLegal}
