@@ -1,0 +1,4 @@
+pub mod Weights
+pub mod ClaimWord
+pub mod Lock
+pub mod Laws
