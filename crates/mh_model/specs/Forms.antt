@@ -44,6 +44,18 @@ numbered bounds made words = option_and_then (λ ns. within (are_below bounds ns
 abbrev pub with_numbers : {X : Type 0} → Text → List ℕ → (List ℕ → X) → Form X
 with_numbers verb bounds made = record { verb = verb; meaning = numbered bounds made }
 
+-- A row of a table of forms: a first word, bounds of the numbers after it, and what these make
+pub record Row (X : Type 0) : Type 0 where
+  pub verb : Text
+  pub bounds : List ℕ
+  pub made : List ℕ → X
+
+abbrev pub row : {X : Type 0} → Text → List ℕ → (List ℕ → X) → Row X
+row verb bounds made = record { verb = verb; bounds = bounds; made = made }
+
+abbrev pub row_form : {X : Type 0} → Row X → Form X
+row_form r = with_numbers r.verb r.bounds r.made
+
 -- past the greatest u32 and the greatest u64
 abbrev pub u32 : ℕ
 u32 = 2 ^ 32
@@ -73,21 +85,24 @@ is_sayable said = are_below said.bounds said.numbers
 
 -- Commands ---------------------------------------------------------------------------------------
 
-abbrev pub command_forms : List (Form Command)
-command_forms =
-    with_numbers (codes "new") (u32 ∷ u32 ∷ u32 ∷ []) (λ ns. command.New (at ns 0) (at ns 1) (at ns 2))
-    ∷ with_numbers (codes "get") (u32 ∷ u32 ∷ u32 ∷ []) (λ ns. command.Get (at ns 0) (at ns 1) (at ns 2))
-    ∷ with_numbers (codes "put") (u32 ∷ u32 ∷ u32 ∷ []) (λ ns. command.Put (at ns 0) (at ns 1) (at ns 2))
-    ∷ with_numbers (codes "copy") (u32 ∷ u32 ∷ []) (λ ns. command.Copy (at ns 0) (at ns 1))
-    ∷ with_numbers (codes "clear") (u32 ∷ []) (λ ns. command.Clear (at ns 0))
-    ∷ with_numbers (codes "read") (u32 ∷ u32 ∷ []) (λ ns. command.Read (at ns 0) (at ns 1))
-    ∷ with_numbers (codes "write") (u32 ∷ u32 ∷ u64 ∷ []) (λ ns. command.Write (at ns 0) (at ns 1) (at ns 2))
-    ∷ with_numbers (codes "same") (u32 ∷ u32 ∷ []) (λ ns. command.Same (at ns 0) (at ns 1))
-    ∷ with_numbers (codes "shape") (u32 ∷ []) (λ ns. command.Shape (at ns 0))
-    ∷ with_numbers (codes "post") (u32 ∷ u32 ∷ []) (λ ns. command.Post (at ns 0) (at ns 1))
-    ∷ with_numbers (codes "take") (u32 ∷ u32 ∷ []) (λ ns. command.Take (at ns 0) (at ns 1))
-    ∷ with_numbers (codes "end") [] (λ ns. command.End)
+abbrev pub command_rows : List (Row Command)
+command_rows =
+    row (codes "new") (u32 ∷ u32 ∷ u32 ∷ []) (λ ns. command.New (at ns 0) (at ns 1) (at ns 2))
+    ∷ row (codes "get") (u32 ∷ u32 ∷ u32 ∷ []) (λ ns. command.Get (at ns 0) (at ns 1) (at ns 2))
+    ∷ row (codes "put") (u32 ∷ u32 ∷ u32 ∷ []) (λ ns. command.Put (at ns 0) (at ns 1) (at ns 2))
+    ∷ row (codes "copy") (u32 ∷ u32 ∷ []) (λ ns. command.Copy (at ns 0) (at ns 1))
+    ∷ row (codes "clear") (u32 ∷ []) (λ ns. command.Clear (at ns 0))
+    ∷ row (codes "read") (u32 ∷ u32 ∷ []) (λ ns. command.Read (at ns 0) (at ns 1))
+    ∷ row (codes "write") (u32 ∷ u32 ∷ u64 ∷ []) (λ ns. command.Write (at ns 0) (at ns 1) (at ns 2))
+    ∷ row (codes "same") (u32 ∷ u32 ∷ []) (λ ns. command.Same (at ns 0) (at ns 1))
+    ∷ row (codes "shape") (u32 ∷ []) (λ ns. command.Shape (at ns 0))
+    ∷ row (codes "post") (u32 ∷ u32 ∷ []) (λ ns. command.Post (at ns 0) (at ns 1))
+    ∷ row (codes "take") (u32 ∷ u32 ∷ []) (λ ns. command.Take (at ns 0) (at ns 1))
+    ∷ row (codes "end") [] (λ ns. command.End)
     ∷ []
+
+abbrev pub command_forms : List (Form Command)
+command_forms = map row_form command_rows
 
 abbrev pub command_phrase : Command → Phrase
 command_phrase (command.New slot references numbers) = phrase (codes "new") (u32 ∷ u32 ∷ u32 ∷ []) (slot ∷ references ∷ numbers ∷ [])
@@ -114,14 +129,17 @@ abbrev pub where_known : {X : Type 0} → Version → X → List X
 where_known One x = []
 where_known Two x = x ∷ []
 
+abbrev pub control_rows : Version → List (Row Control)
+control_rows version =
+    row (codes "quantum") [] (λ ns. control.Quantum)
+    ∷ row (codes "start") [] (λ ns. control.Start)
+    ∷ row (codes "stat") [] (λ ns. control.Stat)
+    ∷ row (codes "dump") [] (λ ns. control.Dump)
+    ∷ row (codes "report") (u64 ∷ []) (λ ns. control.Report (at ns 0))
+    ∷ where_known version (row (codes "left") [] (λ ns. control.Left))
+
 abbrev pub control_forms : Version → List (Form Control)
-control_forms version =
-    with_numbers (codes "quantum") [] (λ ns. control.Quantum)
-    ∷ with_numbers (codes "start") [] (λ ns. control.Start)
-    ∷ with_numbers (codes "stat") [] (λ ns. control.Stat)
-    ∷ with_numbers (codes "dump") [] (λ ns. control.Dump)
-    ∷ with_numbers (codes "report") (u64 ∷ []) (λ ns. control.Report (at ns 0))
-    ∷ where_known version (with_numbers (codes "left") [] (λ ns. control.Left))
+control_forms version = map row_form (control_rows version)
 
 abbrev pub control_phrase : Control → Phrase
 control_phrase control.Quantum = phrase (codes "quantum") [] []

@@ -5,10 +5,10 @@ use Rattle.std.proofs.lemmas.Bool.Decides.{nat_tests}
 use Rattle.mh_model.specs.declared.command.Command.TheVariants as command
 use Rattle.mh_model.specs.declared.command.Control.TheVariants as control
 use Rattle.mh_model.specs.Bytes.{Text, is_text}
-use Rattle.mh_model.specs.Forms.{within, u32, u64, command_of, control_of}
+use Rattle.mh_model.specs.Forms.{within, u32, u64, command_rows, command_of, control_rows, control_of}
 use Rattle.mh_model.specs.declared.history.Version.TheVariants.{Two}
 use Rattle.mh_text.specs.Words.{few_numbers}
-use Rattle.mh_text.specs.Rows.{said, command_rows, three_rows, two_rows, one_rows, no_rows, control_rows, plain_rows}
+use Rattle.mh_text.specs.Rows.{said, three_rows, two_rows, one_rows, no_rows, plain_rows}
 use Rattle.mh_text.proofs.WordLemmas.{few_same, none_of}
 use Rattle.mh_text.proofs.RowLemmas.{formed_said, said_counted, said_long}
 
@@ -67,19 +67,19 @@ three_said verb (a ∷ b ∷ c ∷ d ∷ ns) first second three x y = absurd (om
 
 -- Controls ---------------------------------------------------------------------------------------
 
-pub control_said : (line : List Text) (verb : Text) (words : List Text) (ns : List ℕ) → line ≡ verb ∷ words → few_numbers words ≡ Some ns → control_of Two line ≡ said control_rows verb ns
-control_said line verb words ns is few = rw is (formed_said control_rows verb words ∙ rw (few_same words ns few) refl)
+pub control_said : (line : List Text) (verb : Text) (words : List Text) (ns : List ℕ) → line ≡ verb ∷ words → few_numbers words ≡ Some ns → control_of Two line ≡ said (control_rows Two) verb ns
+control_said line verb words ns is few = rw is (formed_said (control_rows Two) verb words ∙ rw (few_same words ns few) refl)
 
 pub control_none : (line : List Text) (verb : Text) (words : List Text) → line ≡ verb ∷ words → few_numbers words ≡ None → control_of Two line ≡ None
-control_none line verb words is few = rw is (formed_said control_rows verb words ∙ none_of (said control_rows verb) (λ found many. said_long control_rows verb found refl (omega arith)) words few)
+control_none line verb words is few = rw is (formed_said (control_rows Two) verb words ∙ none_of (said (control_rows Two) verb) (λ found many. said_long (control_rows Two) verb found refl (omega arith)) words few)
 
-pub plain_said : (verb : Text) (ns : List ℕ) → length ns ≡ 0 → said control_rows verb ns ≡ said plain_rows verb []
-plain_said verb [] none = said_counted control_rows verb [] refl
+pub plain_said : (verb : Text) (ns : List ℕ) → length ns ≡ 0 → said (control_rows Two) verb ns ≡ said plain_rows verb []
+plain_said verb [] none = said_counted (control_rows Two) verb [] refl
 plain_said verb (n ∷ ns) none = absurd (omega arith)
 
-pub report_said : (verb : Text) (ns : List ℕ) → length ns ≡ 1 → get_or ns 0 0 < 2 ^ 64 → is_text verb (codes "report") ≡ true → said control_rows verb ns ≡ Some (control.Report (get_or ns 0 0))
+pub report_said : (verb : Text) (ns : List ℕ) → length ns ≡ 1 → get_or ns 0 0 < 2 ^ 64 → is_text verb (codes "report") ≡ true → said (control_rows Two) verb ns ≡ Some (control.Report (get_or ns 0 0))
 report_said verb [] one small is = absurd (omega arith)
 report_said verb (n ∷ []) one small is =
     let below : nat_lt n u64 ≡ true = grind (arith, nat_tests) in
-    said_counted control_rows verb (n ∷ []) refl ∙ rw (is, below) refl
+    said_counted (control_rows Two) verb (n ∷ []) refl ∙ rw (is, below) refl
 report_said verb (n ∷ m ∷ ns) one small is = absurd (omega arith)

@@ -3,8 +3,8 @@ use Rattle.std.proofs.Common.{◌≡◌, ℕ, suc, ◌<◌, ◌==◌, nat_lt, �
 use Rattle.std.specs.Prelude.{if◌then◌else◌}
 use Rattle.std.proofs.lemmas.Bool.Decides.{nat_tests}
 use Rattle.mh_model.specs.Bytes.{Text, is_text, numbers}
-use Rattle.mh_model.specs.Forms.{Form, within, form_of, formed, are_below}
-use Rattle.mh_text.specs.Rows.{Row, row_form, said}
+use Rattle.mh_model.specs.Forms.{Form, within, form_of, formed, are_below, Row, row_form}
+use Rattle.mh_text.specs.Rows.{said, with_count}
 
 -- Texts ------------------------------------------------------------------------------------------
 
@@ -41,11 +41,6 @@ formed_said {X} [] verb words = sym (none_always (numbers words) (said {X = X} [
 formed_said (r ∷ rs) verb words = formed_by (is_text verb r.verb) r rs verb words (formed_said rs verb words)
 
 -- Counts -----------------------------------------------------------------------------------------
-
--- the rows with so many numbers
-abbrev pub with_count : {X : Type 0} → ℕ → List (Row X) → List (Row X)
-with_count count [] = []
-with_count count (r ∷ rs) = if length r.bounds == count then r ∷ with_count count rs else with_count count rs
 
 -- no row has this word
 abbrev pub is_absent : {X : Type 0} → Text → List (Row X) → Bool

@@ -1,7 +1,7 @@
 ghost use Rattle.std.specs.Prelude.{◌≡◌, nat_lt, [], ◌∷◌};
-ghost use Rattle.mh_model.specs.Forms.{within, u32, command_of, control_of};
+ghost use Rattle.mh_model.specs.Forms.{within, u32, command_rows, command_of, control_rows, control_of};
 ghost use Rattle.mh_model.specs.declared.history.Version.TheVariants.{Two};
-ghost use Rattle.mh_text.specs.Rows.{said, command_rows, three_rows, two_rows, one_rows, control_rows, plain_rows};
+ghost use Rattle.mh_text.specs.Rows.{said, three_rows, two_rows, one_rows, plain_rows};
 
 use crate::pieces::Words;
 use crate::word::{is_word, numbers};
@@ -122,7 +122,7 @@ pub fn control_of(mut words: Words<'_>) -> Option<Control>
 }
 
 fn control_with(verb: &[u8], numbers: &[u64]) -> Option<Control>
-    ensures { result ≡ said control_rows verb.now numbers.now }
+    ensures { result ≡ said (control_rows Two) verb.now numbers.now }
 {
     match *numbers {
         [] => plain_control(verb),

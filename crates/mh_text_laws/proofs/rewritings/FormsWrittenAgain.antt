@@ -5,7 +5,7 @@ use Rattle.mh_model.specs.declared.command.Command.{Command}
 use Rattle.mh_model.specs.declared.command.Control.{Control}
 use Rattle.mh_model.specs.declared.command.Control.TheVariants as control
 use Rattle.mh_model.specs.Bytes.{Text, is_text}
-use Rattle.mh_model.specs.Forms.{Form, form_of, formed, are_below, with_numbers, u32, u64, phrase_words, is_sayable, command_forms, command_phrase, command_of, control_forms, control_phrase, control_of, knows_control, where_known}
+use Rattle.mh_model.specs.Forms.{Form, form_of, formed, are_below, with_numbers, row, row_form, u32, u64, phrase_words, is_sayable, command_forms, command_phrase, command_of, control_forms, control_phrase, control_of, knows_control, where_known}
 use Rattle.mh_model.specs.declared.history.Version.{Version}
 use Rattle.mh_model.specs.declared.history.Version.TheVariants.{One, Two}
 use Rattle.mh_model.specs.Replies.{are_texts, with_words}
@@ -146,7 +146,7 @@ known : (version : Version) (c : Control) (test : Bool) → knows_control One c 
 known One c test h = rw h refl
 known Two c test h = refl
 
-left_control-faithful : (version : Version) → AreFaithful control_words (control_passes version) (where_known version (with_numbers (codes "left") [] (λ ns. control.Left)))
+left_control-faithful : (version : Version) → AreFaithful control_words (control_passes version) (map row_form (where_known version (row (codes "left") [] (λ ns. control.Left))))
 left_control-faithful One = tt
 left_control-faithful Two = (numbers-faithful _ _ (codes "left") [] _ (refl, refl), tt)
 
