@@ -43,3 +43,10 @@ pub mod ShownObjects
 pub mod TraceLetters
 pub mod SnapshotsTaken
 pub mod QuantaCounted
+pub mod FoundInBatches
+pub mod ChangedPages
+pub mod WorldsAfter
+pub mod Endings
+pub mod ReachedObjects
+pub mod AgreeingViews
+pub mod KeptLocks

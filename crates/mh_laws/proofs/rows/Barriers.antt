@@ -9,6 +9,12 @@ pub no_barrier_on_slots_while_marking : lines 8 209 0 0 (a (New 0 60 0) ∷ a (N
 unfolding worked
 no_barrier_on_slots_while_marking = refl
 
+-- nor is it shaded by any other command that overwrites a slot, again and again the same unmarked block
+pub no_barrier_of_any_command_while_marking : lines 8 209 0 0 (a (New 0 60 0) ∷ a (New 1 60 0) ∷ a (New 2 60 0) ∷ a (New 3 1 0) ∷ a (New 4 60 0) ∷ a (Put 2 0 4) ∷ a (New 4 60 0) ∷ a (Put 2 1 4) ∷ a (New 4 60 0) ∷ a (Put 2 2 4) ∷ a (New 4 0 0) ∷ a (Put 3 0 4) ∷ a (Clear 4) ∷ start ∷ quantum_asked ∷ quantum_asked ∷ a (Get 4 3 0) ∷ a (Get 4 3 0) ∷ a (Copy 4 15) ∷ a (Get 4 3 0) ∷ a (Take 4 0) ∷ a (Get 4 3 0) ∷ a (Post 0 4) ∷ a (Post 0 15) ∷ a (New 4 0 0) ∷ a (Get 4 3 0) ∷ a End ∷ quantum_asked ∷ quantum_asked ∷ stat ∷ [])
+    ≡ (oks 14 ++ codes "spent 208 phase roots\nspent 202 phase mark\n" ++ oks 11 ++ codes "spent 185 phase mark\nspent 197 phase idle\nfree 4 live 9 old 0 phase idle cycle 1\n")
+unfolding worked
+no_barrier_of_any_command_while_marking = refl
+
 -- the object that a copy drops from its slot, which isn't scanned yet, is found again through a block that is not marked through
 pub copied_over : lines 4 209 0 0 (session 7 (New 0 0 7) ∷ start ∷ quantum_asked ∷ a (New 1 1 0) ∷ a (Post 0 1) ∷ session 7 (Take 1 0) ∷ session 7 (Put 1 0 0) ∷ session 7 (Copy 0 15) ∷ quantum_asked ∷ a (Get 2 1 0) ∷ a (Shape 2) ∷ [])
     ≡ (codes "ok\nok\nspent 208 phase roots\n" ++ oks 5 ++ codes "spent 161 phase idle\nok\nshape 0 7\n")

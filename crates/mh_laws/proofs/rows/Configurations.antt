@@ -1,5 +1,5 @@
 -- Configurations and their limits.
-use Rattle.std.proofs.Common.{[], codes, false, map, refl, true, ◌∷◌, ◌≡◌}
+use Rattle.std.proofs.Common.{[], codes, false, refl, true, ◌∷◌, ◌≡◌}
 use Rattle.mh_model.specs.Limits.{is_configuration}
 use Rattle.mh_model.specs.Output.{output}
 use Rattle.mh_model.specs.Script.{reading}

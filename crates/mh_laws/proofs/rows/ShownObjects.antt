@@ -1,5 +1,5 @@
 -- What heaps show while blocks are condemned or have moved, and after a full heap refused an object.
-use Rattle.std.proofs.Common.{[], Bool, false, List, None, option_map, Option, refl, Some, true, ◌++◌, ◌∷◌, ◌≡◌}
+use Rattle.std.proofs.Common.{[], Bool, false, List, option_map, Option, refl, Some, true, ◌++◌, ◌∷◌, ◌≡◌}
 use Rattle.mh_model.specs.declared.command.Command.TheVariants.{Clear, End, New, Post, Put, Take, Write}
 use Rattle.mh_model.specs.declared.command.Event.{Event}
 use Rattle.mh_model.specs.declared.config.Config.{Config}

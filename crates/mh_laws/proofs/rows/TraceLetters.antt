@@ -1,5 +1,5 @@
 -- The letters of a trace in order.
-use Rattle.std.proofs.Common.{[], List, None, option_map, Option, refl, replicate, Some, ◌++◌, ◌∷◌, ◌≡◌}
+use Rattle.std.proofs.Common.{[], List, option_map, Option, refl, replicate, Some, ◌++◌, ◌∷◌, ◌≡◌}
 use Rattle.mh_model.specs.declared.command.Command.TheVariants.{Clear, New}
 use Rattle.mh_model.specs.declared.command.Event.{Event}
 use Rattle.mh_model.specs.declared.config.Config.{Config}

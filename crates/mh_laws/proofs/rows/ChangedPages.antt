@@ -1,0 +1,30 @@
+-- Pages that are flagged, and blocks that are taken back.
+use Rattle.std.proofs.Common.{[], Bool, false, List, None, Option, refl, Some, true, ℕ, ◌∷◌, ◌≡◌}
+use Rattle.mh_model.specs.Pages.{Page, Table, with_flag, with_released}
+
+-- a page of the greatest class with these slots
+abbrev page : Bool → List (Option ℕ) → Option (Page ℕ)
+page is_flagged slots = Some (record { class_size = 64; is_flagged = is_flagged; slots = slots })
+
+abbrev two_pages : Table ℕ
+two_pages = page false (Some 7 ∷ None ∷ Some 9 ∷ None ∷ []) ∷ page true (None ∷ Some 5 ∷ None ∷ None ∷ []) ∷ None ∷ []
+
+-- a page that is flagged keeps its blocks
+pub flagged : with_flag two_pages 0 true ≡ page true (Some 7 ∷ None ∷ Some 9 ∷ None ∷ []) ∷ page true (None ∷ Some 5 ∷ None ∷ None ∷ []) ∷ None ∷ []
+flagged = refl
+
+-- so does one that is unflagged
+pub unflagged : with_flag two_pages 1 false ≡ page false (Some 7 ∷ None ∷ Some 9 ∷ None ∷ []) ∷ page false (None ∷ Some 5 ∷ None ∷ None ∷ []) ∷ None ∷ []
+unflagged = refl
+
+-- a free page has no flag
+pub flagged_free_page : with_flag two_pages 2 true ≡ two_pages
+flagged_free_page = refl
+
+-- a block that is taken back leaves the others
+pub released : with_released two_pages 2 false ≡ page false (Some 7 ∷ None ∷ None ∷ None ∷ []) ∷ page true (None ∷ Some 5 ∷ None ∷ None ∷ []) ∷ None ∷ []
+released = refl
+
+-- and with its page freed, where that is asked
+pub released_with_its_page : with_released two_pages 65 true ≡ page false (Some 7 ∷ None ∷ Some 9 ∷ None ∷ []) ∷ None ∷ None ∷ []
+released_with_its_page = refl
