@@ -3,7 +3,7 @@ use Rattle.std.proofs.Common.{[], ap, arith, IsSome, None, Option, refl, replica
 use Rattle.mh_model.specs.declared.command.Command.TheVariants.{New}
 use Rattle.mh_model.specs.Paths.{Agrees}
 use Rattle.mh_model.specs.World.{births, first_world, number_of, Object, object_at, World, world_after}
-use Rattle.mh_laws.proofs.Worked.{a, worked}
+use Rattle.mh_laws.proofs.rows.Worked.{a, worked}
 use Rattle.mh_laws.proofs.rows.WorldLines.{four_pages}
 
 -- a world with one object, which a slot names

@@ -6,7 +6,7 @@ use Rattle.mh_model.specs.declared.config.Config.{Config}
 use Rattle.mh_model.specs.Configs.{configured}
 use Rattle.mh_model.specs.Machine.{first_machine, machine_after}
 use Rattle.mh_model.specs.Table.{found_in}
-use Rattle.mh_laws.proofs.Worked.{a, quantum_asked, start, worked}
+use Rattle.mh_laws.proofs.rows.Worked.{a, quantum_asked, start, worked}
 
 abbrev found_after : Option Config → List Event → List ℕ → Option (List (List (Option ℕ)))
 found_after config events batch = option_map (λ c. found_in (machine_after (first_machine c) events).heap.collector.table batch) config

@@ -5,7 +5,7 @@ use Rattle.mh_model.specs.declared.reply.Refusal.TheVariants.{BadSlot, HeapFull}
 use Rattle.mh_model.specs.declared.reply.Reply.TheVariants as reply
 use Rattle.mh_model.specs.Snapshot.{world_beside}
 use Rattle.mh_model.specs.World.{births, first_world, world_after}
-use Rattle.mh_laws.proofs.Worked.{a, quantum_asked, start, stat, worked}
+use Rattle.mh_laws.proofs.rows.Worked.{a, quantum_asked, start, stat, worked}
 use Rattle.mh_laws.proofs.rows.WorldLines.{four_pages}
 
 -- each command takes its step, and no control does
