@@ -18,7 +18,6 @@ pub mod SizeClasses
 pub mod ClaimDraws
 pub mod Histories
 pub mod Views
-pub mod Scripts
 pub mod CycleAsking
 pub mod UnitsOfCommands
 pub mod LeastInWindows
@@ -46,7 +45,6 @@ pub mod QuantaCounted
 pub mod FoundInBatches
 pub mod ChangedPages
 pub mod WorldsAfter
-pub mod Endings
 pub mod ReachedObjects
 pub mod AgreeingViews
 pub mod KeptLocks

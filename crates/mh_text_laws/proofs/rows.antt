@@ -1,3 +1,5 @@
 pub mod Worked
 pub mod ScriptRows
 pub mod HistoryRows
+pub mod Scripts
+pub mod Endings

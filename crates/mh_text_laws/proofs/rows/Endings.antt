@@ -2,7 +2,7 @@
 use Rattle.std.proofs.Common.{codes, refl, ◌≡◌}
 use Rattle.mh_model.specs.Output.{Done, ending, Refused}
 use Rattle.mh_model.specs.Script.{reading}
-use Rattle.mh_laws.proofs.rows.Worked.{worked}
+use Rattle.mh_text_laws.proofs.rows.Worked.{worked}
 
 -- a script whose lines are good is done, also where commands are refused
 pub done_with_refusals : ending (codes "config 4 209 0 0\na clear 16\n* stat\n") ≡ Done

@@ -2,7 +2,7 @@
 use Rattle.std.proofs.Common.{◌≡◌, refl, codes}
 use Rattle.mh_model.specs.Output.{output}
 use Rattle.mh_model.specs.Script.{reading}
-use Rattle.mh_laws.proofs.rows.Worked.{worked}
+use Rattle.mh_text_laws.proofs.rows.Worked.{worked}
 
 -- a number read through a reference
 read_through : output (codes "config 4 209 0 0\na new 0 1 1\na new 1 0 1\na write 1 0 5\na put 0 0 1\na get 2 0 0\na read 2 0\n") ≡ codes "ok\nok\nok\nok\nok\nnumber 5\n"
