@@ -16,6 +16,6 @@ joined_spaced word (next ∷ words) = ap (λ (text : Text). word ++ 32 ∷ text)
 pub dump_text : (items : List DumpItem) → reply_text (reply.Dump items) ≡ codes "dump" ++ spaced (flat_map item_words items)
 dump_text items = joined_spaced (codes "dump") (flat_map item_words items)
 
-pub report_text : (mutator collector quanta greatest window : ℕ) (least floor : Option ℕ)
+pub report_parts : (mutator collector quanta greatest window : ℕ) (least floor : Option ℕ)
     → reply_text (reply.Report mutator collector quanta greatest window least floor) ≡ joined (counts_words mutator collector quanta greatest) ++ (codes " " ++ joined (window_words window least floor))
-report_text mutator collector quanta greatest window least floor = simp append_assoc
+report_parts mutator collector quanta greatest window least floor = simp append_assoc

@@ -25,9 +25,9 @@ text_same (x ∷ xs) (y ∷ ys) is = same_after x y xs ys (x == y) (is_text xs y
 
 -- Words ------------------------------------------------------------------------------------------
 
-none_always : {X Y : Type 0} (o : Option X) (none : Option Y) → none ≡ None → option_and_then (λ (x : X). none) o ≡ None
-none_always None none is = refl
-none_always (Some x) none is = is
+none_always : {X Y : Type 0} (o : Option X) (all : Option Y) → all ≡ None → option_and_then (λ (x : X). all) o ≡ None
+none_always None all is = refl
+none_always (Some x) all is = is
 
 formed_by : {X : Type 0} (is : Bool) (r : Row X) (rs : List (Row X)) (verb : Text) (words : List Text) → formed (map row_form rs) (verb ∷ words) ≡ option_and_then (said rs verb) (numbers words)
     → option_and_then (λ (form : Form X). form.meaning words) (if is then Some (row_form r) else form_of verb (map row_form rs))

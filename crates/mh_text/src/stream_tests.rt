@@ -225,36 +225,32 @@ fn the_text_of_a_dump(rt: HostRuntime) -> Result<(), Fail> {
         Reply::Dump(Dump::new(Vec::new(rt.alloc()))),
         "dump",
     )?;
-    let mut items = Vec::new(rt.alloc());
-    items.push(DumpItem::Page {
-        page: 0,
+    let page = |page, is_flagged| DumpItem::Page {
+        page,
         class_size: 64,
-        is_flagged: false,
-    })?;
-    items.push(DumpItem::Block {
-        slot: 0,
-        birth: 0,
+        is_flagged,
+    };
+    let block = |slot, birth| DumpItem::Block {
+        slot,
+        birth,
         part: 0,
-    })?;
-    items.push(DumpItem::Block {
-        slot: 1,
-        birth: 4,
-        part: 0,
-    })?;
-    items.push(DumpItem::Page {
-        page: 1,
-        class_size: 64,
-        is_flagged: true,
-    })?;
-    items.push(DumpItem::Forwarder {
+    };
+    let moved = DumpItem::Forwarder {
         slot: 0,
         to_page: 0,
         to_slot: 1,
-    })?;
+    };
+    let items = [
+        page(0, false),
+        block(0, 0),
+        block(1, 4),
+        page(1, true),
+        moved,
+    ];
     shows(
         &rt,
         rt.alloc(),
-        Reply::Dump(Dump::new(items)),
+        Reply::Dump(Dump::new(items.to_vec(rt.alloc())?)),
         "dump P0 C64 - 0=0.0 1=4.0 P1 C64 + 0>0.1",
     )
 }
