@@ -1,5 +1,6 @@
 pub mod Parts
 pub mod Headers
 pub mod MadeGroups
+pub mod RefusedObjects
 pub mod NewbornBlocks
 pub mod JoinedFields

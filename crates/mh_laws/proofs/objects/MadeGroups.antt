@@ -6,7 +6,7 @@ use Rattle.std.proofs.lemmas.List.{length-set, length-replicate, length-map, len
 use Rattle.mh_model.specs.Classes.{Part, class_of, slots_in, part_words}
 use Rattle.mh_model.specs.Pages.{Page, Table, page_number, slot_number, page_at, block_at, least_place, page_with, page_for, with_taken, IsFreeFor}
 use Rattle.mh_model.specs.Table.{Block, Made, MadeParts, new_block, made_in_class, made_part, made_parts, with_block_change, words_of, linked_block, linked_parts, group_of, made_group}
-use Rattle.mh_laws.specs.NewObjects.{IsMade, AreMade, IsGroup, LacksAPlace}
+use Rattle.mh_laws.specs.NewObjects.{IsMade, AreMade, IsGroup}
 use Rattle.mh_laws.proofs.Lists.{get_or-set_either}
 use Rattle.mh_laws.proofs.tables.PageSlots.{slots_in-class_size, class_of-class_size}
 use Rattle.mh_laws.proofs.placing.Places.{IsShaped, block_at-with_block_same, block_at-with_block_other, least_place-free, block_at-with_taken_same, block_at-with_taken_other, block-slot}
@@ -50,6 +50,7 @@ one_made table birth stamp index part shaped made e = by_class (class_of (part_w
           record {
             size = size;
             class = is;
+            least = found;
             free = free;
             there = block_at-with_taken_same table size p block free;
             others = λ place apart. block_at-with_taken_other table size p place block apart;
@@ -265,42 +266,3 @@ made_group-is table birth stamp parts shaped made e = go (made_parts table birth
     go : (all : Option MadeParts) → made_parts table birth stamp 0 parts ≡ all → option_and_then (λ m. group_of m.table m.places parts) all ≡ Some made → IsGroup table birth stamp parts made
     go None is h = absurd (none-some made h)
     go (Some all) is h = group_of-is table all.table birth stamp parts all.places (made_parts-are parts table birth stamp 0 shaped all is) made h
-
--- An object that isn't made ----------------------------------------------------------------------
-
--- the first part that finds no place, after the parts before it
-pub made_parts-none : (parts : List Part) (table : Table Block) (birth stamp index : ℕ) → made_parts table birth stamp index parts ≡ None → LacksAPlace table birth stamp index parts
-made_parts-none [] table birth stamp index none = absurd (none-some (record { places = []; table = table }) (sym none))
-made_parts-none (part ∷ parts) table birth stamp index none = by_first (made_part table birth stamp index part) refl none (λ t. made_parts-none parts t birth stamp (suc index))
-  where
-    rest_of : Made → Option MadeParts → Option MadeParts
-    rest_of first rest = option_map (λ (r : MadeParts). record { places = first.place ∷ r.places; table = r.table }) rest
-
-    by_rest : (first : Made) → made_part table birth stamp index part ≡ Some first → (rest : Option MadeParts) → made_parts first.table birth stamp (suc index) parts ≡ rest → rest_of first rest ≡ None
-        → ((t : Table Block) → made_parts t birth stamp (suc index) parts ≡ None → LacksAPlace t birth stamp (suc index) parts) → LacksAPlace table birth stamp index (part ∷ parts)
-    by_rest first is (Some rest) is' h more = absurd (none-some (record { places = first.place ∷ rest.places; table = rest.table }) (sym h))
-    by_rest first is None is' h more =
-        let lacks = more first.table is' in
-        record {
-          count = suc lacks.count;
-          before = record { places = first.place ∷ lacks.before.places; table = lacks.before.table };
-          made = ap (λ f. option_and_then (λ m. rest_of m (made_parts m.table birth stamp (suc index) (take lacks.count parts))) f) is ∙ ap (rest_of first) lacks.made;
-          part = lacks.part;
-          at = lacks.at;
-          no_place = subst (λ n. made_part lacks.before.table birth stamp n lacks.part ≡ None) (shifted lacks.count) lacks.no_place;
-        }
-      where
-        shifted : (n : ℕ) → suc index + n ≡ index + suc n
-        shifted n = omega arith
-
-    by_first : (first : Option Made) → made_part table birth stamp index part ≡ first → option_and_then (λ (f : Made). rest_of f (made_parts f.table birth stamp (suc index) parts)) first ≡ None
-        → ((t : Table Block) → made_parts t birth stamp (suc index) parts ≡ None → LacksAPlace t birth stamp (suc index) parts) → LacksAPlace table birth stamp index (part ∷ parts)
-    by_first None is h more = record {
-      count = 0;
-      before = record { places = []; table = table };
-      made = refl;
-      part = part;
-      at = refl;
-      no_place = subst (λ n. made_part table birth stamp n part ≡ None) (sym (add-zero index)) is;
-    }
-    by_first (Some first) is h more = by_rest first is (made_parts first.table birth stamp (suc index) parts) refl h more
