@@ -48,3 +48,7 @@ QuantaKeepTheView = (snapshot world : World) (heap : HeapState) → HeapKeeps sn
 -- What a kept heap shows is closed: what a slot or a reference names is there
 abbrev pub KeptViewsAreClosed : Type 0
 KeptViewsAreClosed = (heap : HeapState) → IsKeeping heap → IsClosed (heap_view heap)
+
+-- What a kept heap shows agrees with itself: each object that a path of it reaches is there
+abbrev pub KeptViewsAgreeWithThemselves : Type 0
+KeptViewsAgreeWithThemselves = (heap : HeapState) → IsKeeping heap → Agrees (heap_view heap) (heap_view heap)

@@ -1,5 +1,5 @@
 //! Laws of what a heap shows while it is collected.
-ghost use Rattle.mh_laws.specs.Showing.{MarkingShowsTheSame, RootsShowTheSame, SweepShowsTheSame, MovesShowTheSame, SweepBeginsWithTheReachable, SweepEndsShowingTheSame, CyclesEndShowingTheSame, StepsKeepTheView, QuantaKeepTheView, KeptViewsAreClosed};
+ghost use Rattle.mh_laws.specs.Showing.{MarkingShowsTheSame, RootsShowTheSame, SweepShowsTheSame, MovesShowTheSame, SweepBeginsWithTheReachable, SweepEndsShowingTheSame, CyclesEndShowingTheSame, StepsKeepTheView, QuantaKeepTheView, KeptViewsAreClosed, KeptViewsAgreeWithThemselves};
 
 /// A mark step changes nothing of what the heap shows.
 pub fn marking_shows_the_same()
@@ -49,4 +49,9 @@ pub fn quanta_keep_the_view()
 /// What a kept heap shows is closed.
 pub fn kept_views_are_closed()
     ensures { KeptViewsAreClosed }
+{}
+
+/// What a kept heap shows agrees with itself.
+pub fn kept_views_agree_with_themselves()
+    ensures { KeptViewsAgreeWithThemselves }
 {}

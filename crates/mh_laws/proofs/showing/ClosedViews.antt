@@ -1,8 +1,9 @@
--- What a kept heap shows is closed.
-use Rattle.std.proofs.Common.{◌≡◌, ℕ, ◌<◌, Option, Some, None, option_map, is_some, IsSome, get_or, length, refl, sym, ap, ◌∙◌, subst, arith}
+-- What a kept heap shows is closed, and agrees with itself.
+use Rattle.std.proofs.Common.{◌≡◌, ℕ, ◌<◌, List, [], ◌∷◌, Option, Some, None, option_map, is_some, IsSome, get_or, length, refl, sym, ap, ◌∙◌, subst, arith}
 use Rattle.std.proofs.lemmas.Option.{none-some, same_Some}
 use Rattle.mh_model.specs.declared.shape.Shape.{Shape}
-use Rattle.mh_model.specs.World.{Object, IsClosed, object_at, slot_at, reference_of}
+use Rattle.mh_model.specs.World.{Object, World, IsClosed, object_at, slot_at, reference_of}
+use Rattle.mh_model.specs.Paths.{IsPath, Agrees}
 use Rattle.mh_model.specs.Pages.{block_at}
 use Rattle.mh_model.specs.Table.{Block, resolve, position_of}
 use Rattle.mh_model.specs.Collector.{Collector}
@@ -69,3 +70,19 @@ module _ (heap : HeapState) (keeping : IsKeeping heap) where
 
   pub closed-view : IsClosed (heap_view heap)
   closed-view = record { slots = slots-there; references = references-there }
+
+-- a path of a closed world ends at an object that is there
+path-there : (world : World) → IsClosed world → (path : List ℕ) (birth : ℕ) → IsPath world birth path → IsSome (object_at world birth)
+path-there world closed [] birth (slot, named) = closed.slots slot birth named
+path-there world closed (nearest ∷ path) birth ((field, refers), before) = closed.references nearest field birth refers
+
+-- What a kept heap shows agrees with itself
+pub self-agrees : (heap : HeapState) → IsKeeping heap → Agrees (heap_view heap) (heap_view heap)
+self-agrees heap keeping = record {
+  config = refl;
+  next_birth = refl;
+  slots = refl;
+  ended = refl;
+  objects = λ birth object there. there;
+  reached = λ birth way. path-there (heap_view heap) (closed-view heap keeping) way.0 birth way.1;
+}
