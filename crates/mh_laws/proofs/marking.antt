@@ -8,3 +8,4 @@ pub mod BlockChanges
 pub mod SameTable
 pub mod MarkSteps
 pub mod ReachableNow
+pub mod StandingStill

@@ -56,7 +56,7 @@ shade_block-keeps own marking place (Some block) at = go (is_marked marking.cycl
     go true = keeps_all own marking.table
     go false = rewritten-keeps own marking.table place block (record block { stamp = marking.cycle }) at refl (λ apart. refl)
 
-shade-keeps : (own : ℕ) (marking : Marking) (reference : Option ℕ) → KeepsOthers own marking.table (shade marking reference).table
+pub shade-keeps : (own : ℕ) (marking : Marking) (reference : Option ℕ) → KeepsOthers own marking.table (shade marking reference).table
 shade-keeps own marking None = keeps_all own marking.table
 shade-keeps own marking (Some place) = shade_block-keeps own marking (resolve marking.table place) (block_at marking.table (resolve marking.table place)) refl
 
