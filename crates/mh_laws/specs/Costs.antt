@@ -1,9 +1,12 @@
 -- What quanta spend, and what their steps cost.
-use Rattle.std.specs.Prelude.{◌≡◌, ℕ, ◌+◌, ◌≤◌, ◌<◌, ◌⊎◌, Bool, false, IsTrue, Some, length}
+use Rattle.std.specs.Prelude.{◌≡◌, ℕ, ◌+◌, ◌≤◌, ◌<◌, ◌⊎◌, Bool, false, IsTrue, Some, List, length}
 use Rattle.mh_model.specs.declared.config.Config.{Config}
+use Rattle.mh_model.specs.declared.command.Event.{Event}
 use Rattle.mh_model.specs.Pages.{Page, Table, page_at}
 use Rattle.mh_model.specs.Table.{Block, references_at}
 use Rattle.mh_model.specs.Collector.{Collector, is_idle, step_cost, steps, quantum}
+use Rattle.mh_model.specs.Machine.{first_machine, half_step, machine_after}
+use Rattle.mh_model.specs.CycleBounds.{IsInBounds}
 
 -- No quantum spends more units than are configured
 abbrev pub QuantumKeepsItsLimit : Type 0
@@ -18,9 +21,12 @@ pub record IsSized (table : Table Block) : Type 0 where
   pub classes : (number : ℕ) (page : Page Block) → page_at table number ≡ Some page → page.class_size ≤ 64
   pub references : (place : ℕ) → length (references_at table place) ≤ 60
 
--- The next step costs at most 209 where the table is of such sizes
-abbrev pub DearestStepCosts209 : Type 0
-DearestStepCosts209 = (collector : Collector) (has_moved : Bool) → IsSized collector.table → step_cost collector has_moved ≤ 209
+-- The next step costs at most 209 where the table is of such sizes, as it is wherever a collector is within the bounds of its cycle, and at every moment of every run, half steps included
+pub record DearestStepCosts209 : Type 0 where
+  pub costs : (collector : Collector) (has_moved : Bool) → IsSized collector.table → step_cost collector has_moved ≤ 209
+  pub in_bounds : (config : Config) (collector : Collector) → IsInBounds config collector → IsSized collector.table
+  pub after_events : (config : Config) (events : List Event) → IsSized (machine_after (first_machine config) events).heap.collector.table
+  pub after_commands : (config : Config) (events : List Event) (event : Event) → IsSized (half_step (machine_after (first_machine config) events) event).heap.collector.table
 
 -- A quantum stops only where no cycle runs or the next step doesn't fit in what is left, at its price after a move or before one
 abbrev pub QuantumGoesOn : Type 0

@@ -11,7 +11,7 @@ pub fn running_step_costs()
     ensures { RunningStepCosts }
 {}
 
-/// No step costs more than 209, on a table whose classes have at most 64 words and whose blocks have at most 60 references.
+/// No step costs more than 209 on a table whose classes have at most 64 words and whose blocks have at most 60 references, as at every moment of a run.
 pub fn dearest_step_costs_209()
     ensures { DearestStepCosts209 }
 {}

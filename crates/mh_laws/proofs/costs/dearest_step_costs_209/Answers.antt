@@ -1,5 +1,5 @@
-use Rattle.mh_laws.proofs.costs.Quanta.{step_cost-bounded}
+use Rattle.mh_laws.proofs.bounds.SizedTables.{dearest_step}
 use Rattle.mh_laws.proofs.costs.dearest_step_costs_209.Goals as goal
 
 pub returns : goal.returns
-returns c = step_cost-bounded
+returns c = dearest_step
