@@ -1,5 +1,5 @@
 -- The steps of marking leave the pages and the blocks of a table where they are.
-use Rattle.std.proofs.Common.{◌≡◌, ◌≢◌, ◌⊎◌, inl, inr, ℕ, zero, suc, ◌==◌, Bool, true, false, if◌then◌else◌, List, [], ◌∷◌, ◌++◌, length, map, set, get_or, slice_get, Option, Some, None, option_map, unwrap_or, refl, sym, ap, ◌∙◌, subst, arith, append_assoc}
+use Rattle.std.proofs.Common.{◌≡◌, ◌≢◌, inl, inr, ℕ, zero, suc, ◌==◌, Bool, true, false, if◌then◌else◌, List, [], ◌∷◌, ◌++◌, length, map, set, get_or, slice_get, Option, Some, None, option_map, unwrap_or, refl, sym, ap, ◌∙◌, subst, arith, append_assoc}
 use Rattle.std.proofs.lemmas.Bool.{cases_eq, false≢true}
 use Rattle.std.proofs.lemmas.Option.{none-some, same_Some}
 use Rattle.std.proofs.lemmas.List.{length-set, length-append, length-map}
@@ -14,7 +14,7 @@ use Rattle.mh_laws.specs.Tables.{IsSamePage, IsStillThere, StandsStill, MarkingM
 use Rattle.mh_laws.proofs.placing.Places.{block_at-with_block_same, block_at-with_block_other, block-slot}
 use Rattle.mh_laws.proofs.tables.BlockRoom.{with_block-none}
 use Rattle.mh_laws.proofs.marking.GreyList.{cycle-shade}
-use Rattle.mh_laws.proofs.marking.BatchMarking.{KeepsOthers, shade-keeps, written_back-keeps, with_front, first_marked, mark_step-front}
+use Rattle.mh_laws.proofs.marking.BatchMarking.{shade-keeps, written_back-keeps, first_marked, mark_step-front}
 
 -- Standing still ---------------------------------------------------------------------------------
 

@@ -1,8 +1,6 @@
 -- An object that isn't made: the first of its parts that finds no place.
-use Rattle.std.proofs.Common.{◌≡◌, ◌↔◌, ℕ, zero, suc, ◌+◌, ◌≤◌, ◌<◌, List, [], ◌∷◌, length, Option, Some, None, option_map, option_and_then, IsSome, refl, sym, ap, ◌∙◌, subst, arith, slice_get, take}
+use Rattle.std.proofs.Common.{◌≡◌, ℕ, zero, suc, ◌<◌, List, [], ◌∷◌, length, Option, Some, None, option_map, option_and_then, IsSome, refl, sym, ap, ◌∙◌, arith, slice_get, take}
 use Rattle.std.proofs.lemmas.Option.{none-some, same_Some}
-use Rattle.mh_model.specs.declared.config.Rules.{Rules}
-use Rattle.mh_model.specs.World.{most_fields_under}
 use Rattle.mh_model.specs.Classes.{Part, class_of, part_words, parts}
 use Rattle.mh_model.specs.Pages.{Table, least_place, with_taken}
 use Rattle.mh_model.specs.Table.{Block, Made, MadeParts, new_block, made_in_class, made_part, made_parts, group_of, made_group}
