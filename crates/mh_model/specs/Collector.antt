@@ -256,7 +256,7 @@ is_idle _ = false
 abbrev pub cycle_start : Collector → Collector
 cycle_start collector = record collector { phase = Roots; cursor = 0; grey = []; cycle = collector.cycle + 1; is_asked = false; quanta = 0 }
 
--- the collector is idle and a cycle is asked for, or no more pages are free than the trigger
+-- no cycle runs, and one is asked for or no more pages are free than the trigger
 abbrev pub is_start_due : Config → Collector → Bool
 is_start_due config collector = is_idle collector.phase && (collector.is_asked || nat_le (free_pages collector.table) config.trigger)
 

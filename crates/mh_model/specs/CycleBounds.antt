@@ -52,15 +52,15 @@ abbrev pub class_at : Table Block → ℕ → Option ℕ
 class_at table number = option_map (λ page. page.class_size) (page_at table number)
 
 -- the class of a page, and 0 where it is free
-abbrev pub words_at : Table Block → ℕ → ℕ
-words_at table number = unwrap_or (class_at table number) 0
+abbrev pub size_at : Table Block → ℕ → ℕ
+size_at table number = unwrap_or (class_at table number) 0
 
 -- how many words may still be moved: 256 of each page after this one, and those of the slots from the cursor on
 abbrev pub movable : ℕ → ℕ → ℕ → ℕ → ℕ
 movable pages page slot words = 256 * (pages - suc page) + (256 - words * slot)
 
 abbrev pub movable_words : Collector → ℕ
-movable_words collector = movable (length collector.table) (page_number collector.cursor) (slot_number collector.cursor) (words_at collector.table (page_number collector.cursor))
+movable_words collector = movable (length collector.table) (page_number collector.cursor) (slot_number collector.cursor) (size_at collector.table (page_number collector.cursor))
 
 -- how many steps the cycle may still take
 abbrev pub steps_left : Phase → Collector → ℕ
@@ -80,7 +80,7 @@ units_left Defrag collector = (64 * length collector.table - collector.cursor) +
 
 -- On the way -------------------------------------------------------------------------------------
 
--- a class has 4 to 64 words, its slots lie in 256 words, and each block lies in its slot
+-- a class has 4 to 64 words, its slots lie in 256 words, and the header and references of each block lie in its slot
 pub record IsRoomyPage (page : Page Block) : Type 0 where
   pub least : 4 ≤ page.class_size
   pub most : page.class_size ≤ 64

@@ -1,13 +1,10 @@
 -- What a run of a script writes, and how it ends.
 use Rattle.std.specs.Prelude.{ℕ, nat_lt, if◌then◌else◌, length, take}
 use Rattle.mh_model.specs.Bytes.{Text, line_text}
+use Rattle.mh_model.specs.Limits.{most_entries}
 use Rattle.mh_model.specs.Machine.{first_machine, machine_replies}
 use Rattle.mh_model.specs.Replies.{bad_line_text, replies_text}
 use Rattle.mh_model.specs.Script.{Meaning, Reading, BadLine, Means, reading}
-
--- the most events that are answered, and the most entries of a history
-unfoldable pub most_entries : ℕ
-most_entries = 1000000
 
 abbrev pub output_of : Reading Meaning → Text
 output_of (BadLine line) = line_text (bad_line_text line)

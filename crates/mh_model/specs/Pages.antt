@@ -146,7 +146,7 @@ module _ {X : Type 0} where
   abbrev pub HaveTheirSlots : Table X → Type 0
   HaveTheirSlots table = (number : ℕ) (page : Page X) → page_at table number ≡ Some page → HasItsSlots page
 
-  -- a place is free for a class: slot 0 of a free page, or a slot without a block in a page of the class
+  -- a place is free for a class: a slot of a free page that a page of the class has, or a slot without a block in a page of the class
   pub record IsFreeFor (table : Table X) (size place : ℕ) : Type 0 where
     pub inside : page_number place < length table
     pub empty : block_at table place ≡ None

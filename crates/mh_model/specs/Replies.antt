@@ -79,18 +79,18 @@ replies_text = flat_map (λ reply. line_text (reply_text reply))
 -- In range ---------------------------------------------------------------------------------------
 
 -- a number is past the one before, where there is one
-abbrev pub is_past : Option ℕ → ℕ → Bool
-is_past None n = true
-is_past (Some before) n = nat_lt before n
+abbrev pub is_after : Option ℕ → ℕ → Bool
+is_after None n = true
+is_after (Some before) n = nat_lt before n
 
 -- Pages ascend, and slots ascend within a page: what comes after this page and this slot
 abbrev pub ascends : Option ℕ → Option ℕ → List DumpItem → Bool
 ascends page slot [] = true
-ascends page slot (item.Page next class_size is_flagged ∷ items) = is_past page next && ascends (Some next) None items
+ascends page slot (item.Page next class_size is_flagged ∷ items) = is_after page next && ascends (Some next) None items
 ascends None slot (item.Block next birth part ∷ items) = false
-ascends (Some page) slot (item.Block next birth part ∷ items) = is_past slot next && ascends (Some page) (Some next) items
+ascends (Some page) slot (item.Block next birth part ∷ items) = is_after slot next && ascends (Some page) (Some next) items
 ascends None slot (item.Forwarder next to_page to_slot ∷ items) = false
-ascends (Some page) slot (item.Forwarder next to_page to_slot ∷ items) = is_past slot next && ascends (Some page) (Some next) items
+ascends (Some page) slot (item.Forwarder next to_page to_slot ∷ items) = is_after slot next && ascends (Some page) (Some next) items
 
 abbrev pub item_numbers : DumpItem → List ℕ
 item_numbers (item.Page page class_size is_flagged) = page ∷ class_size ∷ []
@@ -197,7 +197,7 @@ placed_by mark made word = numbered (u64 ∷ u64 ∷ u64 ∷ []) made (placed_fr
 abbrev pub placed_of : Text → Option DumpItem
 placed_of word = option_or (placed_by 61 (λ ns. item.Block (at ns 0) (at ns 1) (at ns 2)) word) (placed_by 62 (λ ns. item.Forwarder (at ns 0) (at ns 1) (at ns 2)) word)
 
--- how much of ` PP CC F` was read
+-- how much of the three words of a page was read: P and its number, C and its class, its flag
 pub data Pending : Type 0 where
   Ready : Pending
   HasPage : ℕ → Pending

@@ -2,7 +2,7 @@
 use Rattle.std.specs.Prelude.{◌≡◌, ℕ, ◌<◌, ◌≤◌, ◌++◌, length, Option, IfSome, Result, Err, IfOk, OnErr, IsErrOf}
 use Rattle.std.specs.Io.KnownBytes.{Appends, Consumes, IsAtEnd, Keeps}
 use Rattle.mh_model.specs.Bytes.{Text}
-use Rattle.mh_model.specs.Output.{most_entries}
+use Rattle.mh_model.specs.Limits.{most_entries}
 use Rattle.mh_model.specs.Script.{BadLine, Means, Meaning}
 use Rattle.mh_text.specs.Stream.{ConsumesBeginning}
 use Rattle.mh_script.specs.Stage.{served_reading, served_output}

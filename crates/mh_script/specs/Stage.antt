@@ -5,7 +5,7 @@ use Rattle.mh_model.specs.declared.command.Command.TheVariants as command
 use Rattle.mh_model.specs.declared.config.Config.{Config}
 use Rattle.mh_model.specs.declared.config.Rules.TheVariants.{First}
 use Rattle.mh_model.specs.Bytes.{Text, cut_after, words, line_text, is_text}
-use Rattle.mh_model.specs.Output.{most_entries}
+use Rattle.mh_model.specs.Limits.{most_entries}
 use Rattle.mh_model.specs.Replies.{bad_line_text, replies_text}
 use Rattle.mh_model.specs.Script.{Line, Blank, Calls, Asks, Wrong, Meaning, Reading, BadLine, Means, config_words, line_of, reading}
 use Rattle.mh_model.specs.World.{first_world, world_replies}

@@ -1,7 +1,7 @@
 ghost use Rattle.std.specs.Prelude.{◌≡◌, ◌<◌, ◌^◌, take, IfOk, OnOk, OnErr, IsErrOf};
 ghost use Rattle.std.specs.Io.KnownBytes.{Appends, Keeps};
 ghost use Rattle.mh_model.specs.Bytes.{line_text};
-ghost use Rattle.mh_model.specs.Output.{most_entries};
+ghost use Rattle.mh_model.specs.Limits.{most_entries};
 ghost use Rattle.mh_model.specs.Replies.{bad_line_text};
 ghost use Rattle.mh_model.specs.Script.{Means};
 ghost use Rattle.mh_text.specs.Stream.{AppendsBeginning};
@@ -30,7 +30,7 @@ const MOST_ENTRIES: usize = 1_000_000;
 const REFUSAL_BYTES: usize = 64;
 
 /// The events that are answered.
-#[tactic(auto, using(crate::proofs::RunLemmas::take_min), unfolding(mh_model::specs::Output::most_entries))]
+#[tactic(auto, using(crate::proofs::RunLemmas::take_min), unfolding(mh_model::specs::Limits::most_entries))]
 fn answered(events: &[Event]) -> &[Event]
     ensures { result.now ≡ take most_entries events.now }
 {

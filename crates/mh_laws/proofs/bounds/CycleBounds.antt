@@ -11,7 +11,7 @@ use Rattle.mh_model.specs.Pages.{Page, Table, page_number, slot_number, page_at,
 use Rattle.mh_model.specs.Table.{Block}
 use Rattle.mh_model.specs.Collector.{Collector, Spending, Move, is_marked, next_move, with_move, move_cost, after_mark, cost_in, step_cost, is_moving_in, is_moving, step_in, is_past, with_phase, cycle_end, phase_after, collector_step, is_idle, quantum_start, steps, quantum}
 use Rattle.mh_model.specs.Mutator.{in_roots_or_mark}
-use Rattle.mh_model.specs.CycleBounds.{IsRoomyPage, IsRoomy, class_at, slot_weight, page_weight, table_weight, in_steps, in_units, words_at, movable, movable_words, steps_left, units_left, StageOf, IsUnderway}
+use Rattle.mh_model.specs.CycleBounds.{IsRoomyPage, IsRoomy, class_at, slot_weight, page_weight, table_weight, in_steps, in_units, size_at, movable, movable_words, steps_left, units_left, StageOf, IsUnderway}
 use Rattle.mh_laws.proofs.costs.Quanta.{steps-stop, steps-go, step_cost-positive, step_cost-bounded}
 use Rattle.mh_laws.specs.Commands.{IsOnCourse}
 use Rattle.mh_laws.proofs.tables.BlockRoom.{few_slots, roomy-sized}
@@ -27,10 +27,10 @@ pub record LeavesNoMore (old new : Collector) : Type 0 where
   pub steps : steps_left new.phase new ≤ steps_left old.phase old
   pub units : units_left new.phase new ≤ units_left old.phase old
 
-words-kept : (old new : Table Block) (number slot : ℕ) → ((size : ℕ) → class_at old number ≡ Some size → class_at new number ≡ Some size) → 256 - words_at new number * slot ≤ 256 - words_at old number * slot
+words-kept : (old new : Table Block) (number slot : ℕ) → ((size : ℕ) → class_at old number ≡ Some size → class_at new number ≡ Some size) → 256 - size_at new number * slot ≤ 256 - size_at old number * slot
 words-kept old new number slot kept = go (class_at old number) refl
   where
-    go : (class : Option ℕ) → class_at old number ≡ class → 256 - words_at new number * slot ≤ 256 - unwrap_or class 0 * slot
+    go : (class : Option ℕ) → class_at old number ≡ class → 256 - size_at new number * slot ≤ 256 - unwrap_or class 0 * slot
     go None e = omega arith
     go (Some size) e = rw (kept size e) (omega arith)
 
@@ -54,8 +54,8 @@ module _ (old new : Collector) {made : ℕ} (course : IsOnCourse made old new) (
 
   movable-carried : movable_words new ≤ movable_words old
   movable-carried =
-      subst (λ n. movable n (page_number new.cursor) (slot_number new.cursor) (words_at new.table (page_number new.cursor)) ≤ movable_words old) (sym course.pages)
-      (subst (λ n. movable (length old.table) (page_number n) (slot_number n) (words_at new.table (page_number n)) ≤ movable_words old) (sym course.cursor)
+      subst (λ n. movable n (page_number new.cursor) (slot_number new.cursor) (size_at new.table (page_number new.cursor)) ≤ movable_words old) (sym course.pages)
+      (subst (λ n. movable (length old.table) (page_number n) (slot_number n) (size_at new.table (page_number n)) ≤ movable_words old) (sym course.cursor)
       (omega (arith, words-kept old.table new.table (page_number old.cursor) (slot_number old.cursor) ((carried.carries).classes (page_number old.cursor)))))
 
   units-carried : (phase : Phase) → units_left phase new ≤ units_left phase old

@@ -9,7 +9,7 @@ use Rattle.mh_model.specs.declared.cycle.Phase.TheVariants.{Idle, Roots, Mark, S
 use Rattle.mh_model.specs.Pages.{Page, Table, page_number, slot_number, page_at, block_in, block_at, page_for, with_taken}
 use Rattle.mh_model.specs.Table.{Block}
 use Rattle.mh_model.specs.Collector.{Collector, Marking, Move, marking_of, with_marking, with_phase, with_shade, mark_first, first_mark_cost, next_page, next_place, is_last_slot, flagged_page, next_move, moved_table, move_cost, with_move, after_mark, is_past, cycle_end, step_in, phase_after, collector_step, cost_in, is_idle}
-use Rattle.mh_model.specs.CycleBounds.{IsRoomy, count_at, class_at, weight, IsGreySound, in_steps, in_units, words_at, movable, movable_words, steps_left, units_left, StageOf, IsUnderway}
+use Rattle.mh_model.specs.CycleBounds.{IsRoomy, count_at, class_at, weight, IsGreySound, in_steps, in_units, size_at, movable, movable_words, steps_left, units_left, StageOf, IsUnderway}
 use Rattle.mh_laws.proofs.commands.LeftUnchanged.{shade-keeps, mark_first-keeps, step_in-keeps}
 use Rattle.mh_laws.proofs.moving.NextMove.{IsNextMove, next_move-is}
 use Rattle.mh_laws.proofs.placing.Places.{least_dense_place-page, block_at-with_taken_other}
@@ -220,7 +220,7 @@ movable-fits pages page slot words used (inl none) = omega arith
 movable-fits pages page slot words used (inr (one, room)) = omega arith
 
 defrag_after-paid : (collector new : Collector) (used : ℕ) → new.phase ≡ Defrag → 0 < length collector.table → length new.table ≡ length collector.table → new.grey ≡ [] → IsRoomy new.table
-    → words_at new.table (page_number collector.cursor) ≡ words_at collector.table (page_number collector.cursor) → FitsPage (slot_number collector.cursor) (words_at collector.table (page_number collector.cursor)) used
+    → size_at new.table (page_number collector.cursor) ≡ size_at collector.table (page_number collector.cursor) → FitsPage (slot_number collector.cursor) (size_at collector.table (page_number collector.cursor)) used
     → IsNext collector.cursor new.cursor → collector.cursor < 64 * length collector.table
     → IsPaid 1 (1 + used) (steps_left Defrag collector) (units_left Defrag collector) (if is_past new.table new.cursor then cycle_end new else new)
 defrag_after-paid collector new used phase some pages none roomy class fits next inside = go (is_past new.table new.cursor) refl
@@ -229,7 +229,7 @@ defrag_after-paid collector new used phase some pages none roomy class fits next
     place = collector.cursor
 
     words : ℕ
-    words = words_at collector.table (page_number place)
+    words = size_at collector.table (page_number place)
 
     go : (past : Bool) → is_past new.table new.cursor ≡ past → IsPaid 1 (1 + used) (steps_left Defrag collector) (units_left Defrag collector) (if past then cycle_end new else new)
     go true e = record {
@@ -240,19 +240,19 @@ defrag_after-paid collector new used phase some pages none roomy class fits next
     go false e =
         let inside' : new.cursor < 64 * length new.table = not_past new.table new.cursor e in
         let page_inside : page_number new.cursor < length collector.table = omega (arith, pages, leb-false (length new.table) (page_number new.cursor) e) in
-        let less = movable-used (length collector.table) (page_number place) (slot_number place) words (page_number new.cursor) (slot_number new.cursor) (words_at new.table (page_number new.cursor)) used next.position page_inside (λ same. ap (words_at new.table) same ∙ class) fits in
-        let less' : movable_words new + used ≤ movable_words collector = subst (λ n. movable n (page_number new.cursor) (slot_number new.cursor) (words_at new.table (page_number new.cursor)) + used ≤ movable_words collector) (sym pages) less in
+        let less = movable-used (length collector.table) (page_number place) (slot_number place) words (page_number new.cursor) (slot_number new.cursor) (size_at new.table (page_number new.cursor)) used next.position page_inside (λ same. ap (size_at new.table) same ∙ class) fits in
+        let less' : movable_words new + used ≤ movable_words collector = subst (λ n. movable n (page_number new.cursor) (slot_number new.cursor) (size_at new.table (page_number new.cursor)) + used ≤ movable_words collector) (sym pages) less in
         record {
           under = record { some_page = omega (arith, pages); sound = none_grey new none roomy; stage = subst (λ p. StageOf p new) (sym phase) (none, inside') };
           steps_paid = subst (λ p. steps_left p new + 1 ≤ steps_left Defrag collector) (sym phase) (omega (arith, pages, next.further, inside'));
           units_paid = subst (λ p. units_left p new + (1 + used) ≤ units_left Defrag collector) (sym phase) (omega (arith, pages, next.further, inside', less'));
         }
 
-move_fits : (table : Table Block) (place : ℕ) (move : Move) → IsRoomy table → IsNextMove table place move → FitsPage (slot_number place) (words_at table (page_number place)) move.class_size
+move_fits : (table : Table Block) (place : ℕ) (move : Move) → IsRoomy table → IsNextMove table place move → FitsPage (slot_number place) (size_at table (page_number place)) move.class_size
 move_fits table place move roomy is =
     let page = is.page in
     let own = roomy.pages (page_number place) page is.in_use in
-    let words : words_at table (page_number place) ≡ page.class_size = ap (λ p. unwrap_or (option_map (λ q. q.class_size) p) 0) is.in_use in
+    let words : size_at table (page_number place) ≡ page.class_size = ap (λ p. unwrap_or (option_map (λ q. q.class_size) p) 0) is.in_use in
     let inside : slot_number place < length page.slots = below_length page.slots (slot_number place) move.block is.there in
     let room : page.class_size * suc (slot_number place) ≤ page.class_size * length page.slots = mul-le-mul_left page.class_size inside in
     let split : page.class_size * suc (slot_number place) ≡ page.class_size * slot_number place + page.class_size = mul-suc page.class_size (slot_number place) in
@@ -271,7 +271,7 @@ defrag-paid collector some sound (none, inside) = go (next_move collector.table 
     go (Some move) e =
         let is = next_move-is collector.table collector.cursor move e in
         let old_class : class_at collector.table (page_number collector.cursor) ≡ Some (is.page).class_size = ap (option_map (λ q. q.class_size)) is.in_use in
-        let class : words_at (moved_table collector.table collector.cursor move) (page_number collector.cursor) ≡ words_at collector.table (page_number collector.cursor) =
+        let class : size_at (moved_table collector.table collector.cursor move) (page_number collector.cursor) ≡ size_at collector.table (page_number collector.cursor) =
         ap (λ o. unwrap_or o 0) (moved-class collector.table collector.cursor move (page_number collector.cursor) (is.page).class_size old_class ∙ sym old_class) in
         defrag_after-paid collector (with_phase (with_move collector (Some move)) Defrag next) move.class_size refl some (length-set _ _ _ ∙ length-set _ _ _) none (moved-roomy collector.table collector.cursor move sound.roomy is) class
         (move_fits collector.table collector.cursor move sound.roomy is) (next_place-next collector.cursor (flagged_page collector.table collector.cursor)) inside

@@ -10,6 +10,7 @@ use Rattle.mh_model.specs.declared.command.Event.TheVariants as event
 use Rattle.mh_model.specs.declared.reply.Reply.{Reply}
 use Rattle.mh_model.specs.declared.reply.Reply.TheVariants as reply
 use Rattle.mh_model.specs.declared.history.Entry.{Entry}
+use Rattle.mh_model.specs.Limits.{most_entries}
 use Rattle.mh_model.specs.Bytes.{Text}
 use Rattle.mh_model.specs.Forms.{u64}
 use Rattle.mh_model.specs.declared.history.Version.TheVariants.{One, Two}
@@ -91,6 +92,7 @@ record_length machine (e ∷ events) = ap suc (record_length (event_step machine
 
 pub migration_keeps : (config : Config) (text : Text) (entries : List Entry) → config.rules ≡ First → history_reading text ≡ Means entries → IsLegal config entries
     → IsMigrated config entries
+unfolding most_entries
 migration_keeps config text entries first read legal =
     let known = history_reading_is text entries read in
     let few : length (history_text entries) ≤ 1073741824 = subst (λ (t : Text). length t ≤ 1073741824) known.same known.short in

@@ -7,6 +7,7 @@ use Rattle.mh_model.specs.declared.reply.Reply.{Reply}
 use Rattle.mh_model.specs.declared.history.Entry.{Entry}
 use Rattle.mh_model.specs.declared.history.Version.TheVariants.{One, Two}
 use Rattle.mh_model.specs.Machine.{Machine, first_machine, event_step, machine_replies}
+use Rattle.mh_model.specs.Limits.{most_entries}
 use Rattle.mh_model.specs.History.{IsLegal}
 use Rattle.mh_model.specs.HistoryTexts.{is_entry, is_measured, measured_step, machine_record, IsLegalRecord}
 use Rattle.mh_model.specs.declared.history.Measured.{Measured}
@@ -46,6 +47,7 @@ follow-replies machine [] h = tt
 follow-replies machine (e ∷ entries) h = (first_same h, follow-replies (after_entry machine e) entries (others_same h))
 
 pub legal_rule : (config : Config) → IsRule IsAnswered after_entry (first_machine config) (IsLegal config)
+unfolding most_entries
 legal_rule config = record {
   lawful = λ entries few follows. record { few = few; replies = replies-follow (first_machine config) entries follows };
   few = λ entries legal. legal.few;
@@ -99,6 +101,7 @@ follow-record machine [] h = tt
 follow-record machine (m ∷ entries) h = (first_same h, follow-record (after_measured machine m) entries (others_same h))
 
 pub record_rule : (config : Config) → IsRule IsRight after_measured (first_machine config) (IsLegalRecord config)
+unfolding most_entries
 record_rule config = record {
   lawful = λ entries few follows. record { few = few; same = record-follows (first_machine config) entries follows };
   few = λ entries legal. legal.few;
