@@ -3,3 +3,4 @@ pub mod WorkLeft
 pub mod CycleBounds
 pub mod CyclesInTime
 pub mod StepsOfACycle
+pub mod WithinEvents
