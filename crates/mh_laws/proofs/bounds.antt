@@ -4,3 +4,4 @@ pub mod CycleBounds
 pub mod CyclesInTime
 pub mod StepsOfACycle
 pub mod SizedTables
+pub mod WithinEvents

@@ -42,7 +42,7 @@ made_parts-class part after table birth stamp index made e = go (class_of (part_
     go None is h = absurd (none-some made h)
     go (Some size) is h = omega (arith, class_of-fits (part_words part) size is, (class_of-is (part_words part) size is).most)
 
-made_group-fields : (table : Table Block) (birth stamp references numbers : ℕ) (made : Made) → made_group table birth stamp (parts references numbers) ≡ Some made → references + numbers ≤ 216000
+pub made_group-fields : (table : Table Block) (birth stamp references numbers : ℕ) (made : Made) → made_group table birth stamp (parts references numbers) ≡ Some made → references + numbers ≤ 216000
 made_group-fields table birth stamp references numbers made e = by_parts (made_parts table birth stamp 0 (parts references numbers)) refl e
   where
     by_list : (list : List Part) → parts references numbers ≡ list → (all : MadeParts) → made_parts table birth stamp 0 list ≡ Some all → references + numbers ≤ 216000
