@@ -1,0 +1,2 @@
+pub mod ShownClaims
+pub mod DrawRule

@@ -1,0 +1,2 @@
+pub mod ShownLocks
+pub mod LockCalls

@@ -1,0 +1,3 @@
+pub mod ClaimDraws
+pub mod KeptLocks
+pub mod LockCalls

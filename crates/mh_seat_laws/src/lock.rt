@@ -1,0 +1,17 @@
+//! Laws of the lock.
+ghost use Rattle.mh_seat_laws.specs.Laws.{GiveKeepsTheLock, LockIsKept, TakeKeepsTheLock};
+
+/// A table that keeps the rule of the lock shows a lock that keeps the book's rule.
+pub fn lock_is_kept<T, E>()
+    ensures { LockIsKept T E }
+{}
+
+/// A try to take the value keeps the lock's rule.
+pub fn take_keeps_the_lock()
+    ensures { TakeKeepsTheLock }
+{}
+
+/// Giving the value back keeps the lock's rule.
+pub fn give_keeps_the_lock()
+    ensures { GiveKeepsTheLock }
+{}
