@@ -1,2 +1,3 @@
 pub mod ShownClaims
 pub mod DrawRule
+pub mod DrawnNumbers

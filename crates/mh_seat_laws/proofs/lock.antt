@@ -1,2 +1,3 @@
 pub mod ShownLocks
-pub mod LockCalls
+pub mod TakesAndGives
+pub mod MergedLogs

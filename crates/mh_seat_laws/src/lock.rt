@@ -1,5 +1,5 @@
 //! Laws of the lock.
-ghost use Rattle.mh_seat_laws.specs.Laws.{GiveKeepsTheLock, LockIsKept, TakeKeepsTheLock};
+ghost use Rattle.mh_seat_laws.specs.Laws.{EventsHaveOneOwner, GiveKeepsTheLock, LockIsKept, LogsMergeToTheHistory, TakeKeepsTheLock};
 
 /// A table that keeps the rule of the lock shows a lock that keeps the book's rule.
 pub fn lock_is_kept<T, E>()
@@ -14,4 +14,14 @@ pub fn take_keeps_the_lock()
 /// Giving the value back keeps the lock's rule.
 pub fn give_keeps_the_lock()
     ensures { GiveKeepsTheLock }
+{}
+
+/// Each event is owned by one of the nine seats.
+pub fn events_have_one_owner()
+    ensures { EventsHaveOneOwner }
+{}
+
+/// The logs of the nine seats merge to the history.
+pub fn logs_merge_to_the_history()
+    ensures { LogsMergeToTheHistory }
 {}
