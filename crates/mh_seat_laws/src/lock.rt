@@ -21,7 +21,7 @@ pub fn events_have_one_owner()
     ensures { EventsHaveOneOwner }
 {}
 
-/// The logs of the nine seats merge to the history.
+/// Logs of what each of the nine seats owns of a history merge to that history.
 pub fn logs_merge_to_the_history()
     ensures { LogsMergeToTheHistory }
 {}

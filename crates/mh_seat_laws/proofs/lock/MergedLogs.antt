@@ -38,6 +38,6 @@ module _ {E : Type 0} (owner : E → ℕ) where
         all-merge history (set logs seat rest) (λ other. omega (arith, owned other, length-set logs seat rest)) (logs_after entry history logs (owned entry) are),
       )
 
--- The logs of the nine seats merge to the history
+-- Logs of what each of the nine seats owns of a history merge to that history
 pub logs-merge : (history : List Entry) (logs : List (List Entry)) → length logs ≡ 9 → AreLogs (λ entry. owner_of entry.event) history logs → IsMerge logs history
 logs-merge history logs nine are = all-merge (λ (entry : Entry). owner_of entry.event) history logs (λ entry. omega (arith, owned_below entry.event)) are
