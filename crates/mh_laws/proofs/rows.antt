@@ -15,7 +15,6 @@ pub mod LongChain
 pub mod WideObject
 pub mod Windows
 pub mod SizeClasses
-pub mod ClaimDraws
 pub mod Histories
 pub mod Views
 pub mod CycleAsking
@@ -37,7 +36,6 @@ pub mod WorldRefusals
 pub mod LeftOfCycles
 pub mod Owners
 pub mod Configurations
-pub mod LockCalls
 pub mod ShownObjects
 pub mod TraceLetters
 pub mod SnapshotsTaken
@@ -47,4 +45,3 @@ pub mod ChangedPages
 pub mod WorldsAfter
 pub mod ReachedObjects
 pub mod AgreeingViews
-pub mod KeptLocks

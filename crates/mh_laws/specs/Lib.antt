@@ -4,7 +4,6 @@ pub mod NewObjects
 pub mod Costs
 pub mod Commands
 pub mod Worlds
-pub mod Seats
 pub mod GreyRoom
 pub mod Bounds
 pub mod Utilisation

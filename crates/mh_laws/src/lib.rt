@@ -13,7 +13,6 @@ pub mod following;
 pub mod grey_room;
 pub mod new_objects;
 pub mod placing;
-pub mod seats;
 pub mod showing;
 pub mod snapshots;
 pub mod tables;

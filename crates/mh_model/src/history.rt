@@ -23,3 +23,12 @@ pub enum Version {
     One,
     Two,
 }
+
+/// What a text is found to be as a history: refused with a line, legal with so many entries, or one whose first bad entry has
+/// this number, counted from 1.
+#[derive(Clone, Copy, Debug, PartialEq, Eq)]
+pub enum Verdict {
+    Refused(u64),
+    Legal(u64),
+    FirstBad(u64),
+}

@@ -1,2 +1,1 @@
-mod Drawn
-mod Kept
+pub mod rows

@@ -1,4 +1,5 @@
 pub mod Weights
 pub mod ClaimWord
 pub mod Lock
+pub mod Merges
 pub mod Laws

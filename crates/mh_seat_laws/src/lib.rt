@@ -1,9 +1,9 @@
-//! The rules of the claim word and of the lock as tables of `atomic_table` keep them, and the laws that they are the book's.
+//! The rules of the claim word and of the lock as tables of `atomic_table` keep them, and the laws of the book's rules.
 //! Each law is what a function with nothing to do ensures.
 #![tactic(auto)]
 
-mod laws;
+pub mod claim_word;
+pub mod lock;
 mod seat_view;
 
-pub use laws::{claim_word_is_drawn, lock_is_kept};
 pub use seat_view::SeatView;

@@ -6,7 +6,8 @@ use Rattle.mh_model.specs.declared.history.Entry.{Entry}
 use Rattle.mh_model.specs.Bytes.{Text}
 use Rattle.mh_model.specs.Script.{Means}
 use Rattle.mh_model.specs.History.{IsLegal}
-use Rattle.mh_model.specs.HistoryTexts.{history_reading, recorded_text, recorded_reading, IsLegalRecord, Legal, IsChecked, IsAudited, migrated, IsMigratedTo}
+use Rattle.mh_model.specs.HistoryTexts.{history_reading, recorded_text, recorded_reading, IsLegalRecord, IsChecked, IsAudited, migrated, IsMigratedTo}
+use Rattle.mh_model.specs.declared.history.Verdict.TheVariants.{Legal}
 
 -- What migration makes of a legal history: a text that is read as the record of its events, which is legal, with the same entries
 pub record IsMigrated (config : Config) (entries : List Entry) : Type 0 where

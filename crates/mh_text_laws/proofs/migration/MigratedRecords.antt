@@ -19,7 +19,9 @@ use Rattle.mh_model.specs.Script.{Reading, BadLine, Means}
 use Rattle.mh_model.specs.Trace.{mutator_count, collector_count}
 use Rattle.mh_model.specs.Machine.{Machine, first_machine, event_step, machine_replies}
 use Rattle.mh_model.specs.History.{IsLegal}
-use Rattle.mh_model.specs.HistoryTexts.{Verdict, IsMigratedTo, Refused, Legal, is_event, is_entry, is_measured, measured_step, machine_record, history_text, history_reading, migrated, migration_text, IsJudged, IsChecked, IsAudited}
+use Rattle.mh_model.specs.HistoryTexts.{IsMigratedTo, is_event, is_entry, is_measured, measured_step, machine_record, history_text, history_reading, migrated, migration_text, IsJudged, IsChecked, IsAudited}
+use Rattle.mh_model.specs.declared.history.Verdict.{Verdict}
+use Rattle.mh_model.specs.declared.history.Verdict.TheVariants.{Refused, Legal}
 use Rattle.mh_text_laws.specs.Migration.{IsMigrated}
 use Rattle.mh_text_laws.proofs.ListLemmas.{first_same, others_same}
 use Rattle.mh_text_laws.proofs.round_trips.HeaderRoundTrips.{config_limits}

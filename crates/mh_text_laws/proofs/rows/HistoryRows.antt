@@ -9,7 +9,8 @@ use Rattle.mh_model.specs.declared.reply.Reply.TheVariants as reply
 use Rattle.mh_model.specs.declared.reply.Refusal.TheVariants.{Null, TooLarge, HeapFull, TooManySessions}
 use Rattle.mh_model.specs.Output.{output}
 use Rattle.mh_model.specs.Script.{reading}
-use Rattle.mh_model.specs.HistoryTexts.{history_reading, recorded_reading, machine_record, Refused, Legal, FirstBad, verdict_text, IsChecked, IsAudited, migration_text}
+use Rattle.mh_model.specs.HistoryTexts.{history_reading, recorded_reading, machine_record, verdict_text, IsChecked, IsAudited, migration_text}
+use Rattle.mh_model.specs.declared.history.Verdict.TheVariants.{Refused, Legal, FirstBad}
 use Rattle.mh_model.specs.declared.history.Measured.{Measured}
 use Rattle.mh_text_laws.proofs.rows.Worked.{worked}
 

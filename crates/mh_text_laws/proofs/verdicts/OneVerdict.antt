@@ -8,7 +8,9 @@ use Rattle.mh_model.specs.Machine.{first_machine}
 use Rattle.mh_model.specs.History.{IsLegal, IsFirstBadOf}
 use Rattle.mh_model.specs.Bytes.{Text}
 use Rattle.mh_model.specs.Script.{Reading, BadLine, Means}
-use Rattle.mh_model.specs.HistoryTexts.{Recorded, Verdict, Refused, Legal, FirstBad, IsJudged, IsLegalRecord, history_reading, recorded_reading, IsChecked, IsAudited}
+use Rattle.mh_model.specs.HistoryTexts.{Recorded, IsJudged, IsLegalRecord, history_reading, recorded_reading, IsChecked, IsAudited}
+use Rattle.mh_model.specs.declared.history.Verdict.{Verdict}
+use Rattle.mh_model.specs.declared.history.Verdict.TheVariants.{Refused, Legal, FirstBad}
 use Rattle.mh_text_laws.proofs.verdicts.StepRules.{rule-begins}
 use Rattle.mh_text_laws.proofs.verdicts.LegalHistories.{IsAnswered, after_entry, legal_rule, IsRight, after_measured, record_rule}
 

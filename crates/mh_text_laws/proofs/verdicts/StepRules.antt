@@ -4,7 +4,9 @@ use Rattle.std.specs.List.{list_all}
 use Rattle.std.proofs.lemmas.Bool.{and_parts, cases_lt}
 use Rattle.std.proofs.lemmas.List.{length-take, length-take-le, take-take}
 use Rattle.mh_model.specs.History.{IsFirstBadOf}
-use Rattle.mh_model.specs.HistoryTexts.{Verdict, Legal, FirstBad, IsJudged}
+use Rattle.mh_model.specs.HistoryTexts.{IsJudged}
+use Rattle.mh_model.specs.declared.history.Verdict.{Verdict}
+use Rattle.mh_model.specs.declared.history.Verdict.TheVariants.{Legal, FirstBad}
 
 abbrev pub Follows : {S X : Type 0} → (S → X → Type 0) → (S → X → S) → S → List X → Type 0
 Follows Fits next state [] = Unit {0}

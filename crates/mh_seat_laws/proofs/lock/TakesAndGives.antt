@@ -1,10 +1,16 @@
 -- Taking the value and giving it back keep the lock's rule.
-use Rattle.std.proofs.Common.{◌≡◌, ◌≢◌, ◌<◌, ◌==◌, ◌++◌, ℕ, Bool, true, false, if◌then◌else◌, cond, inl, inr, List, [], ◌∷◌, length, get_or, set, Option, Some, None, option_map, refl, sym, ap, ◌∙◌, arith}
+use Rattle.std.proofs.Common.{◌≡◌, ◌≢◌, ◌<◌, ◌==◌, ◌++◌, ℕ, zero, suc, Bool, true, false, if◌then◌else◌, cond, inl, inr, List, [], ◌∷◌, length, get_or, set, Option, Some, None, option_map, refl, sym, ap, ◌∙◌, arith}
 use Rattle.std.specs.Option.{option_to_list}
 use Rattle.std.proofs.lemmas.Bool.{cases_eq, eq-eqb, ne_eqb}
 use Rattle.std.proofs.lemmas.List.{get_or-set_same, get_or-set_other, length-set, append-nil}
-use Rattle.mh_laws.proofs.Lists.{below_length}
+use Rattle.std.proofs.lemmas.Option.{none-some}
 use Rattle.mh_model.specs.History.{LockState, IsOut, IsKeptBy, AreLogs, owned_by, with_take, with_give}
+
+-- what is there is within the list
+below_length : {X : Type 0} (xs : List (Option X)) (i : ℕ) (x : X) → get_or xs i None ≡ Some x → i < length xs
+below_length [] i x e = absurd (none-some x e)
+below_length (y ∷ xs) zero x e = omega arith
+below_length (y ∷ xs) (suc i) x e = omega (arith, below_length xs i x e)
 
 module _ {E : Type 0} (owner : E → ℕ) where
   -- A try to take the value keeps the rule

@@ -1,0 +1,3 @@
+pub mod ShownClaims
+pub mod DrawRule
+pub mod DrawnNumbers

@@ -1,0 +1,3 @@
+pub mod ShownLocks
+pub mod TakesAndGives
+pub mod MergedLogs

@@ -1,0 +1,57 @@
+-- Merges of two logs, and histories that are no merges of their logs.
+use Rattle.std.proofs.Common.{[], ◌∷◌, ◌≡◌, get_or, List, refl, set, subst, suc, zero, ℕ}
+use Rattle.mh_seat_laws.specs.Merges.{IsMerge}
+
+-- two logs, of two entries and of one
+abbrev two_logs : List (List ℕ)
+two_logs = (0 ∷ 1 ∷ []) ∷ (2 ∷ []) ∷ []
+
+-- those logs without an entry
+abbrev two_empty : List (List ℕ)
+two_empty = [] ∷ [] ∷ []
+
+nothing_left : (seat : ℕ) → get_or two_empty seat [] ≡ []
+nothing_left zero = refl
+nothing_left (suc zero) = refl
+nothing_left (suc (suc seat)) = refl
+
+-- the second log's entry stands between the two of the first
+pub merged : IsMerge two_logs (0 ∷ 2 ∷ 1 ∷ [])
+merged = (record { seat = 0; rest = 1 ∷ []; log = refl }, (record { seat = 1; rest = []; log = refl }, (record { seat = 0; rest = []; log = refl }, nothing_left)))
+
+-- one after the other is a merge too
+pub merged_in_turn : IsMerge two_logs (0 ∷ 1 ∷ 2 ∷ [])
+merged_in_turn = (record { seat = 0; rest = 1 ∷ []; log = refl }, (record { seat = 0; rest = []; log = refl }, (record { seat = 1; rest = []; log = refl }, nothing_left)))
+
+-- the logs' order is kept
+pub against_the_order : ¬ IsMerge two_logs (1 ∷ 0 ∷ 2 ∷ [])
+against_the_order merge = none merge.0.seat merge.0.rest merge.0.log
+  where
+    none : (seat : ℕ) (rest : List ℕ) → get_or two_logs seat [] ≡ 1 ∷ rest → ⊥
+    none zero rest e = cc
+    none (suc zero) rest e = cc
+    none (suc (suc seat)) rest e = cc
+
+-- one log of one entry, and after that entry
+abbrev one_log : List ℕ → List (List ℕ)
+one_log log = log ∷ []
+
+none_after : (entry seat : ℕ) (rest : List ℕ) → get_or (one_log []) seat [] ≡ entry ∷ rest → ⊥
+none_after entry zero rest e = cc
+none_after entry (suc seat) rest e = cc
+
+no_second : (entry seat : ℕ) (rest : List ℕ) → get_or (one_log (0 ∷ [])) seat [] ≡ 0 ∷ rest → (next : ℕ) (last : List ℕ) → get_or (set (one_log (0 ∷ [])) seat rest) next [] ≡ entry ∷ last → ⊥
+no_second entry zero rest e next last f = let empty : rest ≡ [] = cc in none_after entry next last (subst (λ r. get_or (one_log r) next [] ≡ entry ∷ last) empty f)
+no_second entry (suc seat) rest e next last f = cc
+
+-- no entry of a log is left out
+pub entry_left_out : ¬ IsMerge (one_log (0 ∷ [])) []
+entry_left_out merge = let bad : get_or (one_log (0 ∷ [])) 0 [] ≡ [] = merge 0 in cc
+
+-- none stands twice
+pub entry_twice : ¬ IsMerge (one_log (0 ∷ [])) (0 ∷ 0 ∷ [])
+entry_twice merge = no_second 0 merge.0.seat merge.0.rest merge.0.log merge.1.0.seat merge.1.0.rest merge.1.0.log
+
+-- and none that no log has
+pub entry_of_no_log : ¬ IsMerge (one_log (0 ∷ [])) (0 ∷ 5 ∷ [])
+entry_of_no_log merge = no_second 5 merge.0.seat merge.0.rest merge.0.log merge.1.0.seat merge.1.0.rest merge.1.0.log

@@ -1,0 +1,27 @@
+//! Laws of the lock.
+ghost use Rattle.mh_seat_laws.specs.Laws.{EventsHaveOneOwner, GiveKeepsTheLock, LockIsKept, LogsMergeToTheHistory, TakeKeepsTheLock};
+
+/// A table that keeps the rule of the lock shows a lock that keeps the book's rule.
+pub fn lock_is_kept<T, E>()
+    ensures { LockIsKept T E }
+{}
+
+/// A try to take the value keeps the lock's rule.
+pub fn take_keeps_the_lock()
+    ensures { TakeKeepsTheLock }
+{}
+
+/// Giving the value back keeps the lock's rule.
+pub fn give_keeps_the_lock()
+    ensures { GiveKeepsTheLock }
+{}
+
+/// Each event is owned by one of the nine seats.
+pub fn events_have_one_owner()
+    ensures { EventsHaveOneOwner }
+{}
+
+/// Logs of what each of the nine seats owns of a history merge to that history.
+pub fn logs_merge_to_the_history()
+    ensures { LogsMergeToTheHistory }
+{}
