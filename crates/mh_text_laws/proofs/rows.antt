@@ -3,3 +3,4 @@ pub mod ScriptRows
 pub mod HistoryRows
 pub mod Scripts
 pub mod Endings
+pub mod RacedScripts

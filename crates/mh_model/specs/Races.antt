@@ -1,0 +1,44 @@
+-- Races: what the sessions of a script and its desk leave as their common history, when each makes its own calls in the script's order and no order is given between them.
+use Rattle.std.specs.Prelude.{◌≡◌, ℕ, List, ◌++◌, length, map}
+use Rattle.mh_model.specs.declared.command.Event.{Event}
+use Rattle.mh_model.specs.declared.history.Measured.{Measured}
+use Rattle.mh_model.specs.Limits.{most_entries}
+use Rattle.mh_model.specs.History.{owner_of, owned_by}
+use Rattle.mh_model.specs.Bytes.{Text}
+use Rattle.mh_model.specs.Script.{Meaning}
+use Rattle.mh_model.specs.HistoryTexts.{Recorded, recorded_text, IsLegalRecord}
+
+-- the calls of a seat in a history, in order
+abbrev pub calls_of : ℕ → List Measured → List Event
+calls_of seat entries = owned_by owner_of seat (map (λ measured. measured.entry.event) entries)
+
+-- Each seat has made the calls that a script has of it, in the script's order, and no others
+abbrev pub HasTheCalls : List Event → List Measured → Type 0
+HasTheCalls events entries = (seat : ℕ) → calls_of seat entries ≡ owned_by owner_of seat events
+
+-- Each seat has made the first of them, and no others
+abbrev pub BeginsTheCalls : List Event → List Measured → Type 0
+BeginsTheCalls events entries = (seat : ℕ) → (rest : List Event) × (calls_of seat entries ++ rest ≡ owned_by owner_of seat events)
+
+-- What a race writes that has made all calls of its script: a legal history of these
+pub record IsRaced (script : Meaning) (written : Text) : Type 0 where
+  pub entries : List Measured
+  pub legal : IsLegalRecord script.config entries
+  pub calls : HasTheCalls script.events entries
+  pub text : written ≡ recorded_text (record { config = script.config; entries = entries })
+
+-- and one whose history is full
+pub record IsRacedFull (script : Meaning) (written : Text) : Type 0 where
+  pub entries : List Measured
+  pub legal : IsLegalRecord script.config entries
+  pub full : length entries ≡ most_entries
+  pub calls : BeginsTheCalls script.events entries
+  pub text : written ≡ recorded_text (record { config = script.config; entries = entries })
+
+-- A beginning of what a race writes that has made the first calls of its seats
+pub record IsRaceBegun (script : Meaning) (written : Text) : Type 0 where
+  pub entries : List Measured
+  pub legal : IsLegalRecord script.config entries
+  pub calls : BeginsTheCalls script.events entries
+  pub rest : Text
+  pub text : written ++ rest ≡ recorded_text (record { config = script.config; entries = entries })
