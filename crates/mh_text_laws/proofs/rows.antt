@@ -1,5 +1,6 @@
 pub mod Worked
-pub mod ScriptRows
-pub mod HistoryRows
-pub mod Scripts
+pub mod WholeScripts
+pub mod RefusedScripts
 pub mod Endings
+pub mod CheckedHistories
+pub mod AuditedHistories
