@@ -3,4 +3,5 @@ pub mod WholeScripts
 pub mod RefusedScripts
 pub mod Endings
 pub mod CheckedHistories
+pub mod RefusedHistories
 pub mod AuditedHistories

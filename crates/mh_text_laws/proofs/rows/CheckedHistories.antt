@@ -1,8 +1,10 @@
 -- Histories of version 1, checked.
-use Rattle.std.proofs.Common.{[], codes, lit≤, refl, ◌++◌, ◌∷◌, ◌≡◌, List}
+use Rattle.std.proofs.Common.{[], arith, codes, length, lit≤, List, refl, ◌++◌, ◌∷◌, ◌≡◌}
+use Rattle.mh_model.specs.declared.history.Entry.{Entry}
 use Rattle.mh_model.specs.declared.reply.Reply.{Reply}
 use Rattle.mh_model.specs.declared.reply.Reply.TheVariants as reply
 use Rattle.mh_model.specs.declared.reply.Refusal.TheVariants.{HeapFull, Null, TooManySessions}
+use Rattle.mh_model.specs.History.{IsLegal}
 use Rattle.mh_model.specs.HistoryTexts.{history_reading, Refused, Legal, FirstBad, verdict_text, IsChecked}
 use Rattle.mh_text_laws.proofs.rows.Worked.{four_pages, two_pages, worked}
 
@@ -33,10 +35,10 @@ pub posted_and_taken : IsChecked four_pages (codes "history 1\ns0 new 0 0 1 = ok
 unfolding history_reading worked
 posted_and_taken = (record { few = lit≤ tt; replies = refl }, refl)
 
--- each kind of reply but the second version's is read
-pub each_reply : IsChecked four_pages (codes "history 1\ns0 new 0 0 1 = ok\ns0 read 0 0 = number 0\ns0 same 0 0 = yes\ns0 same 0 1 = no\n* stat = free 3 live 1 old 0 phase idle cycle 0\n* quantum = spent 0 phase idle\n* dump = dump P0 C5 - 0=0.0\n* report 1 = mutator 4 collector 0 quanta 1 greatest 0 window 1 least 1 floor none\n") (Legal 8)
+-- replies of the other kinds, and a dump whose slots begin anew with each page
+pub other_replies : IsChecked four_pages (codes "history 1\ns0 new 0 0 1 = ok\ns0 new 1 0 60 = ok\ns0 read 0 0 = number 0\ns0 same 0 0 = yes\ns0 same 0 1 = no\n* stat = free 2 live 2 old 0 phase idle cycle 0\n* quantum = spent 0 phase idle\n* dump = dump P0 C5 - 0=0.0 P1 C64 - 0=1.0\n* report 1 = mutator 5 collector 0 quanta 1 greatest 0 window 1 least 1 floor none\n") (Legal 9)
 unfolding history_reading worked
-each_reply = (record { few = lit≤ tt; replies = refl }, refl)
+other_replies = (record { few = lit≤ tt; replies = refl }, refl)
 
 -- With a first bad entry --------------------------------------------------------------------------
 
@@ -93,94 +95,28 @@ told_of_nothing = record {
   bad = λ legal. let same : four_done (reply.Refused Null) ≡ four_done (reply.Shape (record { references = 0; numbers = 1 })) = legal.replies in cc;
 }
 
--- Refused with a line -----------------------------------------------------------------------------
+-- No verdicts -------------------------------------------------------------------------------------
 
--- a text of no bytes has no first line
-pub no_bytes : IsChecked two_pages (codes "") (Refused 1)
+-- the count of entries is compared
+pub another_count : IsChecked two_pages (codes "history 1\n") (Legal 1) → ⊥
 unfolding history_reading worked
-no_bytes = refl
+another_count judged = let same : 1 ≡ 0 = judged.1 in cc
 
--- a text of version 2 is none of version 1
-pub version_2_checked : IsChecked two_pages (codes "history 2 rules 2 4 209 0 0\n") (Refused 1)
+-- a history without a bad line is not refused
+pub refused_without_a_bad_line : IsChecked two_pages (codes "history 1\n") (Refused 1) → ⊥
 unfolding history_reading worked
-version_2_checked = refl
+refused_without_a_bad_line judged = judged
 
--- there is no session 9
-pub session_past_8 : IsChecked two_pages (codes "history 1\ns9 clear 0 = ok\n") (Refused 2)
+-- a good entry is no first bad one
+pub good_entry : IsChecked two_pages (codes "history 1\ns0 clear 0 = ok\n") (FirstBad 1) → ⊥
 unfolding history_reading worked
-session_past_8 = refl
+good_entry judged = judged.bad (record { few = lit≤ tt; replies = refl })
 
--- a session's number does not begin with 0
-pub session_with_a_leading_zero : IsChecked two_pages (codes "history 1\ns00 clear 0 = ok\n") (Refused 2)
+-- and neither is one that follows a bad one
+pub second_bad_entry : IsChecked two_pages (codes "history 1\ns0 clear 0 = yes\ns0 clear 0 = no\n") (FirstBad 2) → ⊥
 unfolding history_reading worked
-session_with_a_leading_zero = refl
+second_bad_entry judged = let same : reply.Yes ∷ [] ≡ reply.Done ∷ [] = judged.before.replies in cc
 
--- a history has numbers of sessions and no names
-pub name_for_a_session : IsChecked two_pages (codes "history 1\na clear 0 = ok\n") (Refused 2)
-unfolding history_reading worked
-name_for_a_session = refl
-
--- a refusal's words are those of its number
-pub unknown_refusal : IsChecked two_pages (codes "history 1\ns0 clear 0 = refused 5 null\n") (Refused 2)
-unfolding history_reading worked
-unknown_refusal = refl
-
--- version 1 has no `left`
-pub left_in_version_1 : IsChecked two_pages (codes "history 1\n* left = left 0\n") (Refused 2)
-unfolding history_reading worked
-left_in_version_1 = refl
-
--- and no reply to it
-pub reply_left_in_version_1 : IsChecked two_pages (codes "history 1\n* start = left 0\n") (Refused 2)
-unfolding history_reading worked
-reply_left_in_version_1 = refl
-
--- and no units
-pub units_in_version_1 : IsChecked two_pages (codes "history 1\ns0 clear 0 = ok units 1 0\n") (Refused 2)
-unfolding history_reading worked
-units_in_version_1 = refl
-
--- an empty line is no entry
-pub empty_line : IsChecked two_pages (codes "history 1\n\n") (Refused 2)
-unfolding history_reading worked
-empty_line = refl
-
--- and neither is a comment
-pub comment : IsChecked two_pages (codes "history 1\n# one\n") (Refused 2)
-unfolding history_reading worked
-comment = refl
-
--- the pages of a dump ascend
-pub pages_descend : IsChecked two_pages (codes "history 1\n* dump = dump P1 C4 - P0 C4 -\n") (Refused 2)
-unfolding history_reading worked
-pages_descend = refl
-
--- so none is told twice
-pub page_twice : IsChecked two_pages (codes "history 1\n* dump = dump P1 C4 - P1 C4 -\n") (Refused 2)
-unfolding history_reading worked
-page_twice = refl
-
--- and so do the slots of a page
-pub slots_descend : IsChecked two_pages (codes "history 1\n* dump = dump P1 C4 - 3=0.0 2>0.1\n") (Refused 2)
-unfolding history_reading worked
-slots_descend = refl
-
--- of which none is told twice
-pub slot_twice : IsChecked two_pages (codes "history 1\n* dump = dump P1 C4 - 3=0.0 3=1.0\n") (Refused 2)
-unfolding history_reading worked
-slot_twice = refl
-
--- a slot follows its page
-pub slot_before_its_page : IsChecked two_pages (codes "history 1\n* dump = dump 3=0.0\n") (Refused 2)
-unfolding history_reading worked
-slot_before_its_page = refl
-
--- a last entry without its end is bad
-pub last_entry_without_its_end : IsChecked two_pages (codes "history 1\ns0 clear 0 = ok\ns0 clear 0 = ok") (Refused 3)
-unfolding history_reading worked
-last_entry_without_its_end = refl
-
--- a bad line is named though an entry before it is bad
-pub bad_line_after_a_bad_entry : IsChecked two_pages (codes "history 1\ns0 clear 0 = number 5\ns9 clear 0 = ok\n") (Refused 3)
-unfolding history_reading worked
-bad_line_after_a_bad_entry = refl
+-- a legal history has 1,000,000 entries at most
+pub one_entry_more : (entries : List Entry) → length entries ≡ 1000001 → IsLegal two_pages entries → ⊥
+one_entry_more entries count legal = let few = legal.few in omega arith

@@ -1,8 +1,19 @@
 -- Scripts that are refused with their least bad line.
-use Rattle.std.proofs.Common.{codes, refl, ◌≡◌}
+use Rattle.std.proofs.Common.{ap, codes, if◌then◌else◌, length, nat_lt, refl, ◌≡◌}
+use Rattle.mh_model.specs.Bytes.{Text, cut_after}
 use Rattle.mh_model.specs.Output.{output}
-use Rattle.mh_model.specs.Script.{reading}
+use Rattle.mh_model.specs.Script.{BadLine, reading, script_of}
 use Rattle.mh_text_laws.proofs.rows.Worked.{worked}
+
+-- a script may have 2^26 bytes
+pub long_script : (text : Text) → length text ≡ 67108864 → reading text ≡ script_of (cut_after 10 text)
+unfolding reading
+long_script text long = ap (λ count. if nat_lt 67108864 count then BadLine 0 else script_of (cut_after 10 text)) long
+
+-- and no more
+pub too_long_script : (text : Text) → length text ≡ 67108865 → reading text ≡ BadLine 0
+unfolding reading
+too_long_script text long = ap (λ count. if nat_lt 67108864 count then BadLine 0 else script_of (cut_after 10 text)) long
 
 -- a script of no bytes has no configuration
 pub no_bytes : output (codes "") ≡ codes "refused 10 line 1\n"

@@ -5,7 +5,7 @@ use Rattle.mh_model.specs.Script.{reading}
 use Rattle.mh_text_laws.proofs.rows.Worked.{worked}
 
 -- a number is read through a reference
-pub read_through : output (codes "config 4 209 0 0\na new 0 1 1\na new 1 0 1\na write 1 0 5\na put 0 0 1\na get 2 0 0\na read 2 0\n")
+pub read_through : output (codes "config 4 209 0 0\na new 3 1 1\na new 1 0 1\na write 1 0 5\na put 3 0 1\na get 2 3 0\na read 2 0\n")
     ≡ codes "ok\nok\nok\nok\nok\nnumber 5\n"
 unfolding output reading worked
 read_through = refl
@@ -65,7 +65,7 @@ unfolding output reading worked
 greatest_numbers = refl
 
 -- each refusal has its number and its words
-pub refusals_in_words : output (codes "config 1 209 0 0\na shape 16\na shape 0\na new 0 0 0\na read 0 0\na new 0 0 216001\na new 0 0 62\na end\na end\n")
+pub refusals_in_words : output (codes "config 1 209 0 0\na shape 16\na shape 0\na new 0 0 0\na read 0 0\na new 0 0 216001\na new 0 0 3601\na end\na end\n")
     ≡ codes "refused 1 bad slot\nrefused 2 null\nok\nrefused 3 no field\nrefused 4 too large\nrefused 5 heap full\nok\nrefused 6 ended\n"
 unfolding output reading worked
 refusals_in_words = refl
@@ -81,6 +81,12 @@ pub quanta_left : output (codes "config 4 353 0 0\n* left\na new 0 0 0\n* start\
     ≡ codes "left 0\nok\nok\nleft 0\nspent 353 phase sweep\nleft 911\nspent 7 phase idle\nleft 0\n"
 unfolding output reading worked
 quanta_left = refl
+
+-- phases have their words
+pub marking_told : output (codes "config 4 300 0 0\na new 0 60 0\n* start\n* quantum\n* stat\n")
+    ≡ codes "ok\nok\nspent 288 phase mark\nfree 3 live 1 old 0 phase mark cycle 1\n"
+unfolding output reading worked
+marking_told = refl
 
 -- a dump tells blocks and forwarders by their pages, and a stat counts them
 pub stat_and_dump : output (codes "config 4 209 0 0\na new 0 1 59\na new 1 1 59\na new 2 1 59\na new 3 1 59\na new 4 1 59\na put 0 0 4\na clear 1\n* start\n* quantum\n* quantum\n* quantum\n* quantum\n* dump\n* stat\n")
