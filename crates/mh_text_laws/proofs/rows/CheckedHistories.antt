@@ -36,7 +36,7 @@ unfolding history_reading worked
 posted_and_taken = (record { few = lit≤ tt; replies = refl }, refl)
 
 -- replies of the other kinds, and a dump whose slots begin anew with each page
-pub other_replies : IsChecked four_pages (codes "history 1\ns0 new 0 0 1 = ok\ns0 new 1 0 60 = ok\ns0 read 0 0 = number 0\ns0 same 0 0 = yes\ns0 same 0 1 = no\n* stat = free 2 live 2 old 0 phase idle cycle 0\n* quantum = spent 0 phase idle\n* dump = dump P0 C5 - 0=0.0 P1 C64 - 0=1.0\n* report 1 = mutator 5 collector 0 quanta 1 greatest 0 window 1 least 1 floor none\n") (Legal 9)
+pub other_replies : IsChecked four_pages (codes "history 1\ns0 new 0 0 1 = ok\ns0 new 1 0 60 = ok\ns0 new 2 0 60 = ok\ns0 read 0 0 = number 0\ns0 same 0 0 = yes\ns0 same 0 1 = no\n* stat = free 2 live 3 old 0 phase idle cycle 0\n* quantum = spent 0 phase idle\n* dump = dump P0 C5 - 0=0.0 P1 C64 - 0=1.0 1=2.0\n* report 1 = mutator 6 collector 0 quanta 1 greatest 0 window 1 least 1 floor none\n") (Legal 10)
 unfolding history_reading worked
 other_replies = (record { few = lit≤ tt; replies = refl }, refl)
 
