@@ -1,5 +1,5 @@
 -- Histories of version 1, checked.
-use Rattle.std.proofs.Common.{[], arith, codes, length, lit≤, List, refl, ◌++◌, ◌∷◌, ◌≡◌}
+use Rattle.std.proofs.Common.{[], arith, codes, length, lit≤, List, refl, ℕ, ◌++◌, ◌∷◌, ◌≡◌}
 use Rattle.mh_model.specs.declared.history.Entry.{Entry}
 use Rattle.mh_model.specs.declared.reply.Reply.{Reply}
 use Rattle.mh_model.specs.declared.reply.Reply.TheVariants as reply
@@ -100,7 +100,7 @@ told_of_nothing = record {
 -- the count of entries is compared
 pub another_count : IsChecked two_pages (codes "history 1\n") (Legal 1) → ⊥
 unfolding history_reading worked
-another_count judged = let same : 1 ≡ 0 = judged.1 in cc
+another_count judged = let same : ◌≡◌ {A = ℕ} 1 0 = judged.1 in cc
 
 -- a history without a bad line is not refused
 pub refused_without_a_bad_line : IsChecked two_pages (codes "history 1\n") (Refused 1) → ⊥
