@@ -1,11 +1,12 @@
 -- Histories of version 1 that are migrated, and histories of version 2, audited.
-use Rattle.std.proofs.Common.{[], ap, arith, Bool, codes, false, if◌then◌else◌, length, lit≤, List, nat_lt, refl, true, ℕ, ◌∷◌, ◌<◌, ◌≡◌}
+use Rattle.std.proofs.Common.{[], ap, arith, Bool, codes, false, if◌then◌else◌, length, lit≤, List, map, nat_lt, refl, true, ℕ, ◌∷◌, ◌<◌, ◌≡◌}
 use Rattle.mh_model.specs.declared.command.Command.TheVariants.{Clear, New}
 use Rattle.mh_model.specs.declared.command.Event.TheVariants.{Session}
 use Rattle.mh_model.specs.declared.history.Measured.{Measured}
 use Rattle.mh_model.specs.declared.reply.Reply.{Reply}
 use Rattle.mh_model.specs.declared.reply.Reply.TheVariants as reply
 use Rattle.mh_model.specs.declared.reply.Refusal.TheVariants.{HeapFull, TooLarge}
+use Rattle.mh_model.specs.Machine.{first_machine}
 use Rattle.mh_model.specs.Bytes.{Text, cut_after}
 use Rattle.mh_model.specs.Script.{BadLine}
 use Rattle.mh_model.specs.HistoryTexts.{history_reading, recorded_of, recorded_reading, machine_record, Refused, Legal, FirstBad, IsAudited, IsLegalRecord, migration_text}
@@ -147,10 +148,20 @@ pub trigger_past_the_pages : IsAudited (codes "history 2 rules 2 4 209 5 0\n") (
 unfolding recorded_reading machine_record worked
 trigger_past_the_pages = refl
 
+-- and has four numbers
+pub configuration_of_three_numbers : IsAudited (codes "history 2 rules 2 4 209 0\n") (Refused 1)
+unfolding recorded_reading machine_record worked
+configuration_of_three_numbers = refl
+
 -- each entry of version 2 has its units
 pub without_units : IsAudited (codes "history 2 rules 2 4 209 0 0\ns0 clear 0 = ok\n") (Refused 2)
 unfolding recorded_reading machine_record worked
 without_units = refl
+
+-- which are two numbers
+pub three_units : IsAudited (codes "history 2 rules 2 4 209 0 0\ns0 clear 0 = ok units 1 0 0\n") (Refused 2)
+unfolding recorded_reading machine_record worked
+three_units = refl
 
 -- a last entry without its end is bad
 pub last_entry_without_its_end : IsAudited (codes "history 2 rules 2 4 209 0 0\ns0 clear 0 = ok units 1 0") (Refused 2)
@@ -167,6 +178,10 @@ pub too_long_record : (text : Text) → length text ≡ 2147483649 → recorded_
 unfolding recorded_reading
 too_long_record text long = ap (λ count. if nat_lt 2147483648 count then BadLine 0 else recorded_of (cut_after 10 text)) long
 
--- and a legal history has 1,000,000 entries at most
+-- a legal history may have 1,000,000 entries
+pub all_entries : (entries : List Measured) → length entries ≡ 1000000 → entries ≡ machine_record (first_machine four_pages) (map (λ measured. measured.entry.event) entries) → IsLegalRecord four_pages entries
+all_entries entries count same = record { few = omega arith; same = same }
+
+-- and no more
 pub one_entry_more : (entries : List Measured) → length entries ≡ 1000001 → IsLegalRecord four_pages entries → ⊥
 one_entry_more entries count legal = let few = legal.few in omega arith

@@ -1,9 +1,10 @@
 -- Histories of version 1, checked.
-use Rattle.std.proofs.Common.{[], arith, codes, length, lit≤, List, refl, ℕ, ◌++◌, ◌∷◌, ◌≡◌}
+use Rattle.std.proofs.Common.{[], arith, codes, length, lit≤, List, map, refl, ℕ, ◌++◌, ◌∷◌, ◌≡◌}
 use Rattle.mh_model.specs.declared.history.Entry.{Entry}
 use Rattle.mh_model.specs.declared.reply.Reply.{Reply}
 use Rattle.mh_model.specs.declared.reply.Reply.TheVariants as reply
 use Rattle.mh_model.specs.declared.reply.Refusal.TheVariants.{HeapFull, Null, TooManySessions}
+use Rattle.mh_model.specs.Machine.{first_machine, machine_replies}
 use Rattle.mh_model.specs.History.{IsLegal}
 use Rattle.mh_model.specs.HistoryTexts.{history_reading, Refused, Legal, FirstBad, verdict_text, IsChecked}
 use Rattle.mh_text_laws.proofs.rows.Worked.{four_pages, two_pages, worked}
@@ -13,14 +14,14 @@ pub three_verdicts : verdict_text (Refused 2) ++ verdict_text (Legal 5) ++ verdi
 unfolding worked
 three_verdicts = refl
 
--- Legal -------------------------------------------------------------------------------------------
+-- Legal ------------------------------------------------------------------------------------------
 
 -- a history without entries is legal
 pub no_entries : IsChecked two_pages (codes "history 1\n") (Legal 0)
 unfolding history_reading worked
 no_entries = (record { few = lit≤ tt; replies = refl }, refl)
 
--- session 8 is none
+-- session 8 is in histories, and its commands are refused
 pub past_the_sessions : IsChecked two_pages (codes "history 1\ns8 clear 0 = refused 7 too many sessions\n") (Legal 1)
 unfolding history_reading worked
 past_the_sessions = (record { few = lit≤ tt; replies = refl }, refl)
@@ -40,7 +41,7 @@ pub other_replies : IsChecked four_pages (codes "history 1\ns0 new 0 0 1 = ok\ns
 unfolding history_reading worked
 other_replies = (record { few = lit≤ tt; replies = refl }, refl)
 
--- With a first bad entry --------------------------------------------------------------------------
+-- With a first bad entry -------------------------------------------------------------------------
 
 -- session 0 is a session
 pub within_the_sessions : IsChecked two_pages (codes "history 1\ns0 clear 0 = refused 7 too many sessions\n") (FirstBad 1)
@@ -95,7 +96,7 @@ told_of_nothing = record {
   bad = λ legal. let same : four_done (reply.Refused Null) ≡ four_done (reply.Shape (record { references = 0; numbers = 1 })) = legal.replies in cc;
 }
 
--- No verdicts -------------------------------------------------------------------------------------
+-- No verdicts ------------------------------------------------------------------------------------
 
 -- the count of entries is compared
 pub another_count : IsChecked two_pages (codes "history 1\n") (Legal 1) → ⊥
@@ -117,6 +118,10 @@ pub second_bad_entry : IsChecked two_pages (codes "history 1\ns0 clear 0 = yes\n
 unfolding history_reading worked
 second_bad_entry judged = let same : reply.Yes ∷ [] ≡ reply.Done ∷ [] = judged.before.replies in cc
 
--- a legal history has 1,000,000 entries at most
+-- a legal history may have 1,000,000 entries
+pub all_entries : (entries : List Entry) → length entries ≡ 1000000 → map (λ entry. entry.reply) entries ≡ machine_replies (first_machine two_pages) (map (λ entry. entry.event) entries) → IsLegal two_pages entries
+all_entries entries count same = record { few = omega arith; replies = same }
+
+-- and no more
 pub one_entry_more : (entries : List Entry) → length entries ≡ 1000001 → IsLegal two_pages entries → ⊥
 one_entry_more entries count legal = let few = legal.few in omega arith

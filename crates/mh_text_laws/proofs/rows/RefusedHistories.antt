@@ -125,6 +125,31 @@ pub past_64_bits : IsChecked two_pages (codes "history 1\n* quantum = spent 1844
 unfolding history_reading worked
 past_64_bits = refl
 
+-- a flag is a sign
+pub other_word_for_a_flag : IsChecked two_pages (codes "history 1\n* dump = dump P1 C4 flagged\n") (Refused 2)
+unfolding history_reading worked
+other_word_for_a_flag = refl
+
+-- a reply's numbers stand after their words
+pub other_word_for_phase : IsChecked two_pages (codes "history 1\n* quantum = spent 0 phases idle\n") (Refused 2)
+unfolding history_reading worked
+other_word_for_phase = refl
+
+-- what is no number is told by its word
+pub other_word_for_none : IsChecked two_pages (codes "history 1\n* report 1 = mutator 0 collector 0 quanta 0 greatest 0 window 1 least none floor nothing\n") (Refused 2)
+unfolding history_reading worked
+other_word_for_none = refl
+
+-- no words follow a reply
+pub words_after_a_reply : IsChecked two_pages (codes "history 1\ns0 clear 0 = ok yes\n") (Refused 2)
+unfolding history_reading worked
+words_after_a_reply = refl
+
+-- the numbers of a shape have 32 bits
+pub shape_past_32_bits : IsChecked two_pages (codes "history 1\ns0 shape 0 = shape 4294967296 0\n") (Refused 2)
+unfolding history_reading worked
+shape_past_32_bits = refl
+
 -- a last entry without its end is bad
 pub last_entry_without_its_end : IsChecked two_pages (codes "history 1\ns0 clear 0 = ok\ns0 clear 0 = ok") (Refused 3)
 unfolding history_reading worked

@@ -25,6 +25,11 @@ pub command_before_the_configuration : output (codes "a end\nconfig 4 209 0 0\n"
 unfolding output reading worked
 command_before_the_configuration = refl
 
+-- its first word is `config`
+pub configuration_without_its_word : output (codes "4 4 209 0 0\n") ≡ codes "refused 10 line 1\n"
+unfolding output reading worked
+configuration_without_its_word = refl
+
 -- a configuration has four numbers
 pub configuration_of_three_numbers : output (codes "config 4 209 0\n") ≡ codes "refused 10 line 1\n"
 unfolding output reading worked

@@ -10,7 +10,7 @@ pub read_through : output (codes "config 4 209 0 0\na new 3 1 1\na new 1 0 1\na 
 unfolding output reading worked
 read_through = refl
 
--- blank lines and comments say nothing
+-- empty lines and comments say nothing
 pub with_comments : output (codes "\n# one session\nconfig 4 209 0 0\n\na new 0 0 1\n#\na read 0 0\n") ≡ codes "ok\nnumber 0\n"
 unfolding output reading worked
 with_comments = refl
@@ -82,7 +82,7 @@ pub quanta_left : output (codes "config 4 353 0 0\n* left\na new 0 0 0\n* start\
 unfolding output reading worked
 quanta_left = refl
 
--- phases have their words
+-- the phase in which blocks are marked is told
 pub marking_told : output (codes "config 4 300 0 0\na new 0 60 0\n* start\n* quantum\n* stat\n")
     ≡ codes "ok\nok\nspent 288 phase mark\nfree 3 live 1 old 0 phase mark cycle 1\n"
 unfolding output reading worked
