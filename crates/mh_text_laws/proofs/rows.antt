@@ -1,6 +1,8 @@
 pub mod Worked
-pub mod ScriptRows
-pub mod HistoryRows
-pub mod Scripts
+pub mod WholeScripts
+pub mod RefusedScripts
 pub mod Endings
+pub mod CheckedHistories
+pub mod RefusedHistories
+pub mod AuditedHistories
 pub mod RacedScripts

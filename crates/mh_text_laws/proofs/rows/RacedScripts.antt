@@ -16,13 +16,13 @@ use Rattle.mh_model.specs.HistoryTexts.{machine_record}
 use Rattle.mh_model.specs.Races.{HasTheCalls, BeginsTheCalls, IsRaced, IsRaceBegun}
 use Rattle.mh_text_laws.proofs.rows.Worked.{worked}
 
-abbrev four_pages : Config
-four_pages = record { pages = 4; quantum = 209; trigger = 0; every = 0; rules = Second; in_limits = refl }
+abbrev second_rules : Config
+second_rules = record { pages = 4; quantum = 209; trigger = 0; every = 0; rules = Second; in_limits = refl }
 
 -- one session makes an object and posts it, the other takes what stands there and asks for its shape
 abbrev two_sessions : Meaning
 two_sessions = record {
-  config = four_pages;
+  config = second_rules;
   events = Session 0 (New 0 0 1) ∷ Session 0 (Write 0 0 5) ∷ Session 0 (Post 0 0) ∷ Session 1 (Take 0 0) ∷ Session 1 (Shape 0) ∷ [];
 }
 
