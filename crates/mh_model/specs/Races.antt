@@ -6,7 +6,7 @@ use Rattle.mh_model.specs.Limits.{most_entries}
 use Rattle.mh_model.specs.History.{owner_of, owned_by}
 use Rattle.mh_model.specs.Bytes.{Text}
 use Rattle.mh_model.specs.Script.{Meaning}
-use Rattle.mh_model.specs.HistoryTexts.{Recorded, recorded_text, IsLegalRecord}
+use Rattle.mh_model.specs.HistoryTexts.{recorded_text, IsLegalRecord}
 
 -- the calls of a seat in a history, in order
 abbrev pub calls_of : ℕ → List Measured → List Event

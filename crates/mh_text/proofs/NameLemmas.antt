@@ -60,16 +60,6 @@ known_name items name p found =
     let below : place items name < length items = some_below (nat_lt (place items name) (length items)) (place items name) (length items) p refl found in
     with_name_by true (nat_le 8 (length (names_shown items))) (names_shown items) name (grind (arith, nat_tests)) refl
 
-full_by : (known : Bool) (names : List Text) (name : Text) → (if known || true then names else names ++ name ∷ []) ≡ names
-full_by true names name = refl
-full_by false names name = refl
-
-pub full_names : (items : List (Bor (List ℕ))) (name : Text) → length items ≡ 8 → with_name (names_shown items) name ≡ names_shown items
-full_names items name full =
-    let count : length (names_shown items) ≡ length items = length_shown items in
-    with_name_by (nat_lt (session_number (names_shown items) name) (length (names_shown items))) true (names_shown items) name refl (grind (arith, nat_tests))
-    ∙ full_by (nat_lt (session_number (names_shown items) name) (length (names_shown items))) (names_shown items) name
-
 pub added_name : (items : List (Bor (List ℕ))) (name : Bor (List ℕ)) → session_number (names_shown items) name.now ≡ length items → length items < 8 → with_name (names_shown items) name.now ≡ names_shown (items ++ name ∷ [])
 added_name items name is room =
     let count : length (names_shown items) ≡ length items = length_shown items in
