@@ -1,6 +1,6 @@
 -- Pages of slots, and the least place of a class. A place is the number page * 64 + slot.
 -- Blocks are seen as values of some type: whole blocks here, and less of them where that is enough.
-use Rattle.std.specs.Prelude.{◌≡◌, ◌<◌, IsTrue, ℕ, suc, ◌+◌, ◌/◌, ◌%◌, ◌==◌, Bool, true, false, not, ◌&&◌, if◌then◌else◌, Option, Some, None, option_map, option_and_then, List, [], ◌∷◌, length, take, set, get_or, replicate}
+use Rattle.std.specs.Prelude.{◌≡◌, ◌<◌, IsTrue, IsSome, ℕ, suc, ◌+◌, ◌/◌, ◌%◌, ◌==◌, Bool, true, false, not, ◌&&◌, if◌then◌else◌, Option, Some, None, option_map, option_and_then, unwrap_or, List, [], ◌∷◌, length, take, set, get_or, replicate}
 use Rattle.std.specs.List.{list_any}
 use Rattle.std.specs.Option.{option_or}
 use Rattle.mh_model.specs.Classes.{is_class_size, slots_in}
@@ -40,6 +40,19 @@ module _ {X : Type 0} where
   abbrev pub block_at : Table X → ℕ → Option X
   block_at table place = option_and_then (block_in (slot_number place)) (page_at table (page_number place))
 
+  -- a reference is null, or a block is at its place
+  abbrev pub Leads : Table X → Option ℕ → Type 0
+  Leads table None = Unit {0}
+  Leads table (Some place) = IsSome (block_at table place)
+
+  -- the class of a page in use, told by its size, and none of a free one
+  abbrev pub class_at : Table X → ℕ → Option ℕ
+  class_at table page = option_map (λ used. used.class_size) (page_at table page)
+
+  -- the flag of a page in use, which a free one has not
+  abbrev pub flag_at : Table X → ℕ → Bool
+  flag_at table page = unwrap_or (option_map (λ used. used.is_flagged) (page_at table page)) false
+
   -- how many of these slots have a block
   abbrev pub block_count : List (Option X) → ℕ
   block_count [] = 0
@@ -54,6 +67,10 @@ module _ {X : Type 0} where
   free_pages [] = 0
   free_pages (None ∷ pages) = suc (free_pages pages)
   free_pages (Some page ∷ pages) = free_pages pages
+
+  -- how many blocks the page of this number has: none where it is free
+  abbrev pub count_at : Table X → ℕ → ℕ
+  count_at table page = unwrap_or (option_map live_in (page_at table page)) 0
 
   -- The least place ------------------------------------------------------------------------------
 

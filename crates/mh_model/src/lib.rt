@@ -9,6 +9,7 @@ pub mod cycle;
 pub mod dump;
 pub mod history;
 pub mod memory;
+pub mod place;
 pub mod reply;
 pub mod shape;
 #[cfg(test)]
