@@ -1,0 +1,204 @@
+-- Parts linked to their children: a block changed, the references of one part written in turn, and the parts in order.
+use Rattle.std.proofs.Common.{◌≡◌, ◌≢◌, ℕ, zero, suc, ◌+◌, ◌-◌, ◌<◌, ◌≤◌, inl, inr, List, [], ◌∷◌, ◌++◌, length, get_or, set, take, drop, map, replicate, slice_get, Option, Some, None, is_some, option_map, option_and_then, unwrap_or, IsSome, refl, sym, ap, ◌∙◌, subst, arith}
+use Rattle.std.proofs.Math.Seq.{drop-cons}
+use Rattle.std.proofs.lemmas.Bool.{cases_eq, false≢true}
+use Rattle.std.proofs.lemmas.Option.{none-some, same_Some, slice_get_within}
+use Rattle.std.proofs.lemmas.List.{set-get_or, set-set}
+use Rattle.mh_model.specs.Classes.{Part}
+use Rattle.mh_model.specs.Pages.{Page, Table, page_number, slot_number, page_at, block_in, block_at, page_with, with_block}
+use Rattle.mh_model.specs.Table.{Block, references_at, with_reference_at, with_block_change, words_of, linked_block, linked_parts}
+use Rattle.mh_groups.specs.Making.{HaveTheirChildren, IsUnlinked, AreUnlinked}
+use Rattle.mh_groups.proofs.PlaceLemmas.{from_some, to_some, block_at-with_block_same, block_at-with_block_other}
+use Rattle.mh_groups.proofs.MadeLemmas.{drop-slice}
+
+-- A block changed --------------------------------------------------------------------------------
+
+with_block-twice : (table : Table Block) (place : ℕ) (first second : Option Block) → with_block (with_block table place first) place second ≡ with_block table place second
+with_block-twice table place first second = go table (page_number place)
+  where
+    go : (pages : Table Block) (number : ℕ)
+        → set (set pages number (option_map (page_with (slot_number place) first) (page_at pages number))) number (option_map (page_with (slot_number place) second) (page_at (set pages number (option_map (page_with (slot_number place) first) (page_at pages number))) number))
+        ≡ set pages number (option_map (page_with (slot_number place) second) (page_at pages number))
+    go [] number = refl
+    go (None ∷ pages) zero = refl
+    go (Some page ∷ pages) zero = ap (λ slots. Some (record page { slots = slots }) ∷ pages) (set-set page.slots (slot_number place) first second)
+    go (page ∷ pages) (suc number) = ap (λ rest. page ∷ rest) (go pages number)
+
+with_block-self : (table : Table Block) (place : ℕ) → with_block table place (block_at table place) ≡ table
+with_block-self table place = go table (page_number place)
+  where
+    go : (pages : Table Block) (number : ℕ) → set pages number (option_map (page_with (slot_number place) (option_and_then (block_in (slot_number place)) (page_at pages number))) (page_at pages number)) ≡ pages
+    go [] number = refl
+    go (None ∷ pages) zero = refl
+    go (Some page ∷ pages) zero = ap (λ slots. Some (record page { slots = slots }) ∷ pages) (set-get_or page.slots (slot_number place) None)
+    go (page ∷ pages) (suc number) = ap (λ rest. page ∷ rest) (go pages number)
+
+module _ (table : Table Block) (place : ℕ) (block : Block) (there : block_at table place ≡ Some block) where
+  pub changed_here : (change : Block → Block) → block_at (with_block_change table place change) place ≡ Some (change block)
+  changed_here change = block_at-with_block_same table place block (option_map change (block_at table place)) there ∙ ap (option_map change) there
+
+  -- two changes that make the same of the block that is there
+  pub changed_alike : (change other : Block → Block) → change block ≡ other block → with_block_change table place change ≡ with_block_change table place other
+  changed_alike change other same = ap (with_block table place) (ap (option_map change) there ∙ ap Some same ∙ sym (ap (option_map other) there))
+
+  pub changed_twice : (first second : Block → Block) → with_block_change (with_block_change table place first) place second ≡ with_block_change table place (λ b. second (first b))
+  changed_twice first second =
+      ap (with_block (with_block_change table place first) place) (ap (option_map second) (changed_here first))
+      ∙ with_block-twice table place (option_map first (block_at table place)) (Some (second (first block)))
+      ∙ ap (with_block table place) (sym (ap (option_map (λ b. second (first b))) there))
+
+  -- a change that changes nothing
+  pub changed_nothing : (change : Block → Block) → change block ≡ block → with_block_change table place change ≡ table
+  changed_nothing change same = ap (with_block table place) (ap (option_map change) there ∙ ap Some same ∙ sym there) ∙ with_block-self table place
+
+mapped-some : (change : Block → Block) (content : Option Block) → IsSome content → IsSome (option_map change content)
+mapped-some change None is = is
+mapped-some change (Some block) is = refl
+
+-- a block is changed where one is, and each other stays
+pub changed-there : (table : Table Block) (place other : ℕ) (change : Block → Block) → IsSome (block_at table other) → IsSome (block_at (with_block_change table place change) other)
+changed-there table place other change is = elim (cases_eq other place) [
+  | inl same ↦
+      let (block, there) = from_some (block_at table place) (subst (λ q. IsSome (block_at table q)) same is) in
+      to_some _ (change block) (ap (block_at (with_block_change table place change)) same ∙ changed_here table place block there change)
+  | inr apart ↦ subst IsSome (sym (block_at-with_block_other table place other _ apart)) is
+]
+
+-- The children of one part -----------------------------------------------------------------------
+
+-- a block whose first references are written
+abbrev pub with_some_children : List ℕ → ℕ → Block → Block
+with_some_children children count block = record block { references = map Some (take count children) ++ drop count block.references }
+
+abbrev pub with_children : List ℕ → Block → Block
+with_children children block = record block { references = map Some children }
+
+length_linked : (count : ℕ) (children : List ℕ) (references : List (Option ℕ)) → length references ≡ length children → length (map Some (take count children) ++ drop count references) ≡ length children
+length_linked zero children references same = same
+length_linked (suc count) [] [] same = refl
+length_linked (suc count) [] (r ∷ references) same = absurd (omega arith)
+length_linked (suc count) (child ∷ children) [] same = absurd (omega arith)
+length_linked (suc count) (child ∷ children) (r ∷ references) same = ap suc (length_linked count children references (omega arith))
+
+one_written : (count : ℕ) (children : List ℕ) (references : List (Option ℕ)) → count < length children → length references ≡ length children
+    → set (map Some (take count children) ++ drop count references) count (Some (get_or children count 0)) ≡ map Some (take (suc count) children) ++ drop (suc count) references
+one_written count [] references below same = absurd (omega arith)
+one_written count (child ∷ children) [] below same = absurd (omega arith)
+one_written zero (child ∷ children) (r ∷ references) below same = refl
+one_written (suc count) (child ∷ children) (r ∷ references) below same = ap (λ rest. Some child ∷ rest) (one_written count children references (omega arith) (omega arith))
+
+all_written : (children : List ℕ) (references : List (Option ℕ)) → length references ≡ length children → map Some (take (length children) children) ++ drop (length children) references ≡ map Some children
+all_written [] [] same = refl
+all_written [] (r ∷ references) same = absurd (omega arith)
+all_written (child ∷ children) [] same = absurd (omega arith)
+all_written (child ∷ children) (r ∷ references) same = ap (λ rest. Some child ∷ rest) (all_written children references (omega arith))
+
+-- So many of a part's references are written
+pub record HasSomeChildren (old : Table Block) (place : ℕ) (children : List ℕ) (table : Table Block) (count : ℕ) : Type 0 where
+  pub is : table ≡ with_block_change old place (with_some_children children count)
+
+references-length : (table : Table Block) (place : ℕ) (block : Block) → block_at table place ≡ Some block → references_at table place ≡ block.references
+references-length table place block there = ap (λ content. unwrap_or (option_map (λ (b : Block). b.references) content) []) there
+
+module _ (old : Table Block) (place : ℕ) (children : List ℕ) (is : IsSome (block_at old place)) (count_is : length (references_at old place) ≡ length children) where
+  abbrev block : Block
+  block = (from_some (block_at old place) is).0
+
+  there : block_at old place ≡ Some block
+  there = (from_some (block_at old place) is).1
+
+  size : length block.references ≡ length children
+  size = sym (ap length (references-length old place block there)) ∙ count_is
+
+  pub no_child : HasSomeChildren old place children old 0
+  no_child = record { is = sym (changed_nothing old place block there (with_some_children children 0) refl) }
+
+  pub child_within : (table : Table Block) (count : ℕ) → HasSomeChildren old place children table count → count < length children → count < length (references_at table place)
+  child_within table count so_far below =
+      let at = changed_here old place block there (with_some_children children count) in
+      let size_now = length_linked count children block.references size in
+      let same : length (references_at table place) ≡ length children = ap (λ t. length (references_at t place)) so_far.is ∙ ap length (references-length _ place _ at) ∙ size_now in
+      omega arith
+
+  pub child_there : (table : Table Block) (count other : ℕ) → HasSomeChildren old place children table count → IsSome (block_at old other) → IsSome (block_at table other)
+  child_there table count other so_far some = subst (λ t. IsSome (block_at t other)) (sym so_far.is) (changed-there old place other (with_some_children children count) some)
+
+  pub one_child : (table : Table Block) (count : ℕ) → HasSomeChildren old place children table count → count < length children → HasSomeChildren old place children (with_reference_at table place count (Some (get_or children count 0))) (suc count)
+  one_child table count so_far below = record {
+    is =
+        ap (λ t. with_reference_at t place count (Some (get_or children count 0))) so_far.is
+        ∙ changed_twice old place block there (with_some_children children count) (λ b. record b { references = set b.references count (Some (get_or children count 0)) })
+        ∙ changed_alike old place block there _ (with_some_children children (suc count)) (ap (λ references. record block { references = references }) (one_written count children block.references below size));
+  }
+
+  pub all_children : (table : Table Block) → HasSomeChildren old place children table (length children) → table ≡ with_block_change old place (with_children children)
+  all_children table so_far = so_far.is ∙ changed_alike old place block there _ (with_children children) (ap (λ references. record block { references = references }) (all_written children block.references size))
+
+-- The parts in order -----------------------------------------------------------------------------
+
+-- So many parts are linked: what is left of the book's linking, and the parts that aren't linked yet are as they were made
+pub record AreLinkedSoFar (old : Table Block) (list : List Part) (places : List ℕ) (table : Table Block) (count : ℕ) : Type 0 where
+  pub left : linked_parts places old places list ≡ linked_parts places table (drop count places) (drop count list)
+  pub unlinked : AreUnlinked table places list count
+  pub there : (number : ℕ) → number < length list → IsSome (block_at table (get_or places number 0))
+
+slice_there : {X : Type 0} (xs : List X) (i : ℕ) → i < length xs → (x : X) × (slice_get xs i ≡ Some x)
+slice_there [] i below = absurd (omega arith)
+slice_there (x ∷ xs) zero below = (x, refl)
+slice_there (x ∷ xs) (suc i) below = slice_there xs i (omega arith)
+
+pub none_linked : (old : Table Block) (list : List Part) (places : List ℕ) → AreUnlinked old places list 0 → AreLinkedSoFar old list places old 0
+none_linked old list places unlinked = record {
+  left = refl;
+  unlinked = unlinked;
+  there = λ number below. let (part, at) = slice_there list number below in let one = unlinked number part (omega arith) at in to_some _ one.block one.there;
+}
+
+module _ (old : Table Block) (list : List Part) (places : List ℕ) (table : Table Block) (count : ℕ) (part : Part) (so_far : AreLinkedSoFar old list places table count) (at : slice_get list count ≡ Some part) (same_length : length places ≡ length list) where
+  here : IsUnlinked table (get_or places count 0) count part
+  here = so_far.unlinked count part (omega arith) at
+
+  -- a part later on is at another place
+  places_apart : (number : ℕ) (later : Part) → suc count ≤ number → slice_get list number ≡ Some later → get_or places number 0 ≢ get_or places count 0
+  places_apart number later after at' same =
+      let other = so_far.unlinked number later (omega arith) at' in
+      let one : here.block ≡ other.block = same_Some here.block other.block (sym here.there ∙ ap (block_at table) (sym same) ∙ other.there) in
+      let numbers : count ≡ number = sym here.number_is ∙ ap (λ (b : Block). b.part) one ∙ other.number_is in
+      absurd (omega arith)
+
+  pub one_linked : (new : Table Block) → new ≡ with_block_change table (get_or places count 0) (linked_block places part) → AreLinkedSoFar old list places new (suc count)
+  one_linked new is = record {
+    left =
+        so_far.left
+        ∙ ap (linked_parts places table (drop count places)) (drop-slice list count part at)
+        ∙ ap (λ rest. linked_parts places table rest (part ∷ drop (suc count) list)) (drop-cons places count 0 (omega (arith, slice_get_within list count part at)))
+        ∙ ap (λ t. linked_parts places t (drop (suc count) places) (drop (suc count) list)) (sym is);
+    unlinked = λ number later after at'.
+        let other = so_far.unlinked number later (omega arith) at' in
+        record {
+          block = other.block;
+          there = ap (λ t. block_at t (get_or places number 0)) is ∙ block_at-with_block_other table (get_or places count 0) (get_or places number 0) _ (places_apart number later after at') ∙ other.there;
+          number_is = other.number_is;
+          references = other.references;
+        };
+    there = λ number below. subst (λ t. IsSome (block_at t (get_or places number 0))) (sym is) (changed-there table (get_or places count 0) (get_or places number 0) (linked_block places part) (so_far.there number below));
+  }
+
+  -- a part without children has its references already
+  pub childless_linked : part.children ≡ None → AreLinkedSoFar old list places table (suc count)
+  childless_linked none =
+      let words : words_of places part.references part.children ≡ here.block.references = ap (words_of places part.references) none ∙ sym here.references in
+      one_linked table (sym (changed_nothing table (get_or places count 0) here.block here.there (linked_block places part) (ap (λ references. record here.block { references = references }) words)))
+
+  -- and one with children has them once they are written
+  pub children_linked : (child : ℕ) (new : Table Block) → part.children ≡ Some child → new ≡ with_block_change table (get_or places count 0) (with_children (take part.references (drop child places))) → AreLinkedSoFar old list places new (suc count)
+  children_linked child new some is = one_linked new (is ∙ ap (λ children. with_block_change table (get_or places count 0) (λ b. record b { references = words_of places part.references children })) (sym some))
+
+drop-all : {X : Type 0} (xs : List X) → drop (length xs) xs ≡ []
+drop-all [] = refl
+drop-all (x ∷ xs) = drop-all xs
+
+pub all_linked : (old : Table Block) (list : List Part) (places : List ℕ) (table : Table Block) → length places ≡ length list → AreLinkedSoFar old list places table (length list) → table ≡ linked_parts places old places list
+all_linked old list places table same so_far =
+    let none : drop (length list) places ≡ [] = ap (λ n. drop n places) (sym same) ∙ drop-all places in
+    sym (so_far.left ∙ ap (λ rest. linked_parts places table rest (drop (length list) list)) none)

@@ -1,0 +1,172 @@
+-- Parts made one after the other: what is left to be made, and how those that are made are taken back.
+use Rattle.std.proofs.Common.{◌≡◌, ◌≢◌, ℕ, zero, suc, ◌+◌, ◌-◌, ◌<◌, ◌≤◌, Bool, true, false, inl, inr, List, [], ◌∷◌, ◌++◌, length, get_or, set, take, drop, replicate, slice_get, Option, Some, None, is_none, option_map, option_and_then, IsSome, refl, sym, ap, ◌∙◌, subst, arith}
+use Rattle.std.proofs.Math.Seq.{drop-cons, take-suc-set}
+use Rattle.std.proofs.lemmas.Bool.{cases_eq, false≢true}
+use Rattle.std.proofs.lemmas.Option.{none-some, same_Some, slice_get_within}
+use Rattle.std.proofs.lemmas.List.{get_or-set_same, get_or-set_other, append_assoc, append-nil}
+use Rattle.mh_model.specs.Classes.{Part, class_of, part_words}
+use Rattle.mh_model.specs.Pages.{Page, Table, page_number, page_at, block_at, class_at, count_at, least_place, with_taken, with_released, IsFreeFor}
+use Rattle.mh_model.specs.Table.{Block, Made, MadeParts, new_block, made_in_class, made_part, made_parts}
+use Rattle.mh_groups.specs.Making.{without_parts, CanBeUnmade, AllCanBeUnmade, IsUnlinked, AreUnlinked}
+use Rattle.mh_groups.proofs.PlaceLemmas.{to_some, block_at-with_taken_same, with_taken-keeps, with_released-with_taken, count_at-fresh}
+
+-- Lists ------------------------------------------------------------------------------------------
+
+pub drop-slice : {X : Type 0} (xs : List X) (i : ℕ) (x : X) → slice_get xs i ≡ Some x → drop i xs ≡ x ∷ drop (suc i) xs
+drop-slice [] i x e = absurd (none-some x e)
+drop-slice (y ∷ xs) zero x e = ap (λ z. z ∷ xs) (same_Some y x e)
+drop-slice (y ∷ xs) (suc i) x e = drop-slice xs i x e
+
+-- What is written past so many places changes none of them ---------------------------------------
+
+pub without_parts-set : (count : ℕ) (table : Table Block) (places : List ℕ) (fresh : List Bool) (at place : ℕ) (is_fresh : Bool) → count ≤ at → without_parts table (set places at place) (set fresh at is_fresh) count ≡ without_parts table places fresh count
+without_parts-set zero table places fresh at place is_fresh past = refl
+without_parts-set (suc count) table places fresh at place is_fresh past =
+    let apart : count ≢ at = λ same. absurd (omega arith) in
+    rw (get_or-set_other places at count place 0 apart, get_or-set_other fresh at count is_fresh false apart) (without_parts-set count _ places fresh at place is_fresh (omega arith))
+
+pub all_can_be_unmade-set : (count : ℕ) (table : Table Block) (places : List ℕ) (fresh : List Bool) (at place : ℕ) (is_fresh : Bool) → count ≤ at → AllCanBeUnmade table places fresh count → AllCanBeUnmade table (set places at place) (set fresh at is_fresh) count
+all_can_be_unmade-set zero table places fresh at place is_fresh past can = tt
+all_can_be_unmade-set (suc count) table places fresh at place is_fresh past can =
+    let apart : count ≢ at = λ same. absurd (omega arith) in
+    rw (get_or-set_other places at count place 0 apart, get_or-set_other fresh at count is_fresh false apart) (can.0, all_can_be_unmade-set count _ places fresh at place is_fresh (omega arith) can.1)
+
+-- One part more ----------------------------------------------------------------------------------
+
+-- a page is free exactly where it has no class
+class-none : (content : Option (Page Block)) → is_none (option_map (λ (page : Page Block). page.class_size) content) ≡ is_none content
+class-none None = refl
+class-none (Some page) = refl
+
+free_page : (content : Option (Page Block)) → is_none content ≡ true → content ≡ None
+free_page None e = refl
+free_page (Some page) e = absurd (false≢true e)
+
+module _ (table : Table Block) (size place : ℕ) (block : Block) (free : IsFreeFor table size place) (is_fresh : Bool) (fresh_is : is_fresh ≡ is_none (class_at table (page_number place))) where
+  fresh_page : is_fresh ≡ is_none (page_at table (page_number place))
+  fresh_page = fresh_is ∙ class-none (page_at table (page_number place))
+
+  pub taken_back : with_released (with_taken table size place block) place is_fresh ≡ table
+  taken_back = ap (with_released (with_taken table size place block) place) fresh_page ∙ with_released-with_taken table size place block free.empty
+
+  pub can_be_unmade : CanBeUnmade (with_taken table size place block) place is_fresh
+  can_be_unmade = record {
+    there = to_some _ block (block_at-with_taken_same table size place block free);
+    alone = λ e. count_at-fresh table size place block free (free_page (page_at table (page_number place)) (sym fresh_page ∙ e));
+  }
+
+  pub without_one_more : (places : List ℕ) (fresh : List Bool) (count : ℕ) → count < length places → count < length fresh
+      → without_parts (with_taken table size place block) (set places count place) (set fresh count is_fresh) (suc count) ≡ without_parts table places fresh count
+  without_one_more places fresh count room room' =
+      rw (get_or-set_same places count place 0 room, get_or-set_same fresh count is_fresh false room', taken_back) (without_parts-set count table places fresh count place is_fresh (omega arith))
+
+  pub one_more_can_be_unmade : (places : List ℕ) (fresh : List Bool) (count : ℕ) → count < length places → count < length fresh → AllCanBeUnmade table places fresh count
+      → AllCanBeUnmade (with_taken table size place block) (set places count place) (set fresh count is_fresh) (suc count)
+  one_more_can_be_unmade places fresh count room room' can =
+      rw (get_or-set_same places count place 0 room, get_or-set_same fresh count is_fresh false room', taken_back) (can_be_unmade, all_can_be_unmade-set count table places fresh count place is_fresh (omega arith) can)
+
+-- What is left to be made ------------------------------------------------------------------------
+
+-- parts that are made after others at these places
+abbrev pub made_after : List ℕ → MadeParts → MadeParts
+made_after places made = record { places = places ++ made.places; table = made.table }
+
+made_after-twice : (places : List ℕ) (place : ℕ) (rest : Option MadeParts)
+    → option_map (made_after places) (option_map (λ (made : MadeParts). record { places = place ∷ made.places; table = made.table }) rest) ≡ option_map (made_after (places ++ place ∷ [])) rest
+made_after-twice places place None = refl
+made_after-twice places place (Some made) = ap (λ all. Some (record { places = all; table = made.table })) (sym (append_assoc places (place ∷ []) made.places))
+
+-- a part made, and then those after it
+made_parts-more : (table : Table Block) (birth stamp index : ℕ) (part : Part) (parts : List Part) (made : Made) → made_part table birth stamp index part ≡ Some made
+    → made_parts table birth stamp index (part ∷ parts) ≡ option_map (λ (rest : MadeParts). record { places = made.place ∷ rest.places; table = rest.table }) (made_parts made.table birth stamp (suc index) parts)
+made_parts-more table birth stamp index part parts made e =
+    ap (option_and_then (λ (made : Made). option_map (λ (rest : MadeParts). record { places = made.place ∷ rest.places; table = rest.table }) (made_parts made.table birth stamp (suc index) parts))) e
+
+made_parts-none : (table : Table Block) (birth stamp index : ℕ) (part : Part) (parts : List Part) → made_part table birth stamp index part ≡ None → made_parts table birth stamp index (part ∷ parts) ≡ None
+made_parts-none table birth stamp index part parts e =
+    ap (option_and_then (λ (made : Made). option_map (λ (rest : MadeParts). record { places = made.place ∷ rest.places; table = rest.table }) (made_parts made.table birth stamp (suc index) parts))) e
+
+-- a part whose class has a least place
+made_part-at : (table : Table Block) (birth stamp index size place : ℕ) (part : Part) → class_of (part_words part) ≡ Some size → least_place table size ≡ Some place
+    → made_part table birth stamp index part ≡ Some (record { place = place; table = with_taken table size place (new_block birth stamp index part) })
+made_part-at table birth stamp index size place part class least =
+    ap (option_and_then (made_in_class table (new_block birth stamp index part))) class
+    ∙ ap (option_map (λ p. record { place = p; table = with_taken table size p (new_block birth stamp index part) })) least
+
+made_part-full : (table : Table Block) (birth stamp index size : ℕ) (part : Part) → class_of (part_words part) ≡ Some size → least_place table size ≡ None → made_part table birth stamp index part ≡ None
+made_part-full table birth stamp index size part class least =
+    ap (option_and_then (made_in_class table (new_block birth stamp index part))) class
+    ∙ ap (option_map (λ p. record { place = p; table = with_taken table size p (new_block birth stamp index part) })) least
+
+-- So many parts of an object are made: what is left of the book's making, and how to take them back
+pub record AreMadeSoFar (old : Table Block) (birth stamp : ℕ) (list : List Part) (table : Table Block) (places : List ℕ) (fresh : List Bool) (count : ℕ) : Type 0 where
+  pub left : made_parts old birth stamp 0 list ≡ option_map (made_after (take count places)) (made_parts table birth stamp count (drop count list))
+  pub back : without_parts table places fresh count ≡ old
+  pub can : AllCanBeUnmade table places fresh count
+  pub born : (number : ℕ) (part : Part) → number < count → slice_get list number ≡ Some part → block_at table (get_or places number 0) ≡ Some (new_block birth stamp number part)
+
+made_after-none : (made : Option MadeParts) → made ≡ option_map (made_after []) made
+made_after-none None = refl
+made_after-none (Some made) = refl
+
+pub none_so_far : (old : Table Block) (birth stamp : ℕ) (list : List Part) (places : List ℕ) (fresh : List Bool) → AreMadeSoFar old birth stamp list old places fresh 0
+none_so_far old birth stamp list places fresh = record {
+  left = made_after-none (made_parts old birth stamp 0 list);
+  back = refl;
+  can = tt;
+  born = λ number part below at. absurd (omega (arith, below));
+}
+
+pub one_so_far : (old : Table Block) (birth stamp : ℕ) (list : List Part) (table : Table Block) (places : List ℕ) (fresh : List Bool) (count : ℕ) (part : Part) (size place : ℕ) (is_fresh : Bool) → AreMadeSoFar old birth stamp list table places fresh count
+    → count < length places → count < length fresh → slice_get list count ≡ Some part → class_of (part_words part) ≡ Some size → least_place table size ≡ Some place → IsFreeFor table size place → is_fresh ≡ is_none (class_at table (page_number place))
+    → AreMadeSoFar old birth stamp list (with_taken table size place (new_block birth stamp count part)) (set places count place) (set fresh count is_fresh) (suc count)
+one_so_far old birth stamp list table places fresh count part size place is_fresh so_far room room' at class least free fresh_is = record {
+  left =
+      so_far.left
+      ∙ ap (λ parts. option_map (made_after (take count places)) (made_parts table birth stamp count parts)) (drop-slice list count part at)
+      ∙ ap (option_map (made_after (take count places))) (made_parts-more table birth stamp count part (drop (suc count) list) made (made_part-at table birth stamp count size place part class least))
+      ∙ made_after-twice (take count places) place (made_parts made.table birth stamp (suc count) (drop (suc count) list))
+      ∙ ap (λ all. option_map (made_after all) (made_parts made.table birth stamp (suc count) (drop (suc count) list))) (sym (take-suc-set places count place room));
+  back = without_one_more table size place block free is_fresh fresh_is places fresh count room room' ∙ so_far.back;
+  can = one_more_can_be_unmade table size place block free is_fresh fresh_is places fresh count room room' so_far.can;
+  born = born;
+}
+  where
+    block : Block
+    block = new_block birth stamp count part
+
+    made : Made
+    made = record { place = place; table = with_taken table size place block }
+
+    born : (number : ℕ) (p : Part) → number < suc count → slice_get list number ≡ Some p → block_at (with_taken table size place block) (get_or (set places count place) number 0) ≡ Some (new_block birth stamp number p)
+    born number p below is = elim (cases_eq number count) [
+      | inl same ↦
+          let part_is : part ≡ p = same_Some part p (sym at ∙ ap (slice_get list) (sym same) ∙ is) in
+          rw (same, get_or-set_same places count place 0 room, ← part_is) (block_at-with_taken_same table size place block free)
+      | inr apart ↦
+          rw (get_or-set_other places count number place 0 apart) (with_taken-keeps table size place (get_or places number 0) block (new_block birth stamp number p) free (so_far.born number p (omega arith) is))
+    ]
+
+-- a part without a place leaves none made
+pub full_so_far : (old : Table Block) (birth stamp : ℕ) (list : List Part) (table : Table Block) (places : List ℕ) (fresh : List Bool) (count : ℕ) (part : Part) (size : ℕ) → AreMadeSoFar old birth stamp list table places fresh count
+    → slice_get list count ≡ Some part → class_of (part_words part) ≡ Some size → least_place table size ≡ None → made_parts old birth stamp 0 list ≡ None
+full_so_far old birth stamp list table places fresh count part size so_far at class least =
+    so_far.left
+    ∙ ap (λ parts. option_map (made_after (take count places)) (made_parts table birth stamp count parts)) (drop-slice list count part at)
+    ∙ ap (option_map (made_after (take count places))) (made_parts-none table birth stamp count part (drop (suc count) list) (made_part-full table birth stamp count size part class least))
+
+drop-all : {X : Type 0} (xs : List X) → drop (length xs) xs ≡ []
+drop-all [] = refl
+drop-all (x ∷ xs) = drop-all xs
+
+-- all parts are made
+pub all_so_far : (old : Table Block) (birth stamp : ℕ) (list : List Part) (table : Table Block) (places : List ℕ) (fresh : List Bool) → AreMadeSoFar old birth stamp list table places fresh (length list)
+    → made_parts old birth stamp 0 list ≡ Some (record { places = take (length list) places; table = table })
+all_so_far old birth stamp list table places fresh so_far =
+    so_far.left
+    ∙ ap (λ parts. option_map (made_after (take (length list) places)) (made_parts table birth stamp (length list) parts)) (drop-all list)
+    ∙ ap (λ all. Some (record { places = all; table = table })) (append-nil (take (length list) places))
+
+pub unlinked_so_far : (old : Table Block) (birth stamp : ℕ) (list : List Part) (table : Table Block) (places : List ℕ) (fresh : List Bool) → AreMadeSoFar old birth stamp list table places fresh (length list) → AreUnlinked table places list 0
+unlinked_so_far old birth stamp list table places fresh so_far number part least at =
+    record { block = new_block birth stamp number part; there = so_far.born number part (slice_get_within list number part at) at; number_is = refl; references = refl }

@@ -1,0 +1,149 @@
+//! Objects made with all their parts or not at all.
+ghost use Rattle.std.specs.Prelude.{◌≡◌, ◌<◌, ◌≤◌, ◌^◌, ℕ, IsSome, IfOk, OnOk, OnErr, Some, None, length, get_or, map, take};
+ghost use Rattle.mh_model.specs.Pages.{block_at};
+ghost use Rattle.mh_model.specs.Table.{references_at, with_block_change, made_parts, linked_parts, made_group};
+ghost use Rattle.mh_groups.specs.Making.{AreParts, HaveTheirChildren, without_parts, AllCanBeUnmade, AreUnlinked};
+
+use mh_blocks::blocks::{Blocks, Full};
+use mh_classes::parts::Parts;
+use mh_model::birth::Birth;
+use mh_model::memory::NoMemory;
+use mh_model::place::Place;
+use std::alloc::Global;
+use std::marker::Model;
+
+/// The most parts of an object.
+const MOST_PARTS: usize = 3_661;
+
+/// Room for the places of the parts of one object, taken once, so that making an object takes no memory.
+#[derive(Drop)]
+pub struct PartPlaces {
+    places: Vec<Place>,
+    /// Whether the page of each was free before.
+    fresh: Vec<bool>,
+}
+
+impl Model for PartPlaces {
+    ghost use Rattle.std.specs.Prelude.{◌≡◌, length};
+
+    ghost Value = { Unit {0} };
+
+    ghost view = { λ _. tt };
+
+    ghost invariant = { λ room. (length room.places.items ≡ 3661) × (length room.fresh.items ≡ 3661) };
+}
+
+impl PartPlaces {
+    pub fn open(alloc: Global) -> Result<PartPlaces, NoMemory> {
+        Ok(PartPlaces {
+            places: Vec::from_elem(alloc, Place(0), MOST_PARTS)?,
+            fresh: Vec::from_elem(alloc, false, MOST_PARTS)?,
+        })
+    }
+}
+
+/// Takes back so many parts, from the last to the first.
+fn unmake_parts(blocks: &mut Blocks, places: &[Place], fresh: &[bool], count: usize)
+    requires can { AllCanBeUnmade blocks.old places.now fresh.now count }
+    requires places { count ≤ length places.now }
+    requires fresh { count ≤ length fresh.now }
+    ensures { blocks.new ≡ without_parts blocks.old places.now fresh.now count }
+{
+    let mut left = count;
+    while left > 0 {
+        left -= 1;
+        blocks.unmake(places[left], fresh[left]);
+    }
+}
+
+/// Makes the parts in order, and keeps their places. Where one finds none, those before it are taken back.
+fn make_parts(
+    blocks: &mut Blocks,
+    places: &mut [Place],
+    fresh: &mut [bool],
+    parts: &Parts,
+    birth: Birth,
+    stamp: u64,
+) -> Result<(), Full>
+    requires birth { birth < 2 ^ 62 }
+    requires places { length places.old ≡ 3661 }
+    requires fresh { length fresh.old ≡ 3661 }
+    ensures made { OnOk result (made_parts blocks.old birth stamp 0 parts.now ≡ Some (record { places = take (length parts.now) places.new; table = blocks.new })) }
+    ensures unlinked { OnOk result (AreUnlinked blocks.new places.new parts.now 0) }
+    ensures full { OnErr result (made_parts blocks.old birth stamp 0 parts.now ≡ None) }
+    ensures unchanged { OnErr result (blocks.new ≡ blocks.old) }
+{
+    for index in 0..parts.count() {
+        let part = parts.get(index);
+        let Some(place) = blocks.place(part.class()) else {
+            unmake_parts(blocks, places, fresh, index);
+            return Err(Full);
+        };
+        places[index] = place;
+        fresh[index] = blocks.class_at(place.page()).is_none();
+        blocks.make_at(place, part, index, birth, stamp);
+    }
+    Ok(())
+}
+
+/// Writes the places of a part's children as its references.
+fn link_children(blocks: &mut Blocks, place: Place, children: &[Place])
+    requires there { IsSome (block_at blocks.old place) }
+    requires count { length (references_at blocks.old place) ≡ length children.now }
+    requires children { (index : ℕ) → index < length children.now → IsSome (block_at blocks.old (get_or children.now index 0)) }
+    ensures { blocks.new ≡ with_block_change blocks.old place (λ block. record block { references = map Some children.now }) }
+{
+    for (index, child) in children.iter().enumerate() {
+        blocks.store_ref(place, index, Some(*child));
+    }
+}
+
+/// Links each part to its children.
+fn link_parts(blocks: &mut Blocks, places: &[Place], parts: &Parts)
+    requires count { length places.now ≡ length parts.now }
+    requires children { HaveTheirChildren parts.now }
+    requires unlinked { AreUnlinked blocks.old places.now parts.now 0 }
+    ensures { blocks.new ≡ linked_parts places.now blocks.old places.now parts.now }
+{
+    for index in 0..parts.count() {
+        let part = parts.get(index);
+        if let Some(first) = part.first_child() {
+            link_children(
+                blocks,
+                places[index],
+                &places[first..first + part.references()],
+            );
+        }
+    }
+}
+
+/// Makes an object of these parts, or leaves the table as it was where one of them finds no place. It answers the place
+/// of part 0, which stands for the object.
+pub fn make_group(
+    blocks: &mut Blocks,
+    room: &mut PartPlaces,
+    parts: &Parts,
+    birth: Birth,
+    stamp: u64,
+) -> Result<Place, Full>
+    requires parts { AreParts parts.now }
+    requires birth { birth < 2 ^ 62 }
+    ensures made { IfOk result (λ place. made_group blocks.old birth stamp parts.now ≡ Some (record { place = place; table = blocks.new })) }
+    ensures full { OnErr result (made_group blocks.old birth stamp parts.now ≡ None) }
+    ensures unchanged { OnErr result (blocks.new ≡ blocks.old) }
+{
+    let count = parts.count();
+    if count == 1 {
+        return blocks.make(parts.get(0), 0, birth, stamp);
+    }
+    make_parts(
+        blocks,
+        &mut room.places,
+        &mut room.fresh,
+        parts,
+        birth,
+        stamp,
+    )?;
+    link_parts(blocks, &room.places[..count], parts);
+    Ok(room.places[0])
+}
