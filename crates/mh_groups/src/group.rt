@@ -49,10 +49,8 @@ fn unmake_parts(blocks: &mut Blocks, places: &[Place], fresh: &[bool], count: us
     requires fresh { count ≤ length fresh.now }
     ensures { blocks.new ≡ without_parts blocks.old places.now fresh.now count }
 {
-    let mut left = count;
-    while left > 0 {
-        left -= 1;
-        blocks.unmake(places[left], fresh[left]);
+    for index in (0..count).rev() {
+        blocks.unmake(places[index], fresh[index]);
     }
 }
 
