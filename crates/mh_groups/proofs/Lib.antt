@@ -1,3 +1,5 @@
 mod PlaceLemmas
 mod MadeLemmas
 mod LinkLemmas
+mod ChildLemmas
+mod GroupLemmas

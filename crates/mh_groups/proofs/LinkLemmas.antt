@@ -1,11 +1,11 @@
 -- Parts linked to their children: a block changed, the references of one part written in turn, and the parts in order.
-use Rattle.std.proofs.Common.{◌≡◌, ◌≢◌, ℕ, zero, suc, ◌+◌, ◌-◌, ◌<◌, ◌≤◌, inl, inr, List, [], ◌∷◌, ◌++◌, length, get_or, set, take, drop, map, replicate, slice_get, Option, Some, None, is_some, option_map, option_and_then, unwrap_or, IsSome, refl, sym, ap, ◌∙◌, subst, arith}
+use Rattle.std.proofs.Common.{◌≡◌, ◌≢◌, ℕ, zero, suc, ◌+◌, ◌<◌, ◌≤◌, inl, inr, List, [], ◌∷◌, ◌++◌, length, get_or, set, take, drop, map, slice_get, Option, Some, None, option_map, option_and_then, unwrap_or, IsSome, refl, sym, ap, ◌∙◌, subst, arith}
 use Rattle.std.proofs.Math.Seq.{drop-cons}
-use Rattle.std.proofs.lemmas.Bool.{cases_eq, false≢true}
-use Rattle.std.proofs.lemmas.Option.{none-some, same_Some, slice_get_within}
-use Rattle.std.proofs.lemmas.List.{set-get_or, set-set}
+use Rattle.std.proofs.lemmas.Bool.{cases_eq}
+use Rattle.std.proofs.lemmas.Option.{same_Some, slice_get_within}
+use Rattle.std.proofs.lemmas.List.{set-get_or, set-set, length-take, length-drop, length-replicate}
 use Rattle.mh_model.specs.Classes.{Part}
-use Rattle.mh_model.specs.Pages.{Page, Table, page_number, slot_number, page_at, block_in, block_at, page_with, with_block}
+use Rattle.mh_model.specs.Pages.{Table, page_number, slot_number, page_at, block_in, block_at, page_with, with_block}
 use Rattle.mh_model.specs.Table.{Block, references_at, with_reference_at, with_block_change, words_of, linked_block, linked_parts}
 use Rattle.mh_groups.specs.Making.{HaveTheirChildren, IsUnlinked, AreUnlinked}
 use Rattle.mh_groups.proofs.PlaceLemmas.{from_some, to_some, block_at-with_block_same, block_at-with_block_other}
@@ -24,7 +24,7 @@ with_block-twice table place first second = go table (page_number place)
     go (Some page ∷ pages) zero = ap (λ slots. Some (record page { slots = slots }) ∷ pages) (set-set page.slots (slot_number place) first second)
     go (page ∷ pages) (suc number) = ap (λ rest. page ∷ rest) (go pages number)
 
-with_block-self : (table : Table Block) (place : ℕ) → with_block table place (block_at table place) ≡ table
+pub with_block-self : (table : Table Block) (place : ℕ) → with_block table place (block_at table place) ≡ table
 with_block-self table place = go table (page_number place)
   where
     go : (pages : Table Block) (number : ℕ) → set pages number (option_map (page_with (slot_number place) (option_and_then (block_in (slot_number place)) (page_at pages number))) (page_at pages number)) ≡ pages
@@ -97,7 +97,7 @@ all_written (child ∷ children) (r ∷ references) same = ap (λ rest. Some chi
 pub record HasSomeChildren (old : Table Block) (place : ℕ) (children : List ℕ) (table : Table Block) (count : ℕ) : Type 0 where
   pub is : table ≡ with_block_change old place (with_some_children children count)
 
-references-length : (table : Table Block) (place : ℕ) (block : Block) → block_at table place ≡ Some block → references_at table place ≡ block.references
+pub references-length : (table : Table Block) (place : ℕ) (block : Block) → block_at table place ≡ Some block → references_at table place ≡ block.references
 references-length table place block there = ap (λ content. unwrap_or (option_map (λ (b : Block). b.references) content) []) there
 
 module _ (old : Table Block) (place : ℕ) (children : List ℕ) (is : IsSome (block_at old place)) (count_is : length (references_at old place) ≡ length children) where
@@ -194,6 +194,12 @@ module _ (old : Table Block) (list : List Part) (places : List ℕ) (table : Tab
   pub children_linked : (child : ℕ) (new : Table Block) → part.children ≡ Some child → new ≡ with_block_change table (get_or places count 0) (with_children (take part.references (drop child places))) → AreLinkedSoFar old list places new (suc count)
   children_linked child new some is = one_linked new (is ∙ ap (λ children. with_block_change table (get_or places count 0) (λ b. record b { references = words_of places part.references children })) (sym some))
 
+  -- its block has a reference for each child
+  pub children_count : (child : ℕ) → part.children ≡ Some child → HaveTheirChildren list → length (references_at table (get_or places count 0)) ≡ length (take part.references (drop child places))
+  children_count child some have =
+      let words : length (references_at table (get_or places count 0)) ≡ part.references = ap length (references-length table (get_or places count 0) here.block here.there) ∙ ap length here.references ∙ length-replicate part.references None in
+      words ∙ omega (arith, have.within count part child at some, length-take {A = ℕ}, length-drop {A = ℕ})
+
 drop-all : {X : Type 0} (xs : List X) → drop (length xs) xs ≡ []
 drop-all [] = refl
 drop-all (x ∷ xs) = drop-all xs
@@ -202,3 +208,14 @@ pub all_linked : (old : Table Block) (list : List Part) (places : List ℕ) (tab
 all_linked old list places table same so_far =
     let none : drop (length list) places ≡ [] = ap (λ n. drop n places) (sym same) ∙ drop-all places in
     sym (so_far.left ∙ ap (λ rest. linked_parts places table rest (drop (length list) list)) none)
+
+-- nothing is left to do from a part without children on
+pub rest_linked : (left count : ℕ) (old : Table Block) (list : List Part) (places : List ℕ) (table : Table Block) → HaveTheirChildren list → length places ≡ length list → count + left ≡ length list
+    → ((number : ℕ) (part : Part) → count ≤ number → slice_get list number ≡ Some part → part.children ≡ None) → AreLinkedSoFar old list places table count → table ≡ linked_parts places old places list
+rest_linked zero count old list places table have same all childless so_far =
+    let end : count ≡ length list = omega arith in
+    all_linked old list places table same (subst (AreLinkedSoFar old list places table) end so_far)
+rest_linked (suc left) count old list places table have same all childless so_far =
+    let (part, at) = slice_there list count (omega arith) in
+    rest_linked left (suc count) old list places table have same (omega arith) (λ number other after at'. childless number other (omega arith) at')
+    (childless_linked old list places table count part so_far at same (childless count part (omega arith) at))

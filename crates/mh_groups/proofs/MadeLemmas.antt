@@ -1,13 +1,13 @@
 -- Parts made one after the other: what is left to be made, and how those that are made are taken back.
-use Rattle.std.proofs.Common.{◌≡◌, ◌≢◌, ℕ, zero, suc, ◌+◌, ◌-◌, ◌<◌, ◌≤◌, Bool, true, false, inl, inr, List, [], ◌∷◌, ◌++◌, length, get_or, set, take, drop, replicate, slice_get, Option, Some, None, is_none, option_map, option_and_then, IsSome, refl, sym, ap, ◌∙◌, subst, arith}
-use Rattle.std.proofs.Math.Seq.{drop-cons, take-suc-set}
+use Rattle.std.proofs.Common.{◌≡◌, ◌≢◌, ℕ, zero, suc, ◌<◌, ◌≤◌, Bool, true, false, inl, inr, List, [], ◌∷◌, ◌++◌, length, get_or, set, take, drop, slice_get, Option, Some, None, is_none, option_map, option_and_then, refl, sym, ap, ◌∙◌, arith}
+use Rattle.std.proofs.Math.Seq.{take-suc-set}
 use Rattle.std.proofs.lemmas.Bool.{cases_eq, false≢true}
 use Rattle.std.proofs.lemmas.Option.{none-some, same_Some, slice_get_within}
 use Rattle.std.proofs.lemmas.List.{get_or-set_same, get_or-set_other, append_assoc, append-nil}
 use Rattle.mh_model.specs.Classes.{Part, class_of, part_words}
-use Rattle.mh_model.specs.Pages.{Page, Table, page_number, page_at, block_at, class_at, count_at, least_place, with_taken, with_released, IsFreeFor}
+use Rattle.mh_model.specs.Pages.{Page, Table, page_number, page_at, block_at, class_at, least_place, with_taken, with_released, IsFreeFor}
 use Rattle.mh_model.specs.Table.{Block, Made, MadeParts, new_block, made_in_class, made_part, made_parts}
-use Rattle.mh_groups.specs.Making.{without_parts, CanBeUnmade, AllCanBeUnmade, IsUnlinked, AreUnlinked}
+use Rattle.mh_groups.specs.Making.{without_parts, CanBeUnmade, AllCanBeUnmade, AreUnlinked}
 use Rattle.mh_groups.proofs.PlaceLemmas.{to_some, block_at-with_taken_same, with_taken-keeps, with_released-with_taken, count_at-fresh}
 
 -- Lists ------------------------------------------------------------------------------------------
@@ -77,12 +77,12 @@ made_after-twice places place None = refl
 made_after-twice places place (Some made) = ap (λ all. Some (record { places = all; table = made.table })) (sym (append_assoc places (place ∷ []) made.places))
 
 -- a part made, and then those after it
-made_parts-more : (table : Table Block) (birth stamp index : ℕ) (part : Part) (parts : List Part) (made : Made) → made_part table birth stamp index part ≡ Some made
+pub made_parts-more : (table : Table Block) (birth stamp index : ℕ) (part : Part) (parts : List Part) (made : Made) → made_part table birth stamp index part ≡ Some made
     → made_parts table birth stamp index (part ∷ parts) ≡ option_map (λ (rest : MadeParts). record { places = made.place ∷ rest.places; table = rest.table }) (made_parts made.table birth stamp (suc index) parts)
 made_parts-more table birth stamp index part parts made e =
     ap (option_and_then (λ (made : Made). option_map (λ (rest : MadeParts). record { places = made.place ∷ rest.places; table = rest.table }) (made_parts made.table birth stamp (suc index) parts))) e
 
-made_parts-none : (table : Table Block) (birth stamp index : ℕ) (part : Part) (parts : List Part) → made_part table birth stamp index part ≡ None → made_parts table birth stamp index (part ∷ parts) ≡ None
+pub made_parts-none : (table : Table Block) (birth stamp index : ℕ) (part : Part) (parts : List Part) → made_part table birth stamp index part ≡ None → made_parts table birth stamp index (part ∷ parts) ≡ None
 made_parts-none table birth stamp index part parts e =
     ap (option_and_then (λ (made : Made). option_map (λ (rest : MadeParts). record { places = made.place ∷ rest.places; table = rest.table }) (made_parts made.table birth stamp (suc index) parts))) e
 

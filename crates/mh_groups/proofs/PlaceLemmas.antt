@@ -1,5 +1,5 @@
 -- Places: what is there after a block was put at one, and the table that is left where it is given back.
-use Rattle.std.proofs.Common.{◌≡◌, ◌≢◌, ℕ, zero, suc, ◌+◌, ◌<◌, ◌≤◌, true, false, inl, inr, List, [], ◌∷◌, length, get_or, set, replicate, Option, Some, None, is_some, is_none, option_map, option_and_then, unwrap_or, IsSome, refl, sym, ap, ◌∙◌, subst, arith}
+use Rattle.std.proofs.Common.{◌≡◌, ◌≢◌, ℕ, zero, suc, ◌<◌, false, inl, inr, List, [], ◌∷◌, length, get_or, set, replicate, Option, Some, None, is_some, is_none, option_map, option_and_then, unwrap_or, IsSome, refl, sym, ap, ◌∙◌, arith}
 use Rattle.std.proofs.lemmas.Bool.{cases_eq, false≢true}
 use Rattle.std.proofs.lemmas.Option.{none-some, same_Some}
 use Rattle.std.proofs.lemmas.List.{get_or-set_same, get_or-set_other, length-replicate}

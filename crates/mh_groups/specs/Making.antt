@@ -1,5 +1,5 @@
 -- Parts made one after the other, how they are taken back, and what they are before they are linked.
-use Rattle.std.specs.Prelude.{◌≡◌, ◌≤◌, ◌<◌, ◌+◌, IsSome, ℕ, zero, suc, Bool, true, false, Some, None, List, length, get_or, replicate, slice_get}
+use Rattle.std.specs.Prelude.{◌≡◌, ◌≤◌, ◌+◌, IsSome, ℕ, zero, suc, Bool, true, false, Some, None, List, length, get_or, replicate, slice_get}
 use Rattle.mh_model.specs.Classes.{Part, parts}
 use Rattle.mh_model.specs.Pages.{Table, page_number, block_at, count_at, with_released}
 use Rattle.mh_model.specs.Table.{Block}
@@ -8,9 +8,10 @@ use Rattle.mh_model.specs.Table.{Block}
 abbrev pub AreParts : List Part → Type 0
 AreParts list = (references : ℕ) × (numbers : ℕ) × (list ≡ parts references numbers)
 
--- the children of each part come after it and are among the parts
-abbrev pub HaveTheirChildren : List Part → Type 0
-HaveTheirChildren list = (index : ℕ) (part : Part) (child : ℕ) → slice_get list index ≡ Some part → part.children ≡ Some child → (index < child) × (child + part.references ≤ length list)
+-- the children of each part are among the parts, and after a part without children no part has any
+pub record HaveTheirChildren (list : List Part) : Type 0 where
+  pub within : (index : ℕ) (part : Part) (child : ℕ) → slice_get list index ≡ Some part → part.children ≡ Some child → child + part.references ≤ length list
+  pub last : (index later : ℕ) (part other : Part) → index ≤ later → slice_get list index ≡ Some part → part.children ≡ None → slice_get list later ≡ Some other → other.children ≡ None
 
 -- the table with so many parts taken back from the last to the first, and with each the page that it took
 abbrev pub without_parts : Table Block → List ℕ → List Bool → ℕ → Table Block

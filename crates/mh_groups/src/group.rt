@@ -105,13 +105,15 @@ fn link_parts(blocks: &mut Blocks, places: &[Place], parts: &Parts)
 {
     for index in 0..parts.count() {
         let part = parts.get(index);
-        if let Some(first) = part.first_child() {
-            link_children(
-                blocks,
-                places[index],
-                &places[first..first + part.references()],
-            );
-        }
+        let Some(first) = part.first_child() else {
+            // The spines come first, and no other part has children.
+            return;
+        };
+        link_children(
+            blocks,
+            places[index],
+            &places[first..first + part.references()],
+        );
     }
 }
 

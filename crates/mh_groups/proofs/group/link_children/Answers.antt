@@ -1,7 +1,7 @@
-use Rattle.std.proofs.Common.{◌≡◌, ◌<◌, IsSome, Some, length, get_or, sym, subst, add-one, arith}
+use Rattle.std.proofs.Common.{◌≡◌, ◌<◌, IsSome, length, get_or, sym, subst, add-one, arith}
 use Rattle.std.proofs.lemmas.List.{get_or_read}
 use Rattle.mh_model.specs.Pages.{block_at}
-use Rattle.mh_groups.proofs.LinkLemmas.{no_child, child_within, child_there, one_child, all_children}
+use Rattle.mh_groups.proofs.LinkLemmas.{no_child, child_within, child_there, one_child}
 use Rattle.mh_groups.proofs.group.link_children.Goals as goal
 
 pub loop-index-init : goal.loop-index-init

@@ -1,4 +1,3 @@
-use Rattle.std.proofs.Common.{◌≡◌, length}
 use Rattle.mh_groups.proofs.MadeLemmas.{AreMadeSoFar}
 use Rattle.mh_groups.proofs.group.make_parts.Given as goal
 
