@@ -4,3 +4,5 @@
 pub mod field;
 pub mod group;
 mod position;
+#[cfg(test)]
+mod tests;
