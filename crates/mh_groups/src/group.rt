@@ -34,6 +34,7 @@ impl Model for PartPlaces {
 }
 
 impl PartPlaces {
+    /// Room for the parts of the largest object.
     pub fn open(alloc: Global) -> Result<PartPlaces, NoMemory> {
         Ok(PartPlaces {
             places: Vec::from_elem(alloc, Place(0), MOST_PARTS)?,
