@@ -1,6 +1,6 @@
 -- The blocks of a table after one was changed, put or taken back.
-use Rattle.std.proofs.Common.{◌≡◌, ◌≢◌, ℕ, zero, suc, ◌+◌, ◌/◌, ◌%◌, ◌<◌, ◌⊎◌, inl, inr, Bool, true, false, List, [], ◌∷◌, length, get_or, set, replicate, Option, Some, None, option_map, option_and_then, IsSome, is_some, refl, sym, ap, ◌∙◌, subst, arith}
-use Rattle.std.proofs.lemmas.Bool.{cases_eq, false≢true}
+use Rattle.std.proofs.Common.{◌≡◌, ◌≢◌, ℕ, zero, suc, ◌⊎◌, inl, inr, Bool, true, false, List, [], ◌∷◌, get_or, set, replicate, Option, Some, None, option_map, option_and_then, refl, sym, ap, ◌∙◌, arith}
+use Rattle.std.proofs.lemmas.Bool.{cases_eq}
 use Rattle.std.proofs.lemmas.Option.{none-some, same_Some}
 use Rattle.std.proofs.lemmas.List.{get_or-set_same, get_or-set_other, set-set}
 use Rattle.mh_model.specs.Classes.{slots_in}
@@ -117,7 +117,7 @@ module _ {X : Type 0} where
   with_block-taken table size place block other free =
       let page : Page X = page_for size (page_at table (page_number place)) in
       let twice : page_with (slot_number place) (Some other) (page_with (slot_number place) (Some block) page) ≡ page_with (slot_number place) (Some other) page
-          = ap (λ slots. record { class_size = page.class_size; is_flagged = page.is_flagged; slots = slots }) (set-set page.slots (slot_number place) (Some block) (Some other)) in
+      = ap (λ slots. record { class_size = page.class_size; is_flagged = page.is_flagged; slots = slots }) (set-set page.slots (slot_number place) (Some block) (Some other)) in
       ap (λ content. set (with_taken table size place block) (page_number place) (option_map (page_with (slot_number place) (Some other)) content)) (taken_page table size place block free)
       ∙ set-set table (page_number place) _ _
       ∙ ap (λ changed. set table (page_number place) (Some changed)) twice

@@ -1,23 +1,23 @@
 -- Blocks made and moved.
-use Rattle.std.proofs.Common.{◌≡◌, ◌≢◌, ℕ, zero, suc, ◌+◌, ◌-◌, ◌/◌, ◌%◌, ◌<◌, ◌≤◌, ◌==◌, nat_le, Bool, true, false, if◌then◌else◌, find, List, [], ◌∷◌, length, get_or, set, map, take, drop, replicate, Option, Some, None, is_some, option_map, option_and_then, unwrap_or, IsSome, IfSome, refl, sym, ap, ◌∙◌, subst, arith}
+use Rattle.std.proofs.Common.{◌≡◌, ◌≢◌, ℕ, zero, suc, ◌+◌, ◌-◌, ◌≤◌, ◌==◌, nat_le, Bool, true, false, if◌then◌else◌, find, List, [], ◌∷◌, length, set, map, take, drop, replicate, Option, Some, None, is_some, option_map, IsSome, IfSome, refl, sym, ap, ◌∙◌, subst, arith}
 use Rattle.std.specs.List.{list_all}
 use Rattle.std.proofs.lemmas.Bool.{false≢true, and_parts, leb-true}
 use Rattle.std.proofs.lemmas.Option.{none-some, same_Some}
 use Rattle.std.proofs.lemmas.List.{length-replicate, take-replicate, drop-replicate}
 use Rattle.mh_model.specs.declared.shape.Shape.{Shape}
 use Rattle.mh_model.specs.Classes.{Part, class_sizes, class_of, part_words}
-use Rattle.mh_model.specs.Pages.{Table, page_number, block_at, least_place, with_block, with_taken, IsFreeFor}
-use Rattle.mh_model.specs.Table.{Block, new_block, made_in_class, made_part}
+use Rattle.mh_model.specs.Pages.{Table, block_at, with_block, with_taken, IsFreeFor}
+use Rattle.mh_model.specs.Table.{Block, new_block}
 use Rattle.mh_model.specs.Collector.{moved_table}
 use Rattle.mh_classes.specs.Counts.{reference_count, number_count}
 use Rattle.mh_classes.specs.Fits.{FitsItsHeader}
 use Rattle.mh_pages.specs.declared.header.Header.{Header}
 use Rattle.mh_pages.specs.Words.{words_at, with_word, with_header}
-use Rattle.mh_blocks.specs.Words.{place_in, part_in, header_in, reference_words, number_words, block_of, blocks_of}
+use Rattle.mh_blocks.specs.Words.{place_in, part_in, header_in, block_of, blocks_of}
 use Rattle.mh_blocks.specs.Packed.{IsPacked, ArePacked}
 use Rattle.mh_blocks.proofs.TableMapLemmas.{block_at-table_map, with_taken-table_map}
 use Rattle.mh_blocks.proofs.ChangeLemmas.{block_at-taken, block_at-taken_other, with_block-taken}
-use Rattle.mh_blocks.proofs.ReadLemmas.{HasWords, words_there}
+use Rattle.mh_blocks.proofs.ReadLemmas.{words_there}
 use Rattle.mh_blocks.proofs.WriteLemmas.{with_word-forward}
 use Rattle.mh_blocks.proofs.PackedLemmas.{taken_packed}
 
@@ -92,10 +92,10 @@ pub record IsNewHeader (birth stamp index : ℕ) (part : Part) (header : Header)
   pub forward_is : place_in header.forward ≡ None
 
 reference_words_are : (birth stamp index : ℕ) (part : Part) (header : Header) → FitsItsHeader part → IsNewHeader birth stamp index part header → reference_count (header_in header.counts) ≡ part.references
-reference_words_are birth stamp index part header fits new = ap reference_count new.counts_are ∙ sym fits.counted_references
+reference_words_are birth stamp index part header fits new = ap reference_count new.counts_are ∙ sym fits.references
 
 number_words_are : (birth stamp index : ℕ) (part : Part) (header : Header) → FitsItsHeader part → IsNewHeader birth stamp index part header → number_count (header_in header.counts) ≡ part.numbers
-number_words_are birth stamp index part header fits new = ap number_count new.counts_are ∙ sym fits.counted_numbers
+number_words_are birth stamp index part header fits new = ap number_count new.counts_are ∙ sym fits.numbers
 
 pub new_block_is : (size birth stamp index : ℕ) (part : Part) (header : Header) → part_words part ≤ size → FitsItsHeader part → IsNewHeader birth stamp index part header → block_of (new_words size header) ≡ new_block birth stamp index part
 unfolding block_of
@@ -104,12 +104,12 @@ new_block_is size birth stamp index part header room fits new =
     let ns : number_count (header_in header.counts) ≡ part.numbers = number_words_are birth stamp index part header fits new in
     let fields : List ℕ = replicate (size - 4) 0 in
     let references : map place_in (take (reference_count (header_in header.counts)) fields) ≡ replicate part.references None
-        = ap (λ count. map place_in (take count fields)) rs ∙ ap (map place_in) (take-replicate part.references (size - 4) 0 (omega arith)) ∙ nothing_in part.references in
+    = ap (λ count. map place_in (take count fields)) rs ∙ ap (map place_in) (take-replicate part.references (size - 4) 0 (omega arith)) ∙ nothing_in part.references in
     let numbers : take (number_count (header_in header.counts)) (drop (reference_count (header_in header.counts)) fields) ≡ replicate part.numbers 0
-        = ap (λ count. take (number_count (header_in header.counts)) (drop count fields)) rs
-        ∙ ap (λ count. take count (drop part.references fields)) ns
-        ∙ ap (take part.numbers) (drop-replicate part.references (size - 4) 0)
-        ∙ take-replicate part.numbers (size - 4 - part.references) 0 (omega arith) in
+    = ap (λ count. take (number_count (header_in header.counts)) (drop count fields)) rs
+    ∙ ap (λ count. take count (drop part.references fields)) ns
+    ∙ ap (take part.numbers) (drop-replicate part.references (size - 4) 0)
+    ∙ take-replicate part.numbers (size - 4 - part.references) 0 (omega arith) in
     let birth_is : header.birth - 1 ≡ birth = omega (arith, new.birth_is) in
     ap block_of (new_words-is size header (omega arith))
     ∙ same_block _ _ _ _ _ _ _ _ _ _ _ _ _ _ birth_is new.part_is new.stamp_is new.counts_are new.forward_is references numbers
@@ -150,20 +150,6 @@ at_some content P x is here = if_some content P (λ y other. subst P (same_Some 
 
 pub from_if_some : {A : Type 0} (content : Option A) (P : A → Type 0) (x : A) → content ≡ Some x → IfSome content P → P x
 from_if_some {A = A} content P x is all = let Q = λ (c : Option A). IfSome c P in subst Q is all
-
--- A part made --------------------------------------------------------------------------------------
-
-pub made_part_is : (table new : Table Block) (birth stamp index size place : ℕ) (part : Part) → class_of (part_words part) ≡ Some size → least_place table size ≡ Some place → new ≡ with_taken table size place (new_block birth stamp index part)
-    → made_part table birth stamp index part ≡ Some (record { place = place; table = new })
-made_part_is table new birth stamp index size place part class least is =
-    ap (option_and_then (made_in_class table (new_block birth stamp index part))) class
-    ∙ ap (option_map (λ p. record { place = p; table = with_taken table size p (new_block birth stamp index part) })) least
-    ∙ ap (λ t. Some (record { place = place; table = t })) (sym is)
-
-pub no_part_made : (table : Table Block) (birth stamp index size : ℕ) (part : Part) → class_of (part_words part) ≡ Some size → least_place table size ≡ None → made_part table birth stamp index part ≡ None
-no_part_made table birth stamp index size part class least =
-    ap (option_and_then (made_in_class table (new_block birth stamp index part))) class
-    ∙ ap (option_map (λ p. record { place = p; table = with_taken table size p (new_block birth stamp index part) })) least
 
 -- A block moved ------------------------------------------------------------------------------------
 

@@ -1,12 +1,11 @@
 -- Each change of a table keeps its blocks packed.
-use Rattle.std.proofs.Common.{◌≡◌, ◌≢◌, ℕ, zero, suc, ◌+◌, ◌<◌, ◌≤◌, Bool, true, false, List, ◌∷◌, length, get_or, set, map, replicate, Option, Some, None, option_map, option_and_then, refl, sym, ap, ◌∙◌, subst, inl, inr, arith}
+use Rattle.std.proofs.Common.{◌≡◌, ◌≢◌, ℕ, zero, suc, ◌<◌, ◌≤◌, Bool, true, false, List, ◌∷◌, length, get_or, set, replicate, Option, Some, None, option_map, option_and_then, refl, sym, ap, ◌∙◌, subst, inl, inr, arith}
 use Rattle.std.proofs.lemmas.Option.{none-some, same_Some}
 use Rattle.std.proofs.lemmas.List.{get_or-set_other, length-set, length-replicate}
-use Rattle.mh_model.specs.Pages.{Page, Table, page_number, slot_number, page_at, block_in, block_at, page_with, page_for, with_block, with_taken, with_released, flagged_as, with_flag}
-use Rattle.mh_model.specs.Table.{Block}
+use Rattle.mh_model.specs.Pages.{Page, Table, page_number, slot_number, page_at, block_in, block_at, page_with, page_for, with_taken, with_released, flagged_as, with_flag}
 use Rattle.mh_pages.specs.Words.{with_word}
-use Rattle.mh_blocks.specs.TableMaps.{page_map, table_map}
-use Rattle.mh_blocks.specs.Words.{reference_words, number_words, block_of, blocks_of}
+use Rattle.mh_blocks.specs.TableMaps.{table_map}
+use Rattle.mh_blocks.specs.Words.{blocks_of}
 use Rattle.mh_blocks.specs.Packed.{IsPacked, ArePacked}
 use Rattle.mh_blocks.proofs.ChangeLemmas.{after_change, after_taking, after_freeing, after_flagging, after_release}
 

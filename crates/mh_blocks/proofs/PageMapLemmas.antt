@@ -1,10 +1,9 @@
 -- A table seen through a function of its blocks: its pages, its places and what holds of them.
-use Rattle.std.proofs.Common.{◌≡◌, ℕ, zero, suc, ◌+◌, ◌<◌, Bool, true, false, ◌||◌, if◌then◌else◌, List, [], ◌∷◌, length, map, get_or, take, Option, Some, None, is_some, option_map, option_and_then, unwrap_or, IsSome, IfSome, refl, sym, ap, ◌∙◌, subst, arith}
+use Rattle.std.proofs.Common.{◌≡◌, ℕ, zero, suc, false, ◌||◌, if◌then◌else◌, List, [], ◌∷◌, length, map, take, Option, Some, None, is_some, option_map, unwrap_or, IfSome, refl, sym, ap, ◌∙◌, subst, arith}
 use Rattle.std.specs.List.{list_any}
 use Rattle.std.proofs.lemmas.List.{length-map}
 use Rattle.std.proofs.lemmas.Option.{none-some, same_Some}
-use Rattle.mh_model.specs.Classes.{slots_in}
-use Rattle.mh_model.specs.Pages.{Page, Table, page_number, slot_number, page_at, block_at, Leads, class_at, flag_at, block_count, live_in, free_pages, count_at, is_dense, is_sparse, empty_slot, open_slot, fresh_slot, least, least_dense_place, least_place, is_dense_page, has_denser, page_for, HasItsSlots, HaveTheirSlots, IsFreeFor}
+use Rattle.mh_model.specs.Pages.{Page, Table, page_number, page_at, block_at, class_at, flag_at, block_count, live_in, free_pages, count_at, is_dense, is_sparse, empty_slot, open_slot, fresh_slot, least, least_dense_place, least_place, is_dense_page, has_denser, page_for, HasItsSlots, HaveTheirSlots, IsFreeFor}
 use Rattle.mh_pages.specs.Addresses.{address_in}
 use Rattle.mh_blocks.specs.TableMaps.{page_map, table_map}
 use Rattle.mh_blocks.proofs.TableMapLemmas.{length-table_map, page_at-table_map, block_at-table_map, page_for-table_map}

@@ -1,7 +1,7 @@
 -- One word of a block written is one field of it changed.
-use Rattle.std.proofs.Common.{◌≡◌, ℕ, ◌+◌, ◌<◌, ◌≤◌, List, [], length, get_or, set, Option, Some, unwrap_or, sym, ap, ◌∙◌, subst, arith}
+use Rattle.std.proofs.Common.{◌≡◌, ℕ, ◌+◌, ◌<◌, List, [], set, Option, Some, unwrap_or, ap, ◌∙◌, subst, arith}
 use Rattle.mh_model.specs.Pages.{Table, block_at}
-use Rattle.mh_model.specs.Table.{Block, with_reference_at, with_number_at, with_stamp_at, with_forward_at}
+use Rattle.mh_model.specs.Table.{with_reference_at, with_number_at, with_stamp_at, with_forward_at}
 use Rattle.mh_pages.specs.Words.{words_at, with_word}
 use Rattle.mh_blocks.specs.Words.{place_in, reference_words, block_of, blocks_of}
 use Rattle.mh_blocks.specs.Packed.{ArePacked}

@@ -216,7 +216,8 @@ impl Blocks {
         let class = self.pages.class_at(place.page()).unwrap();
         self.pages.take_copy(class, to, place);
         let address = self.pages.address(place);
-        self.pages.set_word_from(address, FORWARD, place_word(Some(to)));
+        self.pages
+            .set_word_from(address, FORWARD, place_word(Some(to)));
     }
 }
 
@@ -376,7 +377,8 @@ impl Blocks {
         requires leads { Leads self.old reference }
         ensures { self.new ≡ with_reference_at self.old address.place index reference }
     {
-        self.pages.set_word_from(address, HEADER + index, place_word(reference));
+        self.pages
+            .set_word_from(address, HEADER + index, place_word(reference));
     }
 
     pub fn load_int(&self, place: Place, index: usize) -> u64
@@ -384,9 +386,8 @@ impl Blocks {
         ensures { result ≡ number_at self.now place index }
     {
         let address = self.address(place);
-        let numbers = address;
         let references = self.reference_count_from(address);
-        self.pages.word_from(numbers, HEADER + references + index)
+        self.pages.word_from(address, HEADER + references + index)
     }
 
     pub fn store_int(&mut self, place: Place, index: usize, number: u64)
@@ -394,8 +395,8 @@ impl Blocks {
         ensures { self.new ≡ with_number_at self.old place index number }
     {
         let address = self.address(place);
-        let numbers = address;
         let references = self.reference_count_from(address);
-        self.pages.set_word_from(numbers, HEADER + references + index, number);
+        self.pages
+            .set_word_from(address, HEADER + references + index, number);
     }
 }

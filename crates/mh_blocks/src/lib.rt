@@ -21,3 +21,5 @@
 
 pub mod blocks;
 mod packing;
+#[cfg(test)]
+mod tests;

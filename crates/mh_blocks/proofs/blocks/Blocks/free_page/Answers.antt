@@ -1,8 +1,8 @@
-use Rattle.std.proofs.Common.{◌≡◌, ◌≢◌, ◌∙◌, ◌<◌, ◌≤◌, ◌+◌, ◌-◌, refl, sym, arith, ap, subst, length, get_or, List, ℕ, Option, Some, None, IsSome, true, false}
-use Rattle.mh_blocks.proofs.TableMapLemmas.{length-table_map, with_released-table_map, with_flag-table_map, freed-table_map}
-use Rattle.mh_blocks.proofs.PageMapLemmas.{is_taken-table_map, is_used-table_map, class_at-table_map, address_in-table_map, flag_at-table_map, count_at-table_map, free_pages-table_map, has_denser-table_map, least_dense_place-table_map, least_place-table_map, found_above, free_below, have_their_slots}
-use Rattle.mh_blocks.proofs.PackedLemmas.{empty_packed, empty_blocks, word_packed, freed_packed, flagged_packed, released_packed}
-use Rattle.mh_blocks.specs.Words.{place_in, header_in, part_in, block_of}
+use Rattle.std.proofs.Common.{◌∙◌, sym}
+use Rattle.mh_blocks.proofs.TableMapLemmas.{freed-table_map}
+use Rattle.mh_blocks.proofs.PageMapLemmas.{is_used-table_map, count_at-table_map}
+use Rattle.mh_blocks.proofs.PackedLemmas.{freed_packed}
+use Rattle.mh_blocks.specs.Words.{block_of}
 use Rattle.mh_blocks.proofs.blocks.Blocks.free_page.Goals as goal
 
 pub free_page-requires-clause-used : goal.free_page-requires-clause-used

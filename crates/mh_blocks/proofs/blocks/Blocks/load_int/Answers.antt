@@ -1,8 +1,7 @@
-use Rattle.std.proofs.Common.{◌≡◌, ◌≢◌, ◌∙◌, ◌<◌, ◌≤◌, ◌+◌, ◌-◌, refl, sym, arith, ap, subst, length, get_or, is_some, List, ℕ, Option, Some, None, IsSome, IfSome, true, false}
-use Rattle.mh_blocks.proofs.PageMapLemmas.{is_taken-table_map, is_used-table_map, class_at-table_map, address_in-table_map, free_below}
-use Rattle.mh_blocks.proofs.ReadLemmas.{HasNumber, words_there, header_within, birth_is, part_is, header_is, has_number, number_within, number_at_is, page_there, class_there, small_place}
-use Rattle.mh_blocks.specs.Words.{place_in, header_in, part_in, reference_words, block_of, blocks_of}
-use Rattle.mh_pages.specs.declared.header.Header.{Header}
+use Rattle.std.proofs.Common.{◌≡◌, ◌∙◌, arith}
+use Rattle.mh_blocks.proofs.PageMapLemmas.{address_in-table_map}
+use Rattle.mh_blocks.proofs.ReadLemmas.{has_number, number_within, number_at_is}
+use Rattle.mh_blocks.specs.Words.{reference_words, block_of}
 use Rattle.mh_pages.specs.Words.{words_at}
 use Rattle.mh_blocks.proofs.blocks.Blocks.load_int.Goals as goal
 

@@ -1,13 +1,11 @@
-use Rattle.std.proofs.Common.{◌≡◌, ◌≢◌, ◌∙◌, ◌<◌, ◌≤◌, ◌+◌, ◌-◌, refl, sym, arith, ap, subst, length, get_or, is_some, List, ℕ, Option, Some, None, IsSome, IfSome, true, false}
-use Rattle.mh_blocks.proofs.PageMapLemmas.{is_taken-table_map, is_used-table_map, class_at-table_map, address_in-table_map, free_below}
+use Rattle.std.proofs.Common.{◌∙◌, ◌+◌, refl, ap, is_some}
+use Rattle.mh_blocks.proofs.PageMapLemmas.{free_below}
 use Rattle.mh_blocks.proofs.ChangeLemmas.{block_at-taken}
-use Rattle.mh_blocks.proofs.MadeLemmas.{IsNewHeader, IsMadeAt, IsMoved, made_at, moves, if_some, at_some, from_if_some}
-use Rattle.mh_blocks.specs.Words.{place_in, header_in, part_in, reference_words, block_of, blocks_of}
-use Rattle.mh_model.specs.Pages.{Table, page_number, block_at, class_at, with_taken, IsFreeFor}
-use Rattle.mh_model.specs.Table.{Block, new_block}
+use Rattle.mh_blocks.proofs.MadeLemmas.{IsNewHeader, made_at, at_some, from_if_some}
+use Rattle.mh_blocks.specs.Words.{block_of}
+use Rattle.mh_model.specs.Pages.{IsFreeFor}
 use Rattle.mh_model.specs.Classes.{class_of, part_words}
 use Rattle.mh_pages.specs.declared.header.Header.{Header}
-use Rattle.mh_pages.specs.Words.{words_at}
 use Rattle.mh_blocks.proofs.blocks.Blocks.make_at.Goals as goal
 
 pub take-requires : goal.take-requires

@@ -1,6 +1,6 @@
-use Rattle.std.proofs.Common.{◌≡◌, ◌≢◌, ◌∙◌, ◌<◌, ◌≤◌, ◌+◌, ◌-◌, refl, sym, arith, ap, subst, length, get_or, List, ℕ, Option, Some, None, IsSome, true, false}
-use Rattle.mh_blocks.proofs.PackedLemmas.{empty_packed, empty_blocks, word_packed, freed_packed, flagged_packed, released_packed}
-use Rattle.mh_blocks.specs.Words.{place_in, header_in, part_in, block_of, blocks_of}
+use Rattle.std.proofs.Common.{◌∙◌, ap}
+use Rattle.mh_blocks.proofs.PackedLemmas.{empty_packed, empty_blocks}
+use Rattle.mh_blocks.specs.Words.{blocks_of}
 use Rattle.mh_blocks.proofs.blocks.Blocks.open.Goals as goal
 
 pub invariant_of-result : goal.invariant_of-result

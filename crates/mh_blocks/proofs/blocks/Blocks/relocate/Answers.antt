@@ -1,16 +1,11 @@
-use Rattle.std.proofs.Common.{◌≡◌, ◌≢◌, ◌∙◌, ◌<◌, ◌≤◌, ◌+◌, ◌-◌, refl, sym, arith, ap, subst, length, get_or, is_some, List, ℕ, Option, Some, None, IsSome, IfSome, true, false}
-use Rattle.mh_blocks.proofs.TableMapLemmas.{length-table_map, with_released-table_map, with_flag-table_map, freed-table_map}
-use Rattle.mh_blocks.proofs.PageMapLemmas.{is_taken-table_map, is_used-table_map, class_at-table_map, address_in-table_map, free_below}
-use Rattle.mh_blocks.proofs.PackedLemmas.{empty_packed, empty_blocks, word_packed, freed_packed, flagged_packed, released_packed}
-use Rattle.mh_blocks.proofs.ReadLemmas.{HasNumber, words_there, header_within, birth_is, part_is, header_is, has_number, number_within, number_at_is, page_there, class_there, small_place}
-use Rattle.mh_blocks.proofs.MadeLemmas.{IsNewHeader, IsMadeAt, IsMoved, made_at, moves, if_some, at_some, from_if_some}
-use Rattle.mh_blocks.specs.Words.{place_in, header_in, part_in, reference_words, block_of, blocks_of}
-use Rattle.mh_model.specs.Pages.{Table, page_number, block_at, class_at, with_taken, IsFreeFor}
-use Rattle.mh_model.specs.Table.{Block, new_block}
-use Rattle.mh_model.specs.Classes.{class_of, part_words}
-use Rattle.mh_pages.specs.declared.header.Header.{Header}
-use Rattle.mh_pages.specs.Words.{words_at}
-use Rattle.mh_model.specs.Collector.{moved_table}
+use Rattle.std.proofs.Common.{◌≡◌, ◌∙◌, sym, arith, ap, is_some, Some}
+use Rattle.mh_blocks.proofs.TableMapLemmas.{length-table_map}
+use Rattle.mh_blocks.proofs.PageMapLemmas.{is_taken-table_map, class_at-table_map, free_below}
+use Rattle.mh_blocks.proofs.PackedLemmas.{word_packed}
+use Rattle.mh_blocks.proofs.ReadLemmas.{words_there, header_within, page_there, class_there, small_place}
+use Rattle.mh_blocks.proofs.MadeLemmas.{moves, if_some, at_some, from_if_some}
+use Rattle.mh_blocks.specs.Words.{block_of, blocks_of}
+use Rattle.mh_model.specs.Pages.{page_number, class_at, IsFreeFor}
 use Rattle.mh_blocks.proofs.blocks.Blocks.relocate.Goals as goal
 
 pub class_at-requires : goal.class_at-requires
@@ -84,4 +79,4 @@ returns c =
     let moved = moves _ _ _ _ c.self.invariant there free in
     let written = rw (c.address-address.ensures, c.take_copy.ensures) at c.set_word_from.ensures in
     let below = rw (← c.self.view_is) at class in
-    rw (← c.self.view_is, written) (if_some _ _ (λ block is. at_some (class_at (blocks_of c.self.inside.pages) (page_number c.args.place)) _ c.unwrap-class.result below (moved.moved _ block c.place_word.ensures is)))
+    rw (← c.self.view_is, written) (if_some _ _ (λ block is. at_some (class_at (blocks_of c.self.inside.pages) (page_number c.args.place)) _ c.unwrap-class.result below (moved.moved c.place_word.result block c.place_word.ensures is)))
