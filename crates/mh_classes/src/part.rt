@@ -202,6 +202,7 @@ impl Parts {
         }
     }
 
+    /// How many there are.
     pub fn count(&self) -> usize
         ensures count { result ≡ length self.now }
         ensures some { 1 ≤ result }
