@@ -1,0 +1,3 @@
+pub mod BitLemmas
+pub mod SetLemmas
+pub mod ZeroLemmas

@@ -1,0 +1,35 @@
+-- Sets of numbers below 4,096, one after another in a list of bits.
+use Rattle.std.specs.Prelude.{◌≡◌, ◌<◌, ◌≤◌, ℕ, ◌+◌, ◌*◌, ◌==◌, Bool, true, false, not, List, length, get_or, replicate}
+use Rattle.mh_bits.specs.Bits.{has_bit_among}
+
+-- whether a set has a number
+abbrev pub has_member : List Bool → ℕ → ℕ → Bool
+has_member sets set member = get_or sets (4096 * set + member) false
+
+-- so many sets without a number
+unfoldable pub empty_sets : ℕ → List Bool
+empty_sets count = replicate (4096 * count) false
+
+-- a set has no number
+abbrev pub IsEmptySet : List Bool → ℕ → Type 0
+IsEmptySet sets set = (member : ℕ) → member < 4096 → has_member sets set member ≡ false
+
+-- the least number of a set
+pub record IsLeastMember (sets : List Bool) (set : ℕ) (member : ℕ) : Type 0 where
+  pub within : member < 4096
+  pub is_member : has_member sets set member ≡ true
+  pub none_below : (other : ℕ) → other < member → has_member sets set other ≡ false
+
+-- a set has a number below this one
+abbrev pub HasLower : List Bool → ℕ → ℕ → Type 0
+HasLower sets set below = (member : ℕ) × (member < 4096) × (member < below) × (has_member sets set member ≡ true)
+
+-- a set has no number below this one
+abbrev pub HasNoLower : List Bool → ℕ → ℕ → Type 0
+HasNoLower sets set below = (member : ℕ) → member < 4096 → member < below → has_member sets set member ≡ false
+
+-- each set has 64 words and a summary, in which a bit is set for each word that isn't 0
+pub record IsSummed (words summaries : List ℕ) : Type 0 where
+  pub counts : length words ≡ 64 * length summaries
+  pub few : length summaries ≤ 4096
+  pub sums : (k : ℕ) → k < length words → has_bit_among summaries k ≡ not (get_or words k 0 == 0)

@@ -1,0 +1,120 @@
+-- Words copied one after another, and a block copied to a place that was taken for it.
+use Rattle.std.proofs.Common.{◌≡◌, ℕ, suc, ◌+◌, ◌*◌, ◌/◌, ◌<◌, ◌≤◌, ◌⊎◌, Bool, inl, inr, Some, is_some, IsSome, unwrap_or, List, [], length, get_or, set, refl, ap, ◌∙◌, sym, subst, arith, get_or-set_same, get_or-set_other}
+use Rattle.std.proofs.lemmas.Bool.{cases_eq, cases_lt, false≢true}
+use Rattle.std.proofs.lemmas.Option.{same_Some}
+use Rattle.std.proofs.lemmas.List.{length-set}
+use Rattle.std.proofs.Math.Nat.{mul-le-mul_right}
+use Rattle.mh_model.specs.Pages.{Table, page_number, slot_number, block_at, class_at, with_block, with_taken, IsFreeFor}
+use Rattle.mh_pages.specs.Shown.{words_from, shown_table}
+use Rattle.mh_pages.specs.Words.{words_at}
+use Rattle.mh_pages.specs.Kept.{IsCopied, AreApart, IsKept}
+use Rattle.mh_pages.proofs.TableLemmas.{page_of_block, block_taken, class_taken, taken_twice, other_block, other_class}
+use Rattle.mh_pages.proofs.ShownLemmas.{IsTaken, block_at-shown}
+use Rattle.mh_pages.proofs.WriteLemmas.{block_fits, shown-copied}
+use Rattle.mh_pages.proofs.KeptLemmas.{start, block_of, class_shown, kept-block}
+
+pub copied_none : (words : List ℕ) (source first : ℕ) → IsCopied words words source first 0
+copied_none words source first = record {
+  copied = λ i l. absurd (omega arith);
+  others = record { lengths = refl; before = λ i l. refl; after = λ i l. refl };
+}
+
+-- the word that is read next is as it was
+source_word : (old words : List ℕ) (source first count index : ℕ) → IsCopied old words source first index → AreApart source first count → index < count → get_or words (source + index) 0 ≡ get_or old (source + index) 0
+source_word old words source first count index so (inl before) less = so.others.before (source + index) (omega arith)
+source_word old words source first count index so (inr after) less = so.others.after (source + index) (omega arith)
+
+pub copied_more : (old words : List ℕ) (source first count index word : ℕ) → IsCopied old words source first index → AreApart source first count → index < count → first + count ≤ length old → word ≡ get_or words (source + index) 0
+    → IsCopied old (set words (first + index) word) source first (index + 1)
+copied_more old words source first count index word so apart less within is = record {
+  copied = λ i l. elim (cases_eq i index) [
+    | inl here ↦
+        ap (λ k. get_or (set words (first + index) word) (first + k) 0) here
+        ∙ (get_or-set_same words (first + index) word 0 (omega (arith, so.others.lengths))
+        ∙ (is ∙ (source_word old words source first count index so apart less ∙ ap (λ k. get_or old (source + k) 0) (sym here))))
+    | inr there ↦ get_or-set_other words (first + index) (first + i) word 0 (λ e. there (omega arith)) ∙ so.copied i (omega arith)
+  ];
+  others = record {
+    lengths = length-set words (first + index) word ∙ so.others.lengths;
+    before = λ i l. get_or-set_other words (first + index) i word 0 (λ e. omega arith) ∙ so.others.before i l;
+    after = λ i l. get_or-set_other words (first + index) i word 0 (λ e. omega arith) ∙ so.others.after i (omega arith);
+  };
+}
+
+-- two slots of a size have no word in common
+slots_apart : (page slot other_page other_slot size : ℕ) → slot * size + size ≤ 256 → other_slot * size + size ≤ 256 → ((page ≡ other_page) × (slot ≡ other_slot) → ⊥)
+    → AreApart (256 * page + slot * size) (256 * other_page + other_slot * size) size
+slots_apart page slot other_page other_slot size fits other_fits apart = by_page (cases_eq page other_page)
+  where
+    by_page : (page ≡ other_page) ⊎ (page ≡ other_page → ⊥) → AreApart (256 * page + slot * size) (256 * other_page + other_slot * size) size
+    by_page (inr pages) = elim (cases_lt page other_page) [ inl below ↦ inl (omega arith) | inr above ↦ inr (omega arith) ]
+    by_page (inl one) = elim (cases_lt slot other_slot) [
+      | inl below ↦
+          let rows : suc slot * size ≤ other_slot * size = mul-le-mul_right size below in
+          inl (omega (arith, rows))
+      | inr above ↦
+          let more : other_slot < slot = omega (arith, λ (e : slot ≡ other_slot). apart (one, e)) in
+          let rows : suc other_slot * size ≤ slot * size = mul-le-mul_right size more in
+          inr (omega (arith, rows))
+    ]
+
+-- A place taken for a copy of a block of the class
+module _ (heads frees words : List ℕ) (sets : List Bool) (free : ℕ) (kept : IsKept heads frees words sets free) (old table : Table (List ℕ)) (size place source : ℕ) (zeros : List ℕ)
+    (shown : shown_table heads frees words ≡ table) (taken : table ≡ with_taken old size place zeros)
+    (is : IsFreeFor old size place) (there : IsSome (block_at old source)) (class : class_at old (page_number source) ≡ Some size) where
+  pub copy_taken : IsTaken heads frees place
+  copy_taken = block_of heads frees words sets free kept table place shown (ap (λ t. is_some (block_at t place)) taken ∙ ap is_some (block_taken old size place zeros is))
+
+  pub source_taken : IsTaken heads frees source
+  source_taken = block_of heads frees words sets free kept table source shown (ap (λ t. is_some (block_at t source)) taken ∙ (ap is_some (other_block old size place zeros source is there) ∙ there))
+
+  size_shown : (other : ℕ) → IsTaken heads frees other → class_at table (page_number other) ≡ Some size → get_or heads (page_number other) 0 / 2 ≡ size
+  size_shown other its e =
+      same_Some _ _ (sym (class_shown heads frees words sets free kept (page_number other) (record { inside = its.inside; used = its.used })) ∙ (ap (λ t. class_at t (page_number other)) shown ∙ e))
+
+  pub copy_size : get_or heads (page_number place) 0 / 2 ≡ size
+  copy_size = size_shown place copy_taken (ap (λ t. class_at t (page_number place)) taken ∙ class_taken old size place zeros is)
+
+  pub source_size : get_or heads (page_number source) 0 / 2 ≡ size
+  source_size =
+      size_shown source source_taken
+      (ap (λ t. class_at t (page_number source)) taken ∙ (other_class old size place zeros (page_number source) is (ap is_some (page_of_block old source there).is) ∙ class))
+
+  not_there : (page_number source ≡ page_number place) × (slot_number source ≡ slot_number place) → ⊥
+  not_there both = false≢true (sym (ap is_some is.empty) ∙ (ap (λ k. is_some (block_at old k)) (one_place both.0 both.1) ∙ there))
+    where
+      one_place : page_number source ≡ page_number place → slot_number source ≡ slot_number place → place ≡ source
+      one_place pages slots = omega arith
+
+  fits : (other : ℕ) → IsTaken heads frees other → get_or heads (page_number other) 0 / 2 ≡ size → slot_number other * size + size ≤ 256
+  fits other its e = subst (λ s. slot_number other * s + s ≤ 256) e (block_fits heads frees words other kept.pages its)
+
+  pub blocks_apart : AreApart (256 * page_number source + slot_number source * size) (256 * page_number place + slot_number place * size) size
+  blocks_apart = slots_apart (page_number source) (slot_number source) (page_number place) (slot_number place) size (fits source source_taken source_size) (fits place copy_taken copy_size) not_there
+
+  pub source_within : 256 * page_number source + slot_number source * size + size ≤ length words
+  source_within = omega (arith, fits source source_taken source_size, source_taken.inside, kept.sized.as_many_words)
+
+  pub copy_within : 256 * page_number place + slot_number place * size + size ≤ length words
+  copy_within = omega (arith, fits place copy_taken copy_size, copy_taken.inside, kept.sized.as_many_words)
+
+  module _ (new : List ℕ) (copied : IsCopied words new (256 * page_number source + slot_number source * size) (256 * page_number place + slot_number place * size) size) where
+    of_its_size : IsCopied words new (start heads frees words sets free kept source) (start heads frees words sets free kept place) (get_or heads (page_number place) 0 / 2)
+    of_its_size =
+        subst (λ s. IsCopied words new (256 * page_number source + slot_number source * s) (start heads frees words sets free kept place) (get_or heads (page_number place) 0 / 2)) (sym source_size)
+        (subst (λ s. IsCopied words new (256 * page_number source + slot_number source * size) (256 * page_number place + slot_number place * s) s) (sym copy_size) copied)
+
+    pub kept-copied : IsKept heads frees new sets free
+    kept-copied = kept-block heads frees words sets free kept place new copy_taken of_its_size.others
+
+    block_copied : Some (words_from words (256 * page_number source + slot_number source * (get_or heads (page_number source) 0 / 2)) (get_or heads (page_number place) 0 / 2)) ≡ Some (words_at old source)
+    block_copied =
+        ap (λ s. Some (words_from words (256 * page_number source + slot_number source * (get_or heads (page_number source) 0 / 2)) s)) (copy_size ∙ sym source_size)
+        ∙ (ap (λ o. Some (unwrap_or o [])) (sym (block_at-shown heads frees words source source_taken))
+        ∙ (ap (λ t. Some (words_at t source)) (shown ∙ taken) ∙ ap (λ o. Some (unwrap_or o [])) (other_block old size place zeros source is there)))
+
+    pub copied_shown : shown_table heads frees new ≡ with_taken old size place (words_at old source)
+    copied_shown =
+        shown-copied heads frees words place kept.pages new _ copy_taken of_its_size
+        ∙ (ap (with_block (shown_table heads frees words) place) block_copied
+        ∙ (ap (λ t. with_block t place (Some (words_at old source))) (shown ∙ taken) ∙ taken_twice old size place zeros (words_at old source) is))

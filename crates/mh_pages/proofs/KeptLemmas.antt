@@ -1,0 +1,410 @@
+-- What is kept of pages through each change.
+use Rattle.std.proofs.Common.{◌≡◌, ◌≢◌, ℕ, ◌+◌, ◌-◌, ◌*◌, ◌/◌, ◌%◌, ◌^◌, ◌<◌, ◌≤◌, ◌==◌, ◌⊎◌, Bool, true, false, if◌then◌else◌, inl, inr, Option, Some, None, is_some, IsSome, option_map, unwrap_or, List, [], length, get_or, set, replicate, refl, ap, ◌∙◌, sym, subst, arith, eq-eqb}
+use Rattle.std.specs.Int.{bit_not, w64}
+use mir.Val.{bits, bool_byte}
+use Rattle.std.proofs.lemmas.Bool.{cases_eq, cases_lt, cases_Bool, ne_eqb, or_right, or_cases, eqb-true, false≢true}
+use Rattle.std.proofs.lemmas.Option.{none-some}
+use Rattle.std.proofs.lemmas.List.{length-set, set-get_or, length-replicate}
+use Rattle.std.proofs.lemmas.Nat.Bits.{bit_at_and, ones_shr}
+use Rattle.mh_model.specs.Classes.{is_class_size, slots_in}
+use Rattle.mh_model.specs.Pages.{Page, Table, page_at, block_at, live_in, count_at, class_at, flag_at, page_with, page_for, with_block, with_taken, with_flag, flagged_as, free_pages, IsFreeFor, HasItsSlots, HaveTheirSlots}
+use Rattle.mh_model.proofs.TabulateLemmas.{length-tabulate}
+use Rattle.mh_bits.specs.Bits.{has_bit, IsZeroed}
+use Rattle.mh_bits.proofs.BitLemmas.{has_bit-zero, has_bit-ones_above, has_bit-set_other, bit_clear}
+use Rattle.mh_bits.proofs.SetLemmas.{with_bit, without_bit}
+use Rattle.mh_classes.proofs.ClassLemmas.{IsClass, class_is}
+use Rattle.mh_pages.specs.Shown.{words_from, shown_slot, shown_slots, page_of, shown_page, shown_table}
+use Rattle.mh_pages.specs.Words.{words_at, with_word}
+use Rattle.mh_pages.specs.Addresses.{Address, address_in}
+use Rattle.mh_pages.specs.Indexed.{IsIndexed, indexed_again, indexed_after, HasRoomFor}
+use Rattle.mh_pages.specs.Kept.{is_head, AgreeOutside, IsKept}
+use Rattle.mh_pages.proofs.ShownLemmas.{length-shown, page_at-shown, page_at-shown_past, block_at-shown, slot_at, head_class, free_page, used_page, used_page_of, shown-set, in_page, IsTaken, IsWord, word_taken, taken_place}
+use Rattle.mh_pages.proofs.WriteLemmas.{shown-block, shown-word, slots-released, slots-taken, slots-fresh, block_fits, written_inside, zeroed_inside}
+use Rattle.mh_pages.proofs.CleanLemmas.{LosesClean, clean-set, clean-block, loses-released, clean-used, clean-free}
+use Rattle.mh_pages.proofs.IndexLemmas.{indexed-set, indexed-after, pages-set, length-indexed_again, length-indexed_after}
+use Rattle.mh_pages.proofs.CountLemmas.{free_pages-taken, free_pages-same, free_pages-freed, free_pages-some, free_pages-few}
+use Rattle.mh_pages.proofs.TableLemmas.{all_empty, block_twice, page_of_block}
+
+-- a bit that isn't set isn't set after another is cleared
+has_bit-less : (n k i : ℕ) → has_bit n i ≡ false → has_bit (without_bit n k) i ≡ false
+has_bit-less n k i e = ne_eqb _ _ (λ h. absurd (omega (arith, h, bit_at_and n (bit_not w64 (1 * 2 ^ k % 2 ^ bits w64)) i, bit_clear n i e)))
+
+-- a word of which as many bits are set as a page has slots
+pub full_word : (slots : ℕ) → slots ≤ 64 → (2 ^ 64 - 1) / 2 ^ (64 - slots) ≡ 2 ^ slots - 1
+full_word slots few =
+    let left : 64 - (64 - slots) ≡ slots = omega arith in
+    ones_shr 64 (64 - slots) (omega arith) ∙ ap (λ n. 2 ^ n - 1) left
+
+-- a head with another flag
+pub record IsMarked (old head : ℕ) (flag : Bool) : Type 0 where
+  pub some : head ≢ 0
+  pub same : head / 2 ≡ old / 2
+  pub is_flag : (head % 2 == 1) ≡ flag
+
+pub marked : (old : ℕ) (flag : Bool) → 4 ≤ old / 2 → IsMarked old (old / 2 * 2 + bool_byte flag) flag
+marked old true few = record { some = λ e. absurd (omega (arith, e)); same = omega arith; is_flag = eq-eqb _ _ (omega arith) }
+marked old false few = record { some = λ e. absurd (omega (arith, e)); same = omega arith; is_flag = ne_eqb _ _ (λ e. absurd (omega (arith, e))) }
+
+module _ (heads frees words : List ℕ) (sets : List Bool) (free : ℕ) (kept : IsKept heads frees words sets free) where
+  -- Pages in use, places with a block, and words of blocks --------------------------------------
+
+  pub record IsUsed (page : ℕ) : Type 0 where
+    pub inside : page < length heads
+    pub used : get_or heads page 0 ≢ 0
+
+  pub used_of : (table : Table (List ℕ)) (page : ℕ) → shown_table heads frees words ≡ table → IsSome (page_at table page) → IsUsed page
+  used_of table page shown some = by_page (cases_lt page (length heads))
+    where
+      not_none : page_at (shown_table heads frees words) page ≢ None
+      not_none e = false≢true (sym (ap is_some e) ∙ (ap (λ t. is_some (page_at t page)) shown ∙ some))
+
+      by_page : (page < length heads) ⊎ (length heads ≤ page) → IsUsed page
+      by_page (inl inside) = record { inside = inside; used = λ e. absurd (not_none (page_at-shown heads frees words page inside ∙ free_page _ _ words page e)) }
+      by_page (inr past) = absurd (not_none (page_at-shown_past heads frees words page past))
+
+  pub class_used : (page : ℕ) → get_or heads page 0 ≢ 0 → is_class_size (get_or heads page 0 / 2) ≡ true
+  class_used page used = elim (or_cases _ _ (kept.pages.are_heads page)) [ inl none ↦ absurd (used (eqb-true _ _ none)) | inr class ↦ class ]
+
+  pub size_used : (page : ℕ) → get_or heads page 0 ≢ 0 → IsClass (get_or heads page 0 / 2)
+  size_used page used = head_class _ (kept.pages.are_heads page) used
+
+  pub block_of : (table : Table (List ℕ)) (place : ℕ) → shown_table heads frees words ≡ table → IsSome (block_at table place) → IsTaken heads frees place
+  block_of table place shown some = taken_place heads frees words place (λ e. false≢true (sym (ap is_some e) ∙ (ap (λ t. is_some (block_at t place)) shown ∙ some)))
+
+  pub word_of : (table : Table (List ℕ)) (place index : ℕ) → shown_table heads frees words ≡ table → index < length (words_at table place) → IsWord heads frees place index
+  word_of table place index shown within = word_taken heads frees words place index (subst (λ t. index < length (words_at t place)) (sym shown) within)
+
+  pub inside_of : (table : Table (List ℕ)) (page : ℕ) → shown_table heads frees words ≡ table → page < length table → page < length heads
+  inside_of table page shown within = omega (arith, within, ap length shown, length-shown heads frees words)
+
+  pub room : (page : ℕ) → page < length heads → HasRoomFor page heads frees sets
+  room page inside = record { within = inside; few = kept.sized.few_pages; as_many_frees = kept.sized.as_many_frees; as_many_sets = kept.sized.as_many_sets }
+
+  -- no more pages are free than there are
+  pub free_few : free ≤ 4096
+  free_few = omega (arith, kept.free_count, free_pages-few (shown_table heads frees words), length-shown heads frees words, kept.sized.few_pages)
+
+  page_used : (page : ℕ) → IsUsed page → page_at (shown_table heads frees words) page ≡ Some (page_of (get_or heads page 0 / 2) (get_or heads page 0 % 2 == 1) (shown_slots (get_or frees page 0) words page (get_or heads page 0 / 2)))
+  page_used page is = page_at-shown heads frees words page is.inside ∙ used_page _ _ words page is.used
+
+  pub their_slots : HaveTheirSlots (shown_table heads frees words)
+  their_slots number page at = by_page (cases_lt number (length heads))
+    where
+      of_used : IsUsed number → HasItsSlots page
+      of_used is = subst HasItsSlots (some_same _ page (sym (page_used number is) ∙ at)) (record { class = class_used number is.used; slots = length-tabulate (shown_slot (get_or frees number 0) words number (get_or heads number 0 / 2)) 0 (slots_in (get_or heads number 0 / 2)) })
+        where
+          some_same : (a b : Page (List ℕ)) → Some a ≡ Some b → a ≡ b
+          some_same a b e = cc
+
+      by_page : (number < length heads) ⊎ (length heads ≤ number) → HasItsSlots page
+      by_page (inr past) = absurd (none-some page (sym (page_at-shown_past heads frees words number past) ∙ at))
+      by_page (inl inside) = elim (cases_eq (get_or heads number 0) 0) [
+        | inl none ↦ absurd (none-some page (sym (page_at-shown heads frees words number inside ∙ free_page _ _ words number none) ∙ at))
+        | inr used ↦ of_used (record { inside = inside; used = used })
+      ]
+
+  -- the class and the flag of a page
+  pub class_shown : (page : ℕ) → IsUsed page → class_at (shown_table heads frees words) page ≡ Some (get_or heads page 0 / 2)
+  class_shown page is = ap (option_map (λ used. used.class_size)) (page_used page is)
+
+  pub class_none : (page : ℕ) → page < length heads → get_or heads page 0 ≡ 0 → class_at (shown_table heads frees words) page ≡ None
+  class_none page inside none = ap (option_map (λ used. used.class_size)) (page_at-shown heads frees words page inside ∙ free_page _ _ words page none)
+
+  pub flag_shown : (page : ℕ) → page < length heads → flag_at (shown_table heads frees words) page ≡ (get_or heads page 0 % 2 == 1)
+  flag_shown page inside = elim (cases_eq (get_or heads page 0) 0) [
+    | inl none ↦ ap (λ o. unwrap_or (option_map (λ used. used.is_flagged) o) false) (page_at-shown heads frees words page inside ∙ free_page _ _ words page none) ∙ sym (ne_eqb _ _ (λ e. absurd (omega arith)))
+    | inr used ↦ ap (λ o. unwrap_or (option_map (λ used. used.is_flagged) o) false) (page_used page (record { inside = inside; used = used }))
+  ]
+
+  -- Words of a block written ---------------------------------------------------------------------
+
+  -- the first word of the block at a place
+  abbrev pub start : ℕ → ℕ
+  start place = 256 * (place / 64) + (place % 64) * (get_or heads (place / 64) 0 / 2)
+
+  abbrev pub size_at : ℕ → ℕ
+  size_at place = get_or heads (place / 64) 0 / 2
+
+  pub start_few : (place : ℕ) → IsTaken heads frees place → start place + size_at place ≤ length words
+  start_few place is = omega (arith, block_fits heads frees words place kept.pages is, is.inside, kept.sized.as_many_words)
+
+  pub address_shown : (place : ℕ) → IsTaken heads frees place → address_in (shown_table heads frees words) place ≡ record { place = place; word = start place }
+  address_shown place is = ap (λ o. record { place = place; word = 256 * (place / 64) + (place % 64) * unwrap_or o 0 }) (class_shown (place / 64) (record { inside = is.inside; used = is.used }))
+
+  pub word_at : (table : Table (List ℕ)) (address : Address) → shown_table heads frees words ≡ table → address ≡ address_in table address.place → IsTaken heads frees address.place → address.word ≡ start address.place
+  word_at table address shown at is = ap (λ a. a.word) at ∙ (sym (ap (λ t. (address_in t address.place).word) shown) ∙ ap (λ a. a.word) (address_shown address.place is))
+
+  -- a block has at least the words of its header
+  pub header_words : (table : Table (List ℕ)) (place : ℕ) → shown_table heads frees words ≡ table → IsSome (block_at table place) → 4 ≤ length (words_at table place)
+  header_words table place shown some =
+      let is = block_of table place shown some in
+      omega (
+        arith,
+        (size_used (place / 64) is.used).least,
+        ap (λ t. length (words_at t place)) shown,
+        ap (λ b. length {A = ℕ} (unwrap_or b [])) (block_at-shown heads frees words place is),
+        length-tabulate (λ i. get_or words (start place + i) 0) 0 (size_at place),
+      )
+
+  free_pages-with_block : (place : ℕ) (content : Option (List ℕ)) → IsTaken heads frees place → free_pages (with_block (shown_table heads frees words) place content) ≡ free_pages (shown_table heads frees words)
+  free_pages-with_block place content is =
+      let at = page_used (place / 64) (record { inside = is.inside; used = is.used }) in
+      ap (λ o. free_pages (set (shown_table heads frees words) (place / 64) (option_map (page_with (place % 64) content) o))) at
+      ∙ free_pages-same (shown_table heads frees words) (place / 64) _ _ at
+
+  pub kept-block : (place : ℕ) (new : List ℕ) → IsTaken heads frees place → AgreeOutside words new (start place) (start place + size_at place) → IsKept heads frees new sets free
+  kept-block place new is agree = record {
+    sized = record {
+      few_pages = kept.sized.few_pages;
+      as_many_frees = kept.sized.as_many_frees;
+      as_many_words = agree.lengths ∙ kept.sized.as_many_words;
+      as_many_sets = kept.sized.as_many_sets;
+    };
+    pages = kept.pages;
+    indexed = kept.indexed;
+    clean = clean-block heads frees words place kept.pages kept.clean new is agree;
+    free_count = kept.free_count ∙ (sym (free_pages-with_block place _ is) ∙ ap free_pages (sym (shown-block heads frees words place kept.pages new is agree)));
+  }
+
+  pub word_within : (place index : ℕ) → IsWord heads frees place index → start place + index < length words
+  word_within place index is = omega (arith, start_few place is.place_taken, is.in_block)
+
+  -- One word
+  pub kept-word : (place index word : ℕ) → IsWord heads frees place index → IsKept heads frees (set words (start place + index) word) sets free
+  kept-word place index word is = kept-block place _ is.place_taken (written_inside words (start place + index) word (start place) (start place + size_at place) (omega arith) (omega (arith, is.in_block)))
+
+  pub word_shown : (place index word : ℕ) → IsWord heads frees place index → shown_table heads frees (set words (start place + index) word) ≡ with_word (shown_table heads frees words) place index word
+  word_shown place index word is = shown-word heads frees words place kept.pages index word kept.sized.as_many_words is.place_taken is.in_block
+
+  -- One page changed -----------------------------------------------------------------------------
+
+  kept-set : (page head new_free count : ℕ) (new_sets : List Bool) → page < length heads → is_head head ≡ true → ((slot : ℕ) → slots_in (head / 2) ≤ slot → has_bit new_free slot ≡ false)
+      → IsIndexed (set heads page head) (set frees page new_free) new_sets → length new_sets ≡ length sets
+      → LosesClean words page (get_or heads page 0) (get_or frees page 0) head new_free
+      → count ≡ free_pages (set (shown_table heads frees words) page (shown_page head new_free words page))
+      → IsKept (set heads page head) (set frees page new_free) words new_sets count
+  kept-set page head new_free count new_sets inside is none indexed same loses counted = record {
+    sized = record {
+      few_pages = omega (arith, length-set heads page head, kept.sized.few_pages);
+      as_many_frees = length-set frees page new_free ∙ (kept.sized.as_many_frees ∙ sym (length-set heads page head));
+      as_many_words = kept.sized.as_many_words ∙ ap (λ n. 256 * n) (sym (length-set heads page head));
+      as_many_sets = same ∙ kept.sized.as_many_sets;
+    };
+    pages = pages-set heads frees page head new_free kept.pages inside kept.sized.as_many_frees is none;
+    indexed = indexed;
+    clean = clean-set heads frees words page head new_free kept.clean inside kept.sized.as_many_frees loses;
+    free_count = counted ∙ ap free_pages (sym (shown-set heads frees words page head new_free inside kept.sized.as_many_frees));
+  }
+
+  -- a page that is in use before and after
+  kept-used : (page head new_free : ℕ) (new_sets : List Bool) → IsUsed page → head ≢ 0 → is_head head ≡ true → ((slot : ℕ) → slots_in (head / 2) ≤ slot → has_bit new_free slot ≡ false)
+      → IsIndexed (set heads page head) (set frees page new_free) new_sets → length new_sets ≡ length sets
+      → LosesClean words page (get_or heads page 0) (get_or frees page 0) head new_free
+      → IsKept (set heads page head) (set frees page new_free) words new_sets free
+  kept-used page head new_free new_sets is some is_head none indexed same loses =
+      kept-set page head new_free free new_sets is.inside is_head none indexed same loses
+      (kept.free_count
+      ∙ (sym (free_pages-same (shown_table heads frees words) page _ _ (page_used page is))
+      ∙ ap (λ p. free_pages (set (shown_table heads frees words) page p)) (sym (used_page head new_free words page some))))
+
+  -- the free slots of a page in use changed
+  pub kept-free : (page new_free : ℕ) → IsUsed page → ((slot : ℕ) → slots_in (get_or heads page 0 / 2) ≤ slot → has_bit new_free slot ≡ false)
+      → LosesClean words page (get_or heads page 0) (get_or frees page 0) (get_or heads page 0) new_free
+      → IsKept heads (set frees page new_free) words (indexed_after sets page (get_or heads page 0 / 2) (get_or heads page 0) (get_or frees page 0) new_free) free
+  kept-free page new_free is none loses =
+      subst (λ h. IsKept h (set frees page new_free) words (indexed_after sets page (get_or heads page 0 / 2) (get_or heads page 0) (get_or frees page 0) new_free) free) (set-get_or heads page 0)
+      (kept-used page (get_or heads page 0) new_free _ is is.used (kept.pages.are_heads page) none
+      (indexed-after heads frees sets page (get_or heads page 0 / 2) new_free kept.indexed kept.sized.as_many_sets is.inside kept.sized.few_pages kept.sized.as_many_frees (class_used page is.used) refl)
+      (length-indexed_after sets page (get_or heads page 0 / 2) (get_or heads page 0) (get_or frees page 0) new_free)
+      loses)
+
+  shown-free : (page new_free : ℕ) → IsUsed page
+      → shown_table heads (set frees page new_free) words ≡ set (shown_table heads frees words) page (Some (page_of (get_or heads page 0 / 2) (get_or heads page 0 % 2 == 1) (shown_slots new_free words page (get_or heads page 0 / 2))))
+  shown-free page new_free is =
+      ap (λ h. shown_table h (set frees page new_free) words) (sym (set-get_or heads page 0))
+      ∙ (shown-set heads frees words page (get_or heads page 0) new_free is.inside kept.sized.as_many_frees
+      ∙ ap (set (shown_table heads frees words) page) (used_page (get_or heads page 0) new_free words page is.used))
+
+  -- A page in use with a flag
+  pub flagged_shown : (page head : ℕ) (flag : Bool) → IsUsed page → head ≢ 0 → head / 2 ≡ get_or heads page 0 / 2 → (head % 2 == 1) ≡ flag
+      → shown_table (set heads page head) (set frees page (get_or frees page 0)) words ≡ with_flag (shown_table heads frees words) page flag
+  flagged_shown page head flag is some same is_flag =
+      shown-set heads frees words page head (get_or frees page 0) is.inside kept.sized.as_many_frees
+      ∙ ap (set (shown_table heads frees words) page)
+      (used_page_of head (get_or frees page 0) words page (get_or heads page 0 / 2) flag some same is_flag ∙ ap (option_map (flagged_as flag)) (sym (page_used page is)))
+
+  pub kept-flagged : (page head : ℕ) → IsUsed page → head ≢ 0 → head / 2 ≡ get_or heads page 0 / 2
+      → IsKept (set heads page head) (set frees page (get_or frees page 0)) words (indexed_again sets page (get_or heads page 0 / 2) head (get_or frees page 0)) free
+  kept-flagged page head is some same =
+      let class = class_used page is.used in
+      kept-used page head (get_or frees page 0) _ is some (or_right _ _ (ap is_class_size same ∙ class))
+      (λ slot past. kept.pages.no_more_slots page slot (subst (λ s. slots_in s ≤ slot) same past))
+      (indexed-set heads frees sets page (get_or heads page 0 / 2) head (get_or frees page 0) kept.indexed kept.sized.as_many_sets is.inside kept.sized.few_pages kept.sized.as_many_frees class (inr refl) (inr same))
+      (length-indexed_again sets page (get_or heads page 0 / 2) head (get_or frees page 0))
+      (λ offset small none. inl (λ word. none (record { used = some; within = subst (λ s. offset / s < slots_in s) (sym same) word.within; taken = subst (λ s. has_bit (get_or frees page 0) (offset / s) ≡ false) (sym same) word.taken })))
+
+  -- A page without blocks freed
+  pub freed_shown : (page : ℕ) → IsUsed page → shown_table (set heads page 0) (set frees page 0) words ≡ set (shown_table heads frees words) page None
+  freed_shown page is = shown-set heads frees words page 0 0 is.inside kept.sized.as_many_frees
+
+  -- no slot of a page that has no block is taken
+  no_slot_taken : (page slot : ℕ) → IsUsed page → count_at (shown_table heads frees words) page ≡ 0 → slot < slots_in (get_or heads page 0 / 2) → has_bit (get_or frees page 0) slot ≢ false
+  no_slot_taken page slot is none within taken =
+      let empty : get_or (shown_slots (get_or frees page 0) words page (get_or heads page 0 / 2)) slot None ≡ None =
+      all_empty _ slot (sym (ap (λ p. unwrap_or (option_map live_in p) 0) (page_used page is)) ∙ none) in
+      none-some _ (sym empty ∙ (slot_at (get_or frees page 0) words page (get_or heads page 0 / 2) slot within ∙ ap (λ b. if b then None else Some (words_from words (256 * page + slot * (get_or heads page 0 / 2)) (get_or heads page 0 / 2))) taken))
+
+  pub kept-freed : (page : ℕ) → IsUsed page → count_at (shown_table heads frees words) page ≡ 0 → IsKept (set heads page 0) (set frees page 0) words (indexed_again sets page (get_or heads page 0 / 2) 0 0) (free + 1)
+  kept-freed page is none =
+      kept-set page 0 0 (free + 1) _ is.inside refl (λ slot past. has_bit-zero slot)
+      (indexed-set heads frees sets page (get_or heads page 0 / 2) 0 0 kept.indexed kept.sized.as_many_sets is.inside kept.sized.few_pages kept.sized.as_many_frees (class_used page is.used) (inr refl) (inl refl))
+      (length-indexed_again sets page (get_or heads page 0 / 2) 0 0)
+      (λ offset small not_block. inl (λ word. no_slot_taken page (offset / (get_or heads page 0 / 2)) is none word.within word.taken))
+      (omega (arith, kept.free_count, free_pages-freed (shown_table heads frees words) page _ (page_used page is)))
+
+  module _ (place : ℕ) where
+    abbrev a_page : ℕ
+    a_page = place / 64
+
+    abbrev a_slot : ℕ
+    a_slot = place % 64
+
+    abbrev a_head : ℕ
+    a_head = get_or heads (place / 64) 0
+
+    abbrev a_free : ℕ
+    a_free = get_or frees (place / 64) 0
+
+    -- A slot given back whose words are 0
+    pub released_shown : IsTaken heads frees place → shown_table heads (set frees a_page (with_bit a_free a_slot)) words ≡ with_block (shown_table heads frees words) place None
+    released_shown is =
+        let used : IsUsed a_page = record { inside = is.inside; used = is.used } in
+        shown-free a_page (with_bit a_free a_slot) used
+        ∙ ap (set (shown_table heads frees words) a_page)
+        (ap (λ slots. Some (page_of (a_head / 2) (a_head % 2 == 1) slots)) (slots-released heads frees words place kept.pages)
+        ∙ ap (option_map (page_with a_slot None)) (sym (page_used a_page used)))
+
+    pub kept-released : IsTaken heads frees place → ((offset : ℕ) → a_slot * (a_head / 2) ≤ offset → offset < a_slot * (a_head / 2) + a_head / 2 → get_or words (256 * a_page + offset) 0 ≡ 0)
+        → IsKept heads (set frees a_page (with_bit a_free a_slot)) words (indexed_after sets a_page (a_head / 2) a_head a_free (with_bit a_free a_slot)) free
+    kept-released is zeros =
+        kept-free a_page (with_bit a_free a_slot) (record { inside = is.inside; used = is.used })
+        (λ slot past. has_bit-set_other a_free a_slot slot (omega arith) (λ e. absurd (omega (arith, is.within))) ∙ kept.pages.no_more_slots a_page slot past)
+        (loses-released heads frees words place kept.pages kept.clean is zeros)
+
+    -- Places that are free for a class -----------------------------------------------------------
+
+    pub free_within : (size : ℕ) → IsFreeFor (shown_table heads frees words) size place → a_page < length heads
+    free_within size is = omega (arith, is.inside, length-shown heads frees words)
+
+    record FreeUsed (size : ℕ) : Type 0 where
+      pub page_is_used : IsUsed a_page
+      pub same : a_head / 2 ≡ size
+      pub within : a_slot < slots_in (a_head / 2)
+      pub bit : has_bit a_free a_slot ≡ true
+
+    free_used : (size : ℕ) → IsFreeFor (shown_table heads frees words) size place → a_head ≢ 0 → FreeUsed size
+    free_used size is used =
+        let inside = free_within size is in
+        let page_is_used : IsUsed a_page = record { inside = inside; used = used } in
+        let at = page_used a_page page_is_used in
+        let within : a_slot < length (shown_slots a_free words a_page (a_head / 2)) = subst (λ p. a_slot < length (page_for size p).slots) at is.within in
+        let in_slots : a_slot < slots_in (a_head / 2) = omega (arith, within, length-tabulate (shown_slot a_free words a_page (a_head / 2)) 0 (slots_in (a_head / 2))) in
+        record {
+          page_is_used = page_is_used;
+          same = sym (ap (λ p. (page_for size p).class_size) at) ∙ is.of_class;
+          within = in_slots;
+          bit = elim (cases_Bool (has_bit a_free a_slot)) [
+            | inl set ↦ set
+            | inr clear ↦ absurd (none-some _ (sym is.empty ∙ block_at-shown heads frees words place (record { inside = inside; used = used; within = in_slots; taken = clear })))
+          ];
+        }
+
+    free_fresh : (size : ℕ) → IsFreeFor (shown_table heads frees words) size place → a_head ≡ 0 → a_slot < slots_in size
+    free_fresh size is none =
+        let at = page_at-shown heads frees words a_page (free_within size is) ∙ free_page a_head a_free words a_page none in
+        let within : a_slot < length {A = Option (List ℕ)} (replicate (slots_in size) None) = subst (λ p. a_slot < length (page_for size p).slots) at is.within in
+        omega (arith, within, length-replicate {A = Option (List ℕ)} (slots_in size) None)
+
+    -- A place taken in a page in use
+    pub taken_shown_used : (size : ℕ) → IsFreeFor (shown_table heads frees words) size place → a_head ≢ 0
+        → shown_table heads (set frees a_page (without_bit a_free a_slot)) words ≡ with_taken (shown_table heads frees words) size place (replicate size 0)
+    taken_shown_used size is used =
+        let its = free_used size is used in
+        let class = size_used a_page used in
+        shown-free a_page (without_bit a_free a_slot) its.page_is_used
+        ∙ ap (λ p. set (shown_table heads frees words) a_page (Some p))
+        (ap (page_of (a_head / 2) (a_head % 2 == 1)) (slots-taken heads frees words place kept.pages (a_head / 2) a_free class.few (λ i small. clean-used heads frees words place kept.pages kept.clean i class its.within its.bit small))
+        ∙ (ap (λ s. page_with a_slot (Some (replicate s 0)) (page_of (a_head / 2) (a_head % 2 == 1) (shown_slots a_free words a_page (a_head / 2)))) its.same
+        ∙ ap (λ p. page_with a_slot (Some (replicate size 0)) (page_for size p)) (sym (page_used a_page its.page_is_used))))
+
+    pub kept-taken_used : (size : ℕ) → IsFreeFor (shown_table heads frees words) size place → a_head ≢ 0
+        → IsKept heads (set frees a_page (without_bit a_free a_slot)) words (indexed_after sets a_page size a_head a_free (without_bit a_free a_slot)) free
+    kept-taken_used size is used =
+        let its = free_used size is used in
+        subst (λ s. IsKept heads (set frees a_page (without_bit a_free a_slot)) words (indexed_after sets a_page s a_head a_free (without_bit a_free a_slot)) free) its.same
+        (kept-free a_page (without_bit a_free a_slot) its.page_is_used
+        (λ slot past. has_bit-less a_free a_slot slot (kept.pages.no_more_slots a_page slot past))
+        (λ offset small none. inl (λ word. none (record { used = word.used; within = word.within; taken = has_bit-less a_free a_slot _ word.taken }))))
+
+    -- A place taken in a free page
+    fresh_page : (size : ℕ) → is_class_size size ≡ true → IsFreeFor (shown_table heads frees words) size place → a_head ≡ 0
+        → shown_page (2 * size) (without_bit (2 ^ slots_in size - 1) a_slot) words a_page ≡ Some (page_with a_slot (Some (replicate size 0)) (page_for size (page_at (shown_table heads frees words) a_page)))
+    fresh_page size class is none =
+        let inside = free_within size is in
+        let its = class_is size class in
+        let within = free_fresh size is none in
+        used_page_of (2 * size) (without_bit (2 ^ slots_in size - 1) a_slot) words a_page size false (λ e. absurd (omega (arith, its.least))) (omega arith) (ne_eqb _ _ (λ e. absurd (omega arith)))
+        ∙ ap Some
+        (ap (page_of size false)
+        (slots-taken heads frees words place kept.pages size (2 ^ slots_in size - 1) its.few
+        (λ i small. ap (λ k. get_or words k 0) (omega arith) ∙ clean-free heads frees words place kept.pages kept.clean (a_slot * size + i) none (in_page size a_slot i its within small))
+        ∙ ap (λ slots. set slots a_slot (Some (replicate size 0))) (slots-fresh heads frees words place kept.pages size))
+        ∙ ap (λ p. page_with a_slot (Some (replicate size 0)) (page_for size p)) (sym (page_at-shown heads frees words a_page inside ∙ free_page a_head a_free words a_page none)))
+
+    pub taken_shown_fresh : (size : ℕ) → is_class_size size ≡ true → IsFreeFor (shown_table heads frees words) size place → a_head ≡ 0
+        → shown_table (set heads a_page (2 * size)) (set frees a_page (without_bit (2 ^ slots_in size - 1) a_slot)) words ≡ with_taken (shown_table heads frees words) size place (replicate size 0)
+    taken_shown_fresh size class is none =
+        shown-set heads frees words a_page (2 * size) (without_bit (2 ^ slots_in size - 1) a_slot) (free_within size is) kept.sized.as_many_frees
+        ∙ ap (set (shown_table heads frees words) a_page) (fresh_page size class is none)
+
+    pub kept-taken_fresh : (size : ℕ) → is_class_size size ≡ true → IsFreeFor (shown_table heads frees words) size place → a_head ≡ 0
+        → IsKept (set heads a_page (2 * size)) (set frees a_page (without_bit (2 ^ slots_in size - 1) a_slot)) words (indexed_again sets a_page size (2 * size) (without_bit (2 ^ slots_in size - 1) a_slot)) (free - 1)
+    kept-taken_fresh size class is none =
+        let inside = free_within size is in
+        let half : 2 * size / 2 ≡ size = omega arith in
+        kept-set a_page (2 * size) (without_bit (2 ^ slots_in size - 1) a_slot) (free - 1) _ inside
+        (or_right (2 * size == 0) (is_class_size (2 * size / 2)) (ap is_class_size half ∙ class))
+        (λ slot past. has_bit-less (2 ^ slots_in size - 1) a_slot slot (has_bit-ones_above (slots_in size) slot (subst (λ s. slots_in s ≤ slot) half past)))
+        (indexed-set heads frees sets a_page size (2 * size) (without_bit (2 ^ slots_in size - 1) a_slot) kept.indexed kept.sized.as_many_sets inside kept.sized.few_pages kept.sized.as_many_frees class (inl none) (inr half))
+        (length-indexed_again sets a_page size (2 * size) (without_bit (2 ^ slots_in size - 1) a_slot))
+        (λ offset small not_block. inl (λ word. word.used none))
+        (omega (
+          arith,
+          kept.free_count,
+          ap (λ p. free_pages (set (shown_table heads frees words) a_page p)) (fresh_page size class is none),
+          free_pages-taken (shown_table heads frees words) a_page (page_with a_slot (Some (replicate size 0)) (page_for size (page_at (shown_table heads frees words) a_page))) (omega (arith, inside, length-shown heads frees words)) (page_at-shown heads frees words a_page inside ∙ free_page a_head a_free words a_page none),
+        ))
+
+    pub fresh_counted : (size : ℕ) → IsFreeFor (shown_table heads frees words) size place → a_head ≡ 0 → 0 < free
+    fresh_counted size is none =
+        let inside = free_within size is in
+        omega (arith, kept.free_count, free_pages-some (shown_table heads frees words) a_page (omega (arith, inside, length-shown heads frees words)) (page_at-shown heads frees words a_page inside ∙ free_page a_head a_free words a_page none))
+
+-- a place that is free for a class, told of the words
+pub free_of : (heads frees words : List ℕ) (table : Table (List ℕ)) (size place : ℕ) → shown_table heads frees words ≡ table → IsFreeFor table size place → IsFreeFor (shown_table heads frees words) size place
+free_of heads frees words table size place shown is = subst (λ t. IsFreeFor t size place) (sym shown) is
+
+-- A block given back: its words set to 0, and its slot free
+module _ (heads frees words new : List ℕ) (sets : List Bool) (free : ℕ) (kept : IsKept heads frees words sets free) (place : ℕ) (is : IsTaken heads frees place)
+    (zeroed : IsZeroed words new (256 * (place / 64) + (place % 64) * (get_or heads (place / 64) 0 / 2)) (256 * (place / 64) + (place % 64) * (get_or heads (place / 64) 0 / 2) + get_or heads (place / 64) 0 / 2)) where
+  cleared : IsKept heads frees new sets free
+  cleared = kept-block heads frees words sets free kept place new is (zeroed_inside words new _ _ zeroed)
+
+  pub kept-given_back : IsKept heads (set frees (place / 64) (with_bit (get_or frees (place / 64) 0) (place % 64))) new (indexed_after sets (place / 64) (get_or heads (place / 64) 0 / 2) (get_or heads (place / 64) 0) (get_or frees (place / 64) 0) (with_bit (get_or frees (place / 64) 0) (place % 64))) free
+  kept-given_back = kept-released heads frees new sets free cleared place is (λ offset from under. zeroed.zeros (256 * (place / 64) + offset) (omega arith) (omega arith))
+
+  pub given_back_shown : shown_table heads (set frees (place / 64) (with_bit (get_or frees (place / 64) 0) (place % 64))) new ≡ with_block (shown_table heads frees words) place None
+  given_back_shown =
+      released_shown heads frees new sets free cleared place is
+      ∙ (ap (λ t. with_block t place None) (shown-block heads frees words place kept.pages new is (zeroed_inside words new _ _ zeroed))
+      ∙ block_twice (shown_table heads frees words) place _ None (page_of_block _ place (ap is_some (block_at-shown heads frees words place is))))

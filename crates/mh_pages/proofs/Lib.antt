@@ -1,0 +1,13 @@
+pub mod TableLemmas
+pub mod ShownLemmas
+pub mod WriteLemmas
+pub mod IndexLemmas
+pub mod LeastLemmas
+pub mod LowerLemmas
+pub mod CountLemmas
+pub mod LiveLemmas
+pub mod OpenLemmas
+pub mod CleanLemmas
+pub mod KeptLemmas
+pub mod CopyLemmas
+pub mod HeaderLemmas

@@ -1,0 +1,5 @@
+pub mod Words
+pub mod Addresses
+pub mod Shown
+pub mod Indexed
+pub mod Kept

@@ -1,0 +1,7 @@
+//! Pages of words, and the least place of a class.
+#![tactic(auto)]
+
+pub mod address;
+pub mod header;
+mod index;
+pub mod pages;
