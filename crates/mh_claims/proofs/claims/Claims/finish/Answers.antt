@@ -1,4 +1,4 @@
-use Rattle.std.proofs.Common.{arith, ◌≡◌, ℕ, ◌∷◌, ◌++◌, [], true, length, map, ap, ◌∙◌, sym, subst, Some}
+use Rattle.std.proofs.Common.{arith, ◌≡◌, ℕ, ◌∷◌, ◌++◌, [], true, length, ap, ◌∙◌, sym, subst, Some}
 use Rattle.std.proofs.lemmas.List.Elements.{All-pop}
 use Rattle.std.proofs.lemmas.List.{nil_from_length, length-map}
 use Rattle.atomic_table.specs.Table.{Seen}

@@ -1,4 +1,4 @@
-use Rattle.std.proofs.Common.{arith, ◌≡◌, ◌-◌, ◌∷◌, ℕ, suc, [], drop, replicate, ap, ◌∙◌, sym, subst, refl}
+use Rattle.std.proofs.Common.{arith, ◌≡◌, ◌-◌, ℕ, suc, [], drop, replicate, ap, ◌∙◌, sym, subst, refl}
 use Rattle.std.proofs.lemmas.List.Elements.{All-push}
 use Rattle.atomic_table.specs.Table.{Me}
 use Rattle.mh_model.specs.History.{has_ended}
