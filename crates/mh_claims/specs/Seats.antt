@@ -10,21 +10,21 @@ pub record ClaimsView : Type 0 where
   pub seats : ℕ
 
 -- A seat: the table and the bound of its claims, and the numbers that it drew, in order
-pub record SeatView : Type 0 where
+pub record DrawSeatView : Type 0 where
   pub table : TableId
   pub bound : ℕ
   pub drawn : List ℕ
 
 -- a seat draws from these claims
-abbrev pub IsOf : ClaimsView → SeatView → Type 0
+abbrev pub IsOf : ClaimsView → DrawSeatView → Type 0
 IsOf claims seat = (seat.table ≡ claims.table) × (seat.bound ≡ claims.bound)
 
 -- a seat has ended: it was answered with nothing
-abbrev pub seat_ended : SeatView → Bool
+abbrev pub seat_ended : DrawSeatView → Bool
 seat_ended seat = has_ended seat.bound seat.drawn
 
 -- a seat of these claims before its first draw
-pub record IsNew (claims : ClaimsView) (seat : SeatView) : Type 0 where
+pub record IsNew (claims : ClaimsView) (seat : DrawSeatView) : Type 0 where
   pub own : IsOf claims seat
   pub drawn : seat.drawn ≡ []
   pub going : seat_ended seat ≡ false

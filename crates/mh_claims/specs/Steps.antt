@@ -12,6 +12,6 @@ alone drawn = (drawn ∷ [], [])
 abbrev pub first_list : Me (Unit {0}) Lists → List ℕ
 first_list me = slice_index_or me.0 0 []
 
--- A draw: the number found is appended to the list of the seat, whose earlier numbers are below it
+-- A draw: the number found is appended to the list of the seat, whose last number was below it
 abbrev pub Draws : Step (Unit {0}) → Me (Unit {0}) Lists → ℕ → Me (Unit {0}) Lists → Type 0
 Draws step before found after = (after ≡ alone (first_list before ++ found ∷ [])) × (next_of (first_list before) ≤ found)

@@ -84,9 +84,9 @@ pub struct DrawSeat {
 }
 
 impl Model for DrawSeat {
-    ghost use Rattle.mh_claims.specs.Seats.{SeatView};
+    ghost use Rattle.mh_claims.specs.Seats.{DrawSeatView};
 
-    ghost Value = { SeatView };
+    ghost Value = { DrawSeatView };
 
     ghost use Rattle.std.specs.Prelude.{◌≡◌};
     ghost use Rattle.mh_model.specs.History.{has_ended};

@@ -4,12 +4,12 @@ use Rattle.std.proofs.lemmas.List.{nil_from_length, length-map}
 use Rattle.atomic_table.specs.Table.{Seen}
 use Rattle.mh_model.specs.History.{times_drawn}
 use Rattle.mh_seat_laws.specs.ClaimWord.{Lists, IsClaimed}
-use Rattle.mh_claims.specs.Seats.{ClaimsView, SeatView, IsOf, seat_ended}
+use Rattle.mh_claims.specs.Seats.{ClaimsView, DrawSeatView, IsOf, seat_ended}
 use Rattle.mh_claims.proofs.ClaimSteps.{join-kept}
 use Rattle.mh_claims.proofs.FinishedClaims.{lists_of, lists_of-pop, lists_of-ended, finished-drawn_once, AllEnded}
 use Rattle.mh_claims.proofs.claims.Claims.finish.Goals as goal
 
-abbrev IsDone : ClaimsView → SeatView → Type 0
+abbrev IsDone : ClaimsView → DrawSeatView → Type 0
 IsDone claims seat = IsOf claims seat × (seat_ended seat ≡ true)
 
 pub join_seat-requires : goal.join_seat-requires
@@ -51,7 +51,7 @@ returns c = λ number below.
     let lists : all.me.0 ≡ lists_of c.args.seats.items = ap (λ seats. lists_of seats ++ all.me.0) (sym none_left) ∙ c.loop-before.invariant.lists in
     let last = c.close_with.ensures.values.2 in
     let seen : Seen (IsClaimed about) all.id all.me.0 last.0 = subst (λ key. Seen (IsClaimed key) all.id all.me.0 last.0) c.self.invariant.3 last.1 in
-    let count : length all.me.0 ≡ claims.seats = omega (arith, ap length lists, length-map c.args.seats.items (λ (seat : SeatView). seat.drawn), c.args.seats.ok, c.requires.count, ap (λ view. view.seats) c.self.view_is) in
+    let count : length all.me.0 ≡ claims.seats = omega (arith, ap length lists, length-map c.args.seats.items (λ (seat : DrawSeatView). seat.drawn), c.args.seats.ok, c.requires.count, ap (λ view. view.seats) c.self.view_is) in
     let bound : claims.bound ≡ c.args.self.bound = ap (λ view. view.bound) c.self.view_is in
     let ended : AllEnded claims.bound all.me.0 = subst (AllEnded claims.bound) (sym lists) (subst (λ n. AllEnded n (lists_of c.args.seats.items)) (sym bound) (lists_of-ended c.args.self c.args.seats.items c.requires.each)) in
     subst (λ lists. times_drawn number lists ≡ 1) lists (finished-drawn_once about all.id all.me.0 last.0 seen count c.self.invariant.0 ended number (omega (arith, below, bound)))

@@ -3,7 +3,7 @@ use Rattle.std.proofs.lemmas.List.Elements.{All-push}
 use Rattle.atomic_table.specs.Table.{Me}
 use Rattle.mh_model.specs.History.{has_ended}
 use Rattle.mh_seat_laws.specs.ClaimWord.{Lists}
-use Rattle.mh_claims.specs.Seats.{ClaimsView, SeatView, IsNew}
+use Rattle.mh_claims.specs.Seats.{ClaimsView, DrawSeatView, IsNew}
 use Rattle.mh_claims.proofs.ClaimSteps.{opening-claimed, split-kept}
 use Rattle.mh_claims.proofs.claims.Claims.new.Goals as goal
 
@@ -12,7 +12,7 @@ rest_of : (before after : Me (Unit {0}) Lists) (count : ℕ) → before ≡ (rep
 rest_of before after count is cut = cut ∙ ap (λ (me : Me (Unit {0}) Lists). (drop 1 me.0, me.1)) is
 
 -- a seat that was just made is new
-made_new : (claims : ClaimsView) (seat made : SeatView) → seat ≡ made → made.table ≡ claims.table → made.bound ≡ claims.bound → made.drawn ≡ [] → IsNew claims seat
+made_new : (claims : ClaimsView) (seat made : DrawSeatView) → seat ≡ made → made.table ≡ claims.table → made.bound ≡ claims.bound → made.drawn ≡ [] → IsNew claims seat
 made_new claims seat made is table bound drawn = subst (IsNew claims) (sym is) (record { own = (table, bound); drawn = drawn; going = ap (has_ended made.bound) drawn })
 
 pub of_words-requires : goal.of_words-requires
