@@ -1,6 +1,6 @@
--- A part and its header.
-use Rattle.std.specs.Prelude.{◌≡◌, ◌+◌, ◌<◌, ◌≤◌, ◌^◌}
-use Rattle.mh_model.specs.Classes.{Part}
+-- A part and its header, and the parts of one object.
+use Rattle.std.specs.Prelude.{◌≡◌, ℕ, ◌+◌, ◌<◌, ◌≤◌, ◌^◌, List}
+use Rattle.mh_model.specs.Classes.{Part, parts}
 use Rattle.mh_classes.specs.Counts.{reference_count, number_count}
 
 -- a part has the references and numbers that its header tells, and each count in the header has 20 bits
@@ -14,3 +14,7 @@ pub record FitsItsHeader (part : Part) : Type 0 where
 pub record IsPart (part : Part) : Type 0 where
   pub few : part.references + part.numbers ≤ 60
   pub fits : FitsItsHeader part
+
+-- a list holds the parts of some object
+abbrev pub AreParts : List Part → Type 0
+AreParts list = (references : ℕ) × (numbers : ℕ) × (references + numbers ≤ 216000) × (list ≡ parts references numbers)

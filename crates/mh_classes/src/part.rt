@@ -1,7 +1,7 @@
 //! The parts of an object, each computed from its number.
 ghost use Rattle.std.specs.Prelude.{◌≡◌, ◌<◌, ◌≤◌, ◌+◌, Some, length, slice_get};
 ghost use Rattle.mh_model.specs.Classes.{class_of, part_words, plain_part, spine_part, run_count, middle_count, child_count, middle_spine, arraylet, parts};
-ghost use Rattle.mh_classes.specs.Fits.{FitsItsHeader};
+ghost use Rattle.mh_classes.specs.Fits.{AreParts, FitsItsHeader};
 
 use crate::class::{Class, class_of};
 use mh_model::shape::Shape;
@@ -207,6 +207,7 @@ impl Parts {
         ensures count { result ≡ length self.now }
         ensures some { 1 ≤ result }
         ensures few { result ≤ 3661 }
+        ensures object { AreParts self.now }
     {
         let fields = self.references + self.numbers;
         if fields <= RUN {

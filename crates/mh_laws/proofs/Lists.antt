@@ -1,7 +1,6 @@
 -- Lists: what is read after a write, and what holds of elements that are found.
 use Rattle.std.proofs.Common.{◌≡◌, ℕ, zero, suc, ◌==◌, ◌<◌, ◌⊎◌, inl, inr, Bool, true, false, ◌||◌, cond, List, [], ◌∷◌, length, get_or, set, replicate, Option, Some, None, IsSome, is_some, find, refl, sym, ap, ◌∙◌, subst, arith}
 use Rattle.std.specs.List.{list_all, list_any}
-use Rattle.mh_model.specs.Classes.{tabulate}
 use Rattle.std.proofs.lemmas.Bool.{and_parts, eqb-true, false≢true}
 use Rattle.std.proofs.lemmas.Option.{none-some, same_Some}
 
@@ -57,8 +56,3 @@ member-passes test n (m ∷ ns) all any =
     go : (b : Bool) → (m == n) ≡ b → (b || list_any (λ k. k == n) ns) ≡ true → test m ≡ true → (list_any (λ k. k == n) ns ≡ true → test n ≡ true) → test n ≡ true
     go true is h here ih = subst (λ k. test k ≡ true) (eqb-true m n is) here
     go false is h here ih = ih h
-
--- as many as are asked for
-pub length-tabulate : {X : Type 0} (f : ℕ → X) (first count : ℕ) → length (tabulate f first count) ≡ count
-length-tabulate f first zero = refl
-length-tabulate f first (suc count) = ap suc (length-tabulate f (suc first) count)

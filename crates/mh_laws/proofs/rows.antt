@@ -41,6 +41,7 @@ pub mod TraceLetters
 pub mod SnapshotsTaken
 pub mod QuantaCounted
 pub mod FoundInBatches
+pub mod StampsAndForwarders
 pub mod ChangedPages
 pub mod WorldsAfter
 pub mod ReachedObjects

@@ -24,7 +24,8 @@ use Rattle.mh_laws.proofs.objects.JoinedFields.{shape_is, by_header, has_none, a
 use Rattle.mh_laws.proofs.snapshots.Barriers.{IsWritable}
 use Rattle.mh_laws.proofs.snapshots.SessionCommands.{each_fails}
 use Rattle.mh_laws.proofs.following.SlotCommands.{births_at, shows_root, follows, refused_alike, own_tests}
-use Rattle.mh_laws.proofs.Lists.{below_length, length-tabulate}
+use Rattle.mh_model.proofs.TabulateLemmas.{length-tabulate}
+use Rattle.mh_laws.proofs.Lists.{below_length}
 
 -- Lists ------------------------------------------------------------------------------------------
 

@@ -16,7 +16,7 @@ use Rattle.mh_model.specs.Mutator.{HeapState, in_roots, with_root, with_roots_cl
 use Rattle.mh_model.specs.View.{birth_named, object_of, object_shown, heap_view}
 use Rattle.mh_model.specs.Invariant.{IsPlainAt, IsSound, KeepsSnapshot, IsKeeping}
 use Rattle.mh_laws.specs.Following.{has_no_place, Follows}
-use Rattle.mh_laws.proofs.showing.ObjectsShown.{read-tabulate}
+use Rattle.mh_model.proofs.TabulateLemmas.{get_or-tabulate}
 use Rattle.mh_laws.proofs.objects.JoinedFields.{shape_is, laid, number_read, reference_read}
 use Rattle.mh_laws.proofs.marking.BlockChanges.{resolve-live, roots_mark, no_sweep}
 use Rattle.mh_laws.proofs.snapshots.SessionCommands.{each_fails, not_null, has_reference, loaded_writable, field_held}
@@ -232,7 +232,7 @@ module _ (heap : HeapState) (keeping : IsKeeping heap) where
 
   pub object_view : (birth : ℕ) → birth < heap.next_birth → object_at (heap_view heap) birth ≡ object_shown c birth
   unfolding heap_view
-  object_view birth below = let e : 0 + birth ≡ birth = omega arith in read-tabulate (object_shown c) 0 heap.next_birth birth below ∙ ap (object_shown c) e
+  object_view birth below = let e : 0 + birth ≡ birth = omega arith in get_or-tabulate (object_shown c) 0 heap.next_birth birth None below ∙ ap (object_shown c) e
 
   pub shown_plain : (p : ℕ) (z : Block) → IsPlainAt c p z → z.part ≡ 0 → object_at (heap_view heap) z.birth ≡ Some (object_of c.table z)
   shown_plain p z plain first =

@@ -6,7 +6,8 @@ use Rattle.std.proofs.lemmas.Option.{none-some, same_Some}
 use Rattle.mh_model.specs.declared.shape.Shape.{Shape}
 use Rattle.mh_model.specs.declared.command.Command.TheVariants as command
 use Rattle.mh_model.specs.World.{Object, own_slot, object_at, with_change, with_number, with_reference, tests}
-use Rattle.mh_model.specs.Classes.{run_count, middle_count, tabulate}
+use Rattle.mh_model.specs.Classes.{run_count, middle_count}
+use Rattle.mh_model.proofs.TabulateLemmas.{tabulate-set}
 use Rattle.mh_model.specs.Pages.{Table, block_at, with_block}
 use Rattle.mh_model.specs.Table.{Block, Position, resolve, is_spine, is_tall, position_of, number_index, with_number_at, with_reference_at, reference_in}
 use Rattle.mh_model.specs.Collector.{Collector, with_shade}
@@ -27,19 +28,6 @@ use Rattle.mh_laws.proofs.showing.FoundBlocks.{shown-changed, shown-same}
 use Rattle.mh_laws.proofs.showing.AlikeTables.{IsAlike, position-same, birth-same, with_shade-alike}
 use Rattle.mh_laws.proofs.following.SlotCommands.{map-put, slot_shown, follows, own_tests, has_number, number_place, object_view, object_at_root, refused_alike}
 use Rattle.mh_laws.proofs.showing.MarkingShows.{alike-view}
-
--- Lists ------------------------------------------------------------------------------------------
-
-tabulate-set : {X : Type 0} (f g : ℕ → X) (first count k : ℕ) (v : X) → g (first + k) ≡ v → ((i : ℕ) → (i ≡ first + k → ⊥) → g i ≡ f i) → tabulate g first count ≡ set (tabulate f first count) k v
-tabulate-set f g first zero k v is same = refl
-tabulate-set f g first (suc count) zero v is same = ap₂ (λ x xs. x ∷ xs) (ap g (omega arith) ∙ is) (after (suc first) count (omega arith))
-  where
-    after : (from n : ℕ) → first < from → tabulate g from n ≡ tabulate f from n
-    after from zero past = refl
-    after from (suc n) past = ap₂ (λ x xs. x ∷ xs) (same from (λ e. omega (arith, e, past))) (after (suc from) n (omega (arith, past)))
-tabulate-set f g first (suc count) (suc k) v is same =
-    ap₂ (λ x xs. x ∷ xs) (same first (λ e. omega (arith, e)))
-    (tabulate-set f g (suc first) count k v (ap g (omega arith) ∙ is) (λ i apart. same i (λ e. apart (omega (arith, e)))))
 
 weaker : (A B : Block → Block → Type 0) → ((x x' : Block) → A x x' → B x x') → (i : ℕ) (ys ys' : List Block) → AreSameBut A i ys ys' → AreSameBut B i ys ys'
 weaker A B turn i [] ys' same = absurd same
@@ -291,7 +279,7 @@ module _ (heap : HeapState) (keeping : IsKeeping heap) where
       → heap_view (record heap { collector = d }) ≡ with_change (heap_view heap) (Some birth) change
   unfolding heap_view
   view_changed d birth change below slots at other = let e : 0 + birth ≡ birth = omega arith in ap₂ (λ objects slots. record { config = heap.config; objects = objects; slots = slots; ended = heap.ended })
-      (tabulate-set (object_shown c) (object_shown d) 0 heap.next_birth birth (option_map change (object_at (heap_view heap) birth)) (ap (object_shown d) e ∙ at ∙ ap (option_map change) (sym (object_view heap keeping birth below))) (λ i apart. other i (λ f. apart (f ∙ sym e))))
+      (tabulate-set (object_shown c) (object_shown d) 0 heap.next_birth birth (option_map change (object_at (heap_view heap) birth)) (λ i from to apart. other i (λ f. apart (f ∙ sym e))) (λ inside. ap (object_shown d) e ∙ at ∙ ap (option_map change) (sym (object_view heap keeping birth below))))
       slots
 
   module _ (place : ℕ) (z : Block) (plain : IsPlainAt c place z) (first : z.part ≡ 0) (index number : ℕ) (below : index < z.header.numbers) where

@@ -1,6 +1,6 @@
 -- Pages that are flagged, and blocks that are taken back.
 use Rattle.std.proofs.Common.{[], Bool, false, List, None, Option, refl, Some, true, ℕ, ◌∷◌, ◌≡◌}
-use Rattle.mh_model.specs.Pages.{Page, Table, with_flag, with_released}
+use Rattle.mh_model.specs.Pages.{Page, Table, class_at, count_at, flag_at, with_flag, with_released}
 
 -- a page of the greatest class with these slots
 abbrev page : Bool → List (Option ℕ) → Option (Page ℕ)
@@ -28,3 +28,15 @@ released = refl
 -- and with its page freed, where that is asked
 pub released_with_its_page : with_released two_pages 65 true ≡ page false (Some 7 ∷ None ∷ Some 9 ∷ None ∷ []) ∷ None ∷ None ∷ []
 released_with_its_page = refl
+
+-- the class, the flag and the blocks of a flagged page with one block
+pub page_told : (class_at two_pages 1 ≡ Some 64) × (flag_at two_pages 1 ≡ true) × (count_at two_pages 1 ≡ 1)
+page_told = (refl, refl, refl)
+
+-- a page that isn't flagged, with two blocks
+pub unflagged_page_told : (flag_at two_pages 0 ≡ false) × (count_at two_pages 0 ≡ 2)
+unflagged_page_told = (refl, refl)
+
+-- a free page has no class, no flag and no blocks
+pub free_page_told : (class_at two_pages 2 ≡ None) × (flag_at two_pages 2 ≡ false) × (count_at two_pages 2 ≡ 0)
+free_page_told = (refl, refl, refl)

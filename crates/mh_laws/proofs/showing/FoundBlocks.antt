@@ -1,9 +1,10 @@
 -- The block that the search for a birth finds, and when two collectors show the same.
-use Rattle.std.proofs.Common.{ap₂, ◌≡◌, ℕ, zero, suc, ◌+◌, ◌*◌, ◌/◌, ◌%◌, ◌<◌, ◌==◌, true, false, not, ◌&&◌, ◌∷◌, Option, Some, None, is_some, option_map, option_and_then, IsSome, refl, sym, ap, ◌∙◌, subst, arith, eqb-true, eq-eqb}
+use Rattle.std.proofs.Common.{◌≡◌, ℕ, ◌+◌, ◌*◌, ◌/◌, ◌%◌, ◌<◌, ◌==◌, true, false, not, ◌&&◌, Option, Some, None, is_some, option_map, option_and_then, IsSome, refl, sym, ap, ◌∙◌, subst, arith, eqb-true, eq-eqb}
 use Rattle.std.proofs.lemmas.Bool.{false≢true, and_parts}
 use Rattle.std.proofs.lemmas.Option.{none-some}
 use Rattle.mh_model.specs.World.{Object}
 use Rattle.mh_model.specs.Classes.{tabulate}
+use Rattle.mh_model.proofs.TabulateLemmas.{tabulate_same}
 use Rattle.mh_model.specs.Pages.{Page, page_at, block_in, block_at}
 use Rattle.mh_model.specs.Table.{Block, is_forwarder}
 use Rattle.mh_model.specs.Collector.{Collector}
@@ -109,5 +110,4 @@ module _ (n m : ℕ) (c d : Collector) (h : IsSound n c) (k : IsSound m d) (birt
       by (Some object) = refl
 
 pub tabulate-same : {X : Type 0} (f f' : ℕ → X) → ((i : ℕ) → f' i ≡ f i) → (first count : ℕ) → tabulate f' first count ≡ tabulate f first count
-tabulate-same f f' same first zero = refl
-tabulate-same f f' same first (suc count) = ap₂ (λ x xs. x ∷ xs) (same first) (tabulate-same f f' same (suc first) count)
+tabulate-same f f' same first count = tabulate_same f' f first count (λ i from below. same i)

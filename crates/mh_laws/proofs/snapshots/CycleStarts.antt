@@ -17,8 +17,9 @@ use Rattle.mh_laws.proofs.objects.Parts.{later_part, IsChild, parent_of, child_i
 use Rattle.mh_laws.proofs.objects.Headers.{header_is}
 use Rattle.mh_laws.proofs.objects.JoinedFields.{has_children, has_none, an_arraylet, arraylet_count}
 use Rattle.mh_laws.proofs.showing.FoundBlocks.{live_held, first-found, IsFirstAt}
-use Rattle.mh_laws.proofs.showing.ObjectsShown.{read-tabulate, IsFieldBlock, named-back, named-forth, refers-back, refers-forth, tabulate-read}
-use Rattle.mh_laws.proofs.Lists.{below_length, length-tabulate}
+use Rattle.mh_laws.proofs.showing.ObjectsShown.{IsFieldBlock, named-back, named-forth, refers-back, refers-forth, tabulate-read}
+use Rattle.mh_model.proofs.TabulateLemmas.{length-tabulate, get_or-tabulate}
+use Rattle.mh_laws.proofs.Lists.{below_length}
 
 pub births-view : (heap : HeapState) → births (heap_view heap) ≡ heap.next_birth
 unfolding heap_view
@@ -30,7 +31,7 @@ slot-view heap slot = refl
 
 pub object-view : (heap : HeapState) (birth : ℕ) → birth < heap.next_birth → object_at (heap_view heap) birth ≡ object_shown heap.collector birth
 unfolding heap_view
-object-view heap birth below = let e : 0 + birth ≡ birth = omega arith in read-tabulate (object_shown heap.collector) 0 heap.next_birth birth below ∙ ap (object_shown heap.collector) e
+object-view heap birth below = let e : 0 + birth ≡ birth = omega arith in get_or-tabulate (object_shown heap.collector) 0 heap.next_birth birth None below ∙ ap (object_shown heap.collector) e
 
 pub view-shown : (heap : HeapState) (birth : ℕ) (object : Object) → object_at (heap_view heap) birth ≡ Some object → object_shown heap.collector birth ≡ Some object
 unfolding heap_view

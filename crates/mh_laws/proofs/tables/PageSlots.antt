@@ -15,12 +15,14 @@ use Rattle.mh_laws.proofs.Lists.{below_length, get_or-set_either, find-passes, m
 
 -- a page has 1 to 64 slots of each class
 pub slots_in-class_size : (size : ℕ) → is_class_size size ≡ true → (0 < slots_in size) × (slots_in size ≤ 64)
+unfolding is_class_size
 slots_in-class_size size member =
     let (some, few) = and_parts (nat_lt 0 (slots_in size)) (nat_le (slots_in size) 64) (member-passes (λ s. nat_lt 0 (slots_in s) && nat_le (slots_in s) 64) size class_sizes refl member) in
     (ltb-true 0 (slots_in size) some, leb-true (slots_in size) 64 few)
 
 -- the class of so many words is one of the sizes
 pub class_of-class_size : (words size : ℕ) → class_of words ≡ Some size → is_class_size size ≡ true
+unfolding is_class_size
 class_of-class_size words size e = go (words == 0) e
   where
     go : (b : Bool) → (if b then None else find (λ s. nat_le words s) class_sizes) ≡ Some size → is_class_size size ≡ true

@@ -21,11 +21,11 @@ times_drawn-draw number word (suc seat) (list ∷ lists) inside =
     omega (arith, counts-append number list (flat_map (λ l. l) lists), counts-append number list (flat_map (λ l. l) (set lists seat (get_or lists seat [] ++ word ∷ []))), times_drawn-draw number word seat lists (omega arith))
 
 -- each number of a list is below a bound
-abbrev AllBelow : ℕ → List ℕ → Type 0
+abbrev pub AllBelow : ℕ → List ℕ → Type 0
 AllBelow bound [] = Unit {0}
 AllBelow bound (number ∷ numbers) = (number < bound) × AllBelow bound numbers
 
-below-has_ended : (bound : ℕ) (list : List ℕ) → has_ended bound list ≡ false → AllBelow bound list
+pub below-has_ended : (bound : ℕ) (list : List ℕ) → has_ended bound list ≡ false → AllBelow bound list
 below-has_ended bound [] goes = tt
 below-has_ended bound (number ∷ list) goes = go (nat_le bound number) refl goes (below-has_ended bound list)
   where
@@ -33,7 +33,7 @@ below-has_ended bound (number ∷ list) goes = go (nat_le bound number) refl goe
     go true is goes rest = let bad : true ≡ false = goes in cc
     go false is goes rest = (grind (arith, nat_tests), rest goes)
 
-only_last_past-append : (bound number : ℕ) (list : List ℕ) → AllBelow bound list → OnlyLastPast bound (list ++ number ∷ [])
+pub only_last_past-append : (bound number : ℕ) (list : List ℕ) → AllBelow bound list → OnlyLastPast bound (list ++ number ∷ [])
 only_last_past-append bound number [] below = tt
 only_last_past-append bound number (first ∷ []) below = (below.0, tt)
 only_last_past-append bound number (first ∷ next ∷ list) below = (below.0, only_last_past-append bound number (next ∷ list) below.1)

@@ -7,7 +7,7 @@ use Rattle.mh_model.specs.History.{ClaimState, IsDrawn, OnlyLastPast, has_ended,
 use Rattle.mh_seat_laws.specs.Laws.{AllHaveEnded}
 
 -- how often a number stands in a list
-abbrev counts : ℕ → List ℕ → ℕ
+abbrev pub counts : ℕ → List ℕ → ℕ
 counts number list = count_by (λ other. other == number) list
 
 -- how many numbers of a list aren't below a bound
@@ -19,7 +19,7 @@ abbrev between : ℕ → ℕ → List ℕ → ℕ
 between bound end list = count_by (λ other. nat_le bound other && nat_lt other end) list
 
 -- one number more counts where it passes the test
-count-cons : (test : ℕ → Bool) (number : ℕ) (list : List ℕ) → count_by test (number ∷ list) ≡ (if test number then 1 else 0) + count_by test list
+pub count-cons : (test : ℕ → Bool) (number : ℕ) (list : List ℕ) → count_by test (number ∷ list) ≡ (if test number then 1 else 0) + count_by test list
 count-cons test number list = sum_by-cons (λ x. if test x then 1 else 0) number list
 
 not_past : (bound number : ℕ) → number < bound → (if nat_le bound number then 1 else 0) ≤ 0
@@ -81,7 +81,7 @@ word-near_bound bound claim rule =
     let drawn : (number : ℕ) → number < claim.word → 1 ≤ counts number all = λ number lt. omega (arith, rule.each_once number, drawn_below number claim.word lt) in
     omega (arith, end_between bound claim.word all drawn, between_past bound claim.word all, one_past_each bound claim.drawn rule.only_last_past)
 
-itself : (number : ℕ) → 1 ≤ (if number == number then 1 else 0)
+pub itself : (number : ℕ) → 1 ≤ (if number == number then 1 else 0)
 itself number = grind (arith, nat_tests)
 
 past_test : (bound number : ℕ) → nat_le bound number ≡ true → bound ≤ number
@@ -99,13 +99,17 @@ ended-past bound (number ∷ list) ended = go (nat_le bound number) refl ended (
     go true same ended rest = (number, past_test bound number same, first_counts)
     go false same ended rest = let found = rest ended in (found.0, found.1, omega (arith, count-cons (λ other. other == found.0) number list, found.2))
 
-first_list : (lists : List (List ℕ)) → 0 < length lists → (number : ℕ) → counts number (get_or lists 0 []) ≤ times_drawn number lists
-first_list [] some number = absurd (omega arith)
-first_list (list ∷ lists) some number = omega (arith, sum_by-append (λ x. if x == number then 1 else 0) list (flat_map (λ l. l) lists))
+list-counts : (lists : List (List ℕ)) (seat number : ℕ) → counts number (get_or lists seat []) ≤ times_drawn number lists
+list-counts [] seat number = omega arith
+list-counts (list ∷ lists) zero number = omega (arith, sum_by-append (λ x. if x == number then 1 else 0) list (flat_map (λ l. l) lists))
+list-counts (list ∷ lists) (suc seat) number = omega (arith, sum_by-append (λ x. if x == number then 1 else 0) list (flat_map (λ l. l) lists), list-counts lists seat number)
+
+-- A number that a seat drew is below the word
+pub drawn-below : (bound : ℕ) (claim : ClaimState) → IsDrawn bound claim → (seat number : ℕ) → 1 ≤ counts number (get_or claim.drawn seat []) → number < claim.word
+drawn-below bound claim rule seat number drawn = below_drawn number claim.word (omega (arith, list-counts claim.drawn seat number, rule.each_once number))
 
 -- Where every seat has ended, each number below the bound is drawn once
 pub ended-drawn_once : (bound : ℕ) (claim : ClaimState) → IsDrawn bound claim → 0 < length claim.drawn → AllHaveEnded bound claim → (number : ℕ) → number < bound → times_drawn number claim.drawn ≡ 1
 ended-drawn_once bound claim rule some ended number lt =
     let found = ended-past bound (get_or claim.drawn 0 []) (ended 0 some) in
-    let drawn : 1 ≤ (if nat_lt found.0 claim.word then 1 else 0) = omega (arith, found.2, first_list claim.drawn some found.0, rule.each_once found.0) in
-    rule.each_once number ∙ drawn_below number claim.word (omega (arith, found.1, below_drawn found.0 claim.word drawn))
+    rule.each_once number ∙ drawn_below number claim.word (omega (arith, found.1, drawn-below bound claim rule 0 found.0 found.2))

@@ -34,7 +34,7 @@ at_each bound [] out k = tt
 at_each bound (l ∷ ls) out zero = out.0
 at_each bound (l ∷ ls) out (suc k) = at_each bound ls out.1 k
 
-both_run : (bound : ℕ) (v w : Lists) → AllRunOut bound v → AllRunOut bound w → AllRunOut bound (v ++ w)
+pub both_run : (bound : ℕ) (v w : Lists) → AllRunOut bound v → AllRunOut bound w → AllRunOut bound (v ++ w)
 both_run bound [] w a b = b
 both_run bound (l ∷ ls) w a b = (a.0, both_run bound ls w a.1 b)
 

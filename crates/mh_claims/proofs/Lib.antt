@@ -1,0 +1,2 @@
+pub mod ClaimSteps
+pub mod FinishedClaims

@@ -1,0 +1,36 @@
+-- Claims and a seat as contracts see them.
+use Rattle.std.specs.Prelude.{◌≡◌, ℕ, suc, Bool, false, List, [], ◌∷◌}
+use Rattle.atomic_table.specs.Seated.{TableId}
+use Rattle.mh_model.specs.History.{has_ended}
+
+-- Claims: the table of the word, the bound below which numbers are given out, and how many seats draw them
+pub record ClaimsView : Type 0 where
+  pub table : TableId
+  pub bound : ℕ
+  pub seats : ℕ
+
+-- A seat: the table and the bound of its claims, and the numbers that it drew, in order
+pub record DrawSeatView : Type 0 where
+  pub table : TableId
+  pub bound : ℕ
+  pub drawn : List ℕ
+
+-- a seat draws from these claims
+abbrev pub IsOf : ClaimsView → DrawSeatView → Type 0
+IsOf claims seat = (seat.table ≡ claims.table) × (seat.bound ≡ claims.bound)
+
+-- a seat has ended: it was answered with nothing
+abbrev pub seat_ended : DrawSeatView → Bool
+seat_ended seat = has_ended seat.bound seat.drawn
+
+-- a seat of these claims before its first draw
+pub record IsNew (claims : ClaimsView) (seat : DrawSeatView) : Type 0 where
+  pub own : IsOf claims seat
+  pub drawn : seat.drawn ≡ []
+  pub going : seat_ended seat ≡ false
+
+-- One more than the last number of a list, or 0: what the next number of the list isn't below
+abbrev pub next_of : List ℕ → ℕ
+next_of [] = 0
+next_of (number ∷ []) = suc number
+next_of (number ∷ next ∷ numbers) = next_of (next ∷ numbers)

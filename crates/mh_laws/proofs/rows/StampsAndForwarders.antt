@@ -1,0 +1,24 @@
+-- The stamp of a block changed, and a forwarder left in its place.
+use Rattle.std.proofs.Common.{[], false, List, None, Option, refl, Some, ℕ, ◌∷◌, ◌≡◌}
+use Rattle.mh_model.specs.Pages.{Page, Table}
+use Rattle.mh_model.specs.Table.{Block, resolve, stamp_at, with_forward_at, with_stamp_at}
+
+-- a block with this stamp and forward
+abbrev block : ℕ → Option ℕ → Option Block
+block stamp forward = Some (record { birth = 3; part = 1; header = record { references = 0; numbers = 1 }; stamp = stamp; forward = forward; references = []; numbers = 7 ∷ [] })
+
+-- one page of the greatest class with a block in two of its slots
+abbrev one_page : Option Block → Option Block → Table Block
+one_page first second = Some (record { class_size = 64; is_flagged = false; slots = first ∷ None ∷ second ∷ None ∷ [] }) ∷ []
+
+-- the stamp of the block at a place, and 0 where there is none
+pub stamps : (stamp_at (one_page (block 4 None) (block 5 None)) 2 ≡ 5) × (stamp_at (one_page (block 4 None) (block 5 None)) 1 ≡ 0)
+stamps = (refl, refl)
+
+-- another stamp in one block changes nothing else
+pub stamped : with_stamp_at (one_page (block 4 None) (block 5 (Some 0))) 2 6 ≡ one_page (block 4 None) (block 6 (Some 0))
+stamped = refl
+
+-- a forwarder keeps what else the block had, and leads to its copy
+pub forwarded : (with_forward_at (one_page (block 4 None) (block 5 None)) 2 0 ≡ one_page (block 4 None) (block 5 (Some 0))) × (resolve (one_page (block 4 None) (block 5 (Some 0))) 2 ≡ 0)
+forwarded = (refl, refl)
