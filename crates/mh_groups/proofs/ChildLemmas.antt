@@ -4,7 +4,8 @@ use Rattle.std.proofs.lemmas.Bool.{cases_Bool, leb-true, leb-false, ltb-true, lt
 use Rattle.std.proofs.lemmas.Option.{none-some, same_Some, slice_get_within}
 use Rattle.mh_model.specs.Classes.{Part, parts, run_count, middle_count}
 use Rattle.mh_classes.proofs.PartLemmas.{counts, count_large, small_at, first_at, middle_at, arraylet_at}
-use Rattle.mh_groups.specs.Making.{AreParts, HaveTheirChildren}
+use Rattle.mh_classes.specs.Fits.{AreParts}
+use Rattle.mh_groups.specs.Making.{HaveTheirChildren}
 
 -- a part is a spine whose children are among the parts, or it has no children and stands after every spine
 pub record HasChildren (r n index : ℕ) (part : Part) : Type 0 where
@@ -58,11 +59,11 @@ parts-have_children r n = record { within = within; last = last }
     ]
 
 pub have_children : (list : List Part) → AreParts list → HaveTheirChildren list
-have_children list are = subst HaveTheirChildren (sym are.2) (parts-have_children are.0 are.1)
+have_children list are = subst HaveTheirChildren (sym are.3) (parts-have_children are.0 are.1)
 
 -- an only part has no children
 pub only_part : (list : List Part) (part : Part) → AreParts list → length list ≡ 1 → slice_get list 0 ≡ Some part → part.children ≡ None
-only_part list part are one at = elim (part_at are.0 are.1 0 part (sym (ap (λ ps. slice_get ps 0) are.2) ∙ at)).case [
+only_part list part are one at = elim (part_at are.0 are.1 0 part (sym (ap (λ ps. slice_get ps 0) are.3) ∙ at)).case [
   | inr k ↦ k.0
-  | inl k ↦ let same : length list ≡ length (parts are.0 are.1) = ap length are.2 in let all = count_large are.0 are.1 k.3 in absurd (omega (arith, all, k.3))
+  | inl k ↦ let same : length list ≡ length (parts are.0 are.1) = ap length are.3 in let all = count_large are.0 are.1 k.3 in absurd (omega (arith, all, k.3))
 ]

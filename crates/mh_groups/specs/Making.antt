@@ -1,12 +1,8 @@
 -- Parts made one after the other, how they are taken back, and what they are before they are linked.
 use Rattle.std.specs.Prelude.{◌≡◌, ◌≤◌, ◌+◌, IsSome, ℕ, zero, suc, Bool, true, false, Some, None, List, length, get_or, replicate, slice_get}
-use Rattle.mh_model.specs.Classes.{Part, parts}
+use Rattle.mh_model.specs.Classes.{Part}
 use Rattle.mh_model.specs.Pages.{Table, page_number, block_at, count_at, with_released}
 use Rattle.mh_model.specs.Table.{Block}
-
--- a list holds the parts of some object
-abbrev pub AreParts : List Part → Type 0
-AreParts list = (references : ℕ) × (numbers : ℕ) × (list ≡ parts references numbers)
 
 -- the children of each part are among the parts, and after a part without children no part has any
 pub record HaveTheirChildren (list : List Part) : Type 0 where

@@ -2,7 +2,7 @@
 ghost use Rattle.std.specs.Prelude.{◌≡◌, ◌<◌, ◌≤◌, ◌^◌, ℕ, IsSome, IfOk, OnOk, OnErr, Some, None, length, get_or, map, take};
 ghost use Rattle.mh_model.specs.Pages.{block_at};
 ghost use Rattle.mh_model.specs.Table.{references_at, with_block_change, made_parts, linked_parts, made_group};
-ghost use Rattle.mh_groups.specs.Making.{AreParts, HaveTheirChildren, without_parts, AllCanBeUnmade, AreUnlinked};
+ghost use Rattle.mh_groups.specs.Making.{HaveTheirChildren, without_parts, AllCanBeUnmade, AreUnlinked};
 
 use mh_blocks::blocks::{Blocks, Full};
 use mh_classes::parts::Parts;
@@ -127,7 +127,6 @@ pub fn make_group(
     birth: Birth,
     stamp: u64,
 ) -> Result<Place, Full>
-    requires parts { AreParts parts.now }
     requires birth { birth < 2 ^ 62 }
     ensures made { IfOk result (λ place. made_group blocks.old birth stamp parts.now ≡ Some (record { place = place; table = blocks.new })) }
     ensures full { OnErr result (made_group blocks.old birth stamp parts.now ≡ None) }

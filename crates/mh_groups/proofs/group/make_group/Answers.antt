@@ -7,14 +7,14 @@ use Rattle.mh_groups.proofs.group.make_group.Goals as goal
 pub returns-then-count-eq1-clause-made : goal.returns-then-count-eq1-clause-made
 returns-then-count-eq1-clause-made c =
     let one : length c.args.parts.now ≡ 1 = omega arith in
-    IfOk-weaker c.make.result _ _ (λ place made. one_group c.args.blocks.now c.args.birth c.args.stamp c.args.parts.now c.get.result (record { place = place; table = c.make.new.self }) (sym c.get.ensures) one (only_part c.args.parts.now c.get.result c.requires.parts one (sym c.get.ensures)) made) c.make.ensures.made
+    IfOk-weaker c.make.result _ _ (λ place made. one_group c.args.blocks.now c.args.birth c.args.stamp c.args.parts.now c.get.result (record { place = place; table = c.make.new.self }) (sym c.get.ensures) one (only_part c.args.parts.now c.get.result c.count-count.ensures.object one (sym c.get.ensures)) made) c.make.ensures.made
 
 pub returns-then-count-eq1-clause-full : goal.returns-then-count-eq1-clause-full
 returns-then-count-eq1-clause-full c =
     on_err_weaker c.make.result (λ full. no_group c.args.blocks.now c.args.birth c.args.stamp c.args.parts.now c.get.result (sym c.get.ensures) (omega arith) full) c.make.ensures.full
 
 pub link_parts-requires-clause-children : goal.link_parts-requires-clause-children
-link_parts-requires-clause-children c = have_children c.args.parts.now c.requires.parts
+link_parts-requires-clause-children c = have_children c.args.parts.now c.count-count.ensures.object
 
 pub link_parts-requires-clause-unlinked : goal.link_parts-requires-clause-unlinked
 link_parts-requires-clause-unlinked c =

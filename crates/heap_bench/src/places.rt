@@ -1,8 +1,6 @@
-//! Times places taken and given back, and words read, over 4,096 pages. The figures go to standard
-//! error, since they differ from run to run.
-#![tactic(auto)]
+//! Places taken and given back, and headers read.
 
-use mh_classes::class::{class_of, Class};
+use mh_classes::class::{Class, class_of};
 use mh_model::place::Place;
 use mh_pages::pages::Pages;
 use std::io;
@@ -77,10 +75,11 @@ fn measure(rt: &HostRuntime, pages: &mut Pages, class: Class, step: u8) -> io::R
         _ => fill(pages, class, PLACES),
     };
     let time = start.elapsed(rt)?.as_nanos();
-    eprint!(rt; "step {step}: {time} ns for {done}\n")
+    eprint!(rt; "places {} words step {step}: {time} ns for {done}\n", class.size())
 }
 
-fn run(rt: &HostRuntime, words: usize) -> io::Result<()> {
+/// Times the places of the class for so many words.
+pub fn run(rt: &HostRuntime, words: usize) -> io::Result<()> {
     let Some(class) = class_of(words) else {
         return Ok(());
     };
@@ -91,10 +90,4 @@ fn run(rt: &HostRuntime, words: usize) -> io::Result<()> {
         measure(rt, &mut pages, class, step)?;
     }
     Ok(())
-}
-
-fn main(rt: HostRuntime) -> io::Result<()> {
-    run(&rt, 4)?;
-    run(&rt, 10)?;
-    run(&rt, 64)
 }
