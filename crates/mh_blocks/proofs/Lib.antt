@@ -5,4 +5,6 @@ pub mod BlockLemmas
 pub mod ReadLemmas
 pub mod WriteLemmas
 pub mod PackedLemmas
+pub mod FreeLemmas
 pub mod MadeLemmas
+pub mod MovedLemmas

@@ -1,3 +1,4 @@
 pub mod TableMaps
 pub mod Words
 pub mod Packed
+pub mod Headers

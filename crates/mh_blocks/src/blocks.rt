@@ -6,7 +6,7 @@ ghost use Rattle.mh_model.specs.Collector.{moved_table};
 ghost use Rattle.mh_pages.specs.Addresses.{address_in};
 
 use crate::packing::{
-    BIRTH, COUNTS, FORWARD, HEADER, STAMP, counts_word, header_in, number_count, part_in, place_in,
+    BIRTH, COUNTS, FORWARD, HEADER, STAMP, header_in, new_header, number_count, part_in, place_in,
     place_word, reference_count,
 };
 use mh_classes::class::Class;
@@ -16,7 +16,6 @@ use mh_model::memory::NoMemory;
 use mh_model::place::Place;
 use mh_model::shape::Shape;
 use mh_pages::address::Address;
-use mh_pages::header::Header;
 use mh_pages::pages::Pages;
 use std::alloc::Global;
 use std::marker::Model;
@@ -165,12 +164,7 @@ impl Blocks {
         ensures { IfSome (class_of (part_words part)) (λ size. self.new ≡ with_taken self.old size place (new_block birth stamp index part)) }
     {
         self.pages.take(part.class(), place);
-        let header = Header {
-            birth: birth.0 + 1,
-            counts: counts_word(index, part.header()),
-            stamp,
-            forward: place_word(None),
-        };
+        let header = new_header(birth, stamp, index, part.header());
         self.pages.set_header(place, header);
     }
 

@@ -3,19 +3,26 @@ ghost use Rattle.std.specs.Prelude.{◌≡◌, ◌<◌, ◌≤◌, ◌^◌, IfSo
 ghost use Rattle.mh_classes.specs.Counts.{reference_count, number_count};
 ghost use Rattle.mh_model.specs.Classes.{run_count, child_count};
 ghost use Rattle.mh_blocks.specs.Words.{place_in, part_in, header_in};
+ghost use Rattle.mh_blocks.specs.Headers.{IsNewHeader};
 
+use mh_model::birth::Birth;
 use mh_model::place::Place;
 use mh_model::shape::Shape;
+use mh_pages::header::Header;
 
-/// The words of a header by their numbers, and how many there are.
+/// Which word of a block has its birth.
 pub const BIRTH: usize = 0;
 
+/// Which has its part and its counts.
 pub const COUNTS: usize = 1;
 
+/// Which has its mark stamp.
 pub const STAMP: usize = 2;
 
+/// Which leads to where it moved.
 pub const FORWARD: usize = 3;
 
+/// How many words come before its fields.
 pub const HEADER: usize = 4;
 
 /// Each count of a header is below this number.
@@ -27,8 +34,24 @@ const RUN: usize = 60;
 /// The most fields of an object whose spine leads to its arraylets; above, it leads to middle spines.
 const SPINE_FIELDS: usize = 3600;
 
+/// The header of a block as it is made.
+pub fn new_header(birth: Birth, stamp: u64, part: usize, counts: Shape) -> Header
+    requires birth { birth < 2 ^ 62 }
+    requires part { part < 2 ^ 20 }
+    requires references { counts.references < 2 ^ 20 }
+    requires numbers { counts.numbers < 2 ^ 20 }
+    ensures { IsNewHeader birth stamp part counts result }
+{
+    Header {
+        birth: birth.0 + 1,
+        counts: counts_word(part, counts),
+        stamp,
+        forward: place_word(None),
+    }
+}
+
 /// The word of counts of this part with this header.
-pub fn counts_word(part: usize, header: Shape) -> u64
+fn counts_word(part: usize, header: Shape) -> u64
     requires part { part < 2 ^ 20 }
     requires references { header.references < 2 ^ 20 }
     requires numbers { header.numbers < 2 ^ 20 }
@@ -55,8 +78,8 @@ pub fn header_in(word: u64) -> Shape
     }
 }
 
+/// How many runs of 60 so many fields make.
 fn run_count(fields: usize) -> usize
-    requires { fields < 2 ^ 63 }
     ensures { result ≡ run_count fields }
 {
     fields.div_ceil(RUN)
@@ -64,7 +87,6 @@ fn run_count(fields: usize) -> usize
 
 /// How many children the spine of an object of so many fields has.
 fn child_count(fields: usize) -> usize
-    requires { fields < 2 ^ 63 }
     ensures { result ≡ child_count fields }
 {
     if fields <= SPINE_FIELDS {

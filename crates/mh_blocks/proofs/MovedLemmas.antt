@@ -1,0 +1,61 @@
+-- Blocks moved.
+use Rattle.std.proofs.Common.{◌≡◌, ◌≢◌, ℕ, ◌<◌, ◌^◌, List, [], length, Some, is_some, option_map, unwrap_or, IsSome, IfSome, sym, ap, ◌∙◌, subst, arith}
+use Rattle.std.proofs.lemmas.Bool.{false≢true}
+use Rattle.std.proofs.lemmas.Option.{same_Some}
+use Rattle.mh_model.specs.Pages.{Table, page_number, block_at, class_at, with_block, with_taken, IsFreeFor}
+use Rattle.mh_model.specs.Table.{Block}
+use Rattle.mh_model.specs.Collector.{moved_table}
+use Rattle.mh_pages.specs.Words.{words_at, with_word}
+use Rattle.mh_blocks.specs.Words.{place_in, block_of, blocks_of}
+use Rattle.mh_blocks.specs.Packed.{ArePacked}
+use Rattle.mh_blocks.proofs.TableMapLemmas.{block_at-table_map, with_taken-table_map}
+use Rattle.mh_blocks.proofs.PageMapLemmas.{class_at-table_map, free_above}
+use Rattle.mh_blocks.proofs.ChangeLemmas.{block_at-taken_other}
+use Rattle.mh_blocks.proofs.ReadLemmas.{words_there, header_within, small_place}
+use Rattle.mh_blocks.proofs.WriteLemmas.{with_word-forward}
+use Rattle.mh_blocks.proofs.PackedLemmas.{taken_packed, word_packed}
+use Rattle.mh_blocks.proofs.FreeLemmas.{if_some, at_some, free_for_class}
+
+-- a free place isn't that of a block
+free_apart : (table : Table (List ℕ)) (size place target : ℕ) → IsFreeFor table size target → IsSome (block_at table place) → place ≢ target
+free_apart table size place target free there same = false≢true (sym (ap is_some free.empty) ∙ subst (λ q. IsSome (block_at table q)) same there)
+
+-- the table with the words of a block copied to another place
+abbrev pub copied : Table (List ℕ) → ℕ → ℕ → ℕ → Table (List ℕ)
+copied table size place target = with_taken table size target (words_at table place)
+
+-- the words of a block copied, which stay where they were, and then its forwarding word written
+pub record IsMoved (table : Table (List ℕ)) (above : Table Block) (size place target : ℕ) : Type 0 where
+  pub free : IsFreeFor table size target
+  pub small : target < 2 ^ 62
+  pub there : IsSome (block_at (copied table size place target) place)
+  pub within : 3 < length (words_at (copied table size place target) place)
+  pub packed : (word : ℕ) → ArePacked (with_word (copied table size place target) place 3 word)
+  pub moved : (word : ℕ) → place_in word ≡ Some target
+      → IfSome (block_at above place) (λ block. IfSome (class_at above (page_number place)) (λ s. blocks_of (with_word (copied table size place target) place 3 word) ≡ moved_table above place (record { block = block; class_size = s; target = target })))
+
+moves_below : (table : Table (List ℕ)) (size place target : ℕ) → ArePacked table → IsSome (block_at (blocks_of table) place) → IsFreeFor table size target → class_at table (page_number place) ≡ Some size → IsMoved table (blocks_of table) size place target
+moves_below table size place target packed there free class =
+    let words = words_there table place packed there in
+    let all : ArePacked (copied table size place target) = taken_packed table size target (words_at table place) words.packed packed in
+    let still : block_at (copied table size place target) place ≡ Some (words_at table place)
+    = block_at-taken_other table size target place (words_at table place) (free_apart table size place target free (ap is_some words.is)) ∙ words.is in
+    record {
+      free = free;
+      small = small_place table target packed (free_above block_of table size target free).inside;
+      there = ap is_some still;
+      within = omega (arith, header_within table place words, ap (λ content. length (unwrap_or content [])) still);
+      packed = λ word. word_packed (copied table size place target) place 3 word (omega arith) all;
+      moved = λ word leads. if_some (block_at (blocks_of table) place) _ (λ block is.
+          at_some (class_at (blocks_of table) (page_number place)) _ size (class_at-table_map block_of table (page_number place) ∙ class)
+          (with_word-forward (copied table size place target) place word target all leads
+          ∙ ap (λ content. with_block (blocks_of (copied table size place target)) place (option_map (λ (b : Block). record b { forward = Some target }) content)) (block_at-table_map block_of (copied table size place target) place ∙ ap (option_map block_of) still ∙ sym words.block ∙ is)
+          ∙ ap (λ t. with_block t place (Some (record block { forward = Some target }))) (with_taken-table_map block_of table size target (words_at table place) ∙ ap (with_taken (blocks_of table) size target) (same_Some (block_of (words_at table place)) block (sym words.block ∙ is)))));
+    }
+
+pub moves : (table : Table (List ℕ)) (above : Table Block) (size place target : ℕ) → blocks_of table ≡ above → ArePacked table → IsSome (block_at above place) → IfSome (class_at above (page_number place)) (λ s. IsFreeFor above s target) → class_at table (page_number place) ≡ Some size
+    → IsMoved table above size place target
+moves table above size place target view packed there free class =
+    let above_class : class_at above (page_number place) ≡ Some size = ap (λ t. class_at t (page_number place)) (sym view) ∙ class_at-table_map block_of table (page_number place) ∙ class in
+    let below = free_for_class table above (class_at above (page_number place)) size target view free above_class in
+    subst (λ t. IsMoved table t size place target) view (moves_below table size place target packed (subst (λ t. IsSome (block_at t place)) (sym view) there) below class)
