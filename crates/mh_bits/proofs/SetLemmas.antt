@@ -203,7 +203,7 @@ module _ (words summaries : List ℕ) (number page word summary : ℕ) (summed :
   summed_at changed new same others =
       subst (λ row. IsSummed (set words (number * 64 + page / 64) changed) (set summaries row new)) at_row
       (summed-set words summaries (number * 64 + page / 64) changed new summed at_within (ap (has_bit new) at_column ∙ same)
-      (λ i l apart. others i l (λ e. apart (e ∙ sym at_column)) ∙ ap (λ w. has_bit w i) (read_summary ∙ ap (λ row. get_or summaries row 0) (sym at_row))))
+      (λ i l apart. others i l (λ e. apart (e ∙ sym at_column)) ∙ ap (λ w. has_bit w i) (read_summary ∙ ap (λ set_number. get_or summaries set_number 0) (sym at_row))))
 
   pub inserted_bits : bits_of (set words (number * 64 + page / 64) (with_bit word (page % 64))) ≡ set (bits_of words) (4096 * number + page) true
   inserted_bits =
