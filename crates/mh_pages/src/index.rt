@@ -1,7 +1,7 @@
-ghost use Rattle.std.specs.Prelude.{◌≡◌, ◌<◌, ◌≤◌, ◌*◌, ◌+◌, length, set};
+ghost use Rattle.std.specs.Prelude.{◌≡◌, ◌<◌, ◌≤◌, ◌*◌, ◌+◌, length, get_or, set};
 ghost use Rattle.mh_pages.specs.Indexed.{indexed_again, indexed_after, AllFree, HasRoomFor};
 
-use mh_bits::counted::Counted;
+use mh_bits::counted::{Counted, Tally};
 use mh_bits::page_sets::PageSets;
 use mh_classes::class::Class;
 
@@ -53,24 +53,24 @@ pub fn change(
     index(sets, page, class, head, free);
 }
 
-/// Gives a page with this head other free slots. Its sets stay where it had a free slot and has one.
+/// Gives a page other free slots. Its sets stay where it had a free slot and has one.
 pub fn change_free(
     heads: &Counted,
     frees: &mut Counted,
     sets: &mut PageSets,
     page: usize,
     class: Class,
-    head: u64,
-    before: u64,
-    after: u64,
+    free: u64,
 )
     requires { HasRoomFor page heads.now frees.old sets.old }
-    ensures frees { frees.new ≡ set frees.old page after }
-    ensures sets { sets.new ≡ indexed_after sets.old page class head before after }
+    ensures frees { frees.new ≡ set frees.old page free }
+    ensures sets { sets.new ≡ indexed_after sets.old page class (get_or heads.now page 0) (get_or frees.old page 0) free }
 {
-    frees.write(page, after);
-    if before == 0 || after == 0 {
-        index(sets, page, class, head, after);
+    let mut tally = Tally::new();
+    let before = frees.read(page, &mut tally);
+    frees.write(page, free);
+    if before == 0 || free == 0 {
+        index(sets, page, class, heads.read(page, &mut tally), free);
     }
 }
 

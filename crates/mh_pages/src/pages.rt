@@ -237,8 +237,6 @@ impl Pages {
                 &mut self.sets,
                 page,
                 class,
-                head,
-                before,
                 before & !slot,
             );
         }
@@ -275,8 +273,6 @@ impl Pages {
             &mut self.sets,
             page,
             class,
-            head,
-            before,
             before | 1 << place.slot(),
         );
     }
@@ -410,7 +406,8 @@ impl Pages {
             return false;
         }
         let size = class_of_head(head).size();
-        (place.slot() + 1) * size <= WORDS && self.frees.read(page, &mut tally) >> place.slot() & 1 == 0
+        (place.slot() + 1) * size <= WORDS
+            && self.frees.read(page, &mut tally) >> place.slot() & 1 == 0
     }
 
     /// Where the block at a place stands.

@@ -28,7 +28,7 @@ returns-then-head-eq0 c =
 
 pub invariant_of-self-else-head-eq0 : goal.invariant_of-self-else-head-eq0
 invariant_of-self-else-head-eq0 c =
-    rw (c.change_free.ensures.frees, c.change_free.ensures.sets, c.read-before.ensures.value, c.read-head.ensures.value, c.slot.ensures, c.page-page.ensures)
+    rw (c.change_free.ensures.frees, c.change_free.ensures.sets, c.read-before.ensures.value, c.slot.ensures, c.page-page.ensures)
     (kept-taken_used _ _ _ _ _ c.self.invariant _ _ (free_of _ _ _ _ _ _ c.self.view_is c.requires) (λ e. c.if-head-eq0.false (c.read-head.ensures.value ∙ (ap (λ k. get_or c.self.inside.heads k 0) c.page-page.ensures ∙ e))))
 
 pub returns-else-head-eq0 : goal.returns-else-head-eq0
