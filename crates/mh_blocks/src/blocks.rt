@@ -63,12 +63,14 @@ impl Blocks {
         self.pages.len()
     }
 
+    /// How many pages are free.
     pub fn free_pages(&self) -> usize
         ensures { result ≡ free_pages self.now }
     {
         self.pages.free_pages()
     }
 
+    /// The class of a page in use.
     pub fn class_at(&self, page: usize) -> Option<Class>
         requires { page < length self.now }
         ensures { result ≡ class_at self.now page }
@@ -76,6 +78,7 @@ impl Blocks {
         self.pages.class_at(page)
     }
 
+    /// Whether a page is in use and flagged.
     pub fn is_flagged(&self, page: usize) -> bool
         requires { page < length self.now }
         ensures { result ≡ flag_at self.now page }
@@ -99,6 +102,7 @@ impl Blocks {
         self.pages.has_denser(page, class)
     }
 
+    /// Flags a page in use, so that its blocks are to move away.
     pub fn flag(&mut self, page: usize)
         requires { IsSome (page_at self.old page) }
         ensures { self.new ≡ with_flag self.old page true }
@@ -106,6 +110,7 @@ impl Blocks {
         self.pages.flag(page);
     }
 
+    /// Takes the flag of a page in use.
     pub fn unflag(&mut self, page: usize)
         requires { IsSome (page_at self.old page) }
         ensures { self.new ≡ with_flag self.old page false }
@@ -145,7 +150,8 @@ impl Blocks {
         self.pages.is_taken(place)
     }
 
-    /// Where the words of a block stand.
+    /// Where the words of a block stand. Callers that read or write several of them get its address once, for the calls
+    /// whose names end in `_from`.
     pub fn address(&self, place: Place) -> Address
         requires { IsSome (block_at self.now place) }
         ensures { result ≡ address_in self.now place }
@@ -252,6 +258,7 @@ impl Blocks {
         self.stamp_from(self.address(place))
     }
 
+    /// The mark stamp of the block at an address.
     pub fn stamp_from(&self, address: Address) -> u64
         requires at { address ≡ address_in self.now address.place }
         requires there { IsSome (block_at self.now address.place) }
@@ -260,6 +267,7 @@ impl Blocks {
         self.pages.word_from(address, STAMP)
     }
 
+    /// Writes the mark stamp of a block.
     pub fn set_stamp(&mut self, place: Place, stamp: u64)
         requires { IsSome (block_at self.old place) }
         ensures { self.new ≡ with_stamp_at self.old place stamp }
@@ -268,6 +276,7 @@ impl Blocks {
         self.set_stamp_from(address, stamp);
     }
 
+    /// Writes the mark stamp of the block at an address.
     pub fn set_stamp_from(&mut self, address: Address, stamp: u64)
         requires at { address ≡ address_in self.old address.place }
         requires there { IsSome (block_at self.old address.place) }
@@ -284,6 +293,7 @@ impl Blocks {
         self.forward_from(self.address(place))
     }
 
+    /// The place that the block at an address moved to.
     pub fn forward_from(&self, address: Address) -> Option<Place>
         requires at { address ≡ address_in self.now address.place }
         requires there { IsSome (block_at self.now address.place) }
@@ -312,6 +322,7 @@ impl Blocks {
         self.reference_count_from(self.address(place))
     }
 
+    /// How many references the block at an address has itself.
     pub fn reference_count_from(&self, address: Address) -> usize
         requires at { address ≡ address_in self.now address.place }
         requires there { IsSome (block_at self.now address.place) }
@@ -338,6 +349,7 @@ impl Blocks {
         self.reference_from(self.address(place), index)
     }
 
+    /// A reference, as it stands, of the block at an address.
     pub fn reference_from(&self, address: Address, index: usize) -> Option<Place>
         requires at { address ≡ address_in self.now address.place }
         requires there { index < length (references_at self.now address.place) }
@@ -356,6 +368,7 @@ impl Blocks {
         Some(self.resolve(target))
     }
 
+    /// Writes a reference of a block: null, or the place of a block, be it a forwarder.
     pub fn store_ref(&mut self, place: Place, index: usize, reference: Option<Place>)
         requires there { index < length (references_at self.old place) }
         requires leads { Leads self.old reference }
@@ -365,6 +378,7 @@ impl Blocks {
         self.set_reference_from(address, index, reference);
     }
 
+    /// Writes a reference of the block at an address.
     pub fn set_reference_from(&mut self, address: Address, index: usize, reference: Option<Place>)
         requires at { address ≡ address_in self.old address.place }
         requires there { index < length (references_at self.old address.place) }
@@ -375,6 +389,7 @@ impl Blocks {
             .set_word_from(address, HEADER + index, place_word(reference));
     }
 
+    /// A number of a block; its numbers are counted apart from its references.
     pub fn load_int(&self, place: Place, index: usize) -> u64
         requires { index < length (numbers_at self.now place) }
         ensures { result ≡ number_at self.now place index }
@@ -384,6 +399,7 @@ impl Blocks {
         self.pages.word_from(address, HEADER + references + index)
     }
 
+    /// Writes a number of a block.
     pub fn store_int(&mut self, place: Place, index: usize, number: u64)
         requires { index < length (numbers_at self.old place) }
         ensures { self.new ≡ with_number_at self.old place index number }
