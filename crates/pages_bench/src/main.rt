@@ -2,7 +2,7 @@
 //! error, since they differ from run to run.
 #![tactic(auto)]
 
-use mh_classes::class::{class_of, Class};
+use mh_classes::class::{Class, class_of};
 use mh_model::place::Place;
 use mh_pages::pages::Pages;
 use std::io;
@@ -58,7 +58,9 @@ fn read(pages: &Pages, count: usize) -> usize {
     for k in 0..count {
         let place = Place(k.wrapping_mul(1_299_709) % PLACES);
         if let Some(header) = pages.header(place) {
-            sum = sum.wrapping_add(header.birth ^ header.counts ^ header.stamp ^ header.forward ^ 1);
+            sum = sum.wrapping_add(
+                header.birth ^ header.counts ^ header.stamp ^ header.forward ^ 1,
+            );
         }
     }
     sum as usize
