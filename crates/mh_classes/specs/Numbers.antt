@@ -3,10 +3,10 @@ use Rattle.std.specs.Prelude.{ℕ, suc, ◌==◌, List, [], ◌∷◌, if◌then
 use Rattle.mh_model.specs.Classes.{class_sizes}
 
 -- how many of these sizes stand before this one
-abbrev pub place_in : List ℕ → ℕ → ℕ
-place_in [] size = 0
-place_in (other ∷ sizes) size = if other == size then 0 else suc (place_in sizes size)
+abbrev pub index_in : List ℕ → ℕ → ℕ
+index_in [] size = 0
+index_in (other ∷ sizes) size = if other == size then 0 else suc (index_in sizes size)
 
 -- the number of the class of this size: how many classes are smaller
 unfoldable pub class_number : ℕ → ℕ
-class_number size = place_in class_sizes size
+class_number size = index_in class_sizes size

@@ -1,0 +1,16 @@
+-- A part and its header.
+use Rattle.std.specs.Prelude.{◌≡◌, ◌+◌, ◌<◌, ◌≤◌, ◌^◌}
+use Rattle.mh_model.specs.Classes.{Part}
+use Rattle.mh_classes.specs.Counts.{reference_count, number_count}
+
+-- a part has the references and numbers that its header tells, and each count in the header has 20 bits
+pub record FitsItsHeader (part : Part) : Type 0 where
+  pub references : part.references ≡ reference_count part.header
+  pub numbers : part.numbers ≡ number_count part.header
+  pub few_references : part.header.references < 2 ^ 20
+  pub few_numbers : part.header.numbers < 2 ^ 20
+
+-- what holds of every part of an object that isn't too large: it fits its header, and has at most 60 references and numbers
+pub record IsPart (part : Part) : Type 0 where
+  pub few : part.references + part.numbers ≤ 60
+  pub fits : FitsItsHeader part
