@@ -56,7 +56,9 @@ fn read(pages: &Pages, count: usize) -> usize {
     for k in 0..count {
         let place = Place(k.wrapping_mul(1_299_709) % PLACES);
         if let Some(header) = pages.header(place) {
-            sum = sum.wrapping_add(header.birth ^ header.counts ^ header.stamp ^ header.forward ^ 1);
+            sum = sum.wrapping_add(
+                header.birth ^ header.counts ^ header.stamp ^ header.forward ^ 1,
+            );
         }
     }
     sum as usize

@@ -1,4 +1,4 @@
-use Rattle.std.proofs.Common.{◌≡◌, ◌+◌, ◌*◌, ◌/◌, ◌≤◌, ◌∙◌, ap, sym, subst, arith, get_or}
+use Rattle.std.proofs.Common.{◌/◌, ◌∙◌, ap, sym, arith, get_or}
 use Rattle.std.proofs.lemmas.Bool.{lt-leb}
 use Rattle.mh_pages.proofs.ShownLemmas.{not_taken, bit_told}
 use Rattle.mh_pages.proofs.WriteLemmas.{block_fits, fits_slot}
