@@ -3,7 +3,7 @@ use Rattle.std.proofs.Common.{◌≡◌, ◌≢◌, ℕ, suc, ◌+◌, ◌-◌, 
 use Rattle.std.proofs.lemmas.Bool.{cases_lt}
 use Rattle.std.proofs.lemmas.List.{length-set}
 use Rattle.std.proofs.lemmas.Nat.{same_from_place}
-use Rattle.std.proofs.Math.Nat.{mul-le-mul_right}
+use Rattle.std.proofs.Math.Nat.{mul-le-mul_left, mul-le-mul_right}
 use Rattle.mh_model.specs.Classes.{slots_in}
 use Rattle.mh_model.specs.Pages.{Table, page_with, with_block}
 use Rattle.mh_model.proofs.TabulateLemmas.{tabulate_same, tabulate-set, tabulate-replicate}
@@ -27,6 +27,18 @@ pub slot_fits : (size slot : ℕ) → IsClass size → slot < slots_in size → 
 slot_fits size slot class within =
     let row : suc slot * size ≤ slots_in size * size = mul-le-mul_right size within in
     omega (arith, row, class.fit)
+
+-- and what lies in its page is a slot of it
+pub fits_slot : (size slot : ℕ) → 0 < size → (slot + 1) * size ≤ 256 → slot < slots_in size
+fits_slot size slot some fits = go (256 / size) (256 % size) (omega arith) (omega arith)
+  where
+    go : (q r : ℕ) → size * q + r ≡ 256 → r < size → slot < q
+    go q r split less = elim (cases_lt slot q) [
+      | inl below ↦ below
+      | inr above ↦
+          let rows : size * q ≤ size * slot = mul-le-mul_left size above in
+          absurd (omega (arith, rows))
+    ]
 
 -- the slot of a word of its page
 pub slot_of_word : (size slot offset : ℕ) → 0 < size → slot * size ≤ offset → offset < slot * size + size → offset / size ≡ slot

@@ -409,8 +409,8 @@ impl Pages {
         if head == 0 {
             return false;
         }
-        let slots = class_of_head(head).slots();
-        place.slot() < slots && self.frees.read(page, &mut tally) >> place.slot() & 1 == 0
+        let size = class_of_head(head).size();
+        (place.slot() + 1) * size <= WORDS && self.frees.read(page, &mut tally) >> place.slot() & 1 == 0
     }
 
     /// Where the block at a place stands.

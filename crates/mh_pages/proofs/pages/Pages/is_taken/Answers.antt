@@ -1,7 +1,7 @@
-use Rattle.std.proofs.Common.{◌/◌, ◌∙◌, ap, sym, arith, get_or}
-use Rattle.std.proofs.lemmas.Bool.{le-ltb}
-use Rattle.mh_model.specs.Classes.{slots_in}
+use Rattle.std.proofs.Common.{◌≡◌, ◌+◌, ◌*◌, ◌/◌, ◌≤◌, ◌∙◌, ap, sym, subst, arith, get_or}
+use Rattle.std.proofs.lemmas.Bool.{lt-leb}
 use Rattle.mh_pages.proofs.ShownLemmas.{not_taken, bit_told}
+use Rattle.mh_pages.proofs.WriteLemmas.{block_fits, fits_slot}
 use Rattle.mh_pages.proofs.pages.Pages.is_taken.Goals as goal
 
 pub returns-then-page-len : goal.returns-then-page-len
@@ -11,17 +11,20 @@ pub returns-then-head-eq0 : goal.returns-then-head-eq0
 returns-then-head-eq0 c =
     rw (← c.self.view_is) (not_taken _ _ c.self.inside.words _ (λ is. is.used (ap (λ k. get_or c.self.inside.heads k 0) (sym c.page-page.ensures) ∙ (sym c.read-head.ensures.value ∙ c.if-head-eq0.true))))
 
-pub returns-then-slot-slots : goal.returns-then-slot-slots
-returns-then-slot-slots c =
-    let few = ap slots_in c.class_of_head.ensures in
-    let head = ap (λ h. slots_in (h / 2)) (c.read-head.ensures.value ∙ ap (λ k. get_or c.self.inside.heads k 0) c.page-page.ensures) in
-    rw (← c.self.view_is, c.read.ensures.value, c.slot-then-slot-slots.ensures, c.page-page.ensures)
+pub returns-then-slot-size-le-WORDS : goal.returns-then-slot-size-le-WORDS
+returns-then-slot-size-le-WORDS c =
+    let head = c.read-head.ensures.value ∙ ap (λ k. get_or c.self.inside.heads k 0) c.page-page.ensures in
+    let size = c.size-size.ensures.value ∙ (c.class_of_head.ensures ∙ ap (λ h. h / 2) head) in
+    let fits = rw (c.slot.ensures, size) at c.if-slot-size-le-WORDS.true in
+    rw (← c.self.view_is, c.read.ensures.value, c.slot-then-slot-size-le-WORDS.ensures, c.page-page.ensures)
     (bit_told c.self.inside.heads c.self.inside.frees c.self.inside.words c.args.place (omega (arith, c.page-page.ensures, c.if-page-len.false, c.len.ensures))
-    (λ e. c.if-head-eq0.false (c.read-head.ensures.value ∙ (ap (λ k. get_or c.self.inside.heads k 0) c.page-page.ensures ∙ e))) (omega (arith, c.slot.ensures, c.if-slot-slots.true, c.slots-slots.ensures.value, few, head)))
+    (λ e. c.if-head-eq0.false (head ∙ e)) (fits_slot _ _ (omega (arith, size, c.size-size.ensures.some)) fits))
 
-pub returns-else-slot-slots : goal.returns-else-slot-slots
-returns-else-slot-slots c =
-    let few = ap slots_in c.class_of_head.ensures in
-    let head = ap (λ h. slots_in (h / 2)) (c.read-head.ensures.value ∙ ap (λ k. get_or c.self.inside.heads k 0) c.page-page.ensures) in
+pub returns-else-slot-size-le-WORDS : goal.returns-else-slot-size-le-WORDS
+returns-else-slot-size-le-WORDS c =
+    let head = c.read-head.ensures.value ∙ ap (λ k. get_or c.self.inside.heads k 0) c.page-page.ensures in
+    let size = c.size-size.ensures.value ∙ (c.class_of_head.ensures ∙ ap (λ h. h / 2) head) in
+    let over = rw (c.slot.ensures, size) at c.if-slot-size-le-WORDS.false in
     rw (← c.self.view_is)
-    (le-ltb _ _ c.if-slot-slots.false ∙ not_taken _ _ c.self.inside.words _ (λ is. absurd (omega (arith, is.within, c.slot.ensures, c.if-slot-slots.false, c.slots-slots.ensures.value, few, head))))
+    (lt-leb _ _ c.if-slot-size-le-WORDS.false
+    ∙ not_taken _ _ c.self.inside.words _ (λ is. absurd (omega (arith, over, block_fits c.self.inside.heads c.self.inside.frees c.self.inside.words c.args.place c.self.invariant.pages is))))

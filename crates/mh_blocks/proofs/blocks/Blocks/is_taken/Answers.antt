@@ -1,0 +1,7 @@
+use Rattle.std.proofs.Common.{◌∙◌, sym}
+use Rattle.mh_blocks.proofs.PageMapLemmas.{is_taken-table_map}
+use Rattle.mh_blocks.specs.Words.{block_of}
+use Rattle.mh_blocks.proofs.blocks.Blocks.is_taken.Goals as goal
+
+pub returns : goal.returns
+returns c = rw (← c.self.view_is) (c.is_taken.ensures ∙ sym (is_taken-table_map block_of c.self.inside.pages _))

@@ -1,0 +1,402 @@
+ghost use Rattle.std.specs.Prelude.{◌≡◌, ◌<◌, ◌≤◌, ◌^◌, IsSome, IfSome, IfOk, OnErr, Some, None, true, false, length, set, replicate, is_some};
+ghost use Rattle.mh_model.specs.Classes.{class_of, part_words};
+ghost use Rattle.mh_model.specs.Pages.{page_number, page_at, block_at, Leads, class_at, flag_at, count_at, has_denser, least_place, least_dense_place, free_pages, with_taken, with_released, with_flag, HaveTheirSlots, IsFreeFor};
+ghost use Rattle.mh_model.specs.Table.{references_at, reference_at, with_reference_at, numbers_at, number_at, with_number_at, stamp_at, with_stamp_at, forward_at, resolve, target_of, new_block, made_part};
+ghost use Rattle.mh_model.specs.Collector.{moved_table};
+ghost use Rattle.mh_pages.specs.Addresses.{address_in};
+
+use crate::packing::{
+    BIRTH, COUNTS, FORWARD, HEADER, STAMP, counts_word, header_in, number_count, part_in, place_in,
+    place_word, reference_count,
+};
+use mh_classes::class::Class;
+use mh_classes::parts::Part;
+use mh_model::birth::Birth;
+use mh_model::memory::NoMemory;
+use mh_model::place::Place;
+use mh_model::shape::Shape;
+use mh_pages::address::Address;
+use mh_pages::header::Header;
+use mh_pages::pages::Pages;
+use std::alloc::Global;
+use std::marker::Model;
+
+/// There is no place for a block of its class.
+#[derive(Clone, Copy, Debug, PartialEq, Eq)]
+pub struct Full;
+
+/// The table of blocks.
+#[derive(Drop)]
+pub struct Blocks {
+    pages: Pages,
+}
+
+impl Model for Blocks {
+    ghost use Rattle.mh_model.specs.Pages.{Table};
+    ghost use Rattle.mh_model.specs.Table.{Block};
+    ghost use Rattle.mh_blocks.specs.Words.{blocks_of};
+    ghost use Rattle.mh_blocks.specs.Packed.{ArePacked};
+
+    ghost Value = { Table Block };
+
+    ghost view = { λ blocks. blocks_of blocks.pages };
+
+    ghost invariant = { λ blocks. ArePacked blocks.pages };
+}
+
+/// Pages and places.
+impl Blocks {
+    /// All pages free.
+    pub fn open(alloc: Global, pages: usize) -> Result<Blocks, NoMemory>
+        requires { pages ≤ 4096 }
+        ensures { IfOk result (λ opened. opened ≡ replicate pages None) }
+    {
+        let pages = Pages::open(alloc, pages)?;
+        Ok(Blocks { pages })
+    }
+
+    /// How many pages there are.
+    pub fn len(&self) -> usize
+        ensures count { result ≡ length self.now }
+        ensures few { result ≤ 4096 }
+        ensures slots { HaveTheirSlots self.now }
+    {
+        self.pages.len()
+    }
+
+    pub fn free_pages(&self) -> usize
+        ensures { result ≡ free_pages self.now }
+    {
+        self.pages.free_pages()
+    }
+
+    pub fn class_at(&self, page: usize) -> Option<Class>
+        requires { page < length self.now }
+        ensures { result ≡ class_at self.now page }
+    {
+        self.pages.class_at(page)
+    }
+
+    pub fn is_flagged(&self, page: usize) -> bool
+        requires { page < length self.now }
+        ensures { result ≡ flag_at self.now page }
+    {
+        self.pages.is_flagged(page)
+    }
+
+    /// How many blocks a page has, forwarders too.
+    pub fn live_in(&self, page: usize) -> usize
+        requires { page < length self.now }
+        ensures count { result ≡ count_at self.now page }
+        ensures few { result ≤ 64 }
+    {
+        self.pages.live_in(page)
+    }
+
+    /// Whether a page below this one is of the class and unflagged.
+    pub fn has_denser(&self, page: usize, class: Class) -> bool
+        ensures { result ≡ has_denser self.now page class }
+    {
+        self.pages.has_denser(page, class)
+    }
+
+    pub fn flag(&mut self, page: usize)
+        requires { IsSome (page_at self.old page) }
+        ensures { self.new ≡ with_flag self.old page true }
+    {
+        self.pages.flag(page);
+    }
+
+    pub fn unflag(&mut self, page: usize)
+        requires { IsSome (page_at self.old page) }
+        ensures { self.new ≡ with_flag self.old page false }
+    {
+        self.pages.unflag(page);
+    }
+
+    /// Frees a page in use that has no block.
+    pub fn free_page(&mut self, page: usize)
+        requires used { IsSome (page_at self.old page) }
+        requires empty { count_at self.old page ≡ 0 }
+        ensures { self.new ≡ set self.old page None }
+    {
+        self.pages.free_page(page);
+    }
+
+    /// The least place of a class.
+    pub fn place(&self, class: Class) -> Option<Place>
+        ensures place { result ≡ least_place self.now class }
+        ensures free { IfSome result (IsFreeFor self.now class) }
+    {
+        self.pages.place(class)
+    }
+
+    /// The least free place in unflagged pages of a class.
+    pub fn place_dense(&self, class: Class) -> Option<Place>
+        ensures place { result ≡ least_dense_place self.now class }
+        ensures free { IfSome result (IsFreeFor self.now class) }
+    {
+        self.pages.place_dense(class)
+    }
+
+    /// Whether a block is at a place.
+    pub fn is_taken(&self, place: Place) -> bool
+        ensures { result ≡ is_some (block_at self.now place) }
+    {
+        self.pages.is_taken(place)
+    }
+
+    /// Where the words of a block stand.
+    pub fn address(&self, place: Place) -> Address
+        requires { IsSome (block_at self.now place) }
+        ensures { result ≡ address_in self.now place }
+    {
+        self.pages.address(place)
+    }
+}
+
+/// Blocks made, moved and taken back.
+impl Blocks {
+    /// Puts a part, as it is born, at a free place of its class.
+    pub fn make_at(&mut self, place: Place, part: Part, index: usize, birth: Birth, stamp: u64)
+        requires free { IfSome (class_of (part_words part)) (λ size. IsFreeFor self.old size place) }
+        requires birth { birth < 2 ^ 62 }
+        requires index { index < 3661 }
+        ensures { IfSome (class_of (part_words part)) (λ size. self.new ≡ with_taken self.old size place (new_block birth stamp index part)) }
+    {
+        self.pages.take(part.class(), place);
+        let header = Header {
+            birth: birth.0 + 1,
+            counts: counts_word(index, part.header()),
+            stamp,
+            forward: place_word(None),
+        };
+        self.pages.set_header(place, header);
+    }
+
+    /// Puts a part, as it is born, at the least place of its class.
+    pub fn make(
+        &mut self,
+        part: Part,
+        index: usize,
+        birth: Birth,
+        stamp: u64,
+    ) -> Result<Place, Full>
+        requires birth { birth < 2 ^ 62 }
+        requires index { index < 3661 }
+        ensures made { IfOk result (λ place. made_part self.old birth stamp index part ≡ Some (record { place = place; table = self.new })) }
+        ensures full { OnErr result (made_part self.old birth stamp index part ≡ None) }
+        ensures unchanged { OnErr result (self.new ≡ self.old) }
+    {
+        match self.place(part.class()) {
+            None => Err(Full),
+            Some(place) => {
+                self.make_at(place, part, index, birth, stamp);
+                Ok(place)
+            }
+        }
+    }
+
+    /// Takes the block at a place back, and frees its page where this is asked.
+    pub fn unmake(&mut self, place: Place, frees_page: bool)
+        requires there { IsSome (block_at self.old place) }
+        requires alone { frees_page ≡ true → count_at self.old (page_number place) ≡ 1 }
+        ensures { self.new ≡ with_released self.old place frees_page }
+    {
+        self.pages.release(place, frees_page);
+    }
+
+    /// Moves a block to a free place of its class, and leaves a forwarder.
+    pub fn relocate(&mut self, place: Place, to: Place)
+        requires there { IsSome (block_at self.old place) }
+        requires original { forward_at self.old place ≡ None }
+        requires free { IfSome (class_at self.old (page_number place)) (λ size. IsFreeFor self.old size to) }
+        ensures { IfSome (block_at self.old place) (λ block. IfSome (class_at self.old (page_number place)) (λ size. self.new ≡ moved_table self.old place (record { block = block; class_size = size; target = to }))) }
+    {
+        let class = self.pages.class_at(place.page()).unwrap();
+        self.pages.take_copy(class, to, place);
+        let address = self.pages.address(place);
+        self.pages
+            .set_word_from(address, FORWARD, place_word(Some(to)));
+    }
+}
+
+/// The headers of blocks.
+impl Blocks {
+    /// The birth of the object that a block is a part of.
+    pub fn birth(&self, place: Place) -> Birth
+        requires { IsSome (block_at self.now place) }
+        ensures { IfSome (block_at self.now place) (λ block. result ≡ block.birth) }
+    {
+        let address = self.pages.address(place);
+        Birth(self.pages.word_from(address, BIRTH) - 1)
+    }
+
+    /// Which part of its object a block is.
+    pub fn part(&self, place: Place) -> usize
+        requires { IsSome (block_at self.now place) }
+        ensures { IfSome (block_at self.now place) (λ block. result ≡ block.part) }
+    {
+        let address = self.pages.address(place);
+        part_in(self.pages.word_from(address, COUNTS))
+    }
+
+    /// The counts of a block's header, those of its object for part 0.
+    pub fn header(&self, place: Place) -> Shape
+        requires { IsSome (block_at self.now place) }
+        ensures { IfSome (block_at self.now place) (λ block. result ≡ block.header) }
+    {
+        let address = self.pages.address(place);
+        header_in(self.pages.word_from(address, COUNTS))
+    }
+
+    /// The mark stamp of a block.
+    pub fn stamp(&self, place: Place) -> u64
+        requires { IsSome (block_at self.now place) }
+        ensures { result ≡ stamp_at self.now place }
+    {
+        self.stamp_from(self.address(place))
+    }
+
+    pub fn stamp_from(&self, address: Address) -> u64
+        requires at { address ≡ address_in self.now address.place }
+        requires there { IsSome (block_at self.now address.place) }
+        ensures { result ≡ stamp_at self.now address.place }
+    {
+        self.pages.word_from(address, STAMP)
+    }
+
+    pub fn set_stamp(&mut self, place: Place, stamp: u64)
+        requires { IsSome (block_at self.old place) }
+        ensures { self.new ≡ with_stamp_at self.old place stamp }
+    {
+        let address = self.address(place);
+        self.set_stamp_from(address, stamp);
+    }
+
+    pub fn set_stamp_from(&mut self, address: Address, stamp: u64)
+        requires at { address ≡ address_in self.old address.place }
+        requires there { IsSome (block_at self.old address.place) }
+        ensures { self.new ≡ with_stamp_at self.old address.place stamp }
+    {
+        self.pages.set_word_from(address, STAMP, stamp);
+    }
+
+    /// The place that a forwarder's block moved to.
+    pub fn forward(&self, place: Place) -> Option<Place>
+        requires { IsSome (block_at self.now place) }
+        ensures { result ≡ forward_at self.now place }
+    {
+        self.forward_from(self.address(place))
+    }
+
+    pub fn forward_from(&self, address: Address) -> Option<Place>
+        requires at { address ≡ address_in self.now address.place }
+        requires there { IsSome (block_at self.now address.place) }
+        ensures { result ≡ forward_at self.now address.place }
+    {
+        place_in(self.pages.word_from(address, FORWARD))
+    }
+
+    /// Where a place leads, one hop.
+    pub fn resolve(&self, place: Place) -> Place
+        requires { IsSome (block_at self.now place) }
+        ensures { result ≡ resolve self.now place }
+    {
+        self.forward(place).unwrap_or(place)
+    }
+}
+
+/// The fields of blocks.
+impl Blocks {
+    /// How many references a block has itself.
+    pub fn reference_count(&self, place: Place) -> usize
+        requires { IsSome (block_at self.now place) }
+        ensures count { result ≡ length (references_at self.now place) }
+        ensures few { result ≤ 60 }
+    {
+        self.reference_count_from(self.address(place))
+    }
+
+    pub fn reference_count_from(&self, address: Address) -> usize
+        requires at { address ≡ address_in self.now address.place }
+        requires there { IsSome (block_at self.now address.place) }
+        ensures count { result ≡ length (references_at self.now address.place) }
+        ensures few { result ≤ 60 }
+    {
+        reference_count(header_in(self.pages.word_from(address, COUNTS)))
+    }
+
+    /// How many numbers a block has itself.
+    pub fn number_count(&self, place: Place) -> usize
+        requires { IsSome (block_at self.now place) }
+        ensures { result ≡ length (numbers_at self.now place) }
+    {
+        let address = self.pages.address(place);
+        number_count(header_in(self.pages.word_from(address, COUNTS)))
+    }
+
+    /// A reference of a block as it stands.
+    pub fn reference(&self, place: Place, index: usize) -> Option<Place>
+        requires { index < length (references_at self.now place) }
+        ensures { result ≡ reference_at self.now place index }
+    {
+        self.reference_from(self.address(place), index)
+    }
+
+    pub fn reference_from(&self, address: Address, index: usize) -> Option<Place>
+        requires at { address ≡ address_in self.now address.place }
+        requires there { index < length (references_at self.now address.place) }
+        ensures { result ≡ reference_at self.now address.place index }
+    {
+        place_in(self.pages.word_from(address, HEADER + index))
+    }
+
+    /// Where a reference of a block leads.
+    pub fn load_ref(&self, place: Place, index: usize) -> Option<Place>
+        requires there { index < length (references_at self.now place) }
+        requires leads { Leads self.now (reference_at self.now place index) }
+        ensures { result ≡ target_of self.now (reference_at self.now place index) }
+    {
+        let target = self.reference(place, index)?;
+        Some(self.resolve(target))
+    }
+
+    pub fn store_ref(&mut self, place: Place, index: usize, reference: Option<Place>)
+        requires there { index < length (references_at self.old place) }
+        requires leads { Leads self.old reference }
+        ensures { self.new ≡ with_reference_at self.old place index reference }
+    {
+        let address = self.address(place);
+        self.set_reference_from(address, index, reference);
+    }
+
+    pub fn set_reference_from(&mut self, address: Address, index: usize, reference: Option<Place>)
+        requires at { address ≡ address_in self.old address.place }
+        requires there { index < length (references_at self.old address.place) }
+        requires leads { Leads self.old reference }
+        ensures { self.new ≡ with_reference_at self.old address.place index reference }
+    {
+        self.pages
+            .set_word_from(address, HEADER + index, place_word(reference));
+    }
+
+    pub fn load_int(&self, place: Place, index: usize) -> u64
+        requires { index < length (numbers_at self.now place) }
+        ensures { result ≡ number_at self.now place index }
+    {
+        let address = self.address(place);
+        let references = self.reference_count_from(address);
+        self.pages.word_from(address, HEADER + references + index)
+    }
+
+    pub fn store_int(&mut self, place: Place, index: usize, number: u64)
+        requires { index < length (numbers_at self.old place) }
+        ensures { self.new ≡ with_number_at self.old place index number }
+    {
+        let address = self.address(place);
+        let references = self.reference_count_from(address);
+        self.pages
+            .set_word_from(address, HEADER + references + index, number);
+    }
+}

@@ -1,0 +1,121 @@
+//! How the fields of a block are packed into words.
+ghost use Rattle.std.specs.Prelude.{◌≡◌, ◌<◌, ◌≤◌, ◌^◌, IfSome};
+ghost use Rattle.mh_classes.specs.Counts.{reference_count, number_count};
+ghost use Rattle.mh_model.specs.Classes.{run_count, child_count};
+ghost use Rattle.mh_blocks.specs.Words.{place_in, part_in, header_in};
+
+use mh_model::place::Place;
+use mh_model::shape::Shape;
+
+/// The words of a header by their numbers, and how many there are.
+pub const BIRTH: usize = 0;
+
+pub const COUNTS: usize = 1;
+
+pub const STAMP: usize = 2;
+
+pub const FORWARD: usize = 3;
+
+pub const HEADER: usize = 4;
+
+/// Each count of a header is below this number.
+const COUNT: u64 = 1 << 20;
+
+/// The most fields of a block, and of a run of an object's fields.
+const RUN: usize = 60;
+
+/// The most fields of an object whose spine leads to its arraylets; above, it leads to middle spines.
+const SPINE_FIELDS: usize = 3600;
+
+/// The word of counts of this part with this header.
+pub fn counts_word(part: usize, header: Shape) -> u64
+    requires part { part < 2 ^ 20 }
+    requires references { header.references < 2 ^ 20 }
+    requires numbers { header.numbers < 2 ^ 20 }
+    ensures part { part_in result ≡ part }
+    ensures header { header_in result ≡ header }
+{
+    (part as u64 * COUNT + u64::from(header.references)) * COUNT + u64::from(header.numbers)
+}
+
+/// The number of the part in a word of counts.
+pub fn part_in(word: u64) -> usize
+    ensures { result ≡ part_in word }
+{
+    (word / COUNT / COUNT) as usize
+}
+
+/// The header in a word of counts.
+pub fn header_in(word: u64) -> Shape
+    ensures { result ≡ header_in word }
+{
+    Shape {
+        references: (word / COUNT % COUNT) as u32,
+        numbers: (word % COUNT) as u32,
+    }
+}
+
+fn run_count(fields: usize) -> usize
+    requires { fields < 2 ^ 63 }
+    ensures { result ≡ run_count fields }
+{
+    fields.div_ceil(RUN)
+}
+
+/// How many children the spine of an object of so many fields has.
+fn child_count(fields: usize) -> usize
+    requires { fields < 2 ^ 63 }
+    ensures { result ≡ child_count fields }
+{
+    if fields <= SPINE_FIELDS {
+        run_count(fields)
+    } else {
+        run_count(run_count(fields))
+    }
+}
+
+/// How many references a block with this header has itself.
+pub fn reference_count(header: Shape) -> usize
+    ensures { result ≡ reference_count header }
+{
+    let fields = header.references as usize + header.numbers as usize;
+    if fields <= RUN {
+        header.references as usize
+    } else {
+        child_count(fields)
+    }
+}
+
+/// How many numbers a block with this header has itself.
+pub fn number_count(header: Shape) -> usize
+    ensures { result ≡ number_count header }
+{
+    let fields = header.references as usize + header.numbers as usize;
+    if fields <= RUN {
+        header.numbers as usize
+    } else {
+        0
+    }
+}
+
+/// The place of a word of a reference or of the forwarding word.
+pub fn place_in(word: u64) -> Option<Place>
+    ensures { result ≡ place_in word }
+{
+    if word == 0 {
+        None
+    } else {
+        Some(Place((word - 1) as usize))
+    }
+}
+
+/// The word of a reference.
+pub fn place_word(reference: Option<Place>) -> u64
+    requires { IfSome reference (λ place. place < 2 ^ 62) }
+    ensures { place_in result ≡ reference }
+{
+    match reference {
+        None => 0,
+        Some(place) => place.0 as u64 + 1,
+    }
+}
