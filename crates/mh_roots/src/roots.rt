@@ -1,0 +1,93 @@
+ghost use Rattle.std.specs.Prelude.{◌≡◌, ◌<◌, ◌++◌, None, length, get_or, set, replicate, take, drop};
+ghost use Rattle.mh_model.specs.Collector.{forwarded_slots};
+ghost use Rattle.mh_model.specs.World.{own_slot};
+ghost use Rattle.mh_roots.specs.Roots.{SlotsLead, without_session};
+
+use mh_blocks::blocks::Blocks;
+use mh_model::place::Place;
+use std::marker::Model;
+
+/// How many slots there are.
+pub const SLOTS: usize = 144;
+
+/// How many each session has.
+const OWN: usize = 16;
+
+/// The root slots, each empty or with the place of an object.
+#[derive(Debug, Drop)]
+pub struct Roots {
+    slots: [Option<Place>; SLOTS],
+}
+
+impl Model for Roots {
+    ghost use Rattle.std.specs.Prelude.{List, Option, ℕ};
+
+    ghost Value = { List (Option ℕ) };
+
+    ghost view = { λ roots. roots.slots };
+}
+
+/// Lets each of these slots lead straight to where it led.
+fn forward_slots(slots: &mut [Option<Place>], blocks: &Blocks)
+    requires { SlotsLead blocks.now slots.old }
+    ensures { slots.new ≡ forwarded_slots blocks.now slots.old }
+{
+    for slot in slots.iter_mut() {
+        if let Some(place) = *slot {
+            *slot = Some(blocks.resolve(place));
+        }
+    }
+}
+
+impl Roots {
+    /// All slots empty.
+    pub fn new() -> Roots
+        ensures { result ≡ replicate 144 None }
+    {
+        Roots {
+            slots: [None; SLOTS],
+        }
+    }
+
+    /// What a slot holds.
+    pub fn get(&self, slot: usize) -> Option<Place>
+        requires { slot < 144 }
+        ensures value { result ≡ get_or self.now slot None }
+        ensures count { length self.now ≡ 144 }
+    {
+        self.slots[slot]
+    }
+
+    /// What the scan of the roots finds at its cursor: it goes through the slots in their order.
+    pub fn cursor_slot(&self, cursor: usize) -> Option<Place>
+        requires { cursor < 144 }
+        ensures { result ≡ get_or self.now cursor None }
+    {
+        self.get(cursor)
+    }
+
+    /// Lets a slot hold a reference.
+    pub fn set(&mut self, slot: usize, reference: Option<Place>)
+        requires { slot < 144 }
+        ensures { self.new ≡ set self.old slot reference }
+    {
+        self.slots[slot] = reference;
+    }
+
+    /// Empties the slots of a session.
+    pub fn clear_session(&mut self, who: usize)
+        requires { who < 8 }
+        ensures { self.new ≡ without_session self.old who }
+    {
+        let slots = &mut self.slots[..];
+        slots[OWN * who..OWN * who + OWN].fill(None);
+    }
+
+    /// Lets each slot lead straight to where it led.
+    pub fn forward_all(&mut self, blocks: &Blocks)
+        requires { SlotsLead blocks.now self.old }
+        ensures { self.new ≡ forwarded_slots blocks.now self.old }
+    {
+        forward_slots(&mut self.slots[..], blocks);
+    }
+}
