@@ -1,0 +1,80 @@
+-- Several steps of the sweep in one page.
+use Rattle.std.proofs.Common.{Some, None, ◌≡◌, ◌≢◌, ℕ, zero, suc, ◌+◌, ◌*◌, ◌/◌, ◌%◌, ◌<◌, true, length, is_some, refl, sym, ap, ◌∙◌, subst, arith, add-one, below_more}
+use Rattle.mh_model.specs.Classes.{slots_in}
+use Rattle.mh_model.specs.Pages.{Table, page_number, slot_number, page_at, class_at, HaveTheirSlots}
+use Rattle.mh_model.specs.Table.{Block}
+use Rattle.mh_sweep.specs.Swept.{slot_swept, judged, Sweeping, swept_once, swept_on, IsSweptTo}
+use Rattle.mh_sweep.proofs.SweepLemmas.{slot_count_in, used-classed, free-unclassed, slots-classed, step-passes, step-slot, step-last, swept-class, swept-slots, swept-long}
+
+abbrev pub sweeping : Table Block → ℕ → Sweeping
+sweeping table place = record { table = table; place = place }
+
+-- so many slots of a page swept, none of them the last
+pub record IsSweepingOn (cycle : ℕ) (table : Table Block) (place size : ℕ) (new : Table Block) (count : ℕ) : Type 0 where
+  pub is : sweeping new (place + count) ≡ swept_on cycle count (sweeping table place)
+  pub class : class_at new (page_number place) ≡ Some size
+  pub slots : slot_count_in new (page_number place) ≡ slots_in size
+  pub long : length new ≡ length table
+  pub inside : (k : ℕ) → k < count → page_number (swept_on cycle k (sweeping table place)).place < length (swept_on cycle k (sweeping table place)).table
+
+pub sweeping-starts : (cycle : ℕ) (table : Table Block) (place size : ℕ) → HaveTheirSlots table → class_at table (page_number place) ≡ Some size → IsSweepingOn cycle table place size table 0
+sweeping-starts cycle table place size all class = let e : place + 0 ≡ place = omega arith in record { is = rw e refl; class = class; slots = slots-classed table (page_number place) size all class; long = refl; inside = λ k below. absurd (omega arith) }
+
+at_parts : (a b : Table Block) (p q : ℕ) → a ≡ b → p ≡ q → sweeping a p ≡ sweeping b q
+at_parts a b p q e f = rw (e, f) refl
+
+here : (cycle : ℕ) (table new : Table Block) (place size count : ℕ) → IsSweepingOn cycle table place size new count → page_number place < length table → place % 64 + count < 64
+    → (k : ℕ) → k < count + 1 → page_number (swept_on cycle k (sweeping table place)).place < length (swept_on cycle k (sweeping table place)).table
+here cycle table new place size count on inside fits =
+    let page : (place + count) / 64 ≡ place / 64 = omega arith in
+    below_more (λ k. page_number (swept_on cycle k (sweeping table place)).place < length (swept_on cycle k (sweeping table place)).table) count on.inside
+    (subst (λ (s : Sweeping). page_number s.place < length s.table) on.is (omega (arith, on.long)))
+
+pub sweeping-class : (cycle : ℕ) (table new : Table Block) (place size count : ℕ) → IsSweepingOn cycle table place size new count → place % 64 + count < 64 → class_at (slot_swept cycle new (place + count)) (page_number place) ≡ Some size
+sweeping-class cycle table new place size count on fits =
+    let page : (place + count) / 64 ≡ place / 64 = omega arith in
+    sym (ap (class_at (slot_swept cycle new (place + count))) page) ∙ swept-class cycle new (place + count) ∙ ap (class_at new) page ∙ on.class
+
+pub sweeping-goes : (cycle : ℕ) (table new : Table Block) (place size count : ℕ) → IsSweepingOn cycle table place size new count → page_number place < length table → place % 64 + count < 64 → place % 64 + count + 1 ≢ slots_in size
+    → IsSweepingOn cycle table place size (slot_swept cycle new (place + count)) (count + 1)
+sweeping-goes cycle table new place size count on inside fits more =
+    let q : ℕ = place + count in
+    let page : (place + count) / 64 ≡ place / 64 = omega arith in
+    let slot : (place + count) % 64 ≡ place % 64 + count = omega arith in
+    let used : is_some (page_at new (page_number (place + count))) ≡ true = rw page (used-classed new (page_number place) size on.class) in
+    let apart : slot_number (place + count) + 1 ≢ slot_count_in new (page_number (place + count)) = λ e. more (ap (λ n. n + 1) (sym slot) ∙ e ∙ ap (slot_count_in new) page ∙ on.slots) in
+    let step = step-slot cycle new (place + count) used apart in
+    let next : place + (count + 1) ≡ place + count + 1 = omega arith in
+    record {
+      is = at_parts _ _ _ _ step.0 (next ∙ step.1) ∙ ap (swept_once cycle) on.is ∙ ap (λ n. swept_on cycle n (sweeping table place)) (sym (add-one count));
+      class = sweeping-class cycle table new place size count on fits;
+      slots = sym (ap (slot_count_in (slot_swept cycle new (place + count))) page) ∙ swept-slots cycle new (place + count) ∙ ap (slot_count_in new) page ∙ on.slots;
+      long = swept-long cycle new (place + count) ∙ on.long;
+      inside = here cycle table new place size count on inside fits;
+    }
+
+pub sweeping-last : (cycle : ℕ) (table new : Table Block) (place size count : ℕ) → IsSweepingOn cycle table place size new count → page_number place < length table → place % 64 + count < 64 → place % 64 + count + 1 ≡ slots_in size
+    → IsSweptTo cycle (sweeping table place) (sweeping (judged (slot_swept cycle new (place + count)) (page_number place)) (64 * (place / 64 + 1))) (count + 1)
+sweeping-last cycle table new place size count on inside fits last =
+    let page : (place + count) / 64 ≡ place / 64 = omega arith in
+    let slot : (place + count) % 64 ≡ place % 64 + count = omega arith in
+    let used : is_some (page_at new (page_number (place + count))) ≡ true = rw page (used-classed new (page_number place) size on.class) in
+    let all : slot_number (place + count) + 1 ≡ slot_count_in new (page_number (place + count)) = ap (λ n. n + 1) slot ∙ last ∙ sym on.slots ∙ sym (ap (slot_count_in new) page) in
+    let step = step-last cycle new (place + count) (omega (arith, on.long)) used all in
+    record {
+      is = at_parts _ _ _ _ (sym (ap (judged (slot_swept cycle new (place + count))) page) ∙ step.0) (sym (ap (λ n. 64 * (n + 1)) page) ∙ step.1) ∙ ap (swept_once cycle) on.is ∙ ap (λ n. swept_on cycle n (sweeping table place)) (sym (add-one count));
+      some = omega arith;
+      inside = here cycle table new place size count on inside fits;
+    }
+
+pub sweeping-ends : (cycle : ℕ) (table new : Table Block) (place size count next : ℕ) → IsSweepingOn cycle table place size new count → 0 < count → next ≡ place + count → IsSweptTo cycle (sweeping table place) (sweeping new next) count
+sweeping-ends cycle table new place size count next on some is = record { is = at_parts _ _ _ _ refl is ∙ on.is; some = some; inside = on.inside }
+
+pub sweeping-passes : (cycle : ℕ) (table : Table Block) (place : ℕ) → page_number place < length table → class_at table (page_number place) ≡ None → IsSweptTo cycle (sweeping table place) (sweeping table (64 * (place / 64 + 1))) 1
+sweeping-passes cycle table place inside free =
+    let step = step-passes cycle table place (free-unclassed table (page_number place) free) in
+    record { is = at_parts _ _ _ _ step.0 step.1; some = omega arith; inside = only }
+  where
+    only : (k : ℕ) → k < 1 → page_number (swept_on cycle k (sweeping table place)).place < length (swept_on cycle k (sweeping table place)).table
+    only zero below = inside
+    only (suc k) below = absurd (omega arith)

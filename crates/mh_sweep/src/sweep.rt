@@ -1,0 +1,107 @@
+ghost use Rattle.std.specs.Prelude.{◌≡◌, ◌<◌, ◌≤◌, Some, length};
+ghost use Rattle.mh_model.specs.Pages.{page_number, page_at, class_at};
+ghost use Rattle.mh_model.specs.Collector.{swept_table, next_place};
+ghost use Rattle.mh_sweep.specs.Swept.{slot_swept, judged, IsSweptTo};
+
+use mh_blocks::blocks::Blocks;
+use mh_classes::class::Class;
+use mh_model::place::Place;
+
+/// How many places each page has, whatever its class.
+const PLACES: usize = 64;
+
+/// How far a sweep came: the place of its next step, and the steps that it took.
+#[derive(Clone, Copy, Debug, PartialEq, Eq)]
+pub struct Swept {
+    pub next: Place,
+    pub count: usize,
+}
+
+/// Frees the block at a place, if it is a forwarder or not marked.
+fn sweep_slot(blocks: &mut Blocks, cycle: u64, place: Place)
+    ensures { blocks.new ≡ slot_swept cycle blocks.old place }
+{
+    if !blocks.is_taken(place) {
+        return;
+    }
+    let address = blocks.address(place);
+    if blocks.forward_from(address).is_none() && blocks.stamp_from(address) == cycle {
+        return;
+    }
+    blocks.unmake(place, false);
+}
+
+/// Frees a page without blocks, and else sets its flag.
+fn judge(blocks: &mut Blocks, page: usize, class: Class)
+    requires inside { page < length blocks.old }
+    requires class { class_at blocks.old page ≡ Some class }
+    ensures { blocks.new ≡ judged blocks.old page }
+{
+    // Its contract says that each page has the slots of its class.
+    let _ = blocks.len();
+    let live = blocks.live_in(page);
+    if live == 0 {
+        blocks.free_page(page);
+    } else if 4 * live <= class.slots() && blocks.has_denser(page, class) {
+        blocks.flag(page);
+    } else {
+        blocks.unflag(page);
+    }
+}
+
+/// Sweeps one slot of a page in use, or passes one free page. Answers the place of the next step, which may be past the last page.
+pub fn sweep_step(blocks: &mut Blocks, cycle: u64, place: Place) -> Place
+    requires { page_number place < length blocks.old }
+    ensures table { blocks.new ≡ swept_table cycle blocks.old place }
+    ensures next { result ≡ next_place place (page_at blocks.old (page_number place)) }
+{
+    // Its contract bounds the number of pages.
+    let _ = blocks.len();
+    let page = place.page();
+    let Some(class) = blocks.class_at(page) else {
+        return Place(PLACES * (page + 1));
+    };
+    sweep_slot(blocks, cycle, place);
+    if place.slot() + 1 != class.slots() {
+        return Place(place.0 + 1);
+    }
+    judge(blocks, page, class);
+    Place(PLACES * (page + 1))
+}
+
+/// Takes at most so many steps, all in one page.
+pub fn sweep_page(blocks: &mut Blocks, cycle: u64, place: Place, most: usize) -> Swept
+    requires inside { page_number place < length blocks.old }
+    requires some { 0 < most }
+    ensures swept { IsSweptTo cycle (record { table = blocks.old; place = place }) (record { table = blocks.new; place = result.next }) result.count }
+    ensures few { result.count ≤ most }
+    ensures long { length blocks.new ≡ length blocks.old }
+{
+    // Its contract bounds the number of pages.
+    let _ = blocks.len();
+    let page = place.page();
+    let Some(class) = blocks.class_at(page) else {
+        return Swept {
+            next: Place(PLACES * (page + 1)),
+            count: 1,
+        };
+    };
+    let slots = class.slots();
+    let first = place.0;
+    let slot = place.slot();
+    let most = most.min(PLACES - slot);
+    for count in 0..most {
+        sweep_slot(blocks, cycle, Place(first + count));
+        if slot + count + 1 == slots {
+            judge(blocks, page, class);
+            return Swept {
+                next: Place(PLACES * (page + 1)),
+                count: count + 1,
+            };
+        }
+    }
+    Swept {
+        next: Place(first + most),
+        count: most,
+    }
+}
