@@ -1,6 +1,6 @@
 -- The room of the queue, and how its invariant is kept.
-use Rattle.std.proofs.Common.{◌≡◌, ℕ, zero, suc, ◌+◌, ◌-◌, ◌*◌, ◌<◌, ◌≤◌, ◌==◌, ◌⊎◌, ◌||◌, Bool, true, false, inl, inr, List, [], ◌∷◌, ◌++◌, length, drop, refl, sym, ap, ◌∙◌, subst, arith}
-use Rattle.std.specs.List.{IsDistinct, list_any}
+use Rattle.std.proofs.Common.{◌≡◌, ℕ, zero, suc, ◌*◌, ◌<◌, ◌≤◌, ◌==◌, ◌⊎◌, ◌||◌, Bool, true, false, inl, inr, List, [], ◌∷◌, ◌++◌, length, drop, refl, arith}
+use Rattle.std.specs.List.{IsDistinct}
 use Rattle.std.specs.Prelude.{Result, Ok, Err, IsOk, OnOk, ◌↔◌}
 use Rattle.std.proofs.lemmas.Bool.{false≢true, eqb-true}
 use Rattle.std.proofs.lemmas.Cmp.{nat_eq_equiv}
@@ -59,7 +59,3 @@ queue-open pages = record { once = tt; below = λ place is. absurd (false≢true
 pub pushed : {E : Type 0} (result : Result Unit E) (P Q : Type 0) → (IsOk result ↔ P) → P → OnOk result Q → Q
 pushed (Ok nothing) P Q variant p on = on
 pushed (Err e) P Q variant p on = absurd (false≢true (variant.1 p))
-
--- so many of the last kept are as many of the first dropped
-pub kept-dropped : (items : List ℕ) (count kept : ℕ) → count ≤ length items → kept ≡ length items - count → drop (length items - kept) items ≡ drop count items
-kept-dropped items count kept there is = let same : length items - kept ≡ count = omega arith in rw same refl

@@ -1,14 +1,13 @@
 -- What shading keeps.
-use Rattle.std.proofs.Common.{◌≡◌, ◌≢◌, ℕ, zero, suc, ◌<◌, ◌⊎◌, inl, inr, List, [], ◌∷◌, ◌++◌, length, get_or, set, Option, Some, None, option_map, option_and_then, unwrap_or, is_some, IsSome, refl, sym, ap, ◌∙◌, subst, arith}
+use Rattle.std.proofs.Common.{◌≡◌, ◌≢◌, ℕ, zero, suc, ◌⊎◌, inl, inr, List, [], ◌∷◌, ◌++◌, length, get_or, set, Option, Some, None, option_map, option_and_then, unwrap_or, is_some, IsSome, refl, sym, ap, ◌∙◌, subst, arith}
 use Rattle.std.proofs.lemmas.Bool.{cases_eq, false≢true}
 use Rattle.std.proofs.lemmas.List.{get_or-set_other, length-set}
-use Rattle.mh_model.specs.Pages.{Page, Table, page_number, slot_number, page_at, block_in, block_at, page_with, with_block}
+use Rattle.mh_model.specs.Pages.{Table, page_number, slot_number, page_at, block_in, block_at, page_with, with_block}
 use Rattle.mh_model.specs.Table.{Block, resolve, references_at, with_reference_at, stamp_at, with_stamp_at, forward_at, LeadsOn, LeadsHome}
 use Rattle.mh_model.specs.Collector.{Marking, shade_place, shade}
-use Rattle.mh_grey.specs.Queue.{is_in}
 use Rattle.mh_grey.specs.Shading.{AreMarked}
 use Rattle.mh_grey.proofs.QueueLemmas.{in-push}
-use Rattle.mh_grey.proofs.ShadeLemmas.{IsStamped, place-cases, shade-cases}
+use Rattle.mh_grey.proofs.ShadeLemmas.{place-cases}
 
 -- One block exchanged ----------------------------------------------------------------------------
 
