@@ -1,0 +1,3 @@
+pub mod QueueLemmas
+pub mod ShadeLemmas
+pub mod StampLemmas

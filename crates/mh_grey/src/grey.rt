@@ -1,0 +1,166 @@
+ghost use Rattle.std.specs.Prelude.{◌≡◌, ◌==◌, ◌*◌, ◌<◌, ◌≤◌, false, IfOk, IsSome, [], ◌∷◌, ◌++◌, length, slice_get, take, drop, Some};
+ghost use Rattle.mh_model.specs.Pages.{block_at};
+ghost use Rattle.mh_model.specs.Table.{stamp_at, resolve};
+ghost use Rattle.mh_model.specs.Collector.{shade, shade_place};
+ghost use Rattle.mh_model.specs.Batches.{NoneTwice};
+ghost use Rattle.mh_pages.specs.Addresses.{address_in};
+ghost use Rattle.mh_grey.specs.Queue.{is_in};
+ghost use Rattle.mh_grey.specs.Shading.{marking, IsApart, IsApartAt};
+
+use arrayvec::ArrayVec;
+use circular_buffer::HeapCircularBuffer;
+use mh_blocks::blocks::Blocks;
+use mh_model::memory::NoMemory;
+use mh_model::place::Place;
+use mh_pages::address::Address;
+use std::alloc::Global;
+use std::marker::Model;
+
+/// How many places each page has, whatever its class.
+const PLACES: usize = 64;
+
+/// The grey places in the order in which they were shaded, with room for one entry a place.
+#[derive(Drop)]
+pub struct Grey {
+    places: HeapCircularBuffer<Place>,
+    pages: usize,
+}
+
+impl Model for Grey {
+    ghost use Rattle.mh_grey.specs.Queue.{Queue, IsQueue};
+
+    ghost Value = { Queue };
+
+    ghost view = { λ grey. record { places = grey.places.items; pages = grey.pages } };
+
+    ghost invariant = { λ grey. IsQueue grey.places.items grey.places.capacity grey.pages };
+}
+
+/// Whether the block at a place is marked in the cycle of this number.
+pub fn is_marked(blocks: &Blocks, cycle: u64, place: Place) -> bool
+    requires { IsSome (block_at blocks.now place) }
+    ensures { result ≡ (stamp_at blocks.now place == cycle) }
+{
+    blocks.stamp(place) == cycle
+}
+
+/// The address of the block that a place leads to.
+fn target_address(blocks: &Blocks, place: Place) -> Address
+    requires there { IsSome (block_at blocks.now place) }
+    requires leads { IsSome (block_at blocks.now (resolve blocks.now place)) }
+    ensures { result ≡ address_in blocks.now (resolve blocks.now place) }
+{
+    let address = blocks.address(place);
+    match blocks.forward_from(address) {
+        None => address,
+        Some(target) => blocks.address(target),
+    }
+}
+
+impl Grey {
+    ghost use Rattle.mh_model.specs.Table.{LeadsOn};
+    ghost use Rattle.mh_grey.specs.Queue.{Queue};
+
+    /// The empty list for the places of so many pages.
+    pub fn open(alloc: Global, pages: usize) -> Result<Grey, NoMemory>
+        requires { pages ≤ 4096 }
+        ensures { IfOk result (λ grey. grey ≡ record { places = []; pages = pages }) }
+    {
+        let places = HeapCircularBuffer::with_capacity(alloc, PLACES * pages)?;
+        Ok(Grey { places, pages })
+    }
+
+    pub fn len(&self) -> usize
+        ensures count { result ≡ length self.now.places }
+        ensures room { result ≤ 64 * self.now.pages }
+    {
+        self.places.len()
+    }
+
+    pub fn is_empty(&self) -> bool
+        ensures { result ≡ (length self.now.places == 0) }
+    {
+        self.places.is_empty()
+    }
+
+    /// No place stands twice. It does nothing.
+    pub fn has_each_once(&self)
+        ensures { NoneTwice self.now.places }
+    {
+        let _ = &self.places;
+    }
+
+    fn push(&mut self, place: Place)
+        requires below { place < 64 * self.old.pages }
+        requires apart { is_in place self.old.places ≡ false }
+        ensures { self.new ≡ record { places = self.old.places ++ place ∷ []; pages = self.old.pages } }
+    {
+        let _ = self.places.try_push_back(place);
+    }
+
+    /// Marks the block to which a reference leads, where it isn't marked, and makes it grey.
+    pub fn shade(&mut self, blocks: &mut Blocks, cycle: u64, reference: Option<Place>)
+        requires pages { self.old.pages ≡ length blocks.old }
+        requires leads { LeadsOn blocks.old reference }
+        requires apart { IsApart blocks.old cycle self.old.places reference }
+        ensures table { blocks.new ≡ (shade (marking blocks.old self.old.places cycle) reference).table }
+        ensures grey { self.new ≡ record { places = (shade (marking blocks.old self.old.places cycle) reference).grey; pages = self.old.pages } }
+    {
+        if let Some(place) = reference {
+            let address = target_address(blocks, place);
+            self.shade_from(blocks, cycle, address);
+        }
+    }
+
+    /// Marks the block at an address, where it isn't marked, and makes it grey. It shades a reference that is resolved already.
+    pub fn shade_from(&mut self, blocks: &mut Blocks, cycle: u64, address: Address)
+        requires pages { self.old.pages ≡ length blocks.old }
+        requires at { address ≡ address_in blocks.old address.place }
+        requires there { IsSome (block_at blocks.old address.place) }
+        requires apart { IsApartAt blocks.old cycle self.old.places address.place }
+        ensures table { blocks.new ≡ (shade_place (marking blocks.old self.old.places cycle) address.place).table }
+        ensures grey { self.new ≡ record { places = (shade_place (marking blocks.old self.old.places cycle) address.place).grey; pages = self.old.pages } }
+    {
+        if blocks.stamp_from(address) != cycle {
+            blocks.set_stamp_from(address, cycle);
+            self.push(address.place);
+        }
+    }
+
+    /// The first grey place.
+    pub fn first(&self) -> Place
+        requires { 0 < length self.now.places }
+        ensures { slice_get self.now.places 0 ≡ Some result }
+    {
+        *self.places.front().unwrap()
+    }
+
+    /// Takes the first grey place.
+    pub fn pop_first(&mut self) -> Place
+        requires { 0 < length self.old.places }
+        ensures places { self.old.places ≡ result ∷ self.new.places }
+        ensures pages { self.new.pages ≡ self.old.pages }
+    {
+        self.places.pop_front().unwrap()
+    }
+
+    /// Appends the first `count` places to an empty batch.
+    pub fn front(&self, count: usize, batch: &mut ArrayVec<Place, 1024>)
+        requires there { count ≤ length self.now.places }
+        requires room { count ≤ 1024 }
+        requires empty { batch.old.items ≡ [] }
+        ensures { batch.new.items ≡ take count self.now.places }
+    {
+        for index in 0..count {
+            batch.push(*self.places.get(index).unwrap());
+        }
+    }
+
+    /// Takes the first `count` places off.
+    pub fn pop(&mut self, count: usize)
+        requires { count ≤ length self.old.places }
+        ensures { self.new ≡ record { places = drop count self.old.places; pages = self.old.pages } }
+    {
+        self.places.truncate_front(self.places.len() - count);
+    }
+}

@@ -1,0 +1,6 @@
+//! The grey list: the places of blocks that are marked and whose references aren't looked through yet.
+#![tactic(auto)]
+
+pub mod grey;
+#[cfg(test)]
+mod tests;
