@@ -69,12 +69,13 @@ pub fn sweep_step(blocks: &mut Blocks, cycle: u64, place: Place) -> Place
     Place(PLACES * (page + 1))
 }
 
-/// Takes at most so many steps, all in one page.
+/// Takes steps in one page: as many as are asked for, or up to its end.
 pub fn sweep_page(blocks: &mut Blocks, cycle: u64, place: Place, most: usize) -> Swept
     requires inside { page_number place < length blocks.old }
     requires some { 0 < most }
     ensures swept { IsSweptTo cycle (record { table = blocks.old; place = place }) (record { table = blocks.new; place = result.next }) result.count }
     ensures few { result.count ≤ most }
+    ensures far { result.count < most → page_number place < page_number result.next }
     ensures long { length blocks.new ≡ length blocks.old }
 {
     // Its contract bounds the number of pages.
