@@ -1,4 +1,5 @@
 use crate::grey::{Grey, is_marked};
+use arrayvec::ArrayVec;
 use mh_blocks::blocks::Blocks;
 use mh_classes::parts::parts;
 use mh_model::birth::Birth;
@@ -43,6 +44,9 @@ fn shades_a_block_once(rt: HostRuntime) -> Result<(), Fail> {
     grey.shade(&mut blocks, 5, Some(Place(1)));
     assert_eq!(rt; grey.len(), 1);
     assert_eq!(rt; grey.first(), Place(1));
+    let mut batch = ArrayVec::new();
+    grey.front(1, &mut batch);
+    assert_eq!(rt; batch.as_slice(), [Place(1)].as_slice());
     grey.pop(1);
     assert!(rt; grey.is_empty());
     Ok(())

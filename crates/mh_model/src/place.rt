@@ -7,7 +7,7 @@ use std::marker::Model;
 const PLACES: usize = 64;
 
 /// The place of a block: the number of its page times 64, and the number of its slot in the page.
-#[derive(Clone, Copy, Debug, PartialEq, Eq, Hash)]
+#[derive(Clone, Copy, Debug, Default, PartialEq, Eq, Hash)]
 pub struct Place(pub usize);
 
 impl Model for Place {
