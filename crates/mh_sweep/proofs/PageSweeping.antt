@@ -1,10 +1,10 @@
 -- Several steps of the sweep in one page.
-use Rattle.std.proofs.Common.{Some, None, ◌≡◌, ◌≢◌, ℕ, zero, suc, ◌+◌, ◌*◌, ◌/◌, ◌%◌, ◌<◌, true, length, is_some, refl, sym, ap, ◌∙◌, subst, arith, add-one, below_more}
+use Rattle.std.proofs.Common.{Some, ◌≡◌, ◌≢◌, ℕ, ◌+◌, ◌*◌, ◌/◌, ◌%◌, ◌<◌, true, length, is_some, refl, sym, ap, ◌∙◌, subst, arith, add-one, below_more}
 use Rattle.mh_model.specs.Classes.{slots_in}
 use Rattle.mh_model.specs.Pages.{Table, page_number, slot_number, page_at, class_at, HaveTheirSlots}
 use Rattle.mh_model.specs.Table.{Block}
 use Rattle.mh_sweep.specs.Swept.{slot_swept, judged, Sweeping, swept_once, swept_on, IsSweptTo}
-use Rattle.mh_sweep.proofs.SweepLemmas.{slot_count_in, used-classed, free-unclassed, slots-classed, step-passes, step-slot, step-last, swept-class, swept-slots, swept-long}
+use Rattle.mh_sweep.proofs.SweepLemmas.{slot_count_in, used-classed, slots-classed, step-slot, step-last, swept-class, swept-slots, swept-long}
 
 abbrev pub sweeping : Table Block → ℕ → Sweeping
 sweeping table place = record { table = table; place = place }
@@ -69,12 +69,3 @@ sweeping-last cycle table new place size count on inside fits last =
 
 pub sweeping-ends : (cycle : ℕ) (table new : Table Block) (place size count next : ℕ) → IsSweepingOn cycle table place size new count → 0 < count → next ≡ place + count → IsSweptTo cycle (sweeping table place) (sweeping new next) count
 sweeping-ends cycle table new place size count next on some is = record { is = at_parts _ _ _ _ refl is ∙ on.is; some = some; inside = on.inside }
-
-pub sweeping-passes : (cycle : ℕ) (table : Table Block) (place : ℕ) → page_number place < length table → class_at table (page_number place) ≡ None → IsSweptTo cycle (sweeping table place) (sweeping table (64 * (place / 64 + 1))) 1
-sweeping-passes cycle table place inside free =
-    let step = step-passes cycle table place (free-unclassed table (page_number place) free) in
-    record { is = at_parts _ _ _ _ step.0 step.1; some = omega arith; inside = only }
-  where
-    only : (k : ℕ) → k < 1 → page_number (swept_on cycle k (sweeping table place)).place < length (swept_on cycle k (sweeping table place)).table
-    only zero below = inside
-    only (suc k) below = absurd (omega arith)

@@ -1,12 +1,12 @@
 -- A sweep step by its halves.
-use Rattle.std.proofs.Common.{◌≡◌, ◌≢◌, inl, inr, ℕ, zero, suc, ◌+◌, ◌*◌, ◌<◌, ◌≤◌, ◌==◌, ◌&&◌, nat_le, Bool, true, false, if◌then◌else◌, List, [], ◌∷◌, length, get_or, set, take, Option, Some, None, option_map, option_and_then, unwrap_or, is_some, is_none, IsSome, refl, sym, ap, ◌∙◌, arith, eq-eqb}
+use Rattle.std.proofs.Common.{◌≡◌, ◌≢◌, inl, inr, ℕ, zero, suc, ◌+◌, ◌*◌, ◌<◌, ◌≤◌, ◌==◌, ◌&&◌, nat_le, Bool, true, false, if◌then◌else◌, [], ◌∷◌, length, set, take, Option, Some, None, option_map, option_and_then, unwrap_or, is_some, refl, sym, ap, ◌∙◌, arith, eq-eqb}
 use Rattle.std.specs.List.{list_any}
 use Rattle.std.proofs.lemmas.Bool.{false≢true, true≢false}
 use Rattle.std.proofs.lemmas.Bool.Decides.{eqb_tells, nat_tests}
 use Rattle.std.proofs.lemmas.Option.{none-some, same_Some}
 use Rattle.std.proofs.lemmas.List.{set-get_or, set-set, get_or-set_same, take-set, length-set}
 use Rattle.mh_model.specs.Classes.{slots_in}
-use Rattle.mh_model.specs.Pages.{Page, Table, page_number, slot_number, page_at, block_in, block_at, class_at, count_at, live_in, is_dense_page, has_denser, page_with, with_block, with_released, flagged_as, with_flag, HaveTheirSlots}
+use Rattle.mh_model.specs.Pages.{Page, Table, page_number, slot_number, page_at, block_in, block_at, class_at, count_at, live_in, is_dense_page, has_denser, page_with, with_block, flagged_as, with_flag, HaveTheirSlots}
 use Rattle.mh_model.specs.Table.{Block, stamp_at, forward_at}
 use Rattle.mh_model.specs.Collector.{survivor, judged_page, swept_page, swept_table, is_last_slot, next_page, next_place}
 use Rattle.mh_sweep.specs.Swept.{slot_swept, judged}
@@ -27,13 +27,6 @@ used-classed table number size is = go (page_at table number) is
     go None is = absurd (none-some size is)
     go (Some page) is = refl
 
-pub free-unclassed : (table : Table Block) (number : ℕ) → class_at table number ≡ None → is_some (page_at table number) ≡ false
-free-unclassed table number is = go (page_at table number) is
-  where
-    go : (page : Option (Page Block)) → option_map (λ used. used.class_size) page ≡ None → is_some page ≡ false
-    go None is = refl
-    go (Some page) is = absurd (none-some page.class_size (sym is))
-
 pub slots-classed : (table : Table Block) (number size : ℕ) → HaveTheirSlots table → class_at table number ≡ Some size → slot_count_in table number ≡ slots_in size
 slots-classed table number size all is = go (page_at table number) refl is
   where
@@ -43,17 +36,14 @@ slots-classed table number size all is = go (page_at table number) refl is
 
 -- What stands is written ---------------------------------------------------------------------------
 
-same_slots : (slots : List (Option Block)) (slot : ℕ) → set slots slot (get_or slots slot None) ≡ slots
-same_slots slots slot = set-get_or slots slot None
-
 same_page : (slot : ℕ) (page : Option (Page Block)) → option_map (page_with slot (option_and_then (block_in slot) page)) page ≡ page
 same_page slot None = refl
-same_page slot (Some page) = ap (λ slots. Some (record page { slots = slots })) (same_slots page.slots slot)
+same_page slot (Some page) = ap (λ slots. Some (record page { slots = slots })) (set-get_or page.slots slot None)
 
-pub written-back : (table : Table Block) (place : ℕ) → with_block table place (block_at table place) ≡ table
+written-back : (table : Table Block) (place : ℕ) → with_block table place (block_at table place) ≡ table
 written-back table place = ap (set table (page_number place)) (same_page (slot_number place) (page_at table (page_number place))) ∙ set-get_or table (page_number place) None
 
-pub swept-as : (cycle : ℕ) (table : Table Block) (place : ℕ) → option_and_then (survivor cycle) (block_at table place) ≡ block_at table place → table ≡ slot_swept cycle table place
+swept-as : (cycle : ℕ) (table : Table Block) (place : ℕ) → option_and_then (survivor cycle) (block_at table place) ≡ block_at table place → table ≡ slot_swept cycle table place
 swept-as cycle table place same = sym (ap (with_block table place) same ∙ written-back table place)
 
 no-block : (cycle : ℕ) (content : Option Block) → is_some content ≡ false → option_and_then (survivor cycle) content ≡ content
@@ -70,26 +60,7 @@ survives cycle (Some block) original marked = rw (original, eq-eqb block.stamp c
 pub swept-kept : (cycle : ℕ) (table : Table Block) (place : ℕ) → forward_at table place ≡ None → stamp_at table place ≡ cycle → table ≡ slot_swept cycle table place
 swept-kept cycle table place original marked = swept-as cycle table place (survives cycle (block_at table place) original marked)
 
-dies : (cycle : ℕ) (content : Option Block) → (is_none (option_and_then (λ b. b.forward) content) && (unwrap_or (option_map (λ b. b.stamp) content) 0 == cycle)) ≡ false → IsSome content → option_and_then (survivor cycle) content ≡ None
-dies cycle None doomed there = refl
-dies cycle (Some block) doomed there = go block.forward (block.stamp == cycle) refl refl doomed
-  where
-    go : (forward : Option ℕ) (marked : Bool) → block.forward ≡ forward → (block.stamp == cycle) ≡ marked → (is_none forward && marked) ≡ false → survivor cycle block ≡ None
-    go None true a b d = absurd (true≢false d)
-    go None false a b d = rw (a, b) refl
-    go (Some q) marked a b d = rw a refl
-
-pub swept-freed : (cycle : ℕ) (table : Table Block) (place : ℕ) → (is_none (forward_at table place) && (stamp_at table place == cycle)) ≡ false → IsSome (block_at table place) → with_released table place false ≡ slot_swept cycle table place
-swept-freed cycle table place doomed there = ap (with_block table place) (sym (dies cycle (block_at table place) doomed there))
-
 -- The page judged ----------------------------------------------------------------------------------
-
-judged-empty : (table : Table Block) (number : ℕ) (page : Option (Page Block)) → unwrap_or (option_map live_in page) 0 ≡ 0 → option_and_then (judged_page table number) page ≡ None
-judged-empty table number None none = refl
-judged-empty table number (Some page) none = rw (eq-eqb (live_in page) 0 none) refl
-
-pub judged-freed : (table : Table Block) (number : ℕ) → count_at table number ≡ 0 → set table number None ≡ judged table number
-judged-freed table number none = ap (set table number) (sym (judged-empty table number (page_at table number) none))
 
 judged-some : (table : Table Block) (number size slots : ℕ) (page : Option (Page Block)) → option_map (λ used. used.class_size) page ≡ Some size → unwrap_or (option_map (λ used. length used.slots) page) 0 ≡ slots → unwrap_or (option_map live_in page) 0 ≢ 0
     → option_map (flagged_as (nat_le (4 * unwrap_or (option_map live_in page) 0) slots && has_denser table number size)) page ≡ option_and_then (judged_page table number) page
@@ -102,13 +73,6 @@ judged-flagged table number size live flag all class count some is =
     rw (is, count) (ap (set table number) (judged-some table number size (slots_in size) (page_at table number) class (slots-classed table number size all class) (λ none. some (count ∙ none))))
 
 -- The step ------------------------------------------------------------------------------------------
-
-pub step-passes : (cycle : ℕ) (table : Table Block) (place : ℕ) → is_some (page_at table (page_number place)) ≡ false → (table ≡ swept_table cycle table place) × (next_page place ≡ next_place place (page_at table (page_number place)))
-step-passes cycle table place free = go (page_at table (page_number place)) refl free
-  where
-    go : (page : Option (Page Block)) → page_at table (page_number place) ≡ page → is_some page ≡ false → (table ≡ set table (page_number place) (option_and_then (swept_page cycle table place) page)) × (next_page place ≡ next_place place page)
-    go None at is = (sym (ap (set table (page_number place)) (sym at) ∙ set-get_or table (page_number place) None), refl)
-    go (Some page) at is = absurd (true≢false is)
 
 -- the page of a place, with the slot swept
 record IsSweptPage (cycle : ℕ) (table : Table Block) (place : ℕ) (page : Page Block) : Type 0 where
@@ -159,16 +123,7 @@ step-last cycle table place inside used all =
     judged-like : (t : Table Block) (number : ℕ) (other : Table Block) (page : Page Block) → take number other ≡ take number t → set t number (judged_page other number page) ≡ set t number (judged_page t number page)
     judged-like t number other page same = ap (λ pages. set t number (if live_in page == 0 then None else Some (record page { is_flagged = nat_le (4 * live_in page) (length page.slots) && list_any (is_dense_page page.class_size) pages }))) same
 
--- the page stays in use, and as long
-pub swept-page : (cycle : ℕ) (table : Table Block) (place : ℕ) → is_some (page_at (slot_swept cycle table place) (page_number place)) ≡ is_some (page_at table (page_number place))
-swept-page cycle table place = go table (page_number place)
-  where
-    go : (t : Table Block) (number : ℕ) → is_some (page_at (set t number (option_map (page_with (slot_number place) (option_and_then (survivor cycle) (block_at table place))) (page_at t number))) number) ≡ is_some (page_at t number)
-    go [] number = refl
-    go (None ∷ t) zero = refl
-    go (Some page ∷ t) zero = refl
-    go (page ∷ t) (suc number) = go t number
-
+-- the page stays as long, and of its class
 pub swept-slots : (cycle : ℕ) (table : Table Block) (place : ℕ) → slot_count_in (slot_swept cycle table place) (page_number place) ≡ slot_count_in table (page_number place)
 swept-slots cycle table place = go table (page_number place)
   where
