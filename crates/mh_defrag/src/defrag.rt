@@ -18,13 +18,7 @@ pub fn next_target(blocks: &Blocks, place: Place) -> Option<Place>
 {
     let page = place.page();
     let class = blocks.class_at(page)?;
-    if !blocks.is_flagged(page) {
-        return None;
-    }
-    if !blocks.is_taken(place) {
-        return None;
-    }
-    if blocks.forward(place).is_some() {
+    if !blocks.is_flagged(page) || !blocks.is_taken(place) || blocks.forward(place).is_some() {
         return None;
     }
     blocks.place_dense(class)
