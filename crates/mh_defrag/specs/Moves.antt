@@ -1,0 +1,20 @@
+-- The parts of a step of defragmentation.
+use Rattle.std.specs.Prelude.{◌≡◌, ℕ, Option, Some, None, IfSome, option_map, List}
+use Rattle.mh_model.specs.Pages.{Table, page_number, class_at, IsFreeFor}
+use Rattle.mh_model.specs.Table.{Block}
+use Rattle.mh_model.specs.Collector.{Move, next_move, moved_table, forwarded_slots}
+
+-- the place that the next move leads to, if there is one, which is free for the class of the page
+pub record IsTarget (table : Table Block) (place : ℕ) (target : Option ℕ) : Type 0 where
+  pub is : target ≡ option_map (λ move. move.target) (next_move table place)
+  pub free : IfSome target (λ free. IfSome (class_at table (page_number place)) (λ size. IsFreeFor table size free))
+
+-- the table after the move of the block at a place, if there is one
+abbrev pub moved : Table Block → ℕ → Option Move → Table Block
+moved table place None = table
+moved table place (Some move) = moved_table table place move
+
+-- the slots after that move
+abbrev pub slots_moved : Table Block → ℕ → List (Option ℕ) → Option Move → List (Option ℕ)
+slots_moved table place slots None = slots
+slots_moved table place slots (Some move) = forwarded_slots (moved_table table place move) slots

@@ -1,0 +1,80 @@
+ghost use Rattle.std.specs.Prelude.{◌≡◌, ◌<◌, length};
+ghost use Rattle.mh_model.specs.Pages.{page_number};
+ghost use Rattle.mh_model.specs.Collector.{next_move, move_cost, next_place, flagged_page};
+ghost use Rattle.mh_roots.specs.Roots.{SlotsLead};
+ghost use Rattle.mh_defrag.specs.Moves.{IsTarget, moved, slots_moved};
+
+use mh_blocks::blocks::Blocks;
+use mh_model::place::Place;
+use mh_roots::roots::{Roots, SLOTS};
+
+/// How many places each page has, whatever its class.
+const PLACES: usize = 64;
+
+/// Where the block at a place moves, if the step at this place moves one.
+pub fn next_target(blocks: &Blocks, place: Place) -> Option<Place>
+    requires { page_number place < length blocks.now }
+    ensures { IsTarget blocks.now place result }
+{
+    let page = place.page();
+    let class = blocks.class_at(page)?;
+    if !blocks.is_flagged(page) || !blocks.is_taken(place) || blocks.forward(place).is_some() {
+        return None;
+    }
+    blocks.place_dense(class)
+}
+
+/// What the step at a place costs, by whether the quantum has moved a block.
+pub fn cost(blocks: &Blocks, place: Place, target: Option<Place>, has_moved: bool) -> u64
+    requires inside { page_number place < length blocks.now }
+    requires target { IsTarget blocks.now place target }
+    ensures { result ≡ move_cost has_moved (next_move blocks.now place) }
+{
+    if target.is_none() {
+        return 1;
+    }
+    let Some(class) = blocks.class_at(place.page()) else {
+        return 1;
+    };
+    let words = class.size() as u64;
+    if has_moved {
+        1 + words
+    } else {
+        1 + words + SLOTS as u64
+    }
+}
+
+/// The place of the next step.
+fn next_place(blocks: &Blocks, place: Place) -> Place
+    requires { page_number place < length blocks.now }
+    ensures { result ≡ next_place place (flagged_page blocks.now place) }
+{
+    // Its contract bounds the number of pages, and gives each the slots of its class.
+    let _ = blocks.len();
+    let page = place.page();
+    let Some(class) = blocks.class_at(page) else {
+        return Place(PLACES * (page + 1));
+    };
+    if blocks.is_flagged(page) && place.slot() + 1 != class.slots() {
+        Place(place.0 + 1)
+    } else {
+        Place(PLACES * (page + 1))
+    }
+}
+
+/// Takes the step at a place: its block moves to the target, if there is one, and then all roots lead there. Answers the place of the next step, which may be past the last page.
+pub fn step(blocks: &mut Blocks, roots: &mut Roots, place: Place, target: Option<Place>) -> Place
+    requires inside { page_number place < length blocks.old }
+    requires target { IsTarget blocks.old place target }
+    requires slots { SlotsLead blocks.old roots.old }
+    ensures table { blocks.new ≡ moved blocks.old place (next_move blocks.old place) }
+    ensures slots { roots.new ≡ slots_moved blocks.old place roots.old (next_move blocks.old place) }
+    ensures next { result ≡ next_place place (flagged_page blocks.old place) }
+{
+    let next = next_place(blocks, place);
+    if let Some(target) = target {
+        blocks.relocate(place, target);
+        roots.forward_all(blocks);
+    }
+    next
+}
