@@ -1,17 +1,15 @@
 -- The next move, and what it leaves.
-use Rattle.std.proofs.Common.{◌≡◌, ◌≢◌, ℕ, zero, suc, ◌+◌, ◌*◌, ◌/◌, ◌%◌, ◌<◌, ◌==◌, inl, inr, Bool, true, false, if◌then◌else◌, List, [], ◌∷◌, length, get_or, set, Option, Some, None, option_map, option_and_then, unwrap_or, is_some, IsSome, refl, sym, ap, ◌∙◌, subst, arith, eq-eqb}
+use Rattle.std.proofs.Common.{◌≡◌, ◌≢◌, ℕ, zero, suc, inl, inr, Bool, true, false, if◌then◌else◌, List, [], ◌∷◌, get_or, set, Option, Some, None, option_map, option_and_then, is_some, IsSome, refl, sym, ap, ◌∙◌, subst, arith}
 use Rattle.std.specs.Prelude.{IfSome}
-use Rattle.std.proofs.lemmas.Bool.{cases_eq, false≢true, true≢false}
-use Rattle.std.proofs.lemmas.Bool.Decides.{eqb_tells}
+use Rattle.std.proofs.lemmas.Bool.{cases_eq}
 use Rattle.std.proofs.lemmas.Option.{none-some, same_Some}
 use Rattle.std.proofs.lemmas.List.{get_or-set_other}
-use Rattle.mh_model.specs.Classes.{slots_in}
-use Rattle.mh_model.specs.Pages.{Page, Table, page_number, slot_number, page_at, block_in, block_at, class_at, flag_at, Leads, least_dense_place, page_with, with_block, with_taken, HaveTheirSlots, IsFreeFor}
-use Rattle.mh_model.specs.Table.{Block, is_forwarder, forward_at}
-use Rattle.mh_model.specs.Collector.{Move, if_flagged, flagged_page, move_of, next_move, moved_table, forwarded_slots, move_cost, next_page, next_place, is_last_slot}
+use Rattle.mh_model.specs.Pages.{Page, Table, page_number, slot_number, page_at, block_in, block_at, class_at, Leads, least_dense_place, page_with, with_block, with_taken, IsFreeFor}
+use Rattle.mh_model.specs.Table.{Block, is_forwarder}
+use Rattle.mh_model.specs.Collector.{Move, if_flagged, move_of, next_move, moved_table}
 use Rattle.mh_pages.proofs.TableLemmas.{page_of_block, block_after, other_block}
 use Rattle.mh_roots.specs.Roots.{SlotsLead}
-use Rattle.mh_defrag.specs.Moves.{IsTarget, moved, slots_moved}
+use Rattle.mh_defrag.specs.Moves.{IsTarget, moved}
 
 -- the move in a slot of a page
 abbrev move_in : Table Block → ℕ → Option (Page Block) → Option Move

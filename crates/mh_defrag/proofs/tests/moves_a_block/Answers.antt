@@ -1,5 +1,5 @@
-use Rattle.std.proofs.Common.{◌≡◌, ℕ, zero, suc, Option, Some, None, List, [], ◌∷◌, get_or, set, replicate, IsSome, rules}
-use Rattle.mh_model.specs.Pages.{Table, Leads, block_at}
+use Rattle.std.proofs.Common.{ℕ, zero, suc, Option, Some, None, List, [], ◌∷◌, set, replicate, IsSome, rules}
+use Rattle.mh_model.specs.Pages.{Table, block_at}
 use Rattle.mh_model.specs.Table.{Block}
 use Rattle.mh_roots.specs.Roots.{SlotsLead}
 use Rattle.mh_defrag.proofs.tests.moves_a_block.Goals as goal
