@@ -65,7 +65,10 @@ fn measure(rt: &HostRuntime, count: u32, objects: u64) -> io::Result<()> {
     let Some(all) = parts(Rules::Second, count, 0) else {
         return Ok(());
     };
-    let (Ok(mut blocks), Ok(mut room)) = (Blocks::open(rt.alloc(), 4096), PartPlaces::open(rt.alloc())) else {
+    let (Ok(mut blocks), Ok(mut room)) = (
+        Blocks::open(rt.alloc(), 4096),
+        PartPlaces::open(rt.alloc()),
+    ) else {
         return Ok(());
     };
     let start = Instant::now(rt)?;
@@ -77,7 +80,9 @@ fn measure(rt: &HostRuntime, count: u32, objects: u64) -> io::Result<()> {
     let start = Instant::now(rt)?;
     let found = references(&blocks, 262_144);
     let walking = start.elapsed(rt)?.as_nanos();
-    eprint!(rt; "objects of {count} references: {making} ns for {made} made, {reading} ns for {sum} stamps, {walking} ns for {found} references\n")
+    eprint!(rt;
+        "objects of {count} references: {making} ns for {made} made, {reading} ns for {sum} stamps, {walking} ns for {found} references\n"
+    )
 }
 
 /// Times objects of one block, of a spine, and of two levels of spines, and one that finds no place.

@@ -77,7 +77,10 @@ fn measure(rt: &HostRuntime, pages: &mut Pages, class: Class, step: u8) -> io::R
         _ => fill(pages, class, PLACES),
     };
     let time = start.elapsed(rt)?.as_nanos();
-    eprint!(rt; "places {} words step {step}: {time} ns for {done}\n", class.size())
+    eprint!(rt;
+        "places {} words step {step}: {time} ns for {done}\n",
+        class.size()
+    )
 }
 
 /// Times the places of the class for so many words.
