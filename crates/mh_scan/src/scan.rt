@@ -42,6 +42,22 @@ pub fn scan_block(blocks: &Blocks, place: Place) -> ArrayVec<Option<Place>, 60>
     found
 }
 
+/// Where the references of each block lead, block by block on this thread.
+pub(crate) fn scan_each(
+    alloc: Global,
+    blocks: &Blocks,
+    batch: &[Place],
+) -> Result<Vec<ArrayVec<Option<Place>, 60>>, NoMemory>
+    requires { AreScannable blocks.now batch.now }
+    ensures { IfOk result (λ found. lists found.items ≡ found_in blocks.now batch.now) }
+{
+    let mut found = Vec::with_capacity(alloc, batch.len())?;
+    for place in batch {
+        found.push(scan_block(blocks, *place))?;
+    }
+    Ok(found)
+}
+
 /// The scanner that does all on the calling thread.
 #[derive(Drop)]
 pub struct OneScan {
@@ -61,11 +77,7 @@ impl Scanner for OneScan {
         blocks: &Blocks,
         batch: &[Place],
     ) -> Result<Vec<ArrayVec<Option<Place>, 60>>, NoMemory> {
-        let mut found = Vec::with_capacity(self.alloc, batch.len())?;
-        for place in batch {
-            found.push(scan_block(blocks, *place))?;
-        }
-        Ok(found)
+        scan_each(self.alloc, blocks, batch)
     }
 
     fn is_alone(&self) -> bool {

@@ -1,0 +1,48 @@
+-- A batch in pieces of 16 places, and the workers that draw and scan them.
+use Rattle.std.specs.Prelude.{◌≡◌, ℕ, ◌+◌, ◌*◌, ◌/◌, ◌≤◌, ◌==◌, true, false, if◌then◌else◌, List, [], ◌∷◌, ◌++◌, All, map, take, drop}
+use Rattle.mh_model.specs.Pages.{Table}
+use Rattle.mh_model.specs.Table.{Block, found_in}
+use Rattle.mh_claims.specs.Seats.{ClaimsView, DrawSeatView, IsOf, IsNew, seat_ended}
+use Rattle.mh_scan.specs.Scanning.{lists}
+use Rattle.mh_scan.specs.declared.crew.Found.{Found}
+use Rattle.mh_scan.specs.declared.crew.Worker.{Worker}
+
+-- how many pieces a batch of a length has
+abbrev pub piece_count : ℕ → ℕ
+piece_count count = (count + 15) / 16
+
+-- the places of a piece
+abbrev pub piece_at : List ℕ → ℕ → List ℕ
+piece_at batch piece = take 16 (drop (piece * 16) batch)
+
+-- what was found in a piece is what a scan finds in its places
+abbrev pub IsFound : Table Block → List ℕ → Found → Type 0
+IsFound table batch found = lists found.lists.items ≡ found_in table (piece_at batch found.piece)
+
+-- the pieces in which something was found, in order
+abbrev pub pieces_of : List Found → List ℕ
+pieces_of found = map (λ one. one.piece) found
+
+-- how often a piece was scanned
+abbrev pub times_found : ℕ → List Found → ℕ
+times_found piece [] = 0
+times_found piece (one ∷ found) = (if one.piece == piece then 1 else 0) + times_found piece found
+
+-- the numbers that each seat drew
+abbrev pub drawn_by : List DrawSeatView → List (List ℕ)
+drawn_by seats = map (λ seat. seat.drawn) seats
+
+-- a worker before it draws its first piece
+pub record IsHired (claims : ClaimsView) (worker : Worker) : Type 0 where
+  pub seat : IsNew claims worker.seat
+  pub done : worker.done.items ≡ []
+  pub granted : worker.refused ≡ false
+
+-- A worker that is done: what it has is found. Where no memory was refused to it, it was answered at last that no piece is left, and has all others that it drew
+pub record HasWorked (claims : ClaimsView) (table : Table Block) (batch : List ℕ) (worker : Worker) : Type 0 where
+  pub own : IsOf claims worker.seat
+  pub found : All (IsFound table batch) worker.done.items
+  pub ended : worker.refused ≡ false → seat_ended worker.seat ≡ true
+  pub last : ℕ
+  pub past : worker.refused ≡ false → claims.bound ≤ last
+  pub drawn : worker.refused ≡ false → worker.seat.drawn ≡ pieces_of worker.done.items ++ last ∷ []

@@ -1,0 +1,244 @@
+//! A crew of workers, who draw the pieces of a batch and scan each.
+ghost use Rattle.std.specs.Prelude.{◌≡◌, ◌*◌, ◌<◌, ◌≤◌, ℕ, true, All, IfOk, length, remove, slice_index_or, vec_len};
+ghost use Rattle.mh_model.specs.History.{times_drawn};
+ghost use Rattle.mh_model.specs.Table.{found_in};
+ghost use Rattle.mh_claims.specs.Seats.{IsOf, IsNew, seat_ended};
+ghost use Rattle.mh_scan.specs.Scanning.{AreScannable, lists};
+ghost use Rattle.mh_scan.specs.Crew.{piece_count, piece_at, IsFound, times_found, drawn_by, IsHired, HasWorked};
+
+use crate::scan::{scan_block, scan_each};
+use crate::team::on_each;
+use arrayvec::ArrayVec;
+use mh_blocks::blocks::Blocks;
+use mh_claims::claims::{Claims, DrawSeat};
+use mh_claims::gate::Gate;
+use mh_model::memory::NoMemory;
+use mh_model::place::Place;
+use std::alloc::Global;
+use std::thread::Threads;
+
+/// How many places a piece has. The last of a batch may have fewer.
+const PIECE: usize = 16;
+
+/// What was found in a piece: a list for each of its blocks.
+#[derive(Drop)]
+struct Found {
+    piece: u64,
+    lists: Vec<ArrayVec<Option<Place>, 60>>,
+}
+
+/// A worker: its right to draw pieces, what it found in those that it drew, and whether memory was refused to it.
+#[derive(Drop)]
+struct Worker {
+    seat: DrawSeat,
+    done: Vec<Found>,
+    refused: bool,
+}
+
+/// How many pieces a batch of a length has.
+fn pieces_in(count: usize) -> usize
+    ensures { result ≡ piece_count count }
+{
+    count.div_ceil(PIECE)
+}
+
+/// The places of a piece.
+fn piece_of(batch: &[Place], number: u64) -> &[Place]
+    requires { number < piece_count (length batch.now) }
+    ensures { result.now ≡ piece_at batch.now number }
+{
+    let start = number as usize * PIECE;
+    let end = start + PIECE.min(batch.len() - start);
+    &batch[start..end]
+}
+
+/// As many workers as are asked for, but no more than there are pieces, nor more than the calling thread and one more for
+/// each 16 pieces begun. A thread costs more than the scan of a few pieces.
+fn crew_size(workers: usize, pieces: usize) -> usize
+    requires { 0 < workers }
+    ensures { (0 < result) × (result ≤ workers) }
+{
+    workers.min(pieces).min(1 + pieces.div_ceil(16)).max(1)
+}
+
+/// All pieces in their order, on this thread.
+fn scan_alone<G: Gate>(
+    alloc: Global,
+    gate: &G,
+    blocks: &Blocks,
+    batch: &[Place],
+) -> Result<Vec<ArrayVec<Option<Place>, 60>>, NoMemory>
+    requires { AreScannable blocks.now batch.now }
+    ensures { IfOk result (λ found. lists found.items ≡ found_in blocks.now batch.now) }
+{
+    let mut found = Vec::with_capacity(alloc, batch.len())?;
+    for index in 0..batch.len() {
+        if index % PIECE == 0 {
+            gate.piece(0, (index / PIECE) as u64);
+        }
+        found.push(scan_block(blocks, batch[index]))?;
+    }
+    Ok(found)
+}
+
+/// A worker for each seat.
+fn hire(alloc: Global, claims: &Claims, mut seats: Vec<DrawSeat>) -> Result<Vec<Worker>, NoMemory>
+    requires { All (IsNew claims.now) seats.items }
+    ensures { IfOk result (λ hired. (vec_len hired ≡ vec_len seats) × All (IsHired claims.now) hired.items) }
+{
+    let _ = claims;
+    let mut workers = Vec::with_capacity(alloc, seats.len())?;
+    while let Some(seat) = seats.pop() {
+        workers.push(Worker {
+            seat,
+            done: Vec::new(alloc),
+            refused: false,
+        })?;
+    }
+    Ok(workers)
+}
+
+/// A worker draws pieces and scans each, until none is left or memory is refused.
+fn work<G: Gate>(
+    alloc: Global,
+    claims: &Claims,
+    gate: &G,
+    blocks: &Blocks,
+    batch: &[Place],
+    index: usize,
+    worker: &mut Worker,
+)
+    requires hired { IsHired claims.now worker.old }
+    requires pieces { claims.now.bound ≡ piece_count (length batch.now) }
+    requires scannable { AreScannable blocks.now batch.now }
+    ensures { HasWorked claims.now blocks.now batch.now worker.new }
+{
+    while let Some(piece) = claims.draw(&mut worker.seat) {
+        gate.piece(index, piece);
+        let Ok(lists) = scan_each(alloc, blocks, piece_of(batch, piece)) else {
+            worker.refused = true;
+            return;
+        };
+        let Ok(()) = worker.done.push(Found { piece, lists }) else {
+            worker.refused = true;
+            return;
+        };
+    }
+}
+
+/// Each worker in a thread of its own, and the last on this one.
+fn work_all<G: Gate + Sync, R: Threads>(
+    rt: &R,
+    alloc: Global,
+    claims: &Claims,
+    gate: &G,
+    blocks: &Blocks,
+    batch: &[Place],
+    workers: &mut [Worker],
+)
+    requires hired { All (IsHired claims.now) workers.old }
+    requires pieces { claims.now.bound ≡ piece_count (length batch.now) }
+    requires few { length workers.old ≤ 64 }
+    requires scannable { AreScannable blocks.now batch.now }
+    ensures { All (HasWorked claims.now blocks.now batch.now) workers.new }
+{
+    let one = |index: usize, worker: &mut Worker|
+        requires { IsHired claims.now worker.now × (claims.now.bound ≡ piece_count (length batch.now)) × AreScannable blocks.now batch.now }
+        ensures { HasWorked claims.entry.now blocks.entry.now batch.entry.now worker.exit.now }
+    { work(alloc, claims, gate, blocks, batch, index, worker) };
+    on_each(rt, workers, &one);
+}
+
+/// The seats of all workers and all that they found, where memory was refused to none.
+fn gather(
+    alloc: Global,
+    claims: &Claims,
+    blocks: &Blocks,
+    batch: &[Place],
+    mut workers: Vec<Worker>,
+) -> Result<(Vec<DrawSeat>, Vec<Found>), NoMemory>
+    requires { All (HasWorked claims.now blocks.now batch.now) workers.items }
+    ensures count { IfOk result (λ gathered. vec_len gathered.0 ≡ vec_len workers) }
+    ensures ended { IfOk result (λ gathered. All (λ seat. IsOf claims.now seat × (seat_ended seat ≡ true)) gathered.0.items) }
+    ensures found { IfOk result (λ gathered. All (IsFound blocks.now batch.now) gathered.1.items) }
+    ensures times { IfOk result (λ gathered. (number : ℕ) → number < claims.now.bound → times_drawn number (drawn_by gathered.0.items) ≡ times_found number gathered.1.items) }
+{
+    let _ = claims;
+    let _ = blocks;
+    let _ = batch;
+    let mut seats = Vec::new(alloc);
+    let mut found = Vec::new(alloc);
+    while let Some(worker) = workers.pop() {
+        let Worker {
+            seat,
+            mut done,
+            refused,
+        } = worker;
+        if refused {
+            return Err(NoMemory);
+        }
+        seats.push(seat)?;
+        found.append(&mut done)?;
+    }
+    Ok((seats, found))
+}
+
+/// Takes what was found in a piece.
+fn take_piece(found: &mut Vec<Found>, piece: u64) -> Found
+    requires { 0 < times_found piece found.old.items }
+    ensures { (index : ℕ) × (index < length found.old.items) × (result.piece ≡ piece) × (result ≡ slice_index_or found.old.items index result) × (found.new.items ≡ remove found.old.items index) }
+{
+    for index in 0..found.len() {
+        if found[index].piece == piece {
+            return found.remove(index);
+        }
+    }
+    unreachable!()
+}
+
+/// What was found in all pieces, in their order.
+fn merge(
+    alloc: Global,
+    blocks: &Blocks,
+    batch: &[Place],
+    mut found: Vec<Found>,
+) -> Result<Vec<ArrayVec<Option<Place>, 60>>, NoMemory>
+    requires found { All (IsFound blocks.now batch.now) found.items }
+    requires whole { (number : ℕ) → number < piece_count (length batch.now) → 0 < times_found number found.items }
+    ensures { IfOk result (λ merged. lists merged.items ≡ found_in blocks.now batch.now) }
+{
+    let _ = blocks;
+    let mut merged = Vec::with_capacity(alloc, batch.len())?;
+    for piece in 0..pieces_in(batch.len()) {
+        let mut taken = take_piece(&mut found, piece as u64);
+        merged.append(&mut taken.lists)?;
+    }
+    Ok(merged)
+}
+
+/// What `Scanner::scan` finds, by as many workers at most as are asked for. One of them is the calling thread, which does
+/// all where there is one piece or one worker. A gate's `scan_by_crew` is one call of this.
+pub fn scan<G: Gate + Sync, R: Threads>(
+    rt: &R,
+    alloc: Global,
+    workers: usize,
+    gate: &G,
+    blocks: &Blocks,
+    batch: &[Place],
+) -> Result<Vec<ArrayVec<Option<Place>, 60>>, NoMemory>
+    requires workers { (0 < workers) × (workers ≤ 64) }
+    requires scannable { AreScannable blocks.now batch.now }
+    ensures { IfOk result (λ found. lists found.items ≡ found_in blocks.now batch.now) }
+{
+    let pieces = pieces_in(batch.len());
+    let size = crew_size(workers, pieces);
+    if size == 1 {
+        return scan_alone(alloc, gate, blocks, batch);
+    }
+    let (claims, seats) = Claims::new(alloc, pieces as u64, size)?;
+    let mut crew = hire(alloc, &claims, seats)?;
+    work_all(rt, alloc, &claims, gate, blocks, batch, crew.as_mut_slice());
+    let (seats, found) = gather(alloc, &claims, blocks, batch, crew)?;
+    claims.finish(seats);
+    merge(alloc, blocks, batch, found)
+}

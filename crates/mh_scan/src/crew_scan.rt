@@ -1,0 +1,86 @@
+//! The scanner that scans by a crew.
+ghost use Rattle.std.specs.Prelude.{◌≡◌, ◌<◌, ◌≤◌, IfOk};
+ghost use Rattle.mh_model.specs.Table.{found_in};
+ghost use Rattle.mh_scan.specs.Scanning.{AreScannable, lists};
+
+use crate::crew;
+use crate::scan::Scanner;
+use arrayvec::ArrayVec;
+use mh_blocks::blocks::Blocks;
+use mh_claims::gate::{Gate, Open};
+use mh_model::memory::NoMemory;
+use mh_model::place::Place;
+use std::alloc::Global;
+use std::thread::Threads;
+
+/// A gate that a crew can call from its threads. Each gate writes the method for its own type, with one call of
+/// `crew::scan`.
+pub trait CrewGate: Gate {
+    /// What `Scanner::scan` finds, by as many workers at most as are asked for.
+    fn scan_by_crew<R: Threads>(
+        &self,
+        rt: &R,
+        alloc: Global,
+        workers: usize,
+        blocks: &Blocks,
+        batch: &[Place],
+    ) -> Result<Vec<ArrayVec<Option<Place>, 60>>, NoMemory>
+        requires workers { (0 < workers) × (workers ≤ 64) }
+        requires scannable { AreScannable blocks.now batch.now }
+        ensures { IfOk result (λ found. lists found.items ≡ found_in blocks.now batch.now) };
+}
+
+impl CrewGate for Open {
+    fn scan_by_crew<R: Threads>(
+        &self,
+        rt: &R,
+        alloc: Global,
+        workers: usize,
+        blocks: &Blocks,
+        batch: &[Place],
+    ) -> Result<Vec<ArrayVec<Option<Place>, 60>>, NoMemory> {
+        crew::scan(rt, alloc, workers, self, blocks, batch)
+    }
+}
+
+/// The scanner of a crew. Its workers draw pieces of 16 places of the batch, and each calls `gate.piece` with its number
+/// and the piece's before it scans the piece. The calling thread is one of them, and does all with one worker or one
+/// piece. So does it the part of a thread that can't be started.
+#[derive(Drop)]
+pub struct CrewScan<'a, R, G> {
+    rt: &'a R,
+    alloc: Global,
+    workers: usize,
+    gate: &'a G,
+    ghost few: { (0 < workers) × (workers ≤ 64) },
+}
+
+impl<'a, R, G> CrewScan<'a, R, G> {
+    /// The allocator is for what is found. The number of workers is the most that scan at a time.
+    pub fn new(rt: &'a R, alloc: Global, workers: usize, gate: &'a G) -> CrewScan<'a, R, G>
+        requires { (0 < workers) × (workers ≤ 64) }
+    {
+        CrewScan {
+            rt,
+            alloc,
+            workers,
+            gate,
+        }
+    }
+}
+
+impl<'a, R: Threads, G: CrewGate> Scanner for CrewScan<'a, R, G> {
+    fn scan(
+        &mut self,
+        blocks: &Blocks,
+        batch: &[Place],
+    ) -> Result<Vec<ArrayVec<Option<Place>, 60>>, NoMemory> {
+        self.gate
+            .scan_by_crew(self.rt, self.alloc, self.workers, blocks, batch)
+    }
+
+    /// A crew of one worker finds a batch no sooner than its caller would.
+    fn is_alone(&self) -> bool {
+        self.workers == 1
+    }
+}
