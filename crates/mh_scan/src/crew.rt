@@ -52,11 +52,12 @@ fn piece_of(batch: &[Place], number: u64) -> &[Place]
     &batch[start..end]
 }
 
-/// As many workers as are asked for, but no more than there are pieces, nor more than the calling thread and one more for
-/// each 16 pieces begun. A thread costs more than the scan of a few pieces.
+/// As many workers as are asked for, but no more than there are pieces, nor more than one for each 16 pieces begun beside
+/// the calling thread: a thread costs more than the scan of a few pieces.
 fn crew_size(workers: usize, pieces: usize) -> usize
     requires { 0 < workers }
-    ensures { (0 < result) × (result ≤ workers) }
+    ensures some { 0 < result }
+    ensures most { result ≤ workers }
 {
     workers.min(pieces).min(1 + pieces.div_ceil(16)).max(1)
 }
@@ -84,7 +85,8 @@ fn scan_alone<G: Gate>(
 /// A worker for each seat.
 fn hire(alloc: Global, claims: &Claims, mut seats: Vec<DrawSeat>) -> Result<Vec<Worker>, NoMemory>
     requires { All (IsNew claims.now) seats.items }
-    ensures { IfOk result (λ hired. (vec_len hired ≡ vec_len seats) × All (IsHired claims.now) hired.items) }
+    ensures count { IfOk result (λ hired. vec_len hired ≡ vec_len seats) }
+    ensures hired { IfOk result (λ hired. All (IsHired claims.now) hired.items) }
 {
     let _ = claims;
     let mut workers = Vec::with_capacity(alloc, seats.len())?;

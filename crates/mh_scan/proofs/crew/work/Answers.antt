@@ -1,8 +1,8 @@
 use Rattle.std.proofs.Common.{rules, ◌≡◌, ℕ, [], ◌∷◌, ◌++◌, List, sym, subst, ap, ◌∙◌}
 use Rattle.std.proofs.lemmas.List.Elements.{All-push}
 use Rattle.mh_model.specs.Table.{found_in}
-use Rattle.mh_scan.specs.Scanning.{AreScannable}
-use Rattle.mh_scan.specs.Crew.{IsFound, pieces_of}
+use Rattle.mh_scan.specs.Scanning.{AreScannable, lists}
+use Rattle.mh_scan.specs.Crew.{piece_at, IsFound, pieces_of}
 use Rattle.mh_scan.specs.declared.crew.Found.{Found}
 use Rattle.mh_scan.proofs.PieceLemmas.{piece-scannable, pieces_of-push}
 use Rattle.mh_scan.proofs.crew.work.Goals as goal
@@ -22,7 +22,7 @@ loop-piece-preserved g c =
     let pieces : pieces_of c.push.new.self.items ≡ pieces_of before ++ piece ∷ [] = ap pieces_of pushed ∙ pieces_of-push before one in record {
       own = search rules;
       going = search rules;
-      found = rw pushed (All-push (IsFound table batch) before one c.loop-piece.invariant.found (c.in-Ok.ensures ∙ ap (found_in table) c.piece_of.ensures));
+      found = rw pushed (All-push (IsFound table batch) before one c.loop-piece.invariant.found (subst (λ (places : List ℕ). lists c.in-Ok.lists.items ≡ found_in table places) {y = piece_at batch piece} c.piece_of.ensures c.in-Ok.ensures));
       drawn = drawn ∙ sym pieces;
       granted = search rules;
     }
