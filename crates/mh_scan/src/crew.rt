@@ -1,5 +1,5 @@
 //! A crew of workers, who draw the pieces of a batch and scan each.
-ghost use Rattle.std.specs.Prelude.{◌≡◌, ◌*◌, ◌<◌, ◌≤◌, ℕ, true, All, IfOk, length, remove, slice_index_or, vec_len};
+ghost use Rattle.std.specs.Prelude.{◌≡◌, ◌<◌, ◌≤◌, ℕ, true, All, IfOk, length, remove, slice_index_or, vec_len};
 ghost use Rattle.mh_model.specs.History.{times_drawn};
 ghost use Rattle.mh_model.specs.Table.{found_in};
 ghost use Rattle.mh_claims.specs.Seats.{IsOf, IsNew, seat_ended};
