@@ -1,12 +1,13 @@
-ghost use Rattle.std.specs.Prelude.{◌≡◌, ℕ, ◌<◌, ◌≤◌, ◌++◌, [], true, None, IsSome, length, get_or};
-ghost use Rattle.mh_model.specs.Pages.{block_at};
-ghost use Rattle.mh_model.specs.Table.{references_at, found_in, LeadsHome};
+ghost use Rattle.std.specs.Prelude.{◌≡◌, ℕ, ◌<◌, ◌≤◌, ◌++◌, [], ◌∷◌, true, None, IsSome, length, get_or};
+ghost use Rattle.mh_model.specs.Pages.{block_at, Leads};
+ghost use Rattle.mh_model.specs.Table.{references_at, with_reference_at, found_in};
 ghost use Rattle.mh_model.specs.Batches.{written_back, batch_written, batch_cost, longest_front};
+ghost use Rattle.mh_pages.specs.Addresses.{address_in};
 ghost use Rattle.mh_grey.specs.Queue.{is_in};
 ghost use Rattle.mh_grey.specs.Shading.{marking, AreMarked};
 ghost use Rattle.mh_scan.specs.Scanning.{lists};
 ghost use Rattle.mh_mark.specs.Kept.{IsKept};
-ghost use Rattle.mh_mark.specs.Walkable.{IsWalkable};
+ghost use Rattle.mh_mark.specs.Walkable.{IsAtHome, IsWalkable};
 ghost use Rattle.mh_mark.specs.Batched.{AreHome, blocks_marked, front_of, front_marked};
 
 use crate::mark::mark_block;
@@ -14,7 +15,47 @@ use arrayvec::ArrayVec;
 use mh_blocks::blocks::Blocks;
 use mh_grey::grey::Grey;
 use mh_model::place::Place;
+use mh_pages::address::Address;
 use mh_scan::scan::Scanner;
+
+/// Writes a reference of the block at an address, where it isn't what stands there.
+fn store_reference(blocks: &mut Blocks, address: Address, index: usize, reference: Option<Place>)
+    requires at { address ≡ address_in blocks.old address.place }
+    requires there { index < length (references_at blocks.old address.place) }
+    requires leads { Leads blocks.old reference }
+    ensures { blocks.new ≡ with_reference_at blocks.old address.place index reference }
+{
+    if blocks.reference_from(address, index) != reference {
+        blocks.set_reference_from(address, index, reference);
+    }
+}
+
+/// Writes what was found of a reference of the block at an address back, and shades it.
+fn write_reference(
+    blocks: &mut Blocks,
+    grey: &mut Grey,
+    cycle: u64,
+    address: Address,
+    index: usize,
+    found: Option<Place>,
+)
+    requires pages { grey.old.pages ≡ length blocks.old }
+    requires at { address ≡ address_in blocks.old address.place }
+    requires there { index < length (references_at blocks.old address.place) }
+    requires home { IsAtHome blocks.old found }
+    requires marked { AreMarked blocks.old cycle grey.old.places }
+    ensures table { blocks.new ≡ (written_back (marking blocks.old grey.old.places cycle) address.place index (found ∷ [])).table }
+    ensures grey { grey.new ≡ record { places = (written_back (marking blocks.old grey.old.places cycle) address.place index (found ∷ [])).grey; pages = grey.old.pages } }
+{
+    match found {
+        None => store_reference(blocks, address, index, None),
+        Some(place) => {
+            store_reference(blocks, address, index, Some(place));
+            let target = blocks.address(place);
+            grey.shade_from(blocks, cycle, target);
+        }
+    }
+}
 
 /// Writes what was found of a block back, in order, and shades it.
 fn write_back(
@@ -24,18 +65,18 @@ fn write_back(
     place: Place,
     found: &[Option<Place>],
 )
+    requires there { IsSome (block_at blocks.old place) }
     requires pages { grey.old.pages ≡ length blocks.old }
     requires few { length found.now ≤ length (references_at blocks.old place) }
-    requires home { (index : ℕ) → LeadsHome blocks.old (get_or found.now index None) }
+    requires home { (index : ℕ) → IsAtHome blocks.old (get_or found.now index None) }
     requires marked { AreMarked blocks.old cycle grey.old.places }
     ensures table { blocks.new ≡ (written_back (marking blocks.old grey.old.places cycle) place 0 found.now).table }
     ensures grey { grey.new ≡ record { places = (written_back (marking blocks.old grey.old.places cycle) place 0 found.now).grey; pages = grey.old.pages } }
     ensures kept { IsKept (marking blocks.old grey.old.places cycle) (marking blocks.new grey.new.places cycle) }
 {
+    let address = blocks.address(place);
     for index in 0..found.len() {
-        let target = found[index];
-        blocks.store_ref(place, index, target);
-        grey.shade(blocks, cycle, target);
+        write_reference(blocks, grey, cycle, address, index, found[index]);
     }
 }
 
