@@ -3,4 +3,6 @@
 
 pub mod batch;
 pub mod mark;
-pub mod roots_step;
+pub mod roots;
+#[cfg(test)]
+mod tests;
