@@ -13,7 +13,7 @@ use Rattle.mh_grey.proofs.QueueLemmas.{in-push}
 use Rattle.mh_grey.proofs.ShadeLemmas.{shade-marked, shade-new}
 use Rattle.mh_grey.proofs.StampLemmas.{change-view, block_at-other, IsLike, like-trans, like-reference, home-like, IsShaded, shaded}
 use Rattle.mh_scan.specs.Scanning.{IsScannable, lists}
-use Rattle.mh_mark.specs.Batched.{IsHome, blocks_marked}
+use Rattle.mh_mark.specs.Batched.{IsMarkable, blocks_marked}
 use Rattle.mh_mark.specs.Walkable.{IsAtHome, LeadHome}
 use Rattle.mh_mark.specs.Kept.{IsKept}
 use Rattle.mh_mark.proofs.MarkLemmas.{IsMarkingOn}
@@ -168,11 +168,11 @@ marked-as m table grey cycle a b d = rw (a, b, d) refl
 
 -- Batches --------------------------------------------------------------------------------------------
 
-pub home-kept : (start m : Marking) (place : ℕ) → IsKept start m → IsHome start.table place → IsHome m.table place
-home-kept start m place kept home = record { there = kept.there place ∙ home.there; lead = kept.lead place home.lead }
+pub markable-kept : (start m : Marking) (place : ℕ) → IsKept start m → IsMarkable start.table place → IsMarkable m.table place
+markable-kept start m place kept home = record { there = kept.there place ∙ home.there; lead = kept.lead place home.lead }
 
-pub home-scannable : (table : Table Block) (place : ℕ) → IsHome table place → IsScannable table place
-home-scannable table place home = record { there = home.there; lead = λ i below. leads_of table (reference_at table place i) (home-leads table (reference_at table place i) (home.lead i below)) }
+pub markable-scannable : (table : Table Block) (place : ℕ) → IsMarkable table place → IsScannable table place
+markable-scannable table place home = record { there = home.there; lead = λ i below. leads_of table (reference_at table place i) (home-leads table (reference_at table place i) (home.lead i below)) }
 
 -- what is found of a block is at home
 found-home : (table : Table Block) (rs : List (Option ℕ)) → ((i : ℕ) → i < length rs → LeadsHome table (get_or rs i None)) → (i : ℕ) → IsAtHome table (get_or (map (target_of table) rs) i None)
@@ -194,7 +194,7 @@ found-at table batch found index one is below at =
 pub found-few : (start m : Marking) (batch : List ℕ) (found : List (ArrayVec (Option ℕ))) (index : ℕ) (one : ArrayVec (Option ℕ)) → IsKept start m → IsFoundAt start.table batch found index one → length one.items ≤ length (references_at m.table (get_or batch index 0))
 found-few start m batch found index one kept at = omega (arith, ap length at.is, length-map (references_at start.table (get_or batch index 0)) (target_of start.table), kept.counts (get_or batch index 0))
 
-pub found-leads : (start m : Marking) (batch : List ℕ) (found : List (ArrayVec (Option ℕ))) (index : ℕ) (one : ArrayVec (Option ℕ)) → IsKept start m → IsHome start.table (get_or batch index 0) → IsFoundAt start.table batch found index one
+pub found-leads : (start m : Marking) (batch : List ℕ) (found : List (ArrayVec (Option ℕ))) (index : ℕ) (one : ArrayVec (Option ℕ)) → IsKept start m → IsMarkable start.table (get_or batch index 0) → IsFoundAt start.table batch found index one
     → (i : ℕ) → IsAtHome m.table (get_or one.items i None)
 found-leads start m batch found index one kept home at i =
     at_home-like start.table m.table (get_or one.items i None) (as-like start m kept) (subst (λ l. IsAtHome start.table (get_or l i None)) (sym at.is) (found-home start.table (references_at start.table (get_or batch index 0)) home.lead i))

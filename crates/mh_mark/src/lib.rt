@@ -3,6 +3,6 @@
 
 pub mod batch;
 pub mod mark;
-pub mod roots;
+pub mod roots_step;
 #[cfg(test)]
 mod tests;

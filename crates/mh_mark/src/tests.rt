@@ -1,11 +1,11 @@
 ghost use Rattle.std.specs.Prelude.{◌≡◌, ℕ, ◌<◌, IsTrue, length, get_or};
 ghost use Rattle.mh_model.specs.Table.{stamp_at, LeadsOn, LeadsHome};
 ghost use Rattle.mh_mark.specs.Walkable.{IsWalkable};
-ghost use Rattle.mh_mark.specs.Batched.{IsHome, AreHome};
+ghost use Rattle.mh_mark.specs.Batched.{IsMarkable, AreMarkable};
 
 use crate::batch::mark_batch;
 use crate::mark::{mark_block, mark_step};
-use crate::roots::roots_step;
+use crate::roots_step::roots_step;
 use arrayvec::ArrayVec;
 use mh_blocks::blocks::Blocks;
 use mh_classes::parts::parts;
@@ -73,8 +73,8 @@ fn leads_home(blocks: &Blocks, reference: Option<Place>) -> bool
     }
 }
 
-fn is_home(blocks: &Blocks, place: Place) -> bool
-    ensures { IsTrue result → IsHome blocks.now place }
+fn is_markable(blocks: &Blocks, place: Place) -> bool
+    ensures { IsTrue result → IsMarkable blocks.now place }
 {
     if !blocks.is_taken(place) {
         return false;
@@ -87,19 +87,19 @@ fn is_home(blocks: &Blocks, place: Place) -> bool
     true
 }
 
-fn is_marked_home(blocks: &Blocks, cycle: u64, place: Place) -> bool
-    ensures home { IsTrue result → IsHome blocks.now place }
+fn is_walkable_at(blocks: &Blocks, cycle: u64, place: Place) -> bool
+    ensures markable { IsTrue result → IsMarkable blocks.now place }
     ensures marked { IsTrue result → stamp_at blocks.now place ≡ cycle }
 {
-    is_home(blocks, place) && blocks.stamp(place) == cycle
+    is_markable(blocks, place) && blocks.stamp(place) == cycle
 }
 
-fn are_marked_home(blocks: &Blocks, cycle: u64, batch: &[Place]) -> bool
-    ensures home { IsTrue result → AreHome blocks.now batch.now }
+fn are_walkable(blocks: &Blocks, cycle: u64, batch: &[Place]) -> bool
+    ensures markable { IsTrue result → AreMarkable blocks.now batch.now }
     ensures marked { IsTrue result → (index : ℕ) → index < length batch.now → stamp_at blocks.now (get_or batch.now index 0) ≡ cycle }
 {
     for place in batch {
-        if !is_marked_home(blocks, cycle, *place) {
+        if !is_walkable_at(blocks, cycle, *place) {
             return false;
         }
     }
@@ -115,7 +115,7 @@ fn is_walkable(blocks: &Blocks, cycle: u64, grey: &Grey) -> bool
         return false;
     }
     grey.front(count, &mut batch);
-    are_marked_home(blocks, cycle, batch.as_slice())
+    are_walkable(blocks, cycle, batch.as_slice())
 }
 
 fn store(rt: &impl Abort, blocks: &mut Blocks, place: Place, index: usize, target: Place) {
@@ -218,7 +218,7 @@ fn marks_a_block(rt: HostRuntime) -> Result<(), Fail> {
     let mut grey = Grey::open(rt.alloc(), 1)?;
     assert_eq!(rt; blocks.len(), 1);
     assert!(rt; is_walkable(&blocks, 5, &grey));
-    assert!(rt; is_home(&blocks, FIRST));
+    assert!(rt; is_markable(&blocks, FIRST));
     mark_block(&mut blocks, &mut grey, 5, FIRST);
     assert_eq!(rt; take_first(&mut grey), Some(GRANDCHILD));
     assert_eq!(rt; take_first(&mut grey), None);

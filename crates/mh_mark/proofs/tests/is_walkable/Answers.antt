@@ -6,7 +6,7 @@ use Rattle.mh_model.specs.Table.{Block, stamp_at}
 use Rattle.mh_grey.specs.Queue.{is_in}
 use Rattle.mh_grey.proofs.QueueLemmas.{or_cases}
 use Rattle.mh_mark.specs.Walkable.{IsWalkable}
-use Rattle.mh_mark.specs.Batched.{AreHome}
+use Rattle.mh_mark.specs.Batched.{AreMarkable}
 use Rattle.mh_mark.proofs.tests.is_walkable.Goals as goal
 
 -- where a place stands in a list
@@ -22,16 +22,16 @@ stands (first ∷ places) place there = elim (or_cases (place == first) (is_in p
   | inr after ↦ let rest = stands places place after in record { index = suc (rest.index); below = omega (arith, rest.below); is = rest.is }
 ]
 
-walkable : (table : Table Block) (cycle : ℕ) (places : List ℕ) → AreHome table places → ((index : ℕ) → index < length places → stamp_at table (get_or places index 0) ≡ cycle) → IsWalkable table cycle places
-walkable table cycle places home marked = record {
-  there = λ place there. let at = stands places place there in rw (← at.is) ((home at.index at.below).there);
-  lead = λ place there. let at = stands places place there in rw (← at.is) ((home at.index at.below).lead);
+walkable : (table : Table Block) (cycle : ℕ) (places : List ℕ) → AreMarkable table places → ((index : ℕ) → index < length places → stamp_at table (get_or places index 0) ≡ cycle) → IsWalkable table cycle places
+walkable table cycle places markable marked = record {
+  there = λ place there. let at = stands places place there in rw (← at.is) ((markable at.index at.below).there);
+  lead = λ place there. let at = stands places place there in rw (← at.is) ((markable at.index at.below).lead);
   marked = λ place there. let at = stands places place there in rw (← at.is) (marked at.index at.below);
 }
 
 pub returns : goal.returns
 returns c good =
     let all : c.as_slice.result.now ≡ c.args.grey.now.places = c.as_slice.ensures.value ∙ c.front.ensures ∙ ap (λ n. take n c.args.grey.now.places) c.len-count.ensures.count ∙ take_all (length c.args.grey.now.places) c.args.grey.now.places (omega arith) in
-    let home = rw all at c.are_marked_home.ensures.home good in
-    let marked = rw all at c.are_marked_home.ensures.marked good in
-    walkable _ _ _ home marked
+    let markable = rw all at c.are_walkable.ensures.markable good in
+    let marked = rw all at c.are_walkable.ensures.marked good in
+    walkable _ _ _ markable marked
