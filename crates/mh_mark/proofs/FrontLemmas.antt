@@ -150,13 +150,6 @@ front-markable table cycle old batch rest parts walk index below =
     let inside : is_in (get_or batch index 0) old ≡ true = rw parts (in_front batch rest index below) in
     record { there = walk.there (get_or batch index 0) inside; lead = walk.lead (get_or batch index 0) inside }
 
-in_rest : (batch rest : List ℕ) (place : ℕ) → is_in place rest ≡ true → is_in place (batch ++ rest) ≡ true
-in_rest [] rest place is = is
-in_rest (x ∷ batch) rest place is = or_right (place == x) (is_in place (batch ++ rest)) (in_rest batch rest place is)
-
-pub front-rest : (table : Table Block) (cycle : ℕ) (old batch rest : List ℕ) → old ≡ batch ++ rest → IsWalkable table cycle old → (place : ℕ) → is_in place rest ≡ true → is_in place old ≡ true
-front-rest table cycle old batch rest parts walk place is = rw parts (in_rest batch rest place is)
-
 pub first_in : (grey : List ℕ) (place : ℕ) → slice_get grey 0 ≡ Some place → is_in place grey ≡ true
 first_in [] place is = cc
 first_in (first ∷ grey) place is = ap (λ b. b || is_in place grey) (eq-eqb place first (sym (same_Some first place is)))
