@@ -1,0 +1,21 @@
+use Rattle.std.proofs.Common.{ap, sym, arith, length}
+use Rattle.mh_report.specs.Kept.{KeptTrace}
+use Rattle.mh_report.specs.Segments.{letters_of}
+use Rattle.mh_report.proofs.SegmentLemmas.{counts_whole}
+use Rattle.mh_report.proofs.WalkLemmas.{least_none}
+use Rattle.mh_report.proofs.trace.Trace.resume_least_mutator.Goals as goal
+
+pub returns-then-window-letters-clause-value : goal.returns-then-window-letters-clause-value
+returns-then-window-letters-clause-value c =
+    let shown = ap (λ (kept : KeptTrace). length kept.trace.letters) c.self.view_is in
+    sym (least_none c.args.window c.args.self.now.trace.letters (omega (arith, shown, counts_whole (letters_of c.self.inside.segments.items), c.self.invariant.0, c.self.invariant.1)))
+
+pub first-walk-requires-clause-long : goal.first-walk-requires-clause-long
+first-walk-requires-clause-long c =
+    let same = ap (λ segments. length (letters_of segments)) c.as_slice-segments.ensures.value in
+    omega (arith, same, counts_whole (letters_of c.self.inside.segments.items), c.self.invariant.0, c.self.invariant.1)
+
+pub go_on-requires-clause-letters : goal.go_on-requires-clause-letters
+go_on-requires-clause-letters c =
+    let same = ap (λ segments. length (letters_of segments)) c.as_slice-segments.ensures.value in
+    omega (arith, same, counts_whole (letters_of c.self.inside.segments.items), c.self.invariant.0, c.self.invariant.1)
