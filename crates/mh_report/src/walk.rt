@@ -51,26 +51,28 @@ impl Walk {
         }
     }
 
-    /// Slides on to the end of the trace, which has so many letters.
-    pub fn go_on(&mut self, segments: &[Segment], letters: u64)
-        requires walk { IsWalk segments.now self.old }
+    /// It slid on to the end of the trace, which has so many letters.
+    pub fn to_end(self, segments: &[Segment], letters: u64) -> Walk
+        requires walk { IsWalk segments.now self }
         requires letters { letters ≡ length (letters_of segments.now) }
         requires fits { letters < 2 ^ 62 }
-        ensures walk { IsWalk segments.now self.new }
-        ensures window { self.new.window ≡ self.old.window }
-        ensures least { least_mutator self.old.window (letters_of segments.now) ≡ Some self.new.least }
+        ensures walk { IsWalk segments.now result }
+        ensures window { result.window ≡ self.window }
+        ensures least { least_mutator self.window (letters_of segments.now) ≡ Some result.least }
     {
-        while self.end < letters {
-            let leaving = self.leaving.next(segments);
-            let entering = self.entering.next(segments);
+        let mut walk = self;
+        while walk.end < letters {
+            let leaving = walk.leaving.next(segments);
+            let entering = walk.entering.next(segments);
             let many = leaving.count.min(entering.count);
-            self.leaving.pass(segments, many);
-            self.entering.pass(segments, many);
-            self.count = (self.count + entering.unit.mutator_units(many)).saturating_sub(
+            walk.leaving.pass(segments, many);
+            walk.entering.pass(segments, many);
+            walk.count = (walk.count + entering.unit.mutator_units(many)).saturating_sub(
                 leaving.unit.mutator_units(many),
             );
-            self.least = self.least.min(self.count);
-            self.end += many;
+            walk.least = walk.least.min(walk.count);
+            walk.end += many;
         }
+        walk
     }
 }

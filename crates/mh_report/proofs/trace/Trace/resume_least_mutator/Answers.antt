@@ -10,12 +10,12 @@ returns-then-window-letters-clause-value c =
     let shown = ap (λ (kept : KeptTrace). length kept.trace.letters) c.self.view_is in
     sym (least_none c.args.window c.args.self.now.trace.letters (omega (arith, shown, counts_whole (letters_of c.self.inside.segments.items), c.self.invariant.0, c.self.invariant.1)))
 
-pub first-walk-requires-clause-long : goal.first-walk-requires-clause-long
-first-walk-requires-clause-long c =
+pub first-begun-requires-clause-long : goal.first-begun-requires-clause-long
+first-begun-requires-clause-long c =
     let same = ap (λ segments. length (letters_of segments)) c.as_slice-segments.ensures.value in
     omega (arith, same, counts_whole (letters_of c.self.inside.segments.items), c.self.invariant.0, c.self.invariant.1)
 
-pub go_on-requires-clause-letters : goal.go_on-requires-clause-letters
-go_on-requires-clause-letters c =
+pub to_end-walk-requires-clause-letters : goal.to_end-walk-requires-clause-letters
+to_end-walk-requires-clause-letters c =
     let same = ap (λ segments. length (letters_of segments)) c.as_slice-segments.ensures.value in
     omega (arith, same, counts_whole (letters_of c.self.inside.segments.items), c.self.invariant.0, c.self.invariant.1)
