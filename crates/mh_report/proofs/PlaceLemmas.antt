@@ -2,7 +2,7 @@
 use Rattle.std.proofs.Common.{◌≡◌, ℕ, zero, suc, ◌+◌, ◌-◌, ◌<◌, ◌≤◌, List, [], ◌∷◌, ◌++◌, length, replicate, set, get_or, ap, refl, sym, ◌∙◌, arith, append_assoc}
 use Rattle.std.proofs.lemmas.List.{append-nil, replicate-append-replicate}
 use Rattle.mh_report.specs.declared.segment.Segment.{Segment}
-use Rattle.mh_report.specs.Segments.{letter_of, letters_of, IsInside, letters_after, segment_after}
+use Rattle.mh_report.specs.Segments.{letter_of, letters_of, IsInside, letters_after}
 use Rattle.mh_report.proofs.SegmentLemmas.{letters_of_push, letters_of_longer}
 use Rattle.mh_report.proofs.WalkLemmas.{alike-parts, length-alike}
 
@@ -22,28 +22,16 @@ is_inside [] number passed other there within = absurd (omega arith)
 is_inside (s ∷ segments) zero passed other there within = within
 is_inside (s ∷ segments) (suc number) passed other there within = is_inside segments number passed other (omega arith) within
 
-pub after_read : (segments : List Segment) (number passed : ℕ) (other : Segment) → IsInside segments number passed
-    → segment_after segments number passed ≡ record { unit = (get_or segments number other).unit; count = (get_or segments number other).count - passed }
-after_read [] number passed other is = absurd is
-after_read (s ∷ segments) zero passed other is = refl
-after_read (s ∷ segments) (suc number) passed other is = after_read segments number passed other is
-
--- the letters of a segment are those before a place and those after it
-pub both_parts : (segments : List Segment) (number passed : ℕ) (other : Segment) → IsInside segments number passed → passed + (segment_after segments number passed).count ≡ (get_or segments number other).count
-both_parts [] number passed other is = absurd is
-both_parts (s ∷ segments) zero passed other is = omega arith
-both_parts (s ∷ segments) (suc number) passed other is = both_parts segments number passed other is
-
 -- Over letters ------------------------------------------------------------------------------------
 
 -- so many letters of a segment are passed
-pub after_passed : (segments : List Segment) (number passed many : ℕ) → number < length segments → many ≤ (segment_after segments number passed).count
-    → letters_after segments number passed ≡ replicate many (letter_of (segment_after segments number passed).unit) ++ letters_after segments number (passed + many)
-after_passed [] number passed many there within = absurd (omega arith)
-after_passed (s ∷ segments) zero passed many there within =
+pub after_passed : (segments : List Segment) (number passed many : ℕ) (other : Segment) → number < length segments → passed + many ≤ (get_or segments number other).count
+    → letters_after segments number passed ≡ replicate many (letter_of (get_or segments number other).unit) ++ letters_after segments number (passed + many)
+after_passed [] number passed many other there within = absurd (omega arith)
+after_passed (s ∷ segments) zero passed many other there within =
     let left : s.count - passed - many ≡ s.count - (passed + many) = omega arith in
-    rw (← left) (alike-parts many (s.count - passed) (letter_of s.unit) (letters_of segments) within)
-after_passed (s ∷ segments) (suc number) passed many there within = after_passed segments number passed many (omega arith) within
+    rw (← left) (alike-parts many (s.count - passed) (letter_of s.unit) (letters_of segments) (omega arith))
+after_passed (s ∷ segments) (suc number) passed many other there within = after_passed segments number passed many other (omega arith) within
 
 -- the first place
 pub after_first : (segments : List Segment) → letters_after segments 0 0 ≡ letters_of segments
@@ -68,17 +56,12 @@ inside_next [] number there = absurd (omega arith)
 inside_next (s ∷ segments) zero there = inside_first segments (omega arith)
 inside_next (s ∷ segments) (suc number) there = inside_next segments number (omega arith)
 
--- how many letters are left
-pub next_within : (segments : List Segment) (number passed : ℕ) → (segment_after segments number passed).count ≤ length (letters_after segments number passed)
-next_within [] number passed = omega arith
-next_within (s ∷ segments) zero passed = omega (arith, length-alike (s.count - passed) (letter_of s.unit) (letters_of segments))
-next_within (s ∷ segments) (suc number) passed = next_within segments number passed
-
-pub next_of_last : (segments : List Segment) (number passed : ℕ) → length segments ≤ suc number → length (letters_after segments number passed) ≤ (segment_after segments number passed).count
-next_of_last [] number passed last = omega arith
-next_of_last (s ∷ []) zero passed last = omega (arith, length-alike (s.count - passed) (letter_of s.unit) [])
-next_of_last (s ∷ t ∷ segments) zero passed last = absurd (omega arith)
-next_of_last (s ∷ segments) (suc number) passed last = next_of_last segments number passed (omega arith)
+-- how many letters are left in the last segment
+pub after_last : (segments : List Segment) (number passed : ℕ) (other : Segment) → IsInside segments number passed → length segments ≤ suc number → length (letters_after segments number passed) ≤ (get_or segments number other).count - passed
+after_last [] number passed other is last = absurd is
+after_last (s ∷ []) zero passed other is last = omega (arith, length-alike (s.count - passed) (letter_of s.unit) [])
+after_last (s ∷ t ∷ segments) zero passed other is last = absurd (omega arith)
+after_last (s ∷ segments) (suc number) passed other is last = after_last segments number passed other is (omega arith)
 
 -- As the trace grows ------------------------------------------------------------------------------
 

@@ -3,13 +3,10 @@ use Rattle.std.specs.Prelude.{ℕ, List}
 use Rattle.mh_model.specs.Trace.{Letter}
 use Rattle.mh_report.specs.declared.segment.Segment.{Segment}
 use Rattle.mh_report.specs.declared.place.Place.{Place}
-use Rattle.mh_report.specs.Segments.{IsInside, letters_after, segment_after}
+use Rattle.mh_report.specs.Segments.{IsInside, letters_after}
 
 abbrev pub IsPlace : List Segment → Place → Type 0
 IsPlace segments place = IsInside segments place.segment place.passed
 
 abbrev pub after : List Segment → Place → List Letter
 after segments place = letters_after segments place.segment place.passed
-
-abbrev pub next_after : List Segment → Place → Segment
-next_after segments place = segment_after segments place.segment place.passed

@@ -1,5 +1,5 @@
 ghost use Rattle.std.specs.Prelude.{◌≡◌, ◌+◌, ◌-◌, ◌<◌, ◌≤◌, ◌++◌, length, replicate};
-ghost use Rattle.mh_report.specs.Segments.{letter_of, letters_of};
+ghost use Rattle.mh_report.specs.Segments.{letter_of};
 
 use crate::segment::Segment;
 
@@ -11,39 +11,30 @@ pub struct Place {
 }
 
 impl Place {
-    ghost use Rattle.mh_report.specs.Places.{IsPlace, after, next_after};
+    ghost use Rattle.mh_report.specs.Places.{IsPlace, after};
 
-    /// The letters after it that are alike, up to the end of the segment.
-    #[tactic(auto, using(crate::proofs::PlaceLemmas::inside_list, crate::proofs::PlaceLemmas::inside_segment, crate::proofs::PlaceLemmas::after_read))]
-    pub fn next(&self, segments: &[Segment]) -> Segment
-        requires { IsPlace segments.now self.now }
-        ensures { result ≡ next_after segments.now self.now }
-    {
-        let segment = segments[self.segment];
-        Segment {
-            unit: segment.unit,
-            count: segment.count - self.passed,
-        }
-    }
-
-    /// Passes so many of them, and goes on to the next segment, if there is one, at the end of its own.
-    #[tactic(auto, using(crate::proofs::PlaceLemmas::inside_list, crate::proofs::PlaceLemmas::inside_segment, crate::proofs::PlaceLemmas::after_read))]
-    pub fn pass(&mut self, segments: &[Segment], many: u64)
+    /// Passes letters that are alike: so many, or fewer and to the next segment, if there is one.
+    #[tactic(auto, using(crate::proofs::PlaceLemmas::inside_list, crate::proofs::PlaceLemmas::inside_segment))]
+    pub fn pass(&mut self, segments: &[Segment], most: u64) -> Segment
         requires place { IsPlace segments.now self.old }
-        requires many { many ≤ (next_after segments.now self.old).count }
+        requires most { most ≤ length (after segments.now self.old) }
         ensures place { IsPlace segments.now self.new }
-        ensures after { after segments.now self.old ≡ replicate many (letter_of (next_after segments.now self.old).unit) ++ after segments.now self.new }
-        ensures on { self.old.segment ≤ self.new.segment }
-        ensures next { many ≡ (next_after segments.now self.old).count → 1 + self.old.segment < length segments.now → self.old.segment < self.new.segment }
+        ensures passed { after segments.now self.old ≡ replicate result.count (letter_of result.unit) ++ after segments.now self.new }
+        ensures within { result.count ≤ most }
+        ensures goes { 0 < most → most - result.count + (length segments.now - self.new.segment) < most + (length segments.now - self.old.segment) }
     {
-        let end = segments[self.segment].count;
-        self.passed += many;
-        if self.passed < end {
-            return;
+        let Segment { unit, count } = segments[self.segment];
+        let left = count - self.passed;
+        if most < left {
+            self.passed += most;
+            return Segment { unit, count: most };
         }
         if self.segment + 1 < segments.len() {
             self.segment += 1;
             self.passed = 0;
+        } else {
+            self.passed = count;
         }
+        Segment { unit, count: left }
     }
 }

@@ -1,6 +1,7 @@
-ghost use Rattle.std.specs.Prelude.{◌≡◌, ◌^◌, ◌<◌, ◌≤◌, Some, length};
-ghost use Rattle.mh_model.specs.Trace.{least_mutator};
-ghost use Rattle.mh_report.specs.Segments.{letters_of};
+ghost use Rattle.std.specs.Prelude.{◌≡◌, ◌+◌, ◌^◌, ◌<◌, ◌≤◌, ◌++◌, Some, List, length, replicate};
+ghost use Rattle.mh_model.specs.Trace.{Letter, least_mutator};
+ghost use Rattle.mh_report.specs.Segments.{letter_of, letters_of};
+ghost use Rattle.mh_report.specs.Walk.{HasSlid};
 
 use crate::place::Place;
 use crate::segment::Segment;
@@ -18,6 +19,7 @@ pub struct Walk {
 }
 
 impl Walk {
+    ghost use Rattle.mh_report.specs.Places.{IsPlace, after};
     ghost use Rattle.mh_report.specs.Walks.{IsWalk};
 
     /// The first stretch of this length.
@@ -35,11 +37,9 @@ impl Walk {
         let mut count = 0;
         let mut left = window;
         while left > 0 {
-            let next = entering.next(segments);
-            let many = left.min(next.count);
-            entering.pass(segments, many);
-            count += next.unit.mutator_units(many);
-            left -= many;
+            let passed = entering.pass(segments, left);
+            count += passed.mutator_units();
+            left -= passed.count;
         }
         Walk {
             window,
@@ -49,6 +49,36 @@ impl Walk {
             count,
             least: count,
         }
+    }
+
+    /// It slid on over letters that are alike.
+    fn over(self, segments: &[Segment], entering: Segment) -> Walk
+        requires place { IsPlace segments.now self.leaving }
+        requires there { entering.count ≤ length (after segments.now self.leaving) }
+        requires fits { self.count + entering.count < 2 ^ 63 }
+        ensures place { IsPlace segments.now result.leaving }
+        ensures slid { (letters rest : List Letter)
+            → HasSlid self.window letters self.count self.least (after segments.now self.leaving) (replicate entering.count (letter_of entering.unit) ++ rest)
+            → HasSlid self.window letters result.count result.least (after segments.now result.leaving) rest }
+        ensures left { length (after segments.now result.leaving) + entering.count ≡ length (after segments.now self.leaving) }
+        ensures count { result.count ≤ self.count + entering.count }
+        ensures same { result ≡ record self { leaving = result.leaving; count = result.count; least = result.least } }
+    {
+        let mut walk = self;
+        let mut left = entering.count;
+        while left > 0 {
+            let leaves = walk.leaving.pass(segments, left);
+            let enters = Segment {
+                unit: entering.unit,
+                count: leaves.count,
+            };
+            walk.count = (walk.count + enters.mutator_units()).saturating_sub(
+                leaves.mutator_units(),
+            );
+            walk.least = walk.least.min(walk.count);
+            left -= leaves.count;
+        }
+        walk
     }
 
     /// It slid on to the end of the trace, which has so many letters.
@@ -62,16 +92,9 @@ impl Walk {
     {
         let mut walk = self;
         while walk.end < letters {
-            let leaving = walk.leaving.next(segments);
-            let entering = walk.entering.next(segments);
-            let many = leaving.count.min(entering.count);
-            walk.leaving.pass(segments, many);
-            walk.entering.pass(segments, many);
-            walk.count = (walk.count + entering.unit.mutator_units(many)).saturating_sub(
-                leaving.unit.mutator_units(many),
-            );
-            walk.least = walk.least.min(walk.count);
-            walk.end += many;
+            let entering = walk.entering.pass(segments, letters - walk.end);
+            walk = walk.over(segments, entering);
+            walk.end += entering.count;
         }
         walk
     }

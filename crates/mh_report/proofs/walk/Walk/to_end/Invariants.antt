@@ -9,4 +9,4 @@ invariant-loop-walk l = record {
 }
 
 abbrev pub decreases-loop-walk : goal.decreases-loop-walk
-decreases-loop-walk l = (l.letters - l.walk.end) + (length l.segments - l.walk.leaving.segment) + (length l.segments - l.walk.entering.segment)
+decreases-loop-walk l = (l.letters - l.walk.end) + (length l.segments - l.walk.entering.segment)
