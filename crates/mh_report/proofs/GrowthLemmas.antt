@@ -1,5 +1,5 @@
 -- A walk over a trace that grows.
-use Rattle.std.proofs.Common.{◌≡◌, ◌+◌, ◌∙◌, ◌++◌, List, length, Option, Some, None, ap, arith}
+use Rattle.std.proofs.Common.{◌≡◌, ◌∙◌, ◌++◌, List, length, Option, Some, None, ap, arith}
 use Rattle.std.specs.Prelude.{IfSome}
 use Rattle.std.proofs.lemmas.List.{length-append}
 use Rattle.mh_model.specs.Trace.{Letter}

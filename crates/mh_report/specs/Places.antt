@@ -1,5 +1,5 @@
 -- Places in the segments of a trace.
-use Rattle.std.specs.Prelude.{ℕ, List}
+use Rattle.std.specs.Prelude.{List}
 use Rattle.mh_model.specs.Trace.{Letter}
 use Rattle.mh_report.specs.declared.segment.Segment.{Segment}
 use Rattle.mh_report.specs.declared.place.Place.{Place}

@@ -1,4 +1,4 @@
-use Rattle.std.proofs.Common.{◌≡◌, ◌∙◌, ◌+◌, ◌-◌, ◌++◌, suc, length, replicate, ap, arith, slice_index_or}
+use Rattle.std.proofs.Common.{◌≡◌, ◌∙◌, ◌+◌, ◌-◌, ◌++◌, suc, replicate, ap, arith, slice_index_or}
 use Rattle.mh_report.specs.declared.segment.Segment.{Segment}
 use Rattle.mh_report.specs.declared.segment.Unit.TheVariants.{Mutator}
 use Rattle.mh_report.specs.Segments.{letter_of, letters_after}

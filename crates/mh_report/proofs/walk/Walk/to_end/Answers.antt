@@ -1,7 +1,7 @@
-use Rattle.std.proofs.Common.{◌≡◌, ◌∙◌, ◌++◌, [], length, replicate, ap, arith}
+use Rattle.std.proofs.Common.{◌≡◌, ◌∙◌, [], length, ap, arith}
 use Rattle.mh_report.specs.declared.walk.Walk.{Walk}
 use Rattle.mh_report.specs.Segments.{letter_of, letters_of}
-use Rattle.mh_report.specs.Places.{IsPlace, after}
+use Rattle.mh_report.specs.Places.{after}
 use Rattle.mh_report.proofs.WalkLemmas.{length-alike, kept_answer, no_letters}
 use Rattle.mh_report.proofs.walk.Walk.to_end.Goals as goal
 
