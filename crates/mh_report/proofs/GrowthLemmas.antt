@@ -1,6 +1,6 @@
 -- A walk over a trace that grows.
-use Rattle.std.proofs.Common.{◌≡◌, ◌∙◌, ◌++◌, List, length, Option, Some, None, ap, arith}
-use Rattle.std.specs.Prelude.{IfSome}
+use Rattle.std.proofs.Common.{◌≡◌, ◌∙◌, ◌++◌, List, length, get_or, ap, arith}
+use Rattle.std.specs.List.{All}
 use Rattle.std.proofs.lemmas.List.{length-append}
 use Rattle.mh_model.specs.Trace.{Letter}
 use Rattle.mh_report.specs.declared.segment.Segment.{Segment}
@@ -26,6 +26,5 @@ walk_grows old new letters walk grown keeps kept =
       count = kept.count;
     }
 
-pub last_walk_grows : (old new : List Segment) (letters : List Letter) (walk : Option Walk) → letters_of new ≡ letters_of old ++ letters → KeepsPlaces old new letters → IfSome walk (IsWalk old) → IfSome walk (IsWalk new)
-last_walk_grows old new letters None grown keeps kept = kept
-last_walk_grows old new letters (Some walk) grown keeps kept = walk_grows old new letters walk grown keeps kept
+pub walks_grow : (old new : List Segment) (letters : List Letter) (walks : List Walk) → letters_of new ≡ letters_of old ++ letters → KeepsPlaces old new letters → All (IsWalk old) walks → All (IsWalk new) walks
+walks_grow old new letters walks grown keeps kept = λ at other there. walk_grows old new letters (get_or walks at other) grown keeps (kept at other there)

@@ -4,7 +4,7 @@ ghost use Rattle.mh_report.specs.Segments.{letter_of};
 use crate::segment::Segment;
 
 /// A place in a trace: how many letters of a segment are before it.
-#[derive(Clone, Copy)]
+#[derive(Clone, Copy, Default)]
 pub struct Place {
     pub segment: usize,
     pub passed: u64,

@@ -24,8 +24,8 @@ pub struct Report {
 impl Report {
     ghost use Rattle.mh_report.specs.Reports.{reply_of};
 
-    /// The report of a window. Where the last one was of the same window, only what the trace has grown by since then is
-    /// gone over.
+    /// The report of a window. Of up to 16 windows it is remembered how far the trace was gone over, so that only what it
+    /// has grown by since then is.
     pub fn new(trace: &mut Trace, config: &Config, window: u64) -> Report
         ensures report { reply_of result ≡ report_reply config.now trace.old.trace window }
         ensures kept { trace.new ≡ trace.old }

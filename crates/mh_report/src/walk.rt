@@ -8,7 +8,7 @@ use crate::segment::Segment;
 
 /// A stretch that slides on over a trace: the places at which it begins and ends, how many letters are before its end,
 /// how many of the mutator it has, and the least that it had.
-#[derive(Clone, Copy)]
+#[derive(Clone, Copy, Default)]
 pub struct Walk {
     pub window: u64,
     pub leaving: Place,

@@ -19,3 +19,8 @@ pub to_end-walk-requires-clause-letters : goal.to_end-walk-requires-clause-lette
 to_end-walk-requires-clause-letters c =
     let same = ap (λ segments. length (letters_of segments)) c.as_slice-segments.ensures.value in
     omega (arith, same, counts_whole (letters_of c.self.inside.segments.items), c.self.invariant.0, c.self.invariant.1)
+
+pub invariant_of-self : goal.invariant_of-self
+invariant_of-self c =
+    let walk = c.to_end-walk.ensures.walk in
+    (c.self.invariant.0, c.self.invariant.1, c.self.invariant.2, c.keep.ensures c.self.inside.segments.items c.self.invariant.3 (rw c.as_slice-segments.ensures.value at walk))
