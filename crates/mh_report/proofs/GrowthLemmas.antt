@@ -6,11 +6,11 @@ use Rattle.mh_model.specs.Trace.{Letter}
 use Rattle.mh_report.specs.declared.segment.Segment.{Segment}
 use Rattle.mh_report.specs.declared.walk.Walk.{Walk}
 use Rattle.mh_report.specs.Segments.{letters_of}
-use Rattle.mh_report.specs.Places.{after}
-use Rattle.mh_report.specs.Walks.{IsWalk, KeepsPlaces}
+use Rattle.mh_report.specs.Points.{after}
+use Rattle.mh_report.specs.Walks.{IsWalk, KeepsPoints}
 use Rattle.mh_report.proofs.WalkLemmas.{kept_grows}
 
-pub walk_grows : (old new : List Segment) (letters : List Letter) (walk : Walk) → letters_of new ≡ letters_of old ++ letters → KeepsPlaces old new letters → IsWalk old walk → IsWalk new walk
+pub walk_grows : (old new : List Segment) (letters : List Letter) (walk : Walk) → letters_of new ≡ letters_of old ++ letters → KeepsPoints old new letters → IsWalk old walk → IsWalk new walk
 walk_grows old new letters walk grown keeps kept =
     let leaving = keeps walk.leaving kept.leaving in
     let entering = keeps walk.entering kept.entering in
@@ -26,5 +26,5 @@ walk_grows old new letters walk grown keeps kept =
       count = kept.count;
     }
 
-pub walks_grow : (old new : List Segment) (letters : List Letter) (walks : List Walk) → letters_of new ≡ letters_of old ++ letters → KeepsPlaces old new letters → All (IsWalk old) walks → All (IsWalk new) walks
+pub walks_grow : (old new : List Segment) (letters : List Letter) (walks : List Walk) → letters_of new ≡ letters_of old ++ letters → KeepsPoints old new letters → All (IsWalk old) walks → All (IsWalk new) walks
 walks_grow old new letters walks grown keeps kept = λ at other there. walk_grows old new letters (get_or walks at other) grown keeps (kept at other there)

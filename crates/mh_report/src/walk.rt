@@ -3,23 +3,23 @@ ghost use Rattle.mh_model.specs.Trace.{Letter, least_mutator};
 ghost use Rattle.mh_report.specs.Segments.{letter_of, letters_of};
 ghost use Rattle.mh_report.specs.Walk.{HasSlid};
 
-use crate::place::Place;
+use crate::point::Point;
 use crate::segment::Segment;
 
-/// A stretch that slides on over a trace: the places at which it begins and ends, how many letters are before its end,
+/// A stretch that slides on over a trace: the points at which it begins and ends, how many letters are before its end,
 /// how many of the mutator it has, and the least that it had.
 #[derive(Clone, Copy, Default)]
 pub struct Walk {
     pub window: u64,
-    pub leaving: Place,
-    pub entering: Place,
+    pub leaving: Point,
+    pub entering: Point,
     pub end: u64,
     pub count: u64,
     pub least: u64,
 }
 
 impl Walk {
-    ghost use Rattle.mh_report.specs.Places.{IsPlace, after};
+    ghost use Rattle.mh_report.specs.Points.{IsPoint, after};
     ghost use Rattle.mh_report.specs.Walks.{IsWalk};
 
     /// The first stretch of this length.
@@ -29,7 +29,7 @@ impl Walk {
         ensures walk { IsWalk segments.now result }
         ensures window { result.window ≡ window }
     {
-        let start = Place {
+        let start = Point {
             segment: 0,
             passed: 0,
         };
@@ -53,10 +53,10 @@ impl Walk {
 
     /// It slid on over letters that are alike.
     fn over(self, segments: &[Segment], entering: Segment) -> Walk
-        requires place { IsPlace segments.now self.leaving }
+        requires point { IsPoint segments.now self.leaving }
         requires there { entering.count ≤ length (after segments.now self.leaving) }
         requires fits { self.count + entering.count < 2 ^ 63 }
-        ensures place { IsPlace segments.now result.leaving }
+        ensures point { IsPoint segments.now result.leaving }
         ensures slid { (letters rest : List Letter)
             → HasSlid self.window letters self.count self.least (after segments.now self.leaving) (replicate entering.count (letter_of entering.unit) ++ rest)
             → HasSlid self.window letters result.count result.least (after segments.now result.leaving) rest }

@@ -2,14 +2,14 @@ use Rattle.std.proofs.Common.{◌≡◌, ◌∙◌, length, take, drop, ap, refl
 use Rattle.std.proofs.lemmas.List.{length-drop}
 use Rattle.mh_model.specs.Trace.{mutator_count}
 use Rattle.mh_report.specs.Segments.{letter_of, letters_of}
-use Rattle.mh_report.specs.Places.{after}
+use Rattle.mh_report.specs.Points.{after}
 use Rattle.mh_report.proofs.WalkLemmas.{take_alike, drop_alike, length-alike, units_within, kept_first}
-use Rattle.mh_report.proofs.PlaceLemmas.{inside_first, after_first}
+use Rattle.mh_report.proofs.PointLemmas.{inside_first, after_first}
 use Rattle.mh_report.proofs.walk.Walk.first.Goals as goal
 
 pub loop-left-init : goal.loop-left-init
 loop-left-init c = record {
-  place = inside_first c.args.segments.now c.requires.some;
+  point = inside_first c.args.segments.now c.requires.some;
   counted = omega (arith, ap (λ letters. mutator_count (take c.args.window letters)) (after_first c.args.segments.now));
   rest = rw (after_first c.args.segments.now) refl;
   long = rw (after_first c.args.segments.now) c.requires.long;
@@ -28,7 +28,7 @@ loop-left-preserved c =
     let whole = ap length passed ∙ length-alike n letter more in
     let counted = ap (λ letters. mutator_count (take c.loop-left.left letters)) passed ∙ take_alike n c.loop-left.left letter more c.pass-passed.ensures.within in
     record {
-      place = c.pass-passed.ensures.place;
+      point = c.pass-passed.ensures.point;
       counted = omega (arith, c.loop-left.invariant.counted, counted, c.mutator_units-count.ensures);
       rest = c.loop-left.invariant.rest ∙ (ap (drop c.loop-left.left) passed ∙ drop_alike n c.loop-left.left letter more c.pass-passed.ensures.within);
       long = omega (arith, whole, c.loop-left.invariant.long);
@@ -47,7 +47,7 @@ returns-clause-walk c =
     let first = ap length (after_first segments) in
     record {
       leaving = inside_first segments c.requires.some;
-      entering = c.loop-left.invariant.place;
+      entering = c.loop-left.invariant.point;
       slid = rw (after_first segments, ← rest, ← counted) (kept_first c.args.window (letters_of segments) c.requires.long);
       left = omega (arith, whole, left, c.requires.long);
       long = omega (arith, whole, left, first);

@@ -2,7 +2,7 @@ use Rattle.std.proofs.Common.{◌≡◌, ◌∙◌, ◌+◌, ◌-◌, ◌++◌, 
 use Rattle.mh_report.specs.declared.walk.Walk.{Walk}
 use Rattle.mh_report.specs.Segments.{letter_of}
 use Rattle.mh_report.specs.Walk.{mutator_units}
-use Rattle.mh_report.specs.Places.{after}
+use Rattle.mh_report.specs.Points.{after}
 use Rattle.mh_report.proofs.WalkLemmas.{length-alike, units_within, alike-parts, kept_slides}
 use Rattle.mh_report.proofs.walk.Walk.over.Goals as goal
 
@@ -18,7 +18,7 @@ loop-left-preserved c =
     let least_is = c.min.ensures in
     let whole = ap length passed ∙ length-alike n letter more in
     record {
-      place = c.pass-leaves.ensures.place;
+      point = c.pass-leaves.ensures.point;
       slid = λ letters rest first.
           let kept = c.loop-left.invariant.slid letters rest first in
           let parts = alike-parts n c.loop-left.left enters rest c.pass-leaves.ensures.within in

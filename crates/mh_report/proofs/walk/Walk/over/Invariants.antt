@@ -2,12 +2,12 @@ use Rattle.std.proofs.Common.{◌≡◌, ◌+◌, ◌-◌, ◌≤◌, ◌++◌, 
 use Rattle.mh_model.specs.Trace.{Letter}
 use Rattle.mh_report.specs.Segments.{letter_of}
 use Rattle.mh_report.specs.Walk.{HasSlid}
-use Rattle.mh_report.specs.Places.{IsPlace, after}
+use Rattle.mh_report.specs.Points.{IsPoint, after}
 use Rattle.mh_report.proofs.walk.Walk.over.Given as goal
 
 abbrev pub invariant-loop-left : goal.invariant-loop-left
 invariant-loop-left l = record {
-  place : IsPlace l.segments l.walk.leaving;
+  point : IsPoint l.segments l.walk.leaving;
   slid : (letters rest : List Letter)
       → HasSlid l.fn.self.window letters l.fn.self.count l.fn.self.least (after l.segments l.fn.self.leaving) (replicate l.entering.count (letter_of l.entering.unit) ++ rest)
       → HasSlid l.fn.self.window letters l.walk.count l.walk.least (after l.segments l.walk.leaving) (replicate l.left (letter_of l.entering.unit) ++ rest);

@@ -1,16 +1,16 @@
 use Rattle.std.proofs.Common.{◌≡◌, ◌∙◌, [], length, ap, arith}
 use Rattle.mh_report.specs.declared.walk.Walk.{Walk}
 use Rattle.mh_report.specs.Segments.{letter_of, letters_of}
-use Rattle.mh_report.specs.Places.{after}
+use Rattle.mh_report.specs.Points.{after}
 use Rattle.mh_report.proofs.WalkLemmas.{length-alike, kept_answer, no_letters}
 use Rattle.mh_report.proofs.walk.Walk.to_end.Goals as goal
 
 pub loop-walk-smaller : goal.loop-walk-smaller
 loop-walk-smaller c =
     let end_is = ap (λ (walk : Walk). walk.end) c.over-walk.ensures.same in
-    let place_is = ap (λ (walk : Walk). walk.entering.segment) c.over-walk.ensures.same in
+    let point_is = ap (λ (walk : Walk). walk.entering.segment) c.over-walk.ensures.same in
     let goes = c.pass-entering.ensures.goes (omega (arith, c.loop-walk-test.true)) in
-    omega (arith, end_is, place_is, goes, c.pass-entering.ensures.within)
+    omega (arith, end_is, point_is, goes, c.pass-entering.ensures.within)
 
 pub loop-walk-preserved : goal.loop-walk-preserved
 loop-walk-preserved c =
@@ -24,14 +24,14 @@ loop-walk-preserved c =
     let passed = c.pass-entering.ensures.passed in
     let window_is : next.window ≡ walk.window = ap (λ (w : Walk). w.window) c.over-walk.ensures.same in
     let end_is : next.end ≡ walk.end = ap (λ (w : Walk). w.end) c.over-walk.ensures.same in
-    let place_is : next.entering ≡ c.pass-entering.new.self = ap (λ (w : Walk). w.entering) c.over-walk.ensures.same in
+    let point_is : next.entering ≡ c.pass-entering.new.self = ap (λ (w : Walk). w.entering) c.over-walk.ensures.same in
     let whole = ap length passed ∙ length-alike n e rest in
-    let rest_is = ap (λ place. length (after segments place)) place_is in
+    let rest_is = ap (λ point. length (after segments point)) point_is in
     record {
       walk = record {
-        leaving = c.over-walk.ensures.place;
-        entering = rw place_is c.pass-entering.ensures.place;
-        slid = rw (window_is, place_is) (c.over-walk.ensures.slid (letters_of segments) rest (rw passed at kept.slid));
+        leaving = c.over-walk.ensures.point;
+        entering = rw point_is c.pass-entering.ensures.point;
+        slid = rw (window_is, point_is) (c.over-walk.ensures.slid (letters_of segments) rest (rw passed at kept.slid));
         left = omega (arith, kept.left, whole, rest_is, end_is);
         long = omega (arith, kept.long, whole, rest_is, c.over-walk.ensures.left);
         count = omega (arith, kept.count, end_is, c.over-walk.ensures.count);

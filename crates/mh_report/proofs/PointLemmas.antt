@@ -1,4 +1,4 @@
--- Places in the segments of a trace, as it is gone over and as it grows.
+-- Points in the segments of a trace, as it is gone over and as it grows.
 use Rattle.std.proofs.Common.{◌≡◌, ℕ, zero, suc, ◌+◌, ◌-◌, ◌<◌, ◌≤◌, List, [], ◌∷◌, ◌++◌, length, replicate, set, get_or, ap, refl, sym, ◌∙◌, arith, append_assoc}
 use Rattle.std.proofs.lemmas.List.{append-nil, replicate-append-replicate}
 use Rattle.mh_report.specs.declared.segment.Segment.{Segment}
@@ -11,7 +11,7 @@ inside_list [] number passed is = absurd is
 inside_list (s ∷ segments) zero passed is = omega arith
 inside_list (s ∷ segments) (suc number) passed is = omega (arith, inside_list segments number passed is)
 
--- what a segment that is read says of a place in it
+-- what a segment that is read says of a point in it
 pub inside_segment : (segments : List Segment) (number passed : ℕ) (other : Segment) → IsInside segments number passed → passed ≤ (get_or segments number other).count
 inside_segment [] number passed other is = absurd is
 inside_segment (s ∷ segments) zero passed other is = is
@@ -33,7 +33,7 @@ after_passed (s ∷ segments) zero passed many other there within =
     rw (← left) (alike-parts many (s.count - passed) (letter_of s.unit) (letters_of segments) (omega arith))
 after_passed (s ∷ segments) (suc number) passed many other there within = after_passed segments number passed many other (omega arith) within
 
--- the first place
+-- the first point
 pub after_first : (segments : List Segment) → letters_after segments 0 0 ≡ letters_of segments
 after_first [] = refl
 after_first (s ∷ segments) = let all : s.count - 0 ≡ s.count = omega arith in rw all refl
@@ -42,7 +42,7 @@ pub inside_first : (segments : List Segment) → 0 < length segments → IsInsid
 inside_first [] some = absurd (omega arith)
 inside_first (s ∷ segments) some = omega arith
 
--- the place at the end of a segment is that before the next one
+-- the point at the end of a segment is that before the next one
 pub after_end : (segments : List Segment) (number passed : ℕ) (other : Segment) → suc number < length segments → passed ≡ (get_or segments number other).count
     → letters_after segments number passed ≡ letters_after segments (suc number) 0
 after_end [] number passed other there ends = absurd (omega arith)

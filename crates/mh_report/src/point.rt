@@ -3,22 +3,22 @@ ghost use Rattle.mh_report.specs.Segments.{letter_of};
 
 use crate::segment::Segment;
 
-/// A place in a trace: how many letters of a segment are before it.
+/// A point in a trace: how many letters of a segment are before it.
 #[derive(Clone, Copy, Default)]
-pub struct Place {
+pub struct Point {
     pub segment: usize,
     pub passed: u64,
 }
 
-impl Place {
-    ghost use Rattle.mh_report.specs.Places.{IsPlace, after};
+impl Point {
+    ghost use Rattle.mh_report.specs.Points.{IsPoint, after};
 
     /// Passes letters that are alike: so many, or fewer and to the next segment, if there is one.
-    #[tactic(auto, using(crate::proofs::PlaceLemmas::inside_list, crate::proofs::PlaceLemmas::inside_segment))]
+    #[tactic(auto, using(crate::proofs::PointLemmas::inside_list, crate::proofs::PointLemmas::inside_segment))]
     pub fn pass(&mut self, segments: &[Segment], most: u64) -> Segment
-        requires place { IsPlace segments.now self.old }
+        requires point { IsPoint segments.now self.old }
         requires most { most ≤ length (after segments.now self.old) }
-        ensures place { IsPlace segments.now self.new }
+        ensures point { IsPoint segments.now self.new }
         ensures passed { after segments.now self.old ≡ replicate result.count (letter_of result.unit) ++ after segments.now self.new }
         ensures within { result.count ≤ most }
         ensures goes { 0 < most → most - result.count + (length segments.now - self.new.segment) < most + (length segments.now - self.old.segment) }
