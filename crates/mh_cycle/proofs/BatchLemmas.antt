@@ -59,9 +59,9 @@ pub none-marked : (left : ℕ) (m : Marking) → batch_cost m.table (front_of le
 none-marked left m none = ap (λ b. batch_marked m b (drop (length b) m.grey)) (no_batch m.table (front_of left m) none)
 
 -- the marking of a batch and the phase after it
-batch-after : (left : ℕ) (c : Collector) (phase : Phase) (empty : Bool) → empty ≡ (length (front_marked left (marking_of c)).grey == 0) → phase ≡ (if empty then Sweep else Mark)
+batch-after : (left : ℕ) (c : Collector) (phase : Phase) → phase ≡ (if length (front_marked left (marking_of c)).grey == 0 then Sweep else Mark)
     → after_batch c (front_of left (marking_of c)) (rest_of left c) ≡ with_phase (with_marking c (front_marked left (marking_of c))) phase 0
-batch-after left c phase empty is next = after-mark (with_marking c (front_marked left (marking_of c))) phase (front_marked left (marking_of c)).grey empty is next
+batch-after left c phase next = after-mark (with_marking c (front_marked left (marking_of c))) phase (front_marked left (marking_of c)).grey next
 
 abbrev pub queue_of : ℕ → Marking → Queue
 queue_of pages m = record { places = m.grey; pages = pages }
@@ -78,10 +78,10 @@ run-none law left c phase some none =
       dear = λ e. over left (step_cost c false) false c refl (batch-stops law left c phase some none false);
     })
 
-pub run-some : AnyCutIntoBatchesIsTheSame → (left : ℕ) (c : Collector) (cost : ℕ) (phase : Phase) (empty : Bool) → c.phase ≡ Mark → NoneTwice c.grey → cost ≡ batch_cost c.table (front_of left (marking_of c)) → cost ≤ left → (cost ≡ 0 → ⊥)
-    → empty ≡ (length (front_marked left (marking_of c)).grey == 0) → phase ≡ (if empty then Sweep else Mark) → IsRun left c cost (with_phase (with_marking c (front_marked left (marking_of c))) phase 0)
-run-some law left c cost phase empty in_mark once price fits some is next = record {
+pub run-some : AnyCutIntoBatchesIsTheSame → (left : ℕ) (c : Collector) (cost : ℕ) (phase : Phase) → c.phase ≡ Mark → NoneTwice c.grey → cost ≡ batch_cost c.table (front_of left (marking_of c)) → cost ≤ left → (cost ≡ 0 → ⊥)
+    → phase ≡ (if length (front_marked left (marking_of c)).grey == 0 then Sweep else Mark) → IsRun left c cost (with_phase (with_marking c (front_marked left (marking_of c))) phase 0)
+run-some law left c cost phase in_mark once price fits some next = record {
   fits = fits;
-  goes = λ moved. subst (IsStride cost moved c moved) (batch-after left c phase empty is next) (subst (λ u. IsStride u moved c moved (after_batch c (front_of left (marking_of c)) (rest_of left c))) (sym price) (batch-goes law left c in_mark once (omega arith) moved));
+  goes = λ moved. subst (IsStride cost moved c moved) (batch-after left c phase next) (subst (λ u. IsStride u moved c moved (after_batch c (front_of left (marking_of c)) (rest_of left c))) (sym price) (batch-goes law left c in_mark once (omega arith) moved));
   dear = λ e. absurd (some e);
 }

@@ -11,7 +11,6 @@ use Rattle.mh_grey.proofs.StampLemmas.{length-with_block}
 use Rattle.mh_grey.specs.Queue.{Queue}
 use Rattle.mh_grey.specs.Shading.{marking}
 use Rattle.mh_cycle.specs.State.{IsFramed}
-use Rattle.mh_cycle.proofs.StepLemmas.{some-length}
 
 length-shade_block : (m : Marking) (place : ℕ) (content : Option Block) → length (shade_block m place content).table ≡ length m.table
 length-shade_block m place None = refl
@@ -51,19 +50,31 @@ some-shade : (m : Marking) (reference : Option ℕ) → 0 < length m.grey → 0 
 some-shade m None some = some
 some-shade m (Some place) some = some-shade_block m (resolve m.table place) (block_at m.table (resolve m.table place)) some
 
+-- another table with as many pages keeps it, as one that a caller wrote to
+pub framed-long : (config : Config) (table new : Table Block) (phase : Phase) (cursor : ℕ) (grey : Queue) → IsFramed config table phase cursor grey → length new ≡ length table → IsFramed config new phase cursor grey
+framed-long config table new phase cursor grey frame long = record {
+  pages = long ∙ frame.pages;
+  listed = frame.listed ∙ sym long;
+  some = rw long frame.some;
+  roots = frame.roots;
+  mark = frame.mark;
+  sweep = λ e. rw long (frame.sweep e);
+  defrag = λ e. rw long (frame.defrag e);
+}
+
 -- shading keeps the frame
 pub framed-shaded : (config : Config) (table : Table Block) (phase : Phase) (cursor cycle : ℕ) (grey : Queue) (reference : Option ℕ) → IsFramed config table phase cursor grey
     → IsFramed config (shade (marking table grey.places cycle) reference).table phase cursor (record { places = (shade (marking table grey.places cycle) reference).grey; pages = grey.pages })
 framed-shaded config table phase cursor cycle grey reference frame =
-    let long : length (shade (marking table grey.places cycle) reference).table ≡ length table = length-shade (marking table grey.places cycle) reference in
+    let long = framed-long config table (shade (marking table grey.places cycle) reference).table phase cursor grey frame (length-shade (marking table grey.places cycle) reference) in
     record {
-      pages = long ∙ frame.pages;
-      listed = frame.listed ∙ sym long;
-      some = rw long frame.some;
-      roots = frame.roots;
+      pages = long.pages;
+      listed = long.listed;
+      some = long.some;
+      roots = long.roots;
       mark = λ e. some-shade (marking table grey.places cycle) reference (frame.mark e);
-      sweep = λ e. rw long (frame.sweep e);
-      defrag = λ e. rw long (frame.defrag e);
+      sweep = long.sweep;
+      defrag = long.defrag;
     }
 
 -- a step of the roots keeps it, where more slots are left
@@ -87,22 +98,24 @@ framed-roots config table phase cursor cycle grey reference frame is more =
     not_defrag : Roots ≡ Defrag → ⊥
     not_defrag e = cc
 
--- and where marking or the sweep follows
-pub framed-scanned : (config : Config) (table : Table Block) (phase : Phase) (cursor cycle : ℕ) (grey : Queue) (reference : Option ℕ) (next : Phase) (empty : Bool) → IsFramed config table phase cursor grey
-    → empty ≡ (length (shade (marking table grey.places cycle) reference).grey == 0) → next ≡ (if empty then Sweep else Mark)
-    → IsFramed config (shade (marking table grey.places cycle) reference).table next 0 (record { places = (shade (marking table grey.places cycle) reference).grey; pages = grey.pages })
-framed-scanned config table phase cursor cycle grey reference next empty frame is follows =
-    let shaded = framed-shaded config table phase cursor cycle grey reference frame in
-    record {
-      pages = shaded.pages;
-      listed = shaded.listed;
-      some = shaded.some;
-      roots = λ e. omega arith;
-      mark = λ e. go empty is (sym follows ∙ e);
-      sweep = λ e. shaded.some;
-      defrag = λ e. shaded.some;
-    }
+-- what holds of the phase that follows marking
+after : (grey : List ℕ) (next : Phase) → next ≡ (if length grey == 0 then Sweep else Mark) → (next ≡ Roots → ⊥) × (next ≡ Mark → 0 < length grey)
+after [] next is = rw is (λ e. cc, λ e. cc)
+after (place ∷ grey) next is = (λ e. not_roots (length (place ∷ grey) == 0) (sym is ∙ e), λ e. omega arith)
   where
-    go : (b : Bool) → b ≡ (length (shade (marking table grey.places cycle) reference).grey == 0) → (if b then Sweep else Mark) ≡ Mark → 0 < length (shade (marking table grey.places cycle) reference).grey
-    go true is marks = cc
-    go false is marks = some-length (shade (marking table grey.places cycle) reference).grey (sym is)
+    not_roots : (empty : Bool) → (if empty then Sweep else Mark) ≡ Roots → ⊥
+    not_roots true e = cc
+    not_roots false e = cc
+
+-- marking or the sweep that follows has it
+pub framed-next : (config : Config) (table new : Table Block) (phase next : Phase) (cursor : ℕ) (grey after_grey : Queue) → IsFramed config table phase cursor grey → length new ≡ length table → after_grey.pages ≡ grey.pages → next ≡ (if length after_grey.places == 0 then Sweep else Mark)
+    → IsFramed config new next 0 after_grey
+framed-next config table new phase next cursor grey after_grey frame long pages is = record {
+  pages = long ∙ frame.pages;
+  listed = pages ∙ frame.listed ∙ sym long;
+  some = rw long frame.some;
+  roots = λ e. absurd ((after after_grey.places next is).0 e);
+  mark = (after after_grey.places next is).1;
+  sweep = λ e. rw long frame.some;
+  defrag = λ e. rw long frame.some;
+}

@@ -5,3 +5,4 @@ pub mod BatchLemmas
 pub mod SweepLemmas
 pub mod ReadyLemmas
 pub mod SnapshotLemmas
+pub mod ObjectLemmas

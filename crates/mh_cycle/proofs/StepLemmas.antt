@@ -1,6 +1,5 @@
 -- A step of each phase, by what was done.
 use Rattle.std.proofs.Common.{◌≡◌, ℕ, suc, ◌+◌, ◌/◌, ◌<◌, ◌≤◌, ◌≢◌, ◌==◌, ◌||◌, Bool, true, false, nat_le, if◌then◌else◌, List, [], ◌∷◌, length, Option, Some, None, is_some, option_map, slice_get, eq-eqb, refl, sym, ap, ◌∙◌, arith}
-use Rattle.std.proofs.lemmas.Bool.{true≢false}
 use Rattle.std.proofs.lemmas.Bool.Decides.{nat_tests}
 use Rattle.std.proofs.lemmas.Option.{same_Some}
 use Rattle.mh_model.specs.declared.cycle.Phase.{Phase}
@@ -31,29 +30,25 @@ first-in [] place is = cc
 first-in (first ∷ grey) place is = ap (λ b. b || is_in place grey) (eq-eqb place first (sym (same_Some first place is)))
 
 -- marking goes on, or the sweep follows
-pub after-mark : (r : Collector) (phase : Phase) (grey : List ℕ) (empty : Bool) → empty ≡ (length grey == 0) → phase ≡ (if empty then Sweep else Mark) → after_mark r grey ≡ with_phase r phase 0
-after-mark r phase [] empty is next = rw (next, is) refl
-after-mark r phase (place ∷ grey) empty is next =
+pub after-mark : (r : Collector) (phase : Phase) (grey : List ℕ) → phase ≡ (if length grey == 0 then Sweep else Mark) → after_mark r grey ≡ with_phase r phase 0
+after-mark r phase [] next = rw next refl
+after-mark r phase (place ∷ grey) next =
     let some : (length (place ∷ grey) == 0) ≡ false = not_same (length (place ∷ grey)) 0 (λ e. never grey e) in
-    rw (next, is, some) refl
+    rw (next, some) refl
   where
     never : (grey : List ℕ) → suc (length grey) ≡ 0 → ⊥
     never grey e = omega arith
 
-pub roots-after : (c : Collector) (phase : Phase) (empty : Bool) → c.phase ≡ Roots → c.cursor + 1 ≡ 144 → empty ≡ (length (roots_step c).grey == 0) → phase ≡ (if empty then Sweep else Mark) → collector_step c ≡ with_phase (roots_step c) phase 0
-roots-after c phase empty in_roots last is next =
-    step-is c Roots in_roots ∙ ap (λ b. if b then after_mark (roots_step c) (roots_step c).grey else roots_step c) (eq-eqb (c.cursor + 1) 144 last) ∙ after-mark (roots_step c) phase (roots_step c).grey empty is next
+pub roots-after : (c : Collector) (phase : Phase) → c.phase ≡ Roots → c.cursor + 1 ≡ 144 → phase ≡ (if length (roots_step c).grey == 0 then Sweep else Mark) → collector_step c ≡ with_phase (roots_step c) phase 0
+roots-after c phase in_roots last next =
+    step-is c Roots in_roots ∙ ap (λ b. if b then after_mark (roots_step c) (roots_step c).grey else roots_step c) (eq-eqb (c.cursor + 1) 144 last) ∙ after-mark (roots_step c) phase (roots_step c).grey next
 
 pub roots-stay : (c : Collector) → c.phase ≡ Roots → c.cursor + 1 ≢ 144 → collector_step c ≡ roots_step c
 roots-stay c in_roots more = step-is c Roots in_roots ∙ ap (λ b. if b then after_mark (roots_step c) (roots_step c).grey else roots_step c) (not_same (c.cursor + 1) 144 more)
 
-pub mark-after : (c : Collector) (phase : Phase) (empty : Bool) → c.phase ≡ Mark → empty ≡ (length (mark_step (marking_of c)).grey == 0) → phase ≡ (if empty then Sweep else Mark)
+pub mark-after : (c : Collector) (phase : Phase) → c.phase ≡ Mark → phase ≡ (if length (mark_step (marking_of c)).grey == 0 then Sweep else Mark)
     → collector_step c ≡ with_phase (with_marking c (mark_step (marking_of c))) phase 0
-mark-after c phase empty in_mark is next = step-is c Mark in_mark ∙ after-mark (with_marking c (mark_step (marking_of c))) phase (mark_step (marking_of c)).grey empty is next
-
-pub some-length : (grey : List ℕ) → (length grey == 0) ≡ false → 0 < length grey
-some-length [] none = absurd (true≢false none)
-some-length (place ∷ grey) none = omega arith
+mark-after c phase in_mark next = step-is c Mark in_mark ∙ after-mark (with_marking c (mark_step (marking_of c))) phase (mark_step (marking_of c)).grey next
 
 -- Sweep --------------------------------------------------------------------------------------------
 

@@ -87,6 +87,12 @@ impl Cycle {
         })
     }
 
+    pub fn config(&self) -> Config
+        ensures { result ≡ self.now.config }
+    {
+        self.config
+    }
+
     /// What the collector is at.
     pub fn phase(&self) -> Phase
         ensures { result ≡ self.now.collector.phase }

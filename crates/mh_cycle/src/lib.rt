@@ -4,3 +4,5 @@
 pub mod cycle;
 mod phases;
 mod steps;
+#[cfg(test)]
+mod tests;

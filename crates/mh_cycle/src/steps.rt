@@ -1,5 +1,5 @@
 //! What a quantum does in one go: its start, and one step or some steps of a phase.
-ghost use Rattle.std.specs.Prelude.{◌≡◌, ◌^◌, ◌<◌, Bool, true};
+ghost use Rattle.std.specs.Prelude.{◌≡◌, ◌^◌, ◌<◌, ◌==◌, Bool, true, if◌then◌else◌, length};
 ghost use Rattle.mh_model.specs.declared.cycle.Phase.TheVariants.{Roots, Mark, Sweep, Defrag};
 ghost use Rattle.mh_model.specs.Collector.{is_idle, quantum_start, collector_step, step_cost};
 ghost use Rattle.mh_model.specs.Mutator.{in_roots, in_roots_or_mark};
@@ -10,6 +10,7 @@ ghost use Rattle.mh_cycle.specs.Advance.{IsRun};
 
 use crate::cycle::Cycle;
 use mh_defrag::defrag;
+use mh_grey::grey::Grey;
 use mh_laws::batches::any_cut_into_batches_is_the_same;
 use mh_laws::fields::references_lead_on;
 use mh_mark::batch::mark_batch;
@@ -20,6 +21,17 @@ use mh_model::place::Place;
 use mh_roots::roots::SLOTS;
 use mh_scan::scan::Scanner;
 use mh_sweep::sweep;
+
+/// The phase in which blocks are marked while some are grey, and then the sweep.
+fn after_mark(grey: &Grey) -> Phase
+    ensures { result ≡ (if length grey.now.places == 0 then Sweep else Mark) }
+{
+    if grey.is_empty() {
+        Phase::Sweep
+    } else {
+        Phase::Mark
+    }
+}
 
 impl Cycle {
     pub(crate) fn is_idle(&self) -> bool
@@ -42,6 +54,7 @@ impl Cycle {
         matches!(self.phase, Phase::Roots | Phase::Mark)
     }
 
+    /// Whether the collector is in this phase.
     pub(crate) fn is_in(&self, phase: Phase) -> bool
         ensures yes { result ≡ true → self.now.collector.phase ≡ phase }
         ensures no { self.now.collector.phase ≡ phase → result ≡ true }
@@ -88,11 +101,7 @@ impl Cycle {
         self.cursor += 1;
         if self.cursor == SLOTS {
             self.cursor = 0;
-            self.phase = if self.grey.is_empty() {
-                Phase::Sweep
-            } else {
-                Phase::Mark
-            };
+            self.phase = after_mark(&self.grey);
         }
     }
 
@@ -115,9 +124,7 @@ impl Cycle {
         references_lead_on();
         mark_step(&mut self.blocks, &mut self.grey, self.number);
         self.cursor = 0;
-        if self.grey.is_empty() {
-            self.phase = Phase::Sweep;
-        }
+        self.phase = after_mark(&self.grey);
     }
 
     /// Marks through the longest front that fits in what is left, by the scanner. Answers what that cost, nothing where
@@ -136,9 +143,7 @@ impl Cycle {
             return 0;
         }
         self.cursor = 0;
-        if self.grey.is_empty() {
-            self.phase = Phase::Sweep;
-        }
+        self.phase = after_mark(&self.grey);
         cost
     }
 
