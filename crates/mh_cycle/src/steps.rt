@@ -157,9 +157,9 @@ impl Cycle {
     {
         let place = Place(self.cursor);
         let swept = sweep::sweep_page(&mut self.blocks, self.number, place, left as usize);
-        let next = swept.next;
-        self.cursor = next.0;
-        if next.page() >= self.blocks.len() {
+        let end = swept.next;
+        self.cursor = end.0;
+        if end.page() >= self.blocks.len() {
             self.cursor = 0;
             self.phase = Phase::Defrag;
         }

@@ -12,4 +12,4 @@ pub returns-else-page-len-clause-run : goal.returns-else-page-len-clause-run
 returns-else-page-len-clause-run c =
     let phase = rw (← c.self.view_is) at c.requires.phase in
     let inside : c.sweep_page-swept.result.next / 64 < length c.sweep_page-swept.new.blocks = omega arith in
-    rw (c.next.view_is, ← c.self.view_is) (sweep-goes_on _ _ _ _ phase c.sweep_page-swept.ensures.swept c.sweep_page-swept.ensures.few inside)
+    rw (c.end.view_is, ← c.self.view_is) (sweep-goes_on _ _ _ _ phase c.sweep_page-swept.ensures.swept c.sweep_page-swept.ensures.few inside)
