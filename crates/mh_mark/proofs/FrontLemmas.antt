@@ -14,7 +14,7 @@ use Rattle.mh_grey.specs.Queue.{Queue, is_in}
 use Rattle.mh_grey.specs.Shading.{marking}
 use Rattle.mh_grey.proofs.QueueLemmas.{or_right}
 use Rattle.mh_mark.specs.Walkable.{IsWalkable}
-use Rattle.mh_mark.specs.Batched.{AreHome, blocks_marked, front_marked}
+use Rattle.mh_mark.specs.Batched.{AreMarkable, blocks_marked, front_marked}
 
 le_yes : (a b : ℕ) → a ≤ b → nat_le a b ≡ true
 le_yes a b h = grind (arith, nat_tests)
@@ -145,17 +145,10 @@ in_front (place ∷ batch) rest zero below = ap (λ b. b || is_in place (batch +
     same n = grind (arith, nat_tests)
 in_front (place ∷ batch) rest (suc index) below = or_right (get_or batch index 0 == place) (is_in (get_or batch index 0) (batch ++ rest)) (in_front batch rest index (omega arith))
 
-pub front-home : (table : Table Block) (cycle : ℕ) (old batch rest : List ℕ) → old ≡ batch ++ rest → IsWalkable table cycle old → AreHome table batch
-front-home table cycle old batch rest parts walk index below =
+pub front-markable : (table : Table Block) (cycle : ℕ) (old batch rest : List ℕ) → old ≡ batch ++ rest → IsWalkable table cycle old → AreMarkable table batch
+front-markable table cycle old batch rest parts walk index below =
     let inside : is_in (get_or batch index 0) old ≡ true = rw parts (in_front batch rest index below) in
     record { there = walk.there (get_or batch index 0) inside; lead = walk.lead (get_or batch index 0) inside }
-
-in_rest : (batch rest : List ℕ) (place : ℕ) → is_in place rest ≡ true → is_in place (batch ++ rest) ≡ true
-in_rest [] rest place is = is
-in_rest (x ∷ batch) rest place is = or_right (place == x) (is_in place (batch ++ rest)) (in_rest batch rest place is)
-
-pub front-rest : (table : Table Block) (cycle : ℕ) (old batch rest : List ℕ) → old ≡ batch ++ rest → IsWalkable table cycle old → (place : ℕ) → is_in place rest ≡ true → is_in place old ≡ true
-front-rest table cycle old batch rest parts walk place is = rw parts (in_rest batch rest place is)
 
 pub first_in : (grey : List ℕ) (place : ℕ) → slice_get grey 0 ≡ Some place → is_in place grey ≡ true
 first_in [] place is = cc

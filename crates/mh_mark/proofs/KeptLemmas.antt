@@ -1,7 +1,7 @@
 -- One reference written and shaded, and what that keeps.
 use Rattle.std.proofs.Common.{◌≡◌, ◌≢◌, ℕ, zero, suc, ◌+◌, ◌<◌, ◌≤◌, ◌⊎◌, Bool, true, false, inl, inr, List, [], ◌∷◌, length, get_or, set, drop, map, Option, Some, None, option_map, unwrap_or, is_some, IsSome, if◌then◌else◌, refl, sym, ap, ◌∙◌, subst, arith}
 use Rattle.std.proofs.lemmas.Bool.{cases_eq, false≢true}
-use Rattle.std.proofs.lemmas.List.{get_or-set_other, get_or-set_same, length-set, drop_more, drop_all, get_or-map, length-map}
+use Rattle.std.proofs.lemmas.List.{get_or-set_other, get_or-set_same, length-set, drop_more, get_or-map, length-map}
 use Rattle.arrayvec.specs.ArrayVec.{ArrayVec}
 use Rattle.mh_model.specs.Pages.{Table, block_at}
 use Rattle.mh_model.specs.Table.{Block, resolve, references_at, reference_at, with_reference_at, target_of, found_in, stamp_at, forward_at, LeadsHome}
@@ -13,7 +13,7 @@ use Rattle.mh_grey.proofs.QueueLemmas.{in-push}
 use Rattle.mh_grey.proofs.ShadeLemmas.{shade-marked, shade-new}
 use Rattle.mh_grey.proofs.StampLemmas.{change-view, block_at-other, IsLike, like-trans, like-reference, home-like, IsShaded, shaded}
 use Rattle.mh_scan.specs.Scanning.{IsScannable, lists}
-use Rattle.mh_mark.specs.Batched.{IsHome, blocks_marked}
+use Rattle.mh_mark.specs.Batched.{IsMarkable, blocks_marked}
 use Rattle.mh_mark.specs.Walkable.{IsAtHome, LeadHome}
 use Rattle.mh_mark.specs.Kept.{IsKept}
 use Rattle.mh_mark.proofs.MarkLemmas.{IsMarkingOn}
@@ -130,9 +130,6 @@ writing-goes start place found m index on below home =
       kept = all;
     })
 
-pub writing-ends : (start : Marking) (place : ℕ) (found : List (Option ℕ)) (m : Marking) (index : ℕ) → IsWritingOn start place found m index → length found ≤ index → m ≡ written_back start place 0 found
-writing-ends start place found m index on past = ap (written_back m place index) (sym (drop_all index found past)) ∙ on.same
-
 -- what writing one asks for
 pub writing-home : (start m : Marking) (target : Option ℕ) → IsKept start m → IsAtHome start.table target → IsAtHome m.table target
 writing-home start m target kept home = at_home-like start.table m.table target (as-like start m kept) home
@@ -168,11 +165,8 @@ marked-as m table grey cycle a b d = rw (a, b, d) refl
 
 -- Batches --------------------------------------------------------------------------------------------
 
-pub home-kept : (start m : Marking) (place : ℕ) → IsKept start m → IsHome start.table place → IsHome m.table place
-home-kept start m place kept home = record { there = kept.there place ∙ home.there; lead = kept.lead place home.lead }
-
-pub home-scannable : (table : Table Block) (place : ℕ) → IsHome table place → IsScannable table place
-home-scannable table place home = record { there = home.there; lead = λ i below. leads_of table (reference_at table place i) (home-leads table (reference_at table place i) (home.lead i below)) }
+pub markable-scannable : (table : Table Block) (place : ℕ) → IsMarkable table place → IsScannable table place
+markable-scannable table place home = record { there = home.there; lead = λ i below. leads_of table (reference_at table place i) (home-leads table (reference_at table place i) (home.lead i below)) }
 
 -- what is found of a block is at home
 found-home : (table : Table Block) (rs : List (Option ℕ)) → ((i : ℕ) → i < length rs → LeadsHome table (get_or rs i None)) → (i : ℕ) → IsAtHome table (get_or (map (target_of table) rs) i None)
@@ -194,7 +188,7 @@ found-at table batch found index one is below at =
 pub found-few : (start m : Marking) (batch : List ℕ) (found : List (ArrayVec (Option ℕ))) (index : ℕ) (one : ArrayVec (Option ℕ)) → IsKept start m → IsFoundAt start.table batch found index one → length one.items ≤ length (references_at m.table (get_or batch index 0))
 found-few start m batch found index one kept at = omega (arith, ap length at.is, length-map (references_at start.table (get_or batch index 0)) (target_of start.table), kept.counts (get_or batch index 0))
 
-pub found-leads : (start m : Marking) (batch : List ℕ) (found : List (ArrayVec (Option ℕ))) (index : ℕ) (one : ArrayVec (Option ℕ)) → IsKept start m → IsHome start.table (get_or batch index 0) → IsFoundAt start.table batch found index one
+pub found-leads : (start m : Marking) (batch : List ℕ) (found : List (ArrayVec (Option ℕ))) (index : ℕ) (one : ArrayVec (Option ℕ)) → IsKept start m → IsMarkable start.table (get_or batch index 0) → IsFoundAt start.table batch found index one
     → (i : ℕ) → IsAtHome m.table (get_or one.items i None)
 found-leads start m batch found index one kept home at i =
     at_home-like start.table m.table (get_or one.items i None) (as-like start m kept) (subst (λ l. IsAtHome start.table (get_or l i None)) (sym at.is) (found-home start.table (references_at start.table (get_or batch index 0)) home.lead i))
@@ -214,9 +208,6 @@ batch-goes start batch all m next index on below inside is kept = record {
   kept = kept-trans start m next on.kept kept;
 }
 
-pub batch-ends : (start : Marking) (batch : List ℕ) (all : List (List (Option ℕ))) (m : Marking) (index : ℕ) → IsBatchOn start batch all m index → length batch ≤ index → m ≡ batch_written start batch all
-batch-ends start batch all m index on past = sym (ap (λ b. batch_written m b (drop index all)) (drop_all index batch past)) ∙ on.same
-
 pub record IsBlocksOn (start : Marking) (batch : List ℕ) (m : Marking) (index : ℕ) : Type 0 where
   pub same : blocks_marked m (drop index batch) ≡ blocks_marked start batch
   pub kept : IsKept start m
@@ -231,9 +222,6 @@ blocks-goes start batch m table grey index on below a b kept =
       same = ap (λ x. blocks_marked x (drop (index + 1) batch)) is ∙ sym (ap (blocks_marked m) (drop_more batch index 0 below)) ∙ on.same;
       kept = kept-trans start m (marking table grey m.cycle) on.kept kept;
     }
-
-pub blocks-ends : (start : Marking) (batch : List ℕ) (m : Marking) (index : ℕ) → IsBlocksOn start batch m index → length batch ≤ index → m ≡ blocks_marked start batch
-blocks-ends start batch m index on past = sym (ap (blocks_marked m) (drop_all index batch past)) ∙ on.same
 
 pub found-goes : (start : Marking) (batch : List ℕ) (found : List (ArrayVec (Option ℕ))) (m : Marking) (table : Table Block) (grey : List ℕ) (index : ℕ) (one : ArrayVec (Option ℕ)) (items : List (Option ℕ)) → IsBatchOn start batch (lists found) m index
     → lists found ≡ found_in start.table batch → index < length batch → IsFoundAt start.table batch found index one → items ≡ one.items

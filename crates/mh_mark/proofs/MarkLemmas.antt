@@ -1,6 +1,6 @@
 -- The references of a block marked through, one after the other.
 use Rattle.std.proofs.Common.{◌≡◌, ℕ, suc, ◌+◌, ◌<◌, ◌≤◌, length, get_or, set, drop, None, IsSome, refl, sym, ap, ◌∙◌, subst, arith}
-use Rattle.std.proofs.lemmas.List.{get_or-set_other, length-set, drop_more, drop_all}
+use Rattle.std.proofs.lemmas.List.{get_or-set_other, length-set, drop_more}
 use Rattle.mh_model.specs.Pages.{block_at}
 use Rattle.mh_model.specs.Table.{target_of, references_at, reference_at, with_reference_at, LeadsOn, LeadsHome}
 use Rattle.mh_model.specs.Collector.{Marking, shade, mark_reference, mark_references}
@@ -22,9 +22,6 @@ pub record IsMarkingOn (start : Marking) (place : ℕ) (m : Marking) (index : �
 
 pub marking-starts : (start : Marking) (place : ℕ) → IsSome (block_at start.table place) → LeadHome start.table place → AreMarked start.table start.cycle start.grey → IsMarkingOn start place start 0
 marking-starts start place there lead marked = record { same = refl; cycle = refl; there = there; long = refl; rest = λ i h. refl; lead = λ i h below. lead i below; marked = marked; pages = refl }
-
-pub marking-ends : (start : Marking) (place : ℕ) (m : Marking) (index : ℕ) → IsMarkingOn start place m index → length (references_at start.table place) ≤ index → m ≡ mark_references start place 0 (references_at start.table place)
-marking-ends start place m index on past = ap (mark_references m place index) (sym (drop_all index (references_at start.table place) past)) ∙ on.same
 
 -- a reference written and shaded
 pub marking-goes : (start : Marking) (place : ℕ) (m : Marking) (index : ℕ) → IsMarkingOn start place m index → index < length (references_at start.table place)

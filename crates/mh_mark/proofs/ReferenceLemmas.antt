@@ -45,11 +45,6 @@ pub at_home-like : (table new : Table Block) (reference : Option ℕ) → IsLike
 at_home-like table new None like home = tt
 at_home-like table new (Some place) like home = (like.there place ∙ home.0, like.forwards place ∙ home.1)
 
--- a reference that is written leads to a block
-pub at_home-there : (table : Table Block) (reference : Option ℕ) → IsAtHome table reference → Leads table reference
-at_home-there table None home = tt
-at_home-there table (Some place) home = home.0
-
 -- What is written ------------------------------------------------------------------------------------
 
 unchanged_slots : {X : Type 0} (slots : List (Option X)) (slot : ℕ) (g : X → X) → ((x : X) → get_or slots slot None ≡ Some x → g x ≡ x) → set slots slot (option_map g (get_or slots slot None)) ≡ slots
@@ -158,9 +153,6 @@ marked-moved m place index from target is =
 -- the block is there after the reference was written
 pub written-there : (table : Table Block) (place index target : ℕ) (reference : Option ℕ) → IsAtHome table (Some target) → IsSome (block_at (with_reference_at table place index reference) target)
 written-there table place index target reference home = (like-reference table place index reference).there target ∙ home.0
-
-pub straight-there : (table : Table Block) (reference read : Option ℕ) (from : ℕ) → LeadsHome table reference → read ≡ reference → read ≡ Some from → IsSome (block_at table from)
-straight-there table reference read from home at is = there_before table from ((subst (LeadsHome table) (sym at ∙ is) home).0)
 
 -- where grey places are marked, a place may be shaded, and after a reference is written too
 pub marked-apart_at : (table : Table Block) (cycle : ℕ) (grey : List ℕ) (place : ℕ) → AreMarked table cycle grey → IsApartAt table cycle grey place

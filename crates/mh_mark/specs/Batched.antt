@@ -6,13 +6,14 @@ use Rattle.mh_model.specs.Collector.{Marking, mark_references}
 use Rattle.mh_model.specs.Batches.{longest_front, batch_marked}
 use Rattle.mh_mark.specs.Walkable.{LeadHome}
 
--- a block is at a place, and its references lead home
-pub record IsHome (table : Table Block) (place : ℕ) : Type 0 where
+-- a block is at a place, and its references lead to blocks that are no forwarders
+pub record IsMarkable (table : Table Block) (place : ℕ) : Type 0 where
   pub there : IsSome (block_at table place)
   pub lead : LeadHome table place
 
-abbrev pub AreHome : Table Block → List ℕ → Type 0
-AreHome table batch = (index : ℕ) → index < length batch → IsHome table (get_or batch index 0)
+-- each place of a batch is that of such a block
+abbrev pub AreMarkable : Table Block → List ℕ → Type 0
+AreMarkable table batch = (index : ℕ) → index < length batch → IsMarkable table (get_or batch index 0)
 
 -- blocks marked through one after the other, none of them in the grey list
 abbrev pub blocks_marked : Marking → List ℕ → Marking

@@ -8,7 +8,7 @@ ghost use Rattle.mh_grey.specs.Shading.{marking, AreMarked};
 ghost use Rattle.mh_scan.specs.Scanning.{lists};
 ghost use Rattle.mh_mark.specs.Kept.{IsKept};
 ghost use Rattle.mh_mark.specs.Walkable.{IsAtHome, IsWalkable};
-ghost use Rattle.mh_mark.specs.Batched.{AreHome, blocks_marked, front_of, front_marked};
+ghost use Rattle.mh_mark.specs.Batched.{AreMarkable, blocks_marked, front_of, front_marked};
 
 use crate::mark::mark_block;
 use arrayvec::ArrayVec;
@@ -89,7 +89,7 @@ fn write_batch(
     found: &[ArrayVec<Option<Place>, 60>],
 )
     requires pages { grey.old.pages ≡ length blocks.old }
-    requires home { AreHome blocks.old batch.now }
+    requires markable { AreMarkable blocks.old batch.now }
     requires marked { AreMarked blocks.old cycle grey.old.places }
     requires found { lists found.now ≡ found_in blocks.old batch.now }
     ensures table { blocks.new ≡ (batch_written (marking blocks.old grey.old.places cycle) batch.now (lists found.now)).table }
@@ -104,7 +104,7 @@ fn write_batch(
 /// Marks through the blocks of a batch, one after the other.
 fn mark_blocks(blocks: &mut Blocks, grey: &mut Grey, cycle: u64, batch: &[Place])
     requires pages { grey.old.pages ≡ length blocks.old }
-    requires home { AreHome blocks.old batch.now }
+    requires markable { AreMarkable blocks.old batch.now }
     requires marked { AreMarked blocks.old cycle grey.old.places }
     ensures table { blocks.new ≡ (blocks_marked (marking blocks.old grey.old.places cycle) batch.now).table }
     ensures grey { grey.new ≡ record { places = (blocks_marked (marking blocks.old grey.old.places cycle) batch.now).grey; pages = grey.old.pages } }

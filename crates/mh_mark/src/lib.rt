@@ -4,3 +4,5 @@
 pub mod batch;
 pub mod mark;
 pub mod roots_step;
+#[cfg(test)]
+mod tests;

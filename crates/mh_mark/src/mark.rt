@@ -47,7 +47,8 @@ pub fn mark_block(blocks: &mut Blocks, grey: &mut Grey, cycle: u64, place: Place
     ensures kept { IsKept (marking blocks.old grey.old.places cycle) (marking blocks.new grey.new.places cycle) }
 {
     let address = blocks.address(place);
-    for index in 0..blocks.reference_count_from(address) {
+    let count = blocks.reference_count_from(address);
+    for index in 0..count {
         mark_reference(blocks, grey, cycle, address, index);
     }
 }
