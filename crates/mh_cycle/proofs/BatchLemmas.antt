@@ -55,29 +55,34 @@ batch-stops law left c phase some none moved =
     ended rest grey cost empty (inr (inl nothing)) = absurd (omega (arith, ap length grey, ap length nothing))
     ended rest grey cost empty (inr (inr dear)) = omega arith
 
-pub none-marked : (left : ℕ) (m : Marking) → batch_cost m.table (front_of left m) ≡ 0 → front_marked left m ≡ m
-none-marked left m none = ap (λ b. batch_marked m b (drop (length b) m.grey)) (no_batch m.table (front_of left m) none)
+-- a batch that costs nothing is empty
+pub none-marked : (left cost : ℕ) (m : Marking) → cost ≡ batch_cost m.table (front_of left m) → cost ≡ 0 → front_marked left m ≡ m
+none-marked left cost m price none = ap (λ b. batch_marked m b (drop (length b) m.grey)) (no_batch m.table (front_of left m) (sym price ∙ none))
 
 -- the marking of a batch and the phase after it
 batch-after : (left : ℕ) (c : Collector) (phase : Phase) → phase ≡ (if length (front_marked left (marking_of c)).grey == 0 then Sweep else Mark)
     → after_batch c (front_of left (marking_of c)) (rest_of left c) ≡ with_phase (with_marking c (front_marked left (marking_of c))) phase 0
 batch-after left c phase next = after-mark (with_marking c (front_marked left (marking_of c))) phase (front_marked left (marking_of c)).grey next
 
+-- the grey list of a marking, for so many pages
 abbrev pub queue_of : ℕ → Marking → Queue
 queue_of pages m = record { places = m.grey; pages = pages }
 
+-- the same table and grey list keep the frame
 pub framed-as : (config : Config) (table other : Table Block) (phase : Phase) (cursor : ℕ) (grey same : Queue) → IsFramed config table phase cursor grey → other ≡ table → same ≡ grey → IsFramed config other phase cursor same
 framed-as config table other phase cursor grey same frame a b = rw (a, b) frame
 
-pub run-none : AnyCutIntoBatchesIsTheSame → (left : ℕ) (c : Collector) → c.phase ≡ Mark → 0 < length c.grey → batch_cost c.table (front_of left (marking_of c)) ≡ 0 → IsRun left c 0 (with_marking c (front_marked left (marking_of c)))
-run-none law left c phase some none =
-    let same : with_marking c (front_marked left (marking_of c)) ≡ c = ap (with_marking c) (none-marked left (marking_of c) none) in
+-- no block fits
+pub run-none : AnyCutIntoBatchesIsTheSame → (left cost : ℕ) (c : Collector) → c.phase ≡ Mark → 0 < length c.grey → cost ≡ batch_cost c.table (front_of left (marking_of c)) → cost ≡ 0 → IsRun left c 0 (with_marking c (front_marked left (marking_of c)))
+run-none law left cost c phase some price none =
+    let same : with_marking c (front_marked left (marking_of c)) ≡ c = ap (with_marking c) (none-marked left cost (marking_of c) price none) in
     subst (IsRun left c 0) (sym same) (record {
       fits = omega arith;
       goes = λ moved. stride-none moved c;
-      dear = λ e. over left (step_cost c false) false c refl (batch-stops law left c phase some none false);
+      dear = λ e. over left (step_cost c false) false c refl (batch-stops law left c phase some (sym price ∙ none) false);
     })
 
+-- some blocks fit
 pub run-some : AnyCutIntoBatchesIsTheSame → (left : ℕ) (c : Collector) (cost : ℕ) (phase : Phase) → c.phase ≡ Mark → NoneTwice c.grey → cost ≡ batch_cost c.table (front_of left (marking_of c)) → cost ≤ left → (cost ≡ 0 → ⊥)
     → phase ≡ (if length (front_marked left (marking_of c)).grey == 0 then Sweep else Mark) → IsRun left c cost (with_phase (with_marking c (front_marked left (marking_of c))) phase 0)
 run-some law left c cost phase in_mark once price fits some next = record {

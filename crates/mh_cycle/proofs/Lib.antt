@@ -5,4 +5,3 @@ pub mod BatchLemmas
 pub mod SweepLemmas
 pub mod ReadyLemmas
 pub mod SnapshotLemmas
-pub mod ObjectLemmas

@@ -1,9 +1,9 @@
 -- What the next step of a steady collector asks for.
-use Rattle.std.proofs.Common.{◌≡◌, ℕ, ◌<◌, ◌==◌, inl, inr, true, List, [], ◌∷◌, length, get_or, Option, Some, None, option_map, option_and_then, unwrap_or, is_some, refl, sym, ap, ◌∙◌, subst, arith}
+use Rattle.std.proofs.Common.{◌≡◌, ℕ, ◌<◌, ◌==◌, inl, inr, true, List, [], ◌∷◌, length, Option, Some, None, option_map, option_and_then, unwrap_or, is_some, refl, sym, ap, ◌∙◌, subst, arith}
 use Rattle.std.proofs.lemmas.Bool.{false≢true, eqb-true}
 use Rattle.mh_model.specs.declared.cycle.Phase.{Phase}
 use Rattle.mh_model.specs.declared.cycle.Phase.TheVariants.{Idle, Roots, Mark, Sweep, Defrag}
-use Rattle.mh_model.specs.Pages.{Table, block_at, Leads}
+use Rattle.mh_model.specs.Pages.{block_at}
 use Rattle.mh_model.specs.Table.{Block, references_at, reference_at, forward_at, LeadsOn, LeadsHome}
 use Rattle.mh_model.specs.Collector.{Collector}
 use Rattle.mh_model.specs.Mutator.{in_roots_or_mark}
@@ -13,7 +13,6 @@ use Rattle.mh_laws.specs.Fields.{ReferencesLeadOn}
 use Rattle.mh_grey.specs.Queue.{is_in}
 use Rattle.mh_grey.specs.Shading.{AreMarked}
 use Rattle.mh_grey.proofs.QueueLemmas.{or_cases}
-use Rattle.mh_roots.specs.Roots.{SlotsLead}
 use Rattle.mh_mark.specs.Walkable.{IsWalkable}
 
 listed : (grey : List ℕ) (place : ℕ) → is_in place grey ≡ true → IsIn place grey
@@ -33,18 +32,6 @@ walkable law c steady = record {
   lead = λ place is index below. let (block, plain, stamp) = law.grey c steady place (listed c.grey place is) in (law.words c steady place block plain index).home;
   marked = are-marked law c steady;
 }
-
--- slots lead on
-pub slot-leads : ReferencesLeadOn → (c : Collector) → IsSteady c → (slot : ℕ) → LeadsOn c.table (get_or c.slots slot None)
-slot-leads law c steady slot = (law.slots c steady slot).on
-
-lead-there : (table : Table Block) (reference : Option ℕ) → LeadsOn table reference → Leads table reference
-lead-there table None leads = tt
-lead-there table (Some place) leads = leads.0
-
--- and so to blocks
-pub slots-there : ReferencesLeadOn → (c : Collector) → IsSteady c → SlotsLead c.table c.slots
-slots-there law c steady slot = lead-there c.table (get_or c.slots slot None) (slot-leads law c steady slot)
 
 -- While blocks are marked ---------------------------------------------------------------------------
 

@@ -138,9 +138,6 @@ steps-over (suc n) left moved c stops = steps-stop n left moved c stops
 
 -- Advances -----------------------------------------------------------------------------------------
 
-pub advance-none : (left : ℕ) (old : CycleState) → IsSteady old.collector → IsAdvance left old 0 false old
-advance-none left old steady = record { config = refl; steady = steady; fits = omega arith; goes = stride-none false old.collector left (omega arith) }
-
 -- one stride more
 pub advance-on : (left units cost all : ℕ) (m1 m2 : Bool) (old mid new : CycleState) → IsAdvance left old units m1 mid → all ≡ units + cost → cost ≤ left - units → new.config ≡ mid.config → IsSteady new.collector → IsStride cost m1 mid.collector m2 new.collector
     → IsAdvance left old all m2 new

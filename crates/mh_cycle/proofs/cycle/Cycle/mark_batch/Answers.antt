@@ -1,4 +1,4 @@
-use Rattle.std.proofs.Common.{◌∙◌, sym, refl, ap}
+use Rattle.std.proofs.Common.{◌∙◌, refl, ap}
 use Rattle.mh_model.specs.Collector.{Marking}
 use Rattle.mh_grey.specs.Shading.{marking}
 use Rattle.mh_cycle.proofs.BatchLemmas.{none-marked, queue_of, framed-as, run-none, run-some}
@@ -15,7 +15,7 @@ pub invariant_of-self : goal.invariant_of-self
 invariant_of-self g c =
     let inside = c.self.inside in
     let done = c.mark_batch-cost.ensures in
-    let none = none-marked c.args.left (marking inside.blocks inside.grey.places inside.number) (sym done.cost ∙ c.if-cost-eq0.true) in
+    let none = none-marked c.args.left c.mark_batch-cost.result (marking inside.blocks inside.grey.places inside.number) done.cost c.if-cost-eq0.true in
     framed-as _ _ _ _ _ _ _ c.self.invariant (done.table ∙ ap (λ (m : Marking). m.table) none) (done.grey ∙ ap (queue_of inside.grey.pages) none)
 
 pub invariant_of-self-2 : goal.invariant_of-self-2
@@ -25,7 +25,7 @@ pub returns-then-cost-eq0-clause-run : goal.returns-then-cost-eq0-clause-run
 returns-then-cost-eq0-clause-run g c =
     let phase = rw (← c.self.view_is) at c.requires.phase in
     let done = c.mark_batch-cost.ensures in
-    rw (← c.self.view_is, done.table, done.grey) (run-none c.any_cut_into_batches_is_the_same.ensures c.args.left _ phase (c.self.invariant.mark phase) (sym done.cost ∙ c.if-cost-eq0.true))
+    rw (← c.self.view_is, done.table, done.grey) (run-none c.any_cut_into_batches_is_the_same.ensures c.args.left c.mark_batch-cost.result _ phase (c.self.invariant.mark phase) done.cost c.if-cost-eq0.true)
 
 pub returns-clause-run : goal.returns-clause-run
 returns-clause-run g c =
