@@ -2,4 +2,6 @@ pub mod Checks
 pub mod Memory
 pub mod Outcome
 pub mod PlainHeap
+pub mod PlainShown
 pub mod PlainWorld
+pub mod Shown

@@ -1,20 +1,32 @@
-ghost use Rattle.std.specs.Prelude.{◌≡◌, ◌<◌, ℕ, Bool, None, IfOk, OnErr};
+ghost use Rattle.std.specs.Prelude.{◌≡◌, ◌<◌, ℕ, None, IfOk, OnErr};
 ghost use Rattle.mh_model.specs.declared.birth.TheConstants.{LIFE};
+ghost use Rattle.mh_model.specs.declared.command.Command.{Command};
 ghost use Rattle.mh_model.specs.declared.command.Command.TheVariants as command;
-ghost use Rattle.mh_model.specs.World.{World, births, sight_of, refusal, IsClosed, Performs};
+ghost use Rattle.mh_model.specs.declared.reply.Reply.{Reply};
+ghost use Rattle.mh_model.specs.World.{births, sight_of, refusal, IsClosed};
 ghost use Rattle.mh_heap.specs.Outcome.{done_or, number_or, same_or, shape_or};
+ghost use Rattle.mh_heap.specs.Shown.{Showing, ShowsCommand, ShowsQuantum};
 
+use mh_model::cycle::Spent;
 use mh_model::memory::NoMemory;
 use mh_model::reply::Refusal;
 use mh_model::shape::Shape;
+use mh_scan::scan::Scanner;
 
 /// A heap as its sessions see it: each call is the command of its name by the session `who`. What a heap shows is the
-/// ever-growing world, with nothing at the births that it no longer holds.
+/// ever-growing world, with nothing at the births that it no longer holds. Each call promises what this heap tells
+/// exactly, and the laws say what that shows.
 pub trait Heap {
-    ghost view: { Self → World };
+    ghost shown: { Self → Showing };
 
-    // Whether no place is left for an object of so many references and numbers.
-    ghost is_full: { Self → ℕ → ℕ → Bool };
+    // What a command of a session answers and leaves.
+    ghost performs: { Self → ℕ → Command → Reply → Self → Type 0 };
+
+    // What is so of a heap to which memory was refused: nothing more, or what is false where it asks for none.
+    ghost lacks: { Self → Type 0 };
+
+    // What a quantum spends and leaves.
+    ghost collects: { Self → ℕ → Self → Type 0 };
 
     fn make(
         &mut self,
@@ -23,49 +35,67 @@ pub trait Heap {
         references: u32,
         numbers: u32,
     ) -> Result<Result<(), Refusal>, NoMemory>
-        requires { births (view self.old) < LIFE }
+        requires { births (shown self.old).view < LIFE }
         ensures step { IfOk result
-            (λ outcome. Performs (is_full self.old) (view self.old) who (command.New slot references numbers) (done_or outcome) (view self.new)) }
-        ensures err { OnErr result (view self.new ≡ view self.old) }
+            (λ outcome. performs self.old who (command.New slot references numbers) (done_or outcome) self.new) }
+        ensures lacks { OnErr result (lacks self.old) }
+        ensures err { OnErr result (shown self.new ≡ shown self.old) }
         ensures asked { OnErr result
-            (refusal (sight_of (is_full self.old) (view self.old)) who (command.New slot references numbers) ≡ None) };
+            (refusal (sight_of (shown self.old).is_full (shown self.old).view) who (command.New slot references numbers) ≡ None) };
 
     fn get(&mut self, who: u8, slot: u32, source: u32, field: u32) -> Result<(), Refusal>
-        ensures { Performs (is_full self.old) (view self.old) who (command.Get slot source field) (done_or result) (view self.new) };
+        ensures { performs self.old who (command.Get slot source field) (done_or result) self.new };
 
     fn put(&mut self, who: u8, slot: u32, field: u32, value: u32) -> Result<(), Refusal>
-        ensures { Performs (is_full self.old) (view self.old) who (command.Put slot field value) (done_or result) (view self.new) };
+        ensures { performs self.old who (command.Put slot field value) (done_or result) self.new };
 
     fn copy(&mut self, who: u8, slot: u32, source: u32) -> Result<(), Refusal>
-        ensures { Performs (is_full self.old) (view self.old) who (command.Copy slot source) (done_or result) (view self.new) };
+        ensures { performs self.old who (command.Copy slot source) (done_or result) self.new };
 
     fn clear(&mut self, who: u8, slot: u32) -> Result<(), Refusal>
-        ensures { Performs (is_full self.old) (view self.old) who (command.Clear slot) (done_or result) (view self.new) };
+        ensures { performs self.old who (command.Clear slot) (done_or result) self.new };
 
     fn read(&self, who: u8, slot: u32, index: u32) -> Result<u64, Refusal>
-        ensures { Performs (is_full self.now) (view self.now) who (command.Read slot index) (number_or result) (view self.now) };
+        ensures { performs self.now who (command.Read slot index) (number_or result) self.now };
 
     fn write(&mut self, who: u8, slot: u32, index: u32, number: u64) -> Result<(), Refusal>
-        ensures { Performs (is_full self.old) (view self.old) who (command.Write slot index number) (done_or result) (view self.new) };
+        ensures { performs self.old who (command.Write slot index number) (done_or result) self.new };
 
     fn same(&self, who: u8, left: u32, right: u32) -> Result<bool, Refusal>
-        ensures { Performs (is_full self.now) (view self.now) who (command.Same left right) (same_or result) (view self.now) };
+        ensures { performs self.now who (command.Same left right) (same_or result) self.now };
 
     fn shape(&self, who: u8, slot: u32) -> Result<Shape, Refusal>
-        ensures { Performs (is_full self.now) (view self.now) who (command.Shape slot) (shape_or result) (view self.now) };
+        ensures { performs self.now who (command.Shape slot) (shape_or result) self.now };
 
     fn post(&mut self, who: u8, board: u32, slot: u32) -> Result<(), Refusal>
-        ensures { Performs (is_full self.old) (view self.old) who (command.Post board slot) (done_or result) (view self.new) };
+        ensures { performs self.old who (command.Post board slot) (done_or result) self.new };
 
     fn take(&mut self, who: u8, slot: u32, board: u32) -> Result<(), Refusal>
-        ensures { Performs (is_full self.old) (view self.old) who (command.Take slot board) (done_or result) (view self.new) };
+        ensures { performs self.old who (command.Take slot board) (done_or result) self.new };
 
     fn end(&mut self, who: u8) -> Result<(), Refusal>
-        ensures { Performs (is_full self.old) (view self.old) who command.End (done_or result) (view self.new) };
+        ensures { performs self.old who command.End (done_or result) self.new };
+
+    /// Runs a quantum of the collector. What is left and spent doesn't depend on the scanner.
+    fn quantum<S: Scanner>(&mut self, scanner: &mut S) -> Spent
+        requires { (shown self.old).number < LIFE }
+        ensures { collects self.old result self.new };
 
     /// How many objects were made.
     fn births(&self) -> u64
-        ensures { result ≡ births (view self.now) };
+        ensures { result ≡ births (shown self.now).view };
 
-    ghost closed: { (heap : Self) → IsClosed (view heap) };
+    /// How many cycles have begun.
+    fn cycle_number(&self) -> u64
+        ensures { result ≡ (shown self.now).number };
+
+    /// The most work units that a quantum spends.
+    fn limit(&self) -> u64
+        ensures { result ≡ (shown self.now).limit };
+
+    ghost closed: { (heap : Self) → IsClosed (shown heap).view };
+
+    ghost shows_commands: { (old new : Self) (who : ℕ) (command : Command) (reply : Reply) → performs old who command reply new → ShowsCommand (shown old) who command reply (shown new) };
+
+    ghost shows_quanta: { (old new : Self) (spent : ℕ) → collects old spent new → ShowsQuantum (shown old) spent (shown new) };
 }

@@ -39,13 +39,18 @@ fn shape(outcome: Result<Shape, Refusal>) -> Reply
 
 /// Performs a command of the session `who`, and answers it. Only a new object that nothing refuses asks for memory.
 pub fn perform<H: Heap>(heap: &mut H, who: u8, command: &Command) -> Result<Reply, NoMemory>
-    requires { births (H.view heap.old) < LIFE }
-    ensures step { IfOk result (λ reply. Performs (H.is_full heap.old) (H.view heap.old) who command.now reply (H.view heap.new)) }
-    ensures err { OnErr result (H.view heap.new ≡ H.view heap.old) }
+    requires { births (H.shown heap.old).view < LIFE }
+    ensures exactly { IfOk result (λ reply. H.performs heap.old who command.now reply heap.new) }
+    ensures step { IfOk result
+        (λ reply. Performs (H.shown heap.old).is_full (H.shown heap.old).view who command.now reply (H.shown heap.new).view) }
+    ensures lacks { OnErr result (H.lacks heap.old) }
+    ensures err { OnErr result (H.shown heap.new ≡ H.shown heap.old) }
     ensures only_new { OnErr result (IsNew command.now) }
     ensures asked { OnErr result
-        (refusal (sight_of (H.is_full heap.old) (H.view heap.old)) who command.now ≡ None) }
-    ensures closed { IsClosed (H.view heap.new) }
+        (refusal (sight_of (H.shown heap.old).is_full (H.shown heap.old).view) who command.now ≡ None) }
+    ensures number { (H.shown heap.new).number ≡ (H.shown heap.old).number }
+    ensures limit { (H.shown heap.new).limit ≡ (H.shown heap.old).limit }
+    ensures closed { IsClosed (H.shown heap.new).view }
 {
     let reply = match *command {
         Command::New {

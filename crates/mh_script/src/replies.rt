@@ -33,10 +33,10 @@ pub enum WriteError {
 
 /// Does an event, and adds the line of its reply to the text. The world knows of no control.
 fn answer<H: Heap>(heap: &mut H, event: &Event, text: &mut String) -> Result<(), NoMemory>
-    requires never_full { H.is_full heap.old ≡ never_full }
-    requires births { births (H.view heap.old) < LIFE }
-    ensures view { OnOk result (H.view heap.new ≡ world_after (H.view heap.old) (event.now ∷ [])) }
-    ensures text { OnOk result (string_bytes text.new ≡ string_bytes text.old ++ replies_text (world_replies (H.view heap.old) (event.now ∷ []))) }
+    requires never_full { (H.shown heap.old).is_full ≡ never_full }
+    requires births { births (H.shown heap.old).view < LIFE }
+    ensures view { OnOk result ((H.shown heap.new).view ≡ world_after (H.shown heap.old).view (event.now ∷ [])) }
+    ensures text { OnOk result (string_bytes text.new ≡ string_bytes text.old ++ replies_text (world_replies (H.shown heap.old).view (event.now ∷ []))) }
 {
     match event {
         Event::Session(who, command) => {
@@ -88,12 +88,12 @@ pub fn write_replies<H: Heap, W: Sink>(
     events: &[Event],
     sink: &mut W,
 ) -> Result<(), WriteError>
-    requires never_full { (any : H) → H.is_full any ≡ never_full }
-    requires births { births (H.view heap.old) + length events.now < LIFE }
+    requires never_full { (any : H) → (H.shown any).is_full ≡ never_full }
+    requires births { births (H.shown heap.old).view + length events.now < LIFE }
     requires count { W.failures sink.old < 2 ^ 62 }
-    ensures done { OnOk result (Appends (W.written sink.old) (W.written sink.new) (replies_text (world_replies (H.view heap.old) events.now))) }
-    ensures view { OnOk result (H.view heap.new ≡ world_after (H.view heap.old) events.now) }
-    ensures begun { OnErr result (AppendsBeginning (W.written sink.old) (W.written sink.new) (replies_text (world_replies (H.view heap.old) events.now))) }
+    ensures done { OnOk result (Appends (W.written sink.old) (W.written sink.new) (replies_text (world_replies (H.shown heap.old).view events.now))) }
+    ensures view { OnOk result ((H.shown heap.new).view ≡ world_after (H.shown heap.old).view events.now) }
+    ensures begun { OnErr result (AppendsBeginning (W.written sink.old) (W.written sink.new) (replies_text (world_replies (H.shown heap.old).view events.now))) }
     ensures no_failure { OnOk result (W.failures sink.new ≡ W.failures sink.old) }
     ensures blamed { IsErrOf result WriteError.Device → W.failures sink.old < W.failures sink.new }
     ensures not_blamed { IsErrOf result WriteError.NoMemory → W.failures sink.new ≡ W.failures sink.old }

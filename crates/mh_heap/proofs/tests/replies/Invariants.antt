@@ -3,4 +3,4 @@ use Rattle.mh_model.specs.World.{births}
 use Rattle.mh_heap.proofs.tests.replies.Given as goal
 
 abbrev pub invariant-loop-who : goal.invariant-loop-who
-invariant-loop-who g l = births (g.H.Heap.view l.heap) ≤ births (g.H.Heap.view l.initial.heap) + l.who-index
+invariant-loop-who g l = births (g.H.Heap.shown l.heap).view ≤ births (g.H.Heap.shown l.initial.heap).view + l.who-index
