@@ -1,0 +1,4 @@
+pub mod FieldLemmas
+pub mod KeptLemmas
+pub mod MadeLemmas
+pub mod StepLemmas
