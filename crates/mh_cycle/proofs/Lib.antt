@@ -1,0 +1,8 @@
+pub mod FrameLemmas
+pub mod StepLemmas
+pub mod StrideLemmas
+pub mod BatchLemmas
+pub mod SweepLemmas
+pub mod ReadyLemmas
+pub mod SnapshotLemmas
+pub mod ObjectLemmas

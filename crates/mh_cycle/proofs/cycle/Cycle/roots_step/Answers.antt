@@ -1,0 +1,33 @@
+use Rattle.std.proofs.Common.{refl}
+use Rattle.mh_cycle.proofs.FrameLemmas.{length-shade, framed-roots, framed-next}
+use Rattle.mh_cycle.proofs.ReadyLemmas.{are-marked}
+use Rattle.mh_cycle.proofs.StepLemmas.{roots-stay, roots-after}
+use Rattle.mh_cycle.proofs.cycle.Cycle.roots_step.Goals as goal
+
+pub roots_step-requires-clause-marked : goal.roots_step-requires-clause-marked
+roots_step-requires-clause-marked c =
+    let steady = rw (← c.self.view_is) at c.requires.steady in
+    are-marked c.references_lead_on.ensures _ steady
+
+pub invariant_of-self : goal.invariant_of-self
+invariant_of-self c = framed-next _ _ _ _ _ _ _ _ c.self.invariant (rw c.roots_step.ensures.table (length-shade _ _)) (rw c.roots_step.ensures.grey refl) c.after_mark-self-inside.ensures
+
+pub invariant_of-self-else-self-eq-SLOTS : goal.invariant_of-self-else-self-eq-SLOTS
+invariant_of-self-else-self-eq-SLOTS c =
+    let phase = rw (← c.self.view_is) at c.requires.phase in
+    rw (c.roots_step.ensures.table, c.roots_step.ensures.grey) (framed-roots _ _ _ _ _ _ _ c.self.invariant phase c.if-self-eq-SLOTS.false)
+
+pub returns-then-self-eq-SLOTS : goal.returns-then-self-eq-SLOTS
+returns-then-self-eq-SLOTS c =
+    let next = rw c.roots_step.ensures.grey at c.after_mark-self-inside.ensures in
+    rw (
+      roots-after c.args.self.now.collector c.after_mark-self-inside.result c.requires.phase (rw (← c.self.view_is) c.if-self-eq-SLOTS.true) (rw (← c.self.view_is) next),
+      ← c.self.view_is,
+      c.roots_step.ensures.table,
+      c.roots_step.ensures.grey,
+    ) refl
+
+pub returns-else-self-eq-SLOTS : goal.returns-else-self-eq-SLOTS
+returns-else-self-eq-SLOTS c =
+    let phase = rw (← c.self.view_is) at c.requires.phase in
+    rw (roots-stay c.args.self.now.collector c.requires.phase (rw (← c.self.view_is) c.if-self-eq-SLOTS.false), ← c.self.view_is, c.roots_step.ensures.table, c.roots_step.ensures.grey) (rw phase refl)

@@ -1,0 +1,46 @@
+-- The steps of a quantum, some at a time.
+use Rattle.std.specs.Prelude.{◌≡◌, ◌⊎◌, ℕ, ◌-◌, ◌≤◌, nat_lt, Bool, true, false, ◌||◌}
+use Rattle.mh_model.specs.declared.cycle.Phase.{Phase}
+use Rattle.mh_model.specs.declared.cycle.Phase.TheVariants.{Idle, Roots, Mark, Sweep, Defrag}
+use Rattle.mh_model.specs.Collector.{Collector, is_idle, step_cost, with_units, steps}
+use Rattle.mh_model.specs.Invariant.{IsSteady}
+use Rattle.mh_cycle.specs.State.{CycleState}
+
+-- no cycle runs, or the next step doesn't fit in what is left
+abbrev pub is_over : ℕ → Bool → Collector → Bool
+is_over left moved collector = is_idle collector.phase || nat_lt left (step_cost collector moved)
+
+-- the phases of a cycle in order, and its end
+abbrev pub order : Phase → ℕ
+order Roots = 0
+order Mark = 1
+order Sweep = 2
+order Defrag = 3
+order Idle = 4
+
+-- the collector is in this phase or past it, or takes no step
+abbrev pub IsFrom : Phase → ℕ → Collector → Type 0
+IsFrom phase left collector = (order phase ≤ order collector.phase) ⊎ (is_over left false collector ≡ true)
+
+-- steps that cost so many units lead from one collector to another, by whether the quantum has moved a block before and after them
+abbrev pub IsStride : ℕ → Bool → Collector → Bool → Collector → Type 0
+IsStride units moved old moves new = (left : ℕ) → units ≤ left → steps left left moved old ≡ with_units units (steps (left - units) (left - units) moves new)
+
+-- steps that fit in what is left and move no block, which are none only where the next one doesn't fit
+pub record IsRun (left : ℕ) (old : Collector) (units : ℕ) (new : Collector) : Type 0 where
+  pub fits : units ≤ left
+  pub goes : (moved : Bool) → IsStride units moved old moved new
+  pub dear : units ≡ 0 → is_over left false new ≡ true
+
+-- what a quantum with so much left begins with: steps that cost so many units, after which it goes on, and may have moved a block
+pub record IsAdvance (left : ℕ) (old : CycleState) (units : ℕ) (moved : Bool) (new : CycleState) : Type 0 where
+  pub config : new.config ≡ old.config
+  pub steady : IsSteady new.collector
+  pub fits : units ≤ left
+  pub goes : steps left left false old.collector ≡ with_units units (steps (left - units) (left - units) moved new.collector)
+
+-- all that a quantum with so much left does
+pub record IsRest (left : ℕ) (old : CycleState) (units : ℕ) (new : CycleState) : Type 0 where
+  pub config : new.config ≡ old.config
+  pub fits : units ≤ left
+  pub all : steps left left false old.collector ≡ record { units = units; collector = new.collector }

@@ -1,0 +1,187 @@
+ghost use Rattle.std.specs.Prelude.{◌≡◌, ◌^◌, ◌<◌, ◌≤◌, true, IfOk, None, length};
+ghost use Rattle.mh_model.specs.Table.{references_at, forward_at};
+ghost use Rattle.mh_model.specs.Collector.{is_idle, quantum_start, quantum};
+ghost use Rattle.mh_model.specs.Mutator.{before_root, before_field};
+ghost use Rattle.mh_model.specs.Bound.{most_quanta};
+ghost use Rattle.mh_model.specs.Machine.{quanta_left};
+ghost use Rattle.mh_model.specs.Invariant.{IsSteady};
+ghost use Rattle.mh_cycle.specs.State.{with_collector, first_state};
+ghost use Rattle.mh_cycle.specs.Snapshots.{ContinuesEach, StartsFromTheView, KeepsEach, KeepsEachBehind};
+
+use mh_blocks::blocks::Blocks;
+use mh_grey::grey::Grey;
+use mh_laws::barriers::barriers_keep_the_snapshot;
+use mh_laws::fields::references_lead_on;
+use mh_laws::snapshots::{
+    collectors_stay_steady, cycles_start_from_the_view, heaps_stay_kept, quanta_keep_the_snapshot,
+    shading_keeps_the_snapshot,
+};
+use mh_model::config::Config;
+use mh_model::cycle::{Phase, Spent};
+use mh_model::memory::NoMemory;
+use mh_model::place::Place;
+use mh_roots::roots::Roots;
+use mh_scan::scan::Scanner;
+use std::alloc::Global;
+use std::marker::Model;
+
+/// The collector with the table and the roots that it works on. Both are lent: what is written there is up to the
+/// caller, each reference after its barrier.
+#[derive(Drop)]
+pub struct Cycle {
+    pub blocks: Blocks,
+    pub roots: Roots,
+    pub(crate) config: Config,
+    pub(crate) phase: Phase,
+    /// The next slot of the roots, or the next place of the sweep or of defragmentation.
+    pub(crate) cursor: usize,
+    pub(crate) grey: Grey,
+    pub(crate) number: u64,
+    pub(crate) is_asked: bool,
+    /// How many quanta the running cycle has had.
+    pub(crate) quanta: u64,
+}
+
+impl Model for Cycle {
+    ghost use Rattle.mh_cycle.specs.State.{CycleState, IsFramed};
+
+    ghost Value = { CycleState };
+
+    ghost view = { λ c. record { config = c.config; collector = record { table = c.blocks; slots = c.roots; phase = c.phase; cursor = c.cursor; grey = c.grey.places; cycle = c.number; is_asked = c.is_asked; quanta = c.quanta } } };
+
+    ghost invariant = { λ c. IsFramed c.config c.blocks c.phase c.cursor c.grey };
+}
+
+/// The most quanta of a cycle.
+fn most_quanta(config: &Config) -> u64
+    ensures { result ≡ most_quanta config.now }
+{
+    let pages = u64::from(config.pages);
+    let quantum = u64::from(config.quantum);
+    let most_steps = 144 + 192 * pages;
+    if quantum < 353 {
+        return most_steps;
+    }
+    most_steps.min((288 + 640 * pages) / (quantum - 352) + 1)
+}
+
+impl Cycle {
+    /// The collector of an empty table, with no cycle running.
+    pub fn open(alloc: Global, config: Config) -> Result<Cycle, NoMemory>
+        ensures first { IfOk result (λ cycle. cycle ≡ first_state config) }
+        ensures steady { IfOk result (λ cycle. IsSteady cycle.collector) }
+    {
+        heaps_stay_kept();
+        collectors_stay_steady();
+        let pages = config.pages as usize;
+        Ok(Cycle {
+            blocks: Blocks::open(alloc, pages)?,
+            roots: Roots::new(),
+            config,
+            phase: Phase::Idle,
+            cursor: 0,
+            grey: Grey::open(alloc, pages)?,
+            number: 0,
+            is_asked: false,
+            quanta: 0,
+        })
+    }
+
+    pub fn config(&self) -> Config
+        ensures { result ≡ self.now.config }
+    {
+        self.config
+    }
+
+    /// What the collector is at.
+    pub fn phase(&self) -> Phase
+        ensures { result ≡ self.now.collector.phase }
+    {
+        self.phase
+    }
+
+    /// How many cycles have started.
+    pub fn cycle_number(&self) -> u64
+        ensures { result ≡ self.now.collector.cycle }
+    {
+        self.number
+    }
+
+    /// How many quanta the running cycle still has at most.
+    pub fn quanta_left(&self) -> u64
+        ensures { result ≡ quanta_left self.now.config self.now.collector }
+    {
+        if self.is_idle() {
+            return 0;
+        }
+        most_quanta(&self.config).saturating_sub(self.quanta)
+    }
+
+    /// Asks for a cycle, which the next quantum starts that finds none running.
+    pub fn start(&mut self)
+        ensures asked { self.new ≡ with_collector self.old (record (self.old.collector) { is_asked = true }) }
+        ensures kept { KeepsEach self.old.collector self.new.collector }
+        ensures steady { IsSteady self.old.collector → IsSteady self.new.collector }
+    {
+        self.is_asked = true;
+    }
+
+    /// Runs a quantum: a cycle that is due starts, and while a cycle runs steps are taken whose cost fits in what is left
+    /// of the configured units. A scanner is asked for what blocks refer to; whatever it answers, the quantum is the
+    /// same. Answers the units that it spent.
+    pub fn quantum<S: Scanner>(&mut self, scanner: &mut S) -> Spent
+        requires steady { IsSteady self.old.collector }
+        requires cycles { self.old.collector.cycle < 2 ^ 62 }
+        requires quanta { self.old.collector.quanta < 2 ^ 62 }
+        ensures spent { result ≡ (quantum self.old.config self.old.collector).units }
+        ensures after { self.new ≡ with_collector self.old (quantum self.old.config self.old.collector).collector }
+        ensures limit { result ≤ self.old.config.quantum }
+        ensures steady { IsSteady self.new.collector }
+        ensures keeps { ContinuesEach self.old.collector self.new.collector }
+        ensures starts { StartsFromTheView self.old self.new.collector }
+    {
+        collectors_stay_steady();
+        quanta_keep_the_snapshot();
+        cycles_start_from_the_view();
+        self.begin();
+        let most = u64::from(self.config.quantum);
+        let mut left = most;
+        left -= self.scan_roots(left);
+        left -= self.mark(scanner, left);
+        left -= self.sweep(left);
+        left -= self.defragment(left);
+        Spent(most - left)
+    }
+
+    /// The barrier of a slot that is to be overwritten: while the roots are scanned, what it held is shaded.
+    pub fn before_root(&mut self, slot: usize)
+        requires slot { slot < 144 }
+        requires steady { IsSteady self.old.collector }
+        ensures shaded { self.new ≡ with_collector self.old (before_root self.old.collector slot) }
+        ensures kept { KeepsEach self.old.collector self.new.collector }
+        ensures steady { IsSteady self.new.collector }
+    {
+        references_lead_on();
+        shading_keeps_the_snapshot();
+        if self.is_scanning() {
+            let reference = self.roots.get(slot);
+            self.grey.shade(&mut self.blocks, self.number, reference);
+        }
+    }
+
+    /// The barrier of a reference that is to be overwritten: until all blocks are marked, what it led to is shaded.
+    pub fn before_field(&mut self, place: Place, index: usize)
+        requires there { index < length (references_at self.old.collector.table place) }
+        requires original { forward_at self.old.collector.table place ≡ None }
+        requires steady { IsSteady self.old.collector }
+        ensures shaded { self.new ≡ with_collector self.old (before_field self.old.collector (record { place = place; index = index })) }
+        ensures kept { KeepsEachBehind place self.old.collector self.new.collector }
+    {
+        references_lead_on();
+        barriers_keep_the_snapshot();
+        if self.is_marking() {
+            let reference = self.blocks.reference(place, index);
+            self.grey.shade(&mut self.blocks, self.number, reference);
+        }
+    }
+}

@@ -1,0 +1,126 @@
+//! The phases of a quantum: each takes its steps in a loop of its own, as many as fit in what is left.
+ghost use Rattle.std.specs.Prelude.{◌≡◌, ◌-◌, false};
+ghost use Rattle.mh_model.specs.declared.cycle.Phase.TheVariants.{Mark, Sweep, Defrag};
+ghost use Rattle.mh_model.specs.Invariant.{IsSteady};
+ghost use Rattle.mh_cycle.specs.Advance.{IsFrom, IsAdvance, IsRest};
+
+use crate::cycle::Cycle;
+use mh_laws::snapshots::collectors_stay_steady;
+use mh_model::cycle::Phase;
+use mh_scan::scan::Scanner;
+
+/// What the scan of one slot costs.
+const ROOT_COST: u64 = 2;
+
+impl Cycle {
+    /// Scans roots while they fit in what is left. Answers what that cost.
+    pub(crate) fn scan_roots(&mut self, left: u64) -> u64
+        requires steady { IsSteady self.old.collector }
+        ensures advance { IsAdvance left self.old result false self.new }
+        ensures from { IsFrom Mark (left - result) self.new.collector }
+    {
+        collectors_stay_steady();
+        let mut spent = 0;
+        while self.is_in(Phase::Roots) {
+            if left - spent < ROOT_COST {
+                break;
+            }
+            self.roots_step();
+            spent += ROOT_COST;
+        }
+        spent
+    }
+
+    /// Marks blocks one after the other, as a scanner would that is alone.
+    fn mark_alone(&mut self, left: u64) -> u64
+        requires steady { IsSteady self.old.collector }
+        requires from { IsFrom Mark left self.old.collector }
+        ensures advance { IsAdvance left self.old result false self.new }
+        ensures from { IsFrom Sweep (left - result) self.new.collector }
+    {
+        collectors_stay_steady();
+        let mut spent = 0;
+        while self.is_in(Phase::Mark) {
+            let cost = self.mark_cost();
+            if left - spent < cost {
+                break;
+            }
+            self.mark_step();
+            spent += cost;
+        }
+        spent
+    }
+
+    /// Marks blocks by batches.
+    fn mark_batches<S: Scanner>(&mut self, scanner: &mut S, left: u64) -> u64
+        requires steady { IsSteady self.old.collector }
+        requires from { IsFrom Mark left self.old.collector }
+        ensures advance { IsAdvance left self.old result false self.new }
+        ensures from { IsFrom Sweep (left - result) self.new.collector }
+    {
+        collectors_stay_steady();
+        let mut spent = 0;
+        while self.is_in(Phase::Mark) {
+            let cost = self.mark_batch(scanner, left - spent);
+            if cost == 0 {
+                break;
+            }
+            spent += cost;
+        }
+        spent
+    }
+
+    /// Marks blocks while they fit in what is left. Answers what that cost.
+    pub(crate) fn mark<S: Scanner>(&mut self, scanner: &mut S, left: u64) -> u64
+        requires steady { IsSteady self.old.collector }
+        requires from { IsFrom Mark left self.old.collector }
+        ensures advance { IsAdvance left self.old result false self.new }
+        ensures from { IsFrom Sweep (left - result) self.new.collector }
+    {
+        if scanner.is_alone() {
+            self.mark_alone(left)
+        } else {
+            self.mark_batches(scanner, left)
+        }
+    }
+
+    /// Sweeps while steps fit in what is left. Answers what that cost.
+    pub(crate) fn sweep(&mut self, left: u64) -> u64
+        requires steady { IsSteady self.old.collector }
+        requires from { IsFrom Sweep left self.old.collector }
+        ensures advance { IsAdvance left self.old result false self.new }
+        ensures from { IsFrom Defrag (left - result) self.new.collector }
+    {
+        collectors_stay_steady();
+        let mut spent = 0;
+        while self.is_in(Phase::Sweep) {
+            if spent == left {
+                break;
+            }
+            spent += self.sweep_page(left - spent);
+        }
+        spent
+    }
+
+    /// Moves blocks while steps fit in what is left. Answers what that cost.
+    pub(crate) fn defragment(&mut self, left: u64) -> u64
+        requires steady { IsSteady self.old.collector }
+        requires from { IsFrom Defrag left self.old.collector }
+        ensures { IsRest left self.old result self.new }
+    {
+        collectors_stay_steady();
+        let mut spent = 0;
+        let mut has_moved = false;
+        while self.is_in(Phase::Defrag) {
+            let target = self.next_target();
+            let cost = self.move_cost(target, has_moved);
+            if left - spent < cost {
+                break;
+            }
+            self.defrag_step(target);
+            has_moved = has_moved || target.is_some();
+            spent += cost;
+        }
+        spent
+    }
+}

@@ -1,0 +1,203 @@
+//! What a quantum does in one go: its start, and one step or some steps of a phase.
+ghost use Rattle.std.specs.Prelude.{◌≡◌, ◌^◌, ◌<◌, ◌==◌, Bool, true, if◌then◌else◌, length};
+ghost use Rattle.mh_model.specs.declared.cycle.Phase.TheVariants.{Roots, Mark, Sweep, Defrag};
+ghost use Rattle.mh_model.specs.Collector.{is_idle, quantum_start, collector_step, step_cost};
+ghost use Rattle.mh_model.specs.Mutator.{in_roots, in_roots_or_mark};
+ghost use Rattle.mh_model.specs.Invariant.{IsSteady};
+ghost use Rattle.mh_defrag.specs.Moves.{IsTarget};
+ghost use Rattle.mh_cycle.specs.State.{with_collector};
+ghost use Rattle.mh_cycle.specs.Advance.{IsRun};
+
+use crate::cycle::Cycle;
+use mh_defrag::defrag;
+use mh_grey::grey::Grey;
+use mh_laws::batches::any_cut_into_batches_is_the_same;
+use mh_laws::fields::references_lead_on;
+use mh_mark::batch::mark_batch;
+use mh_mark::mark::mark_step;
+use mh_mark::roots_step::roots_step;
+use mh_model::cycle::Phase;
+use mh_model::place::Place;
+use mh_roots::roots::SLOTS;
+use mh_scan::scan::Scanner;
+use mh_sweep::sweep;
+
+/// The phase in which blocks are marked while some are grey, and then the sweep.
+fn after_mark(grey: &Grey) -> Phase
+    ensures { result ≡ (if length grey.now.places == 0 then Sweep else Mark) }
+{
+    if grey.is_empty() {
+        Phase::Sweep
+    } else {
+        Phase::Mark
+    }
+}
+
+impl Cycle {
+    pub(crate) fn is_idle(&self) -> bool
+        ensures { result ≡ is_idle self.now.collector.phase }
+    {
+        matches!(self.phase, Phase::Idle)
+    }
+
+    /// Whether the roots are scanned.
+    pub(crate) fn is_scanning(&self) -> bool
+        ensures { result ≡ in_roots self.now.collector.phase }
+    {
+        matches!(self.phase, Phase::Roots)
+    }
+
+    /// Whether the roots are scanned or blocks are marked.
+    pub(crate) fn is_marking(&self) -> bool
+        ensures { result ≡ in_roots_or_mark self.now.collector.phase }
+    {
+        matches!(self.phase, Phase::Roots | Phase::Mark)
+    }
+
+    /// Whether the collector is in this phase.
+    pub(crate) fn is_in(&self, phase: Phase) -> bool
+        ensures yes { result ≡ true → self.now.collector.phase ≡ phase }
+        ensures no { self.now.collector.phase ≡ phase → result ≡ true }
+    {
+        self.phase == phase
+    }
+
+    /// Starts a cycle that is due, and counts the quantum.
+    pub(crate) fn begin(&mut self)
+        requires steady { IsSteady self.old.collector }
+        requires cycles { self.old.collector.cycle < 2 ^ 62 }
+        requires quanta { self.old.collector.quanta < 2 ^ 62 }
+        ensures { self.new ≡ with_collector self.old (quantum_start self.old.config self.old.collector) }
+    {
+        if self.is_idle()
+            && (self.is_asked
+                || self.blocks.free_pages() as u64 <= u64::from(self.config.trigger))
+        {
+            self.phase = Phase::Roots;
+            self.cursor = 0;
+            self.number += 1;
+            self.is_asked = false;
+            self.quanta = 0;
+        }
+        if !self.is_idle() {
+            self.quanta += 1;
+        }
+    }
+
+    /// Shades what the next slot holds.
+    pub(crate) fn roots_step(&mut self)
+        requires phase { self.old.collector.phase ≡ Roots }
+        requires steady { IsSteady self.old.collector }
+        ensures { self.new ≡ with_collector self.old (collector_step self.old.collector) }
+    {
+        references_lead_on();
+        roots_step(
+            &mut self.blocks,
+            &mut self.grey,
+            self.number,
+            &self.roots,
+            self.cursor,
+        );
+        self.cursor += 1;
+        if self.cursor == SLOTS {
+            self.cursor = 0;
+            self.phase = after_mark(&self.grey);
+        }
+    }
+
+    /// What marking through the first grey block costs.
+    pub(crate) fn mark_cost(&self) -> u64
+        requires phase { self.now.collector.phase ≡ Mark }
+        requires steady { IsSteady self.now.collector }
+        ensures { (moved : Bool) → result ≡ step_cost self.now.collector moved }
+    {
+        references_lead_on();
+        1 + self.blocks.reference_count(self.grey.first()) as u64
+    }
+
+    /// Marks through the first grey block.
+    pub(crate) fn mark_step(&mut self)
+        requires phase { self.old.collector.phase ≡ Mark }
+        requires steady { IsSteady self.old.collector }
+        ensures { self.new ≡ with_collector self.old (collector_step self.old.collector) }
+    {
+        references_lead_on();
+        mark_step(&mut self.blocks, &mut self.grey, self.number);
+        self.cursor = 0;
+        self.phase = after_mark(&self.grey);
+    }
+
+    /// Marks through the longest front that fits in what is left, by the scanner. Answers what that cost, nothing where
+    /// the first block doesn't fit.
+    pub(crate) fn mark_batch<S: Scanner>(&mut self, scanner: &mut S, left: u64) -> u64
+        requires phase { self.old.collector.phase ≡ Mark }
+        requires steady { IsSteady self.old.collector }
+        ensures state { self.new ≡ with_collector self.old self.new.collector }
+        ensures run { IsRun left self.old.collector result self.new.collector }
+    {
+        references_lead_on();
+        any_cut_into_batches_is_the_same();
+        self.grey.has_each_once();
+        let cost = mark_batch(&mut self.blocks, &mut self.grey, self.number, scanner, left);
+        if cost == 0 {
+            return 0;
+        }
+        self.cursor = 0;
+        self.phase = after_mark(&self.grey);
+        cost
+    }
+
+    /// Sweeps slots of one page, as many as fit in what is left. Answers what that cost.
+    pub(crate) fn sweep_page(&mut self, left: u64) -> u64
+        requires phase { self.old.collector.phase ≡ Sweep }
+        requires some { 0 < left }
+        ensures state { self.new ≡ with_collector self.old self.new.collector }
+        ensures run { IsRun left self.old.collector result self.new.collector }
+        ensures some { 0 < result }
+    {
+        let place = Place(self.cursor);
+        let swept = sweep::sweep_page(&mut self.blocks, self.number, place, left as usize);
+        let end = swept.next;
+        self.cursor = end.0;
+        if end.page() >= self.blocks.len() {
+            self.cursor = 0;
+            self.phase = Phase::Defrag;
+        }
+        swept.count as u64
+    }
+
+    /// Where the next step of defragmentation moves a block, if it moves one.
+    pub(crate) fn next_target(&self) -> Option<Place>
+        requires { self.now.collector.phase ≡ Defrag }
+        ensures { IsTarget self.now.collector.table self.now.collector.cursor result }
+    {
+        defrag::next_target(&self.blocks, Place(self.cursor))
+    }
+
+    /// What the next step of defragmentation costs.
+    pub(crate) fn move_cost(&self, target: Option<Place>, has_moved: bool) -> u64
+        requires phase { self.now.collector.phase ≡ Defrag }
+        requires target { IsTarget self.now.collector.table self.now.collector.cursor target }
+        ensures { result ≡ step_cost self.now.collector has_moved }
+    {
+        defrag::cost(&self.blocks, Place(self.cursor), target, has_moved)
+    }
+
+    /// One step of defragmentation.
+    pub(crate) fn defrag_step(&mut self, target: Option<Place>)
+        requires phase { self.old.collector.phase ≡ Defrag }
+        requires target { IsTarget self.old.collector.table self.old.collector.cursor target }
+        requires steady { IsSteady self.old.collector }
+        ensures { self.new ≡ with_collector self.old (collector_step self.old.collector) }
+    {
+        references_lead_on();
+        let place = Place(self.cursor);
+        let next = defrag::step(&mut self.blocks, &mut self.roots, place, target);
+        self.cursor = next.0;
+        if next.page() >= self.blocks.len() {
+            self.cursor = 0;
+            self.quanta = 0;
+            self.phase = Phase::Idle;
+        }
+    }
+}

@@ -1,0 +1,4 @@
+pub mod ReferenceLemmas
+pub mod MarkLemmas
+pub mod KeptLemmas
+pub mod FrontLemmas
