@@ -32,7 +32,7 @@ impl KeptHeap {
         objects_made_keep_the_snapshot();
         let session = self.session(who)?;
         let slot = own_slot(session, slot)?;
-        let all = parts_of(&self.config, references, numbers)?;
+        let all = parts_of(self.cycle.config(), references, numbers)?;
         let shape = Shape {
             references,
             numbers,

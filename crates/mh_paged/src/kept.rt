@@ -36,7 +36,6 @@ pub(crate) const SLOTS: usize = 16;
 /// The heap of pages with its collector and its sessions.
 #[derive(Drop)]
 pub struct KeptHeap {
-    pub(crate) config: Config,
     pub(crate) cycle: Cycle,
     pub(crate) next_birth: u64,
     pub(crate) ended: [bool; SESSIONS],
@@ -49,9 +48,9 @@ impl Model for KeptHeap {
 
     ghost Value = { HeapState };
 
-    ghost view = { λ heap. heap_of heap.config heap.cycle heap.next_birth heap.ended };
+    ghost view = { λ heap. heap_of heap.cycle heap.next_birth heap.ended };
 
-    ghost invariant = { λ heap. IsHeap heap.config heap.cycle heap.next_birth heap.ended };
+    ghost invariant = { λ heap. IsHeap heap.cycle heap.next_birth heap.ended };
 }
 
 /// An object that a root holds.
@@ -87,8 +86,8 @@ pub(crate) fn board_slot(board: u32) -> Result<usize, Refusal>
 }
 
 /// The parts of an object of so many references and numbers.
-pub(crate) fn parts_of(config: &Config, references: u32, numbers: u32) -> Result<Parts, Refusal>
-    ensures { result ≡ tested ((nat_lt (most_fields config.now) (references + numbers), TooLarge) ∷ []) (parts references numbers) }
+pub(crate) fn parts_of(config: Config, references: u32, numbers: u32) -> Result<Parts, Refusal>
+    ensures { result ≡ tested ((nat_lt (most_fields config) (references + numbers), TooLarge) ∷ []) (parts references numbers) }
 {
     match parts(config.rules(), references, numbers) {
         None => Err(Refusal::TooLarge),
@@ -116,7 +115,6 @@ impl KeptHeap {
         heaps_stay_kept();
         collectors_stay_in_bounds();
         Ok(KeptHeap {
-            config,
             cycle: Cycle::open(alloc, config)?,
             next_birth: 0,
             ended: [false; SESSIONS],
@@ -178,7 +176,7 @@ impl KeptHeap {
     pub fn limit(&self) -> u64
         ensures { result ≡ self.now.config.quantum }
     {
-        u64::from(self.config.quantum)
+        u64::from(self.cycle.config().quantum)
     }
 }
 
