@@ -4,3 +4,6 @@
 mod commands;
 pub mod kept;
 mod lent;
+mod table;
+#[cfg(test)]
+mod tests;
