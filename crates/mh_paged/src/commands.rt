@@ -28,7 +28,6 @@ impl KeptHeap {
         heaps_stay_kept();
         collectors_stay_in_bounds();
         commands_are_answered();
-        collectors_stay_steady();
         objects_made_keep_the_snapshot();
         let session = self.session(who)?;
         let slot = own_slot(session, slot)?;

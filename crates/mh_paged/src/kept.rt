@@ -4,13 +4,13 @@ ghost use Rattle.mh_model.specs.World.{is_bad, own_slot, board_slot, most_fields
 ghost use Rattle.mh_model.specs.Classes.{parts};
 ghost use Rattle.mh_model.specs.declared.birth.TheConstants.{LIFE};
 ghost use Rattle.mh_model.specs.Collector.{quantum};
-ghost use Rattle.mh_model.specs.Machine.{quanta_left};
+ghost use Rattle.mh_model.specs.Machine.{dump_pages, quanta_left, stat_reply};
 ghost use Rattle.mh_model.specs.Mutator.{first_heap, root_at, shape_at};
 ghost use Rattle.mh_model.specs.Invariant.{IsObjectAt};
 ghost use Rattle.mh_model.specs.declared.reply.Refusal.TheVariants.{BadSlot, Null, NoField, TooLarge, Ended, TooManySessions};
 ghost use Rattle.mh_heap.specs.Checks.{tested};
 
-use crate::lent::{root, shape_of};
+use crate::lent::{dump_table, free_pages, root, shape_of, tally_of};
 use mh_classes::parts::{Parts, parts};
 use mh_cycle::cycle::Cycle;
 use mh_groups::group::PartPlaces;
@@ -19,9 +19,10 @@ use mh_laws::fields::slots_hold_objects;
 use mh_laws::snapshots::{collectors_stay_steady, heaps_stay_kept};
 use mh_model::config::Config;
 use mh_model::cycle::{Phase, Spent};
+use mh_model::dump::Dump;
 use mh_model::memory::NoMemory;
 use mh_model::place::Place;
-use mh_model::reply::Refusal;
+use mh_model::reply::{Refusal, Reply};
 use mh_model::shape::Shape;
 use mh_scan::scan::Scanner;
 use std::alloc::Global;
@@ -163,6 +164,27 @@ impl KeptHeap {
         ensures { result ≡ quanta_left self.now.config self.now.collector }
     {
         self.cycle.quanta_left()
+    }
+
+    /// The free pages, the blocks that aren't forwarders, the forwarders, the phase and the cycles started.
+    pub fn stat(&self) -> Reply
+        ensures { result ≡ stat_reply self.now.collector }
+    {
+        let count = tally_of(&self.cycle);
+        Reply::Stat {
+            free: free_pages(&self.cycle) as u64,
+            live: count.live,
+            old: count.old,
+            phase: self.cycle.phase(),
+            cycle: self.cycle.cycle_number(),
+        }
+    }
+
+    /// Each page in use with its blocks.
+    pub fn dump(&self, alloc: Global) -> Result<Dump, NoMemory>
+        ensures { IfOk result (λ dump. dump ≡ dump_pages 0 self.now.collector.table) }
+    {
+        dump_table(alloc, &self.cycle)
     }
 
     /// How many objects were made.

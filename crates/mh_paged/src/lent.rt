@@ -1,12 +1,15 @@
 //! What commands do with the table and the roots that the collector lends: each function opens it once.
 ghost use Rattle.std.specs.Prelude.{◌≡◌, ◌^◌, ◌<◌, ◌≤◌, ◌+◌, Some, None, IsSome, IfOk, OnErr, get_or, length, option_map};
 ghost use Rattle.mh_model.specs.Classes.{parts};
-ghost use Rattle.mh_model.specs.Pages.{block_at, Leads};
+ghost use Rattle.mh_model.specs.Pages.{block_at, free_pages, Leads};
 ghost use Rattle.mh_model.specs.Table.{references_at, numbers_at, forward_at, position_of, reference_in, loaded_reference, number_index, number_in, made_group};
+ghost use Rattle.mh_model.specs.Machine.{blocks_of, dump_pages};
 ghost use Rattle.mh_model.specs.Mutator.{with_root, with_reference_stored, with_number_stored, with_roots_cleared};
 ghost use Rattle.mh_model.specs.Invariant.{IsFindable, IsSteady};
 ghost use Rattle.mh_cycle.specs.State.{with_collector};
+ghost use Rattle.mh_paged.specs.Tally.{live_count, old_count};
 
+use crate::table::{Tally, count_blocks, dump};
 use mh_blocks::blocks::Full;
 use mh_classes::parts::Parts;
 use mh_cycle::cycle::Cycle;
@@ -16,8 +19,11 @@ use mh_laws::barriers::roots_written_keep_the_snapshot;
 use mh_laws::commands::commands_are_answered;
 use mh_laws::tables::making_keeps_the_pages;
 use mh_model::birth::Birth;
+use mh_model::dump::Dump;
+use mh_model::memory::NoMemory;
 use mh_model::place::Place;
 use mh_model::shape::Shape;
+use std::alloc::Global;
 
 /// What a root holds.
 pub(crate) fn root(cycle: &Cycle, slot: usize) -> Option<Place>
@@ -126,4 +132,26 @@ pub(crate) fn clear_roots(cycle: &mut Cycle, first: usize)
     for slot in first..first + 16 {
         write_root(cycle, slot, None);
     }
+}
+
+/// How many blocks the table has.
+pub(crate) fn tally_of(cycle: &Cycle) -> Tally
+    ensures live { result.live ≡ live_count (blocks_of cycle.now.collector.table) }
+    ensures old { result.old ≡ old_count (blocks_of cycle.now.collector.table) }
+{
+    count_blocks(&cycle.blocks)
+}
+
+/// How many pages are free.
+pub(crate) fn free_pages(cycle: &Cycle) -> usize
+    ensures { result ≡ free_pages cycle.now.collector.table }
+{
+    cycle.blocks.free_pages()
+}
+
+/// All pages in use with their blocks.
+pub(crate) fn dump_table(alloc: Global, cycle: &Cycle) -> Result<Dump, NoMemory>
+    ensures { IfOk result (λ dump. dump ≡ dump_pages 0 cycle.now.collector.table) }
+{
+    dump(alloc, &cycle.blocks)
 }

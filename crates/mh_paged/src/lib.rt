@@ -6,3 +6,6 @@ mod commands;
 mod crew_tests;
 pub mod kept;
 mod lent;
+mod table;
+#[cfg(test)]
+mod tests;
