@@ -1,10 +1,12 @@
-//! Cycles by one thread and by crews give the same quanta.
+//! Cycles by one thread and by crews give the same quanta and the same table.
 
 use crate::kept::KeptHeap;
 use mh_claims::gate::Open;
 use mh_model::birth::LIFE;
 use mh_model::config::Config;
 use mh_model::cycle::{Phase, Spent};
+use mh_model::dump::Dump;
+use mh_model::reply::Reply;
 use mh_scan::crew_scan::CrewScan;
 use mh_scan::scan::{OneScan, Scanner};
 use std::alloc::Global;
@@ -57,46 +59,60 @@ fn spends<S: Scanner>(heap: &mut KeptHeap, scanner: &mut S, spent: u64, phase: P
     heap.cycle_number() < LIFE && heap.quantum(scanner) == Spent(spent) && heap.phase() == phase
 }
 
-/// Whether six quanta of 209 units collect the chain.
-fn collects_chain<S: Scanner>(alloc: Global, scanner: &mut S) -> Result<bool, Fail> {
-    let mut heap = heap_of(alloc, 209)?;
-    if !make_chain(&mut heap) {
-        return Ok(false);
+/// The free pages, the blocks that aren't forwarders, and the forwarders.
+fn counts(heap: &KeptHeap) -> Option<(u64, u64, u64)> {
+    match &heap.stat() {
+        Reply::Stat {
+            free,
+            live,
+            old,
+            ..
+        } => Some((*free, *live, *old)),
+        _ => None,
     }
+}
+
+/// What is in the table after six quanta of 209 units, which collect the chain.
+fn after_chain<S: Scanner>(alloc: Global, scanner: &mut S) -> Result<Dump, Fail> {
+    let mut heap = heap_of(alloc, 209)?;
+    let is_made = make_chain(&mut heap);
     heap.start();
-    let are_marked = spends(&mut heap, scanner, 208, Phase::Roots)
+    let is_marked = is_made
+        && spends(&mut heap, scanner, 208, Phase::Roots)
         && spends(&mut heap, scanner, 208, Phase::Mark)
         && spends(&mut heap, scanner, 208, Phase::Mark)
         && spends(&mut heap, scanner, 208, Phase::Mark);
-    Ok(
-        are_marked
-            && spends(&mut heap, scanner, 209, Phase::Sweep)
-            && spends(&mut heap, scanner, 163, Phase::Idle)
-            && heap.births() == 300,
-    )
+    let is_swept = is_marked
+        && spends(&mut heap, scanner, 209, Phase::Sweep)
+        && spends(&mut heap, scanner, 163, Phase::Idle);
+    if !is_swept || counts(&heap) != Some((2, 300, 0)) {
+        return Err("other quanta")?;
+    }
+    Ok(heap.dump(alloc)?)
 }
 
-/// Whether two quanta of 400 units collect the wide object.
-fn collects_wide<S: Scanner>(alloc: Global, scanner: &mut S) -> Result<bool, Fail> {
+/// What is in the table after two quanta of 400 units, which collect the wide object.
+fn after_wide<S: Scanner>(alloc: Global, scanner: &mut S) -> Result<Dump, Fail> {
     let mut heap = heap_of(alloc, 400)?;
-    if !make_wide(&mut heap) {
-        return Ok(false);
-    }
+    let is_made = make_wide(&mut heap);
     heap.start();
-    Ok(
-        spends(&mut heap, scanner, 399, Phase::Mark)
-            && spends(&mut heap, scanner, 239, Phase::Idle)
-            && heap.births() == 61,
-    )
+    let is_swept = is_made
+        && spends(&mut heap, scanner, 399, Phase::Mark)
+        && spends(&mut heap, scanner, 239, Phase::Idle);
+    if !is_swept || counts(&heap) != Some((5, 61, 0)) {
+        return Err("other quanta")?;
+    }
+    Ok(heap.dump(alloc)?)
 }
 
 #[test]
 fn a_chain_takes_the_same_quanta(rt: HostRuntime) -> Result<(), Fail> {
     let alloc = rt.alloc();
-    assert!(rt; collects_chain(alloc, &mut OneScan::new(alloc))?);
+    let wanted = after_chain(alloc, &mut OneScan::new(alloc))?;
     for workers in [1, 2, 7, 64] {
         let mut scanner = CrewScan::new(&rt, alloc, workers, &Open);
-        assert!(rt; collects_chain(alloc, &mut scanner)?);
+        let found = after_chain(alloc, &mut scanner)?;
+        assert!(rt; found.items() == wanted.items());
     }
     Ok(())
 }
@@ -104,10 +120,11 @@ fn a_chain_takes_the_same_quanta(rt: HostRuntime) -> Result<(), Fail> {
 #[test]
 fn a_wide_object_takes_the_same_quanta(rt: HostRuntime) -> Result<(), Fail> {
     let alloc = rt.alloc();
-    assert!(rt; collects_wide(alloc, &mut OneScan::new(alloc))?);
+    let wanted = after_wide(alloc, &mut OneScan::new(alloc))?;
     for workers in [1, 2, 7, 64] {
         let mut scanner = CrewScan::new(&rt, alloc, workers, &Open);
-        assert!(rt; collects_wide(alloc, &mut scanner)?);
+        let found = after_wide(alloc, &mut scanner)?;
+        assert!(rt; found.items() == wanted.items());
     }
     Ok(())
 }
