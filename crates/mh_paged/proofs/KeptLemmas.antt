@@ -1,0 +1,47 @@
+-- A command leaves the heap kept and within its bounds, by the laws of commands.
+use Rattle.std.proofs.Common.{◌≡◌, ℕ, ◌+◌, Bool, true, false, List, Some, None, replicate, sym, ap, subst}
+use Rattle.std.proofs.lemmas.Option.{none-some}
+use Rattle.mh_model.specs.declared.command.Command.{Command}
+use Rattle.mh_model.specs.declared.config.Config.{Config}
+use Rattle.mh_model.specs.declared.reply.Reply.{Reply}
+use Rattle.mh_model.specs.World.{Answer}
+use Rattle.mh_model.specs.Table.{Made}
+use Rattle.mh_model.specs.Collector.{Collector, quantum}
+use Rattle.mh_model.specs.Mutator.{HeapState, new_group, with_root}
+use Rattle.mh_model.specs.CycleBounds.{IsInBounds}
+use Rattle.mh_model.specs.Invariant.{IsKeeping, IsSteady}
+use Rattle.mh_laws.specs.Barriers.{RootsWrittenKeepTheSnapshot, ObjectsMadeKeepTheSnapshot}
+use Rattle.mh_laws.specs.Snapshots.{HeapsStayKept}
+use Rattle.mh_laws.specs.Bounds.{CollectorsStayInBounds}
+use Rattle.mh_cycle.specs.State.{CycleState, with_collector, first_state}
+use Rattle.mh_paged.specs.Kept.{Steps, heap_of, IsHeap}
+
+pub kept-after : HeapsStayKept → CollectorsStayInBounds → (old new : CycleState) (birth next : ℕ) (ended left : List Bool) → IsHeap old birth ended → new.config ≡ old.config → (who : ℕ) (command : Command) (reply : Reply) → Steps (heap_of old birth ended) who command reply (heap_of new next left)
+    → IsHeap new next left
+kept-after kept bounded old new birth next ended left is same who command reply steps =
+    let state = ap (λ (a : Answer HeapState). a.state) steps in
+    record {
+      keeping = subst IsKeeping state (kept.commands (heap_of old birth ended) is.keeping who command);
+      bounds = subst (λ c. IsInBounds c new.collector) (sym same) (subst (λ (h : HeapState). IsInBounds old.config h.collector) state (bounded.commands old.config (heap_of old birth ended) who command is.bounds));
+    }
+
+-- a root is emptied
+pub steady-cleared : RootsWrittenKeepTheSnapshot → (c new : Collector) (slot : ℕ) → new ≡ with_root c slot None → IsSteady c → IsSteady new
+steady-cleared law c new slot is steady = subst IsSteady (sym is) (steady.0, steady.1, law steady.0 steady.1 c slot None (λ place e. absurd (none-some place e)) steady.2)
+
+-- a cycle is asked for
+pub kept-asked : HeapsStayKept → CollectorsStayInBounds → (old new : CycleState) (birth : ℕ) (ended : List Bool) → IsHeap old birth ended → new ≡ with_collector old (record (old.collector) { is_asked = true }) → IsHeap new birth ended
+kept-asked kept bounded old new birth ended is asked = rw asked (record { keeping = kept.asking (heap_of old birth ended) is.keeping; bounds = bounded.asking old.config old.collector is.bounds })
+
+-- a quantum is run
+pub kept-quantum : HeapsStayKept → CollectorsStayInBounds → (old new : CycleState) (birth : ℕ) (ended : List Bool) → IsHeap old birth ended → new ≡ with_collector old (quantum old.config old.collector).collector → IsHeap new birth ended
+kept-quantum kept bounded old new birth ended is after = rw after (record { keeping = kept.quanta (heap_of old birth ended) is.keeping; bounds = bounded.quanta old.config old.collector is.bounds })
+
+-- the first heap
+pub kept-first : HeapsStayKept → CollectorsStayInBounds → (config : Config) (cycle : CycleState) → cycle ≡ first_state config → IsHeap cycle 0 (replicate 8 false)
+kept-first kept bounded config cycle first = rw first (record { keeping = kept.first config; bounds = bounded.first config })
+
+-- the parts of a new object are made
+pub steady-made : ObjectsMadeKeepTheSnapshot → (heap : HeapState) → IsKeeping heap → (references numbers : ℕ) (made : Made) (new : Collector) → new_group heap references numbers ≡ Some made → new ≡ record (heap.collector) { table = made.table } → IsSteady new
+steady-made law heap keeping references numbers made new group is =
+    subst IsSteady (sym is) (keeping.0, heap.next_birth + 1, (law keeping.0 heap.next_birth heap.collector references numbers made group keeping.1).0)

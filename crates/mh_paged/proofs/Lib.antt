@@ -1,0 +1,6 @@
+pub mod FieldLemmas
+pub mod KeptLemmas
+pub mod MadeLemmas
+pub mod StepLemmas
+pub mod TableLemmas
+pub mod TallyLemmas

@@ -1,0 +1,218 @@
+//! The commands of sessions.
+ghost use Rattle.std.specs.Prelude.{◌≡◌, ◌<◌};
+ghost use Rattle.mh_model.specs.declared.birth.TheConstants.{LIFE};
+ghost use Rattle.mh_model.specs.declared.command.Command.TheVariants as command;
+ghost use Rattle.mh_heap.specs.Outcome.{done_or, number_or, same_or, shape_or};
+ghost use Rattle.mh_paged.specs.Kept.{Steps};
+
+use crate::kept::{KeptHeap, SLOTS, board_slot, field_below, own_slot, parts_of};
+use crate::lent::{
+    clear_roots, loaded, make_parts, number, place_of, root, write_number, write_reference,
+    write_root,
+};
+use mh_laws::barriers::objects_made_keep_the_snapshot;
+use mh_laws::bounds::collectors_stay_in_bounds;
+use mh_laws::commands::commands_are_answered;
+use mh_laws::fields::{fields_are_found, references_lead_on};
+use mh_laws::snapshots::{collectors_stay_steady, heaps_stay_kept};
+use mh_model::birth::Birth;
+use mh_model::reply::Refusal;
+use mh_model::shape::Shape;
+
+impl KeptHeap {
+    #[tactic(auto, unfolding(mh_model::specs::Mutator::mutator_step, mh_model::specs::Mutator::heap_effect))]
+    pub fn make(&mut self, who: u8, slot: u32, references: u32, numbers: u32) -> Result<(), Refusal>
+        requires { self.old.next_birth < LIFE }
+        ensures { Steps self.old who (command.New slot references numbers) (done_or result) self.new }
+    {
+        heaps_stay_kept();
+        collectors_stay_in_bounds();
+        commands_are_answered();
+        objects_made_keep_the_snapshot();
+        let session = self.session(who)?;
+        let slot = own_slot(session, slot)?;
+        let all = parts_of(self.cycle.config(), references, numbers)?;
+        let shape = Shape {
+            references,
+            numbers,
+        };
+        let birth = Birth(self.next_birth);
+        match make_parts(&mut self.cycle, &mut self.places, shape, &all, birth) {
+            Err(_full) => Err(Refusal::HeapFull),
+            Ok(place) => {
+                write_root(&mut self.cycle, slot, Some(place));
+                self.next_birth += 1;
+                Ok(())
+            }
+        }
+    }
+
+    #[tactic(auto, unfolding(mh_model::specs::Mutator::mutator_step, mh_model::specs::Mutator::heap_effect))]
+    pub fn get(&mut self, who: u8, slot: u32, source: u32, field: u32) -> Result<(), Refusal>
+        ensures { Steps self.old who (command.Get slot source field) (done_or result) self.new }
+    {
+        heaps_stay_kept();
+        collectors_stay_in_bounds();
+        commands_are_answered();
+        collectors_stay_steady();
+        fields_are_found();
+        references_lead_on();
+        let session = self.session(who)?;
+        let slot = own_slot(session, slot)?;
+        let source = own_slot(session, source)?;
+        let found = self.object_in(source)?;
+        let field = field_below(found.shape.references, field)?;
+        let reference = loaded(&self.cycle, found.place, field);
+        write_root(&mut self.cycle, slot, reference);
+        Ok(())
+    }
+
+    #[tactic(auto, unfolding(mh_model::specs::Mutator::mutator_step, mh_model::specs::Mutator::heap_effect))]
+    pub fn put(&mut self, who: u8, slot: u32, field: u32, value: u32) -> Result<(), Refusal>
+        ensures { Steps self.old who (command.Put slot field value) (done_or result) self.new }
+    {
+        heaps_stay_kept();
+        collectors_stay_in_bounds();
+        commands_are_answered();
+        collectors_stay_steady();
+        fields_are_found();
+        references_lead_on();
+        let session = self.session(who)?;
+        let slot = own_slot(session, slot)?;
+        let value = own_slot(session, value)?;
+        let found = self.object_in(slot)?;
+        let field = field_below(found.shape.references, field)?;
+        let at = place_of(&self.cycle, found.place, field);
+        let reference = root(&self.cycle, value);
+        write_reference(&mut self.cycle, at, reference);
+        Ok(())
+    }
+
+    #[tactic(auto, unfolding(mh_model::specs::Mutator::mutator_step, mh_model::specs::Mutator::heap_effect))]
+    pub fn copy(&mut self, who: u8, slot: u32, source: u32) -> Result<(), Refusal>
+        ensures { Steps self.old who (command.Copy slot source) (done_or result) self.new }
+    {
+        heaps_stay_kept();
+        collectors_stay_in_bounds();
+        commands_are_answered();
+        collectors_stay_steady();
+        let session = self.session(who)?;
+        let slot = own_slot(session, slot)?;
+        let source = own_slot(session, source)?;
+        let reference = root(&self.cycle, source);
+        write_root(&mut self.cycle, slot, reference);
+        Ok(())
+    }
+
+    #[tactic(auto, unfolding(mh_model::specs::Mutator::mutator_step, mh_model::specs::Mutator::heap_effect))]
+    pub fn clear(&mut self, who: u8, slot: u32) -> Result<(), Refusal>
+        ensures { Steps self.old who (command.Clear slot) (done_or result) self.new }
+    {
+        heaps_stay_kept();
+        collectors_stay_in_bounds();
+        commands_are_answered();
+        collectors_stay_steady();
+        let session = self.session(who)?;
+        let slot = own_slot(session, slot)?;
+        write_root(&mut self.cycle, slot, None);
+        Ok(())
+    }
+
+    #[tactic(auto, unfolding(mh_model::specs::Mutator::mutator_step, mh_model::specs::Mutator::heap_effect))]
+    pub fn read(&self, who: u8, slot: u32, index: u32) -> Result<u64, Refusal>
+        ensures { Steps self.now who (command.Read slot index) (number_or result) self.now }
+    {
+        collectors_stay_steady();
+        fields_are_found();
+        let session = self.session(who)?;
+        let slot = own_slot(session, slot)?;
+        let found = self.object_in(slot)?;
+        let index = field_below(found.shape.numbers, index)?;
+        let field = found.shape.references as usize + index;
+        Ok(number(&self.cycle, found.place, field))
+    }
+
+    #[tactic(auto, unfolding(mh_model::specs::Mutator::mutator_step, mh_model::specs::Mutator::heap_effect))]
+    pub fn write(&mut self, who: u8, slot: u32, index: u32, number: u64) -> Result<(), Refusal>
+        ensures { Steps self.old who (command.Write slot index number) (done_or result) self.new }
+    {
+        heaps_stay_kept();
+        collectors_stay_in_bounds();
+        commands_are_answered();
+        collectors_stay_steady();
+        fields_are_found();
+        let session = self.session(who)?;
+        let slot = own_slot(session, slot)?;
+        let found = self.object_in(slot)?;
+        let index = field_below(found.shape.numbers, index)?;
+        let field = found.shape.references as usize + index;
+        write_number(&mut self.cycle, found.place, field, number);
+        Ok(())
+    }
+
+    #[tactic(auto, unfolding(mh_model::specs::Mutator::mutator_step, mh_model::specs::Mutator::heap_effect))]
+    pub fn same(&self, who: u8, left: u32, right: u32) -> Result<bool, Refusal>
+        ensures { Steps self.now who (command.Same left right) (same_or result) self.now }
+    {
+        let session = self.session(who)?;
+        let left = own_slot(session, left)?;
+        let right = own_slot(session, right)?;
+        Ok(root(&self.cycle, left) == root(&self.cycle, right))
+    }
+
+    #[tactic(auto, unfolding(mh_model::specs::Mutator::mutator_step, mh_model::specs::Mutator::heap_effect))]
+    pub fn shape(&self, who: u8, slot: u32) -> Result<Shape, Refusal>
+        ensures { Steps self.now who (command.Shape slot) (shape_or result) self.now }
+    {
+        let session = self.session(who)?;
+        let slot = own_slot(session, slot)?;
+        Ok(self.object_in(slot)?.shape)
+    }
+
+    #[tactic(auto, unfolding(mh_model::specs::Mutator::mutator_step, mh_model::specs::Mutator::heap_effect))]
+    pub fn post(&mut self, who: u8, board: u32, slot: u32) -> Result<(), Refusal>
+        ensures { Steps self.old who (command.Post board slot) (done_or result) self.new }
+    {
+        heaps_stay_kept();
+        collectors_stay_in_bounds();
+        commands_are_answered();
+        collectors_stay_steady();
+        let session = self.session(who)?;
+        let board = board_slot(board)?;
+        let slot = own_slot(session, slot)?;
+        let reference = root(&self.cycle, slot);
+        write_root(&mut self.cycle, board, reference);
+        Ok(())
+    }
+
+    #[tactic(auto, unfolding(mh_model::specs::Mutator::mutator_step, mh_model::specs::Mutator::heap_effect))]
+    pub fn take(&mut self, who: u8, slot: u32, board: u32) -> Result<(), Refusal>
+        ensures { Steps self.old who (command.Take slot board) (done_or result) self.new }
+    {
+        heaps_stay_kept();
+        collectors_stay_in_bounds();
+        commands_are_answered();
+        collectors_stay_steady();
+        let session = self.session(who)?;
+        let slot = own_slot(session, slot)?;
+        let board = board_slot(board)?;
+        let reference = root(&self.cycle, board);
+        write_root(&mut self.cycle, slot, reference);
+        Ok(())
+    }
+
+    /// Ends a session, whose slots are emptied.
+    #[tactic(auto, unfolding(mh_model::specs::Mutator::mutator_step))]
+    pub fn end(&mut self, who: u8) -> Result<(), Refusal>
+        ensures { Steps self.old who command.End (done_or result) self.new }
+    {
+        heaps_stay_kept();
+        collectors_stay_in_bounds();
+        commands_are_answered();
+        collectors_stay_steady();
+        let session = self.session(who)?;
+        clear_roots(&mut self.cycle, session * SLOTS);
+        self.ended[session] = true;
+        Ok(())
+    }
+}

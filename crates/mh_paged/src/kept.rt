@@ -1,0 +1,233 @@
+//! A heap that keeps what its sessions may reach.
+ghost use Rattle.std.specs.Prelude.{◌≡◌, ◌<◌, [], ◌∷◌, true, false, get_or, nat_le, nat_lt, ◌+◌, ◌≤◌, IfOk, MatchResult, Some, None};
+ghost use Rattle.mh_model.specs.World.{is_bad, own_slot, board_slot, most_fields};
+ghost use Rattle.mh_model.specs.Classes.{parts};
+ghost use Rattle.mh_model.specs.declared.birth.TheConstants.{LIFE};
+ghost use Rattle.mh_model.specs.Collector.{quantum};
+ghost use Rattle.mh_model.specs.Machine.{dump_pages, quanta_left, stat_reply};
+ghost use Rattle.mh_model.specs.Mutator.{first_heap, root_at, shape_at};
+ghost use Rattle.mh_model.specs.Invariant.{IsObjectAt};
+ghost use Rattle.mh_model.specs.declared.reply.Refusal.TheVariants.{BadSlot, Null, NoField, TooLarge, Ended, TooManySessions};
+ghost use Rattle.mh_heap.specs.Checks.{tested};
+
+use crate::lent::{dump_table, free_pages, root, shape_of, tally_of};
+use mh_classes::parts::{Parts, parts};
+use mh_cycle::cycle::Cycle;
+use mh_groups::group::PartPlaces;
+use mh_laws::bounds::collectors_stay_in_bounds;
+use mh_laws::fields::slots_hold_objects;
+use mh_laws::snapshots::{collectors_stay_steady, heaps_stay_kept};
+use mh_model::config::Config;
+use mh_model::cycle::{Phase, Spent};
+use mh_model::dump::Dump;
+use mh_model::memory::NoMemory;
+use mh_model::place::Place;
+use mh_model::reply::{Refusal, Reply};
+use mh_model::shape::Shape;
+use mh_scan::scan::Scanner;
+use std::alloc::Global;
+use std::marker::Model;
+
+/// How many sessions there are.
+const SESSIONS: usize = 8;
+
+/// How many roots each session has, and the board.
+pub(crate) const SLOTS: usize = 16;
+
+/// The heap of pages with its collector and its sessions.
+#[derive(Drop)]
+pub struct KeptHeap {
+    pub(crate) cycle: Cycle,
+    pub(crate) next_birth: u64,
+    pub(crate) ended: [bool; SESSIONS],
+    pub(crate) places: PartPlaces,
+}
+
+impl Model for KeptHeap {
+    ghost use Rattle.mh_model.specs.Mutator.{HeapState};
+    ghost use Rattle.mh_paged.specs.Kept.{heap_of, IsHeap};
+
+    ghost Value = { HeapState };
+
+    ghost view = { λ heap. heap_of heap.cycle heap.next_birth heap.ended };
+
+    ghost invariant = { λ heap. IsHeap heap.cycle heap.next_birth heap.ended };
+}
+
+/// An object that a root holds.
+#[derive(Clone, Copy)]
+pub(crate) struct Found {
+    pub(crate) place: Place,
+    pub(crate) shape: Shape,
+}
+
+/// The root of a session's slot.
+pub(crate) fn own_slot(session: usize, slot: u32) -> Result<usize, Refusal>
+    requires { session < 8 }
+    ensures step { result ≡ tested ((is_bad slot, BadSlot) ∷ []) (own_slot session slot) }
+    ensures within { IfOk result (λ root. root < 144) }
+{
+    let slot = slot as usize;
+    if slot >= SLOTS {
+        return Err(Refusal::BadSlot);
+    }
+    Ok(session * SLOTS + slot)
+}
+
+/// The root of a slot of the board.
+pub(crate) fn board_slot(board: u32) -> Result<usize, Refusal>
+    ensures step { result ≡ tested ((is_bad board, BadSlot) ∷ []) (board_slot board) }
+    ensures within { IfOk result (λ root. root < 144) }
+{
+    let board = board as usize;
+    if board >= SLOTS {
+        return Err(Refusal::BadSlot);
+    }
+    Ok(SESSIONS * SLOTS + board)
+}
+
+/// The parts of an object of so many references and numbers.
+pub(crate) fn parts_of(config: Config, references: u32, numbers: u32) -> Result<Parts, Refusal>
+    ensures { result ≡ tested ((nat_lt (most_fields config) (references + numbers), TooLarge) ∷ []) (parts references numbers) }
+{
+    match parts(config.rules(), references, numbers) {
+        None => Err(Refusal::TooLarge),
+        Some(all) => Ok(all),
+    }
+}
+
+/// A field below a count.
+pub(crate) fn field_below(count: u32, field: u32) -> Result<usize, Refusal>
+    ensures step { result ≡ tested ((nat_le count field, NoField) ∷ []) field }
+    ensures within { IfOk result (λ field. field < count) }
+{
+    if field >= count {
+        return Err(Refusal::NoField);
+    }
+    Ok(field as usize)
+}
+
+impl KeptHeap {
+    /// The heap of a configuration, with all pages free and no cycle running. No other call takes memory but of the
+    /// scanner and for a dump.
+    pub fn open(alloc: Global, config: Config) -> Result<KeptHeap, NoMemory>
+        ensures { IfOk result (λ heap. heap ≡ first_heap config) }
+    {
+        heaps_stay_kept();
+        collectors_stay_in_bounds();
+        Ok(KeptHeap {
+            cycle: Cycle::open(alloc, config)?,
+            next_birth: 0,
+            ended: [false; SESSIONS],
+            places: PartPlaces::open(alloc)?,
+        })
+    }
+
+    /// Asks for a cycle, which the next quantum starts that finds none running.
+    pub fn start(&mut self)
+        ensures { self.new ≡ record (self.old) { collector = record (self.old.collector) { is_asked = true } } }
+    {
+        heaps_stay_kept();
+        collectors_stay_in_bounds();
+        self.cycle.start();
+    }
+
+    /// Runs a quantum, and answers the units that it spent. Whatever the scanner answers, the quantum is the same.
+    pub fn quantum<S: Scanner>(&mut self, scanner: &mut S) -> Spent
+        requires { self.old.collector.cycle < LIFE }
+        ensures spent { result ≡ (quantum self.old.config self.old.collector).units }
+        ensures after { self.new ≡ record (self.old) { collector = (quantum self.old.config self.old.collector).collector } }
+        ensures limit { result ≤ self.old.config.quantum }
+    {
+        heaps_stay_kept();
+        collectors_stay_in_bounds();
+        collectors_stay_steady();
+        self.cycle.quantum(scanner)
+    }
+
+    /// What the collector is at.
+    pub fn phase(&self) -> Phase
+        ensures { result ≡ self.now.collector.phase }
+    {
+        self.cycle.phase()
+    }
+
+    /// How many cycles have started.
+    pub fn cycle_number(&self) -> u64
+        ensures { result ≡ self.now.collector.cycle }
+    {
+        self.cycle.cycle_number()
+    }
+
+    /// How many quanta the running cycle still has at most.
+    pub fn quanta_left(&self) -> u64
+        ensures { result ≡ quanta_left self.now.config self.now.collector }
+    {
+        self.cycle.quanta_left()
+    }
+
+    /// The free pages, the blocks that aren't forwarders, the forwarders, the phase and the cycles started.
+    pub fn stat(&self) -> Reply
+        ensures { result ≡ stat_reply self.now.collector }
+    {
+        let count = tally_of(&self.cycle);
+        Reply::Stat {
+            free: free_pages(&self.cycle) as u64,
+            live: count.live,
+            old: count.old,
+            phase: self.cycle.phase(),
+            cycle: self.cycle.cycle_number(),
+        }
+    }
+
+    /// Each page in use with its blocks.
+    pub fn dump(&self, alloc: Global) -> Result<Dump, NoMemory>
+        ensures { IfOk result (λ dump. dump ≡ dump_pages 0 self.now.collector.table) }
+    {
+        dump_table(alloc, &self.cycle)
+    }
+
+    /// How many objects were made.
+    pub fn births(&self) -> u64
+        ensures { result ≡ self.now.next_birth }
+    {
+        self.next_birth
+    }
+
+    /// The most units that a quantum spends.
+    pub fn limit(&self) -> u64
+        ensures { result ≡ self.now.config.quantum }
+    {
+        u64::from(self.cycle.config().quantum)
+    }
+}
+
+impl KeptHeap {
+    /// A session that may give commands.
+    pub(crate) fn session(&self, who: u8) -> Result<usize, Refusal>
+        ensures step { result ≡ tested ((nat_le 8 who, TooManySessions) ∷ (get_or self.now.ended who false, Ended) ∷ []) who }
+        ensures within { IfOk result (λ session. session < 8) }
+    {
+        let session = usize::from(who);
+        if session >= SESSIONS {
+            return Err(Refusal::TooManySessions);
+        }
+        if self.ended[session] {
+            return Err(Refusal::Ended);
+        }
+        Ok(session)
+    }
+
+    /// The object that a root holds.
+    pub(crate) fn object_in(&self, slot: usize) -> Result<Found, Refusal>
+        requires { slot < 144 }
+        ensures { MatchResult result
+            (λ found. (root_at self.now slot ≡ Some found.place) × (shape_at self.now slot ≡ Some found.shape) × IsObjectAt self.now.collector found.place found.shape)
+            (λ refusal. (shape_at self.now slot ≡ None) × (refusal ≡ Null)) }
+    {
+        slots_hold_objects();
+        let place = root(&self.cycle, slot).ok_or(Refusal::Null)?;
+        let shape = shape_of(&self.cycle, place);
+        Ok(Found { place, shape })
+    }
+}

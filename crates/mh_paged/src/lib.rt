@@ -1,0 +1,11 @@
+//! The heap of pages: the commands of sessions over the table and the roots of the collector.
+#![tactic(auto)]
+
+mod commands;
+#[cfg(test)]
+mod crew_tests;
+pub mod kept;
+mod lent;
+mod table;
+#[cfg(test)]
+mod tests;
