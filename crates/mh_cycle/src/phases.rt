@@ -41,11 +41,12 @@ impl Cycle {
         collectors_stay_steady();
         let mut spent = 0;
         while self.is_in(Phase::Mark) {
-            let cost = self.mark_cost();
+            let first = self.first_grey();
+            let cost = 1 + first.count as u64;
             if left - spent < cost {
                 break;
             }
-            self.mark_step();
+            self.mark_step(first);
             spent += cost;
         }
         spent

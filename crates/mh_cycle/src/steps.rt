@@ -1,9 +1,10 @@
 //! What a quantum does in one go: its start, and one step or some steps of a phase.
-ghost use Rattle.std.specs.Prelude.{◌≡◌, ◌^◌, ◌<◌, ◌==◌, Bool, true, if◌then◌else◌, length};
+ghost use Rattle.std.specs.Prelude.{◌≡◌, ◌+◌, ◌^◌, ◌<◌, ◌≤◌, ◌==◌, Bool, true, if◌then◌else◌, length};
 ghost use Rattle.mh_model.specs.declared.cycle.Phase.TheVariants.{Roots, Mark, Sweep, Defrag};
 ghost use Rattle.mh_model.specs.Collector.{is_idle, quantum_start, collector_step, step_cost};
 ghost use Rattle.mh_model.specs.Mutator.{in_roots, in_roots_or_mark};
 ghost use Rattle.mh_model.specs.Invariant.{IsSteady};
+ghost use Rattle.mh_mark.specs.First.{IsFirstGrey};
 ghost use Rattle.mh_defrag.specs.Moves.{IsTarget};
 ghost use Rattle.mh_cycle.specs.State.{with_collector};
 ghost use Rattle.mh_cycle.specs.Advance.{IsRun};
@@ -14,7 +15,7 @@ use mh_grey::grey::Grey;
 use mh_laws::batches::any_cut_into_batches_is_the_same;
 use mh_laws::fields::references_lead_on;
 use mh_mark::batch::mark_batch;
-use mh_mark::mark::mark_step;
+use mh_mark::mark::{FirstGrey, first_grey, mark_step};
 use mh_mark::roots_step::roots_step;
 use mh_model::cycle::Phase;
 use mh_model::place::Place;
@@ -105,24 +106,27 @@ impl Cycle {
         }
     }
 
-    /// What marking through the first grey block costs.
-    pub(crate) fn mark_cost(&self) -> u64
+    /// The first grey block, and with it what marking through it costs.
+    pub(crate) fn first_grey(&self) -> FirstGrey
         requires phase { self.now.collector.phase ≡ Mark }
         requires steady { IsSteady self.now.collector }
-        ensures { (moved : Bool) → result ≡ step_cost self.now.collector moved }
+        ensures first { IsFirstGrey self.now.collector.table self.now.collector.grey result }
+        ensures cost { (moved : Bool) → 1 + result.count ≡ step_cost self.now.collector moved }
+        ensures few { result.count ≤ 60 }
     {
         references_lead_on();
-        1 + self.blocks.reference_count(self.grey.first()) as u64
+        first_grey(&self.blocks, &self.grey)
     }
 
-    /// Marks through the first grey block.
-    pub(crate) fn mark_step(&mut self)
+    /// Marks through the first grey block, which is given.
+    pub(crate) fn mark_step(&mut self, first: FirstGrey)
         requires phase { self.old.collector.phase ≡ Mark }
+        requires first { IsFirstGrey self.old.collector.table self.old.collector.grey first }
         requires steady { IsSteady self.old.collector }
         ensures { self.new ≡ with_collector self.old (collector_step self.old.collector) }
     {
         references_lead_on();
-        mark_step(&mut self.blocks, &mut self.grey, self.number);
+        mark_step(&mut self.blocks, &mut self.grey, self.number, first);
         self.cursor = 0;
         self.phase = after_mark(&self.grey);
     }

@@ -1,6 +1,6 @@
 -- The parts of a step of defragmentation.
-use Rattle.std.specs.Prelude.{◌≡◌, ℕ, Option, Some, None, IfSome, option_map, List}
-use Rattle.mh_model.specs.Pages.{Table, page_number, class_at, IsFreeFor}
+use Rattle.std.specs.Prelude.{◌≡◌, ℕ, ◌+◌, ◌<◌, false, Option, Some, None, IfSome, option_map, List}
+use Rattle.mh_model.specs.Pages.{Table, page_number, class_at, flag_at, IsFreeFor}
 use Rattle.mh_model.specs.Table.{Block}
 use Rattle.mh_model.specs.Collector.{Move, next_move, moved_table, forwarded_slots}
 
@@ -18,3 +18,7 @@ moved table place (Some move) = moved_table table place move
 abbrev pub slots_moved : Table Block → ℕ → List (Option ℕ) → Option Move → List (Option ℕ)
 slots_moved table place slots None = slots
 slots_moved table place slots (Some move) = forwarded_slots (moved_table table place move) slots
+
+-- so many pages from one on are free or not flagged
+abbrev pub AreUnflagged : Table Block → ℕ → ℕ → Type 0
+AreUnflagged table first count = (k : ℕ) → k < count → flag_at table (first + k) ≡ false

@@ -1,8 +1,8 @@
-ghost use Rattle.std.specs.Prelude.{◌≡◌, ◌<◌, length};
-ghost use Rattle.mh_model.specs.Pages.{page_number};
+ghost use Rattle.std.specs.Prelude.{◌≡◌, ◌+◌, ◌<◌, ◌≤◌, true, length};
+ghost use Rattle.mh_model.specs.Pages.{page_number, flag_at};
 ghost use Rattle.mh_model.specs.Collector.{next_move, move_cost, next_place, flagged_page};
 ghost use Rattle.mh_roots.specs.Roots.{SlotsLead};
-ghost use Rattle.mh_defrag.specs.Moves.{IsTarget, moved, slots_moved};
+ghost use Rattle.mh_defrag.specs.Moves.{IsTarget, moved, slots_moved, AreUnflagged};
 
 use mh_blocks::blocks::Blocks;
 use mh_model::place::Place;
@@ -42,6 +42,24 @@ pub fn cost(blocks: &Blocks, place: Place, target: Option<Place>, has_moved: boo
     } else {
         1 + words + SLOTS as u64
     }
+}
+
+/// How many pages are unflagged one after the other from one on, but no more than are asked for. Each is passed by one
+/// step.
+pub fn unflagged_run(blocks: &Blocks, first: usize, most: usize) -> usize
+    requires inside { first ≤ length blocks.now }
+    ensures unflagged { AreUnflagged blocks.now first result }
+    ensures few { result ≤ most }
+    ensures inside { first + result ≤ length blocks.now }
+    ensures all { result < most → first + result < length blocks.now → flag_at blocks.now (first + result) ≡ true }
+{
+    let most = most.min(blocks.len() - first);
+    for count in 0..most {
+        if blocks.is_flagged(first + count) {
+            return count;
+        }
+    }
+    most
 }
 
 /// The place of the next step.

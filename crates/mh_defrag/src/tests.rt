@@ -1,4 +1,4 @@
-use crate::defrag::{cost, next_target, step};
+use crate::defrag::{cost, next_target, step, unflagged_run};
 use mh_blocks::blocks::Blocks;
 use mh_classes::parts::parts;
 use mh_model::birth::Birth;
@@ -48,5 +48,13 @@ fn moves_a_block(rt: HostRuntime) -> Result<(), Fail> {
     assert_eq!(rt; blocks.resolve(Place(64)), Place(0));
     assert!(rt; blocks.is_taken(Place(0)));
     assert_eq!(rt; blocks.birth(Place(0)), Birth(4));
+    Ok(())
+}
+
+#[test]
+fn passes_unflagged_pages(rt: HostRuntime) -> Result<(), Fail> {
+    let blocks = two_pages(rt.alloc())?;
+    assert_eq!(rt; blocks.len(), 2);
+    assert_eq!(rt; unflagged_run(&blocks, 0, 9), 1);
     Ok(())
 }

@@ -4,7 +4,7 @@ ghost use Rattle.mh_mark.specs.Walkable.{IsWalkable};
 ghost use Rattle.mh_mark.specs.Batched.{IsMarkable, AreMarkable};
 
 use crate::batch::mark_batch;
-use crate::mark::{mark_block, mark_step};
+use crate::mark::{first_grey, mark_block, mark_step};
 use crate::roots_step::roots_step;
 use arrayvec::ArrayVec;
 use mh_blocks::blocks::Blocks;
@@ -196,7 +196,8 @@ fn mark_first(rt: &impl Abort, blocks: &mut Blocks, grey: &mut Grey)
     assert_eq!(rt; blocks.len(), 1);
     assert!(rt; is_walkable(blocks, 5, grey));
     assert!(rt; !grey.is_empty());
-    mark_step(blocks, grey, 5);
+    let first = first_grey(blocks, grey);
+    mark_step(blocks, grey, 5, first);
 }
 
 #[test]

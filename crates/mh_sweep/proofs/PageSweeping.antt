@@ -1,10 +1,10 @@
 -- Several steps of the sweep in one page.
-use Rattle.std.proofs.Common.{Some, ◌≡◌, ◌≢◌, ℕ, ◌+◌, ◌*◌, ◌/◌, ◌%◌, ◌<◌, true, length, is_some, refl, sym, ap, ◌∙◌, subst, arith, add-one, below_more}
+use Rattle.std.proofs.Common.{None, Some, zero, suc, ◌≤◌, ◌≡◌, ◌≢◌, ℕ, ◌+◌, ◌*◌, ◌/◌, ◌%◌, ◌<◌, true, length, is_some, refl, sym, ap, ◌∙◌, subst, arith, add-one, below_more}
 use Rattle.mh_model.specs.Classes.{slots_in}
 use Rattle.mh_model.specs.Pages.{Table, page_number, slot_number, page_at, class_at, HaveTheirSlots}
 use Rattle.mh_model.specs.Table.{Block}
-use Rattle.mh_sweep.specs.Swept.{slot_swept, judged, Sweeping, swept_once, swept_on, IsSweptTo}
-use Rattle.mh_sweep.proofs.SweepLemmas.{slot_count_in, used-classed, slots-classed, step-slot, step-last, swept-class, swept-slots, swept-long}
+use Rattle.mh_sweep.specs.Swept.{slot_swept, judged, AreFree, Sweeping, swept_once, swept_on, IsSweptTo}
+use Rattle.mh_sweep.proofs.SweepLemmas.{slot_count_in, used-classed, slots-classed, step-free, step-slot, step-last, swept-class, swept-slots, swept-long}
 
 abbrev pub sweeping : Table Block → ℕ → Sweeping
 sweeping table place = record { table = table; place = place }
@@ -69,3 +69,35 @@ sweeping-last cycle table new place size count on inside fits last =
 
 pub sweeping-ends : (cycle : ℕ) (table new : Table Block) (place size count next : ℕ) → IsSweepingOn cycle table place size new count → 0 < count → next ≡ place + count → IsSweptTo cycle (sweeping table place) (sweeping new next) count
 sweeping-ends cycle table new place size count next on some is = record { is = at_parts _ _ _ _ refl is ∙ on.is; some = some; inside = on.inside }
+
+-- Free pages passed ----------------------------------------------------------------------------------
+
+-- a page and the free ones after it passed
+passed : (cycle : ℕ) (table : Table Block) (place n : ℕ) → AreFree table (page_number place) (suc n) → swept_on cycle (suc n) (sweeping table place) ≡ sweeping table (64 * (place / 64 + suc n))
+passed cycle table place zero free =
+    let first : place / 64 + 0 ≡ place / 64 = omega arith in
+    let step = step-free cycle table place (sym (ap (class_at table) first) ∙ free 0 (omega arith)) in
+    at_parts _ _ _ _ step.0 step.1
+passed cycle table place (suc n) free =
+    let q : ℕ = 64 * (place / 64 + suc n) in
+    let page : q / 64 ≡ place / 64 + suc n = omega arith in
+    let next : 64 * (q / 64 + 1) ≡ 64 * (place / 64 + suc (suc n)) = omega arith in
+    let step = step-free cycle table q (ap (class_at table) page ∙ free (suc n) (omega arith)) in
+    ap (swept_once cycle) (passed cycle table place n (λ k below. free k (omega arith))) ∙ at_parts _ _ _ _ step.0 (step.1 ∙ next)
+
+pub free-goes : (table : Table Block) (first count : ℕ) → AreFree table first count → class_at table (first + count) ≡ None → AreFree table first (count + 1)
+free-goes table first count free is = below_more (λ k. class_at table (first + k) ≡ None) count free is
+
+pub free-passed : (cycle : ℕ) (table : Table Block) (place n : ℕ) → page_number place < length table → class_at table (page_number place) ≡ None → AreFree table (page_number place + 1) n → page_number place + 1 + n ≤ length table
+    → IsSweptTo cycle (sweeping table place) (sweeping table (64 * (place / 64 + (1 + n)))) (1 + n)
+free-passed cycle table place n inside is free few =
+    let e : 1 + n ≡ suc n = omega arith in
+    rw e record { is = sym (passed cycle table place n all); some = omega arith; inside = within }
+  where
+    all : AreFree table (page_number place) (suc n)
+    all zero below = let first : place / 64 + 0 ≡ place / 64 = omega arith in rw first is
+    all (suc k) below = let next : place / 64 + suc k ≡ place / 64 + 1 + k = omega arith in rw next (free k (omega arith))
+
+    within : (k : ℕ) → k < suc n → page_number (swept_on cycle k (sweeping table place)).place < length (swept_on cycle k (sweeping table place)).table
+    within zero below = inside
+    within (suc k) below = subst (λ (s : Sweeping). page_number s.place < length s.table) (sym (passed cycle table place k (λ j under. all j (omega arith)))) (omega arith)

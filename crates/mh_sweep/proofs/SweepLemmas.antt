@@ -89,6 +89,19 @@ in_use : (page : Option (Page Block)) → is_some page ≡ true → (p : Page Bl
 in_use None is = absurd (false≢true is)
 in_use (Some p) is = (p, refl)
 
+-- a free page
+pub step-free : (cycle : ℕ) (table : Table Block) (place : ℕ) → class_at table (page_number place) ≡ None
+    → (swept_table cycle table place ≡ table) × (next_place place (page_at table (page_number place)) ≡ next_page place)
+step-free cycle table place is =
+    let free = none-classed (page_at table (page_number place)) is in (
+      ap (λ p. set table (page_number place) (option_and_then (swept_page cycle table place) p)) free ∙ ap (set table (page_number place)) (sym free) ∙ set-get_or table (page_number place) None,
+      ap (next_place place) free,
+    )
+  where
+    none-classed : (page : Option (Page Block)) → option_map (λ used. used.class_size) page ≡ None → page ≡ None
+    none-classed None is = refl
+    none-classed (Some page) is = absurd (none-some page.class_size (sym is))
+
 -- a slot that isn't the last
 pub step-slot : (cycle : ℕ) (table : Table Block) (place : ℕ) → is_some (page_at table (page_number place)) ≡ true → slot_number place + 1 ≢ slot_count_in table (page_number place)
     → (slot_swept cycle table place ≡ swept_table cycle table place) × (place + 1 ≡ next_place place (page_at table (page_number place)))

@@ -1,7 +1,7 @@
-ghost use Rattle.std.specs.Prelude.{◌≡◌, ◌<◌, ◌≤◌, Some, length};
+ghost use Rattle.std.specs.Prelude.{◌≡◌, ◌+◌, ◌<◌, ◌≤◌, Some, length};
 ghost use Rattle.mh_model.specs.Pages.{page_number, page_at, class_at};
 ghost use Rattle.mh_model.specs.Collector.{swept_table, next_place};
-ghost use Rattle.mh_sweep.specs.Swept.{slot_swept, judged, IsSweptTo};
+ghost use Rattle.mh_sweep.specs.Swept.{slot_swept, judged, AreFree, IsSweptTo};
 
 use mh_blocks::blocks::Blocks;
 use mh_classes::class::Class;
@@ -69,7 +69,24 @@ pub fn sweep_step(blocks: &mut Blocks, cycle: u64, place: Place) -> Place
     Place(PLACES * (page + 1))
 }
 
-/// Takes steps in one page: as many as are asked for, or up to its end.
+/// How many pages are free one after the other from one on, but no more than are asked for.
+fn free_run(blocks: &Blocks, first: usize, most: usize) -> usize
+    requires inside { first ≤ length blocks.now }
+    ensures free { AreFree blocks.now first result }
+    ensures few { result ≤ most }
+    ensures inside { first + result ≤ length blocks.now }
+{
+    let most = most.min(blocks.len() - first);
+    for count in 0..most {
+        if blocks.class_at(first + count).is_some() {
+            return count;
+        }
+    }
+    most
+}
+
+/// Takes steps in one page, as many as are asked for or up to its end. Of free pages it passes as many as are asked for
+/// and stand one after the other.
 pub fn sweep_page(blocks: &mut Blocks, cycle: u64, place: Place, most: usize) -> Swept
     requires inside { page_number place < length blocks.old }
     requires some { 0 < most }
@@ -82,9 +99,10 @@ pub fn sweep_page(blocks: &mut Blocks, cycle: u64, place: Place, most: usize) ->
     let _ = blocks.len();
     let page = place.page();
     let Some(class) = blocks.class_at(page) else {
+        let count = 1 + free_run(blocks, page + 1, most - 1);
         return Swept {
-            next: Place(PLACES * (page + 1)),
-            count: 1,
+            next: Place(PLACES * (page + count)),
+            count,
         };
     };
     let slots = class.slots();

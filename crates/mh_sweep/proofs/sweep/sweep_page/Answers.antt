@@ -1,16 +1,24 @@
-use Rattle.std.proofs.Common.{◌≡◌, ◌≢◌, ◌∙◌, ◌<◌, ◌+◌, ◌%◌, Some, length, sym, refl, ap, arith}
+use Rattle.std.proofs.Common.{◌≡◌, ◌≢◌, ◌∙◌, ◌<◌, ◌+◌, ◌%◌, None, Some, length, sym, refl, ap, arith, rules}
 use Rattle.std.proofs.lemmas.List.{length-set}
 use Rattle.mh_model.specs.Classes.{slots_in}
 use Rattle.mh_model.specs.Pages.{class_at, page_number}
 use Rattle.mh_sweep.specs.Swept.{slot_swept}
 use Rattle.mh_sweep.proofs.SweepLemmas.{swept-long}
-use Rattle.mh_sweep.proofs.PageSweeping.{sweeping-starts, sweeping-class, sweeping-goes, sweeping-last, sweeping-ends}
+use Rattle.mh_sweep.proofs.PageSweeping.{sweeping-starts, sweeping-class, sweeping-goes, sweeping-last, sweeping-ends, free-passed}
 use Rattle.mh_sweep.proofs.sweep.sweep_page.Goals as goal
 
 pub loop-count-init : goal.loop-count-init
 loop-count-init c =
     let class : class_at c.args.blocks.now (page_number c.args.place) ≡ Some c.in-Some.class = ap (class_at c.args.blocks.now) (sym c.page-page.ensures) ∙ sym c.class_at.ensures ∙ c.in-Some.is in
     sweeping-starts _ _ _ _ c.len.ensures.slots class
+
+pub returns-in_default-clause-swept : goal.returns-in_default-clause-swept
+returns-in_default-clause-swept c =
+    let none : c.class_at.result ≡ None = search rules in
+    let class : class_at c.args.blocks.now (page_number c.args.place) ≡ None = ap (class_at c.args.blocks.now) (sym c.page-page.ensures) ∙ sym c.class_at.ensures ∙ none in
+    let free = rw c.page-page.ensures at c.free_run-count.ensures.free in
+    let inside = rw c.page-page.ensures at c.free_run-count.ensures.inside in
+    rw c.page-page.ensures (free-passed c.args.cycle c.args.blocks.now c.args.place c.free_run-count.result c.requires.inside class free inside)
 
 pub judge-requires-clause-inside : goal.judge-requires-clause-inside
 judge-requires-clause-inside c =

@@ -1,20 +1,17 @@
-use Rattle.std.proofs.Common.{◌<◌, refl, ap, arith, false}
+use Rattle.std.proofs.Common.{◌+◌, ◌<◌, refl, ap, ◌∙◌, arith, false}
 use Rattle.mh_model.specs.declared.cycle.Phase.TheVariants.{Mark}
 use Rattle.mh_model.specs.Collector.{is_idle}
-use Rattle.mh_laws.proofs.costs.Quanta.{step_cost-positive}
 use Rattle.mh_cycle.proofs.StrideLemmas.{advance-step, from-step, still}
 use Rattle.mh_cycle.proofs.cycle.Cycle.mark_alone.Goals as goal
 
 pub loop-self-smaller : goal.loop-self-smaller
-loop-self-smaller c =
-    let phase = c.is_in.ensures.yes c.loop-self-test.true in
-    let some : 0 < c.mark_cost-cost.result = rw (c.mark_cost-cost.ensures false) (step_cost-positive _ false (ap is_idle phase)) in
-    omega (arith, some, c.if-left-spent.false)
+loop-self-smaller c = omega (arith, c.if-left-spent.false)
 
 pub loop-self-preserved : goal.loop-self-preserved
 loop-self-preserved c =
     let phase = c.is_in.ensures.yes c.loop-self-test.true in
+    let cost = ap (λ first. 1 + first.count) c.first.view_is ∙ c.first_grey-first.ensures.cost false in
     record {
-      advance = advance-step c.collectors_stay_steady.ensures _ _ _ _ _ _ _ _ _ c.loop-self.invariant.advance refl (omega (arith, c.if-left-spent.false)) (ap is_idle phase) (c.mark_cost-cost.ensures false) (still Mark false _ phase refl) c.mark_step.ensures;
+      advance = advance-step c.collectors_stay_steady.ensures _ _ _ _ _ _ _ _ _ c.loop-self.invariant.advance refl (omega (arith, c.if-left-spent.false)) (ap is_idle phase) cost (still Mark false _ phase refl) c.mark_step.ensures;
       from = from-step Mark _ _ _ phase c.mark_step.ensures;
     }
