@@ -1,5 +1,5 @@
 -- What a run promises of its outcome. Where a clause speaks of the events before another, it holds at each beginning of the run.
-use Rattle.std.specs.Prelude.{◌≡◌, ℕ, ◌-◌, ◌<◌, ◌≤◌, true, false, Some, None, List, ◌∷◌, ◌++◌, length}
+use Rattle.std.specs.Prelude.{◌≡◌, ℕ, ◌-◌, ◌<◌, ◌≤◌, true, false, Some, None, List, [], ◌∷◌, ◌++◌, length}
 use Rattle.mh_model.specs.declared.command.Command.{Command}
 use Rattle.mh_model.specs.declared.command.Command.TheVariants as command
 use Rattle.mh_model.specs.declared.command.Control.TheVariants as control
@@ -17,7 +17,7 @@ use Rattle.mh_model.specs.Collector.{is_idle, quantum}
 use Rattle.mh_model.specs.Mutator.{heap_sight, new_group}
 use Rattle.mh_model.specs.Machine.{half_step, machine_after}
 use Rattle.mh_model.specs.Invariant.{IsFinished, IsLinked}
-use Rattle.mh_model.specs.Snapshot.{Moment, half_moment, is_heap_full, snapshot_at, world_beside}
+use Rattle.mh_model.specs.Snapshot.{Moment, half_moment, has_quantum, is_heap_full, snapshot_at, world_beside}
 use Rattle.mh_model.specs.Trace.{least_mutator, floor}
 use Rattle.mh_laws.specs.BesideTheWorld.{IsFaithful, IsInCycle}
 use Rattle.mh_laws.specs.Bounds.{HasEnded, HasRun}
@@ -56,12 +56,16 @@ pub record QuantaKeepTheirLimit (config : Config) (events : List Event) (outcome
 abbrev pub MutatorHasItsFloor : Config → Outcome → Type 0
 MutatorHasItsFloor config outcome = (window count : ℕ) → least_mutator window outcome.trace.letters ≡ Some count → floor config.every config.quantum window ≤ count
 
--- A quantum that ends its cycle leaves just the objects that the world reached as the cycle started, and those born since
-abbrev pub CyclesLeaveWhatIsKept : Config → List Event → Type 0
-CyclesLeaveWhatIsKept config events = (before : List Event) (event : Event) (later : List Event) → events ≡ before ++ event ∷ later →
-    let moment = half_moment (moment_at config before) event in
-    let heap = moment.machine.heap in
-    IsInCycle heap → is_idle (quantum heap.config heap.collector).collector.phase ≡ true → IsFinished (snapshot_at moment) heap.next_birth (quantum heap.config heap.collector).collector
+-- A quantum that ends its cycle leaves just the objects that the world reached as the cycle started, and those born since: one that an event runs, and any that would be run after a command
+pub record CyclesLeaveWhatIsKept (config : Config) (events : List Event) : Type 0 where
+  pub run : (before : List Event) (event : Event) (later : List Event) → events ≡ before ++ event ∷ later → has_quantum (machine_at config before) event ≡ true →
+      let moment = half_moment (moment_at config before) event in
+      let after = (machine_at config (before ++ event ∷ [])).heap.collector in
+      IsInCycle moment.machine.heap → is_idle after.phase ≡ true → IsFinished (snapshot_at moment) moment.machine.heap.next_birth after
+  pub any : (before : List Event) (event : Event) (later : List Event) → events ≡ before ++ event ∷ later →
+      let moment = half_moment (moment_at config before) event in
+      let after = (quantum moment.machine.heap.config moment.machine.heap.collector).collector in
+      IsInCycle moment.machine.heap → is_idle after.phase ≡ true → IsFinished (snapshot_at moment) moment.machine.heap.next_birth after
 
 -- Moments ----------------------------------------------------------------------------------------
 
@@ -118,7 +122,7 @@ pub record IsPromised (config : Config) (events : List Event) (outcome : Outcome
   pub limit : QuantaKeepTheirLimit config events outcome
   -- a cycle that ends leaves just what was reachable as it started, and what was born since
   pub cycles : CyclesLeaveWhatIsKept config events
-  -- no moment loses or confuses anything that a session can reach
+  -- at each moment the snapshot is kept, what sessions see is the world's, and no reference leads to a freed place
   pub moments : MomentsAreSafe config events
   -- a cycle that runs ends within its bound of quanta
   pub ends : CyclesEnd config events

@@ -1,19 +1,20 @@
-use Rattle.std.proofs.Common.{◌≡◌, ◌≤◌, false, sym, ap, ◌∙◌, subst, length}
+use Rattle.std.proofs.Common.{◌≡◌, ◌≤◌, true, false, sym, ap, ◌∙◌, subst, length}
 use Rattle.mh_model.specs.declared.command.Command.TheVariants as command
 use Rattle.mh_model.specs.declared.command.Control.TheVariants as control
 use Rattle.mh_model.specs.declared.command.Event.TheVariants as event
 use Rattle.mh_model.specs.declared.reply.Refusal.TheVariants.{HeapFull}
 use Rattle.mh_model.specs.declared.reply.Reply.TheVariants as reply
 use Rattle.mh_model.specs.World.{first_world, world_step}
+use Rattle.mh_model.specs.Collector.{is_idle, quantum}
 use Rattle.mh_model.specs.Machine.{first_machine, half_step, event_step}
-use Rattle.mh_model.specs.Snapshot.{first_moment, is_heap_full}
-use Rattle.mh_model.specs.Invariant.{IsLinked}
+use Rattle.mh_model.specs.Snapshot.{first_moment, half_moment, is_heap_full, snapshot_at}
+use Rattle.mh_model.specs.Invariant.{IsFinished, IsLinked}
 use Rattle.mh_laws.specs.Bounds.{left_of}
 use Rattle.mh_laws.specs.Utilisation.{HasShare}
 use Rattle.mh_laws.proofs.bounds.CyclesInTime.{run-stays}
 use Rattle.mh_promise.specs.Runs.{machine_at, moment_at}
-use Rattle.mh_promise.proofs.RunsByEvents.{replies-length}
-use Rattle.mh_promise.proofs.AnsweredEvents.{answered-is, beside-is, session-reply, told-left, half-heap, half-machine}
+use Rattle.mh_promise.proofs.RunsByEvents.{after_more, replies-length}
+use Rattle.mh_promise.proofs.AnsweredEvents.{answered-is, beside-is, session-reply, told-left, half-heap, half-machine, run-quantum}
 use Rattle.mh_promise.proofs.SpentUnits.{told-units}
 use Rattle.mh_promise.proofs.promise.runs_keep_their_promise.Goals as goal
 
@@ -43,7 +44,15 @@ returns c config events outcome is = record {
         let same = answered-is config events outcome.replies before event (reply.Spent units phase) is.replies answered in
         told-units c.quantum_keeps_its_limit.ensures config (machine_at config before) (run-stays config before).config_is event units phase same;
   };
-  cycles = λ before event later split. c.finished_cycles_are_exact.ensures config before event;
+  cycles = record {
+    run = λ before event later split runs cycle idle.
+        let half = half_moment (moment_at config before) event in
+        let machine = c.moment_has_the_machine.ensures before (first_moment config) in
+        let steps = half-machine (moment_at config before) event ∙ ap (λ m. half_step m event) machine in
+        let after = ap (λ m. m.heap.collector) (after_more.event (first_machine config) before event) ∙ run-quantum (machine_at config before) event runs ∙ ap (λ m. (quantum m.heap.config m.heap.collector).collector) (sym steps) in
+        subst (λ c. IsFinished (snapshot_at half) half.machine.heap.next_birth c) (sym after) (c.finished_cycles_are_exact.ensures config before event cycle (subst (λ c. is_idle c.phase ≡ true) after idle));
+    any = λ before event later split. c.finished_cycles_are_exact.ensures config before event;
+  };
   moments = record {
     each = λ before later split. record {
       faithful = c.moments_are_faithful.ensures.at_each config before;
