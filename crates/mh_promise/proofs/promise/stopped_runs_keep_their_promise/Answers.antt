@@ -1,0 +1,9 @@
+use Rattle.std.proofs.Common.{refl}
+use Rattle.mh_promise.specs.Runs.{machine_at, outcome_of}
+use Rattle.mh_promise.proofs.promise.stopped_runs_keep_their_promise.Goals as goal
+
+pub returns : goal.returns
+returns c config events replies is = record {
+  so_far = is;
+  promise = c.runs_keep_their_promise.ensures config is.done (outcome_of (machine_at config is.done) replies) (record { replies = is.machines; table = refl; free = refl; trace = refl });
+}

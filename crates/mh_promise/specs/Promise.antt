@@ -1,0 +1,145 @@
+-- What a run promises of its outcome. Where a clause speaks of the events before another, it holds at each beginning of the run.
+use Rattle.std.specs.Prelude.{◌≡◌, ℕ, ◌-◌, ◌<◌, ◌≤◌, true, false, Some, None, List, [], ◌∷◌, ◌++◌, length}
+use Rattle.mh_model.specs.declared.command.Command.{Command}
+use Rattle.mh_model.specs.declared.command.Command.TheVariants as command
+use Rattle.mh_model.specs.declared.command.Control.TheVariants as control
+use Rattle.mh_model.specs.declared.command.Event.{Event}
+use Rattle.mh_model.specs.declared.command.Event.TheVariants as event
+use Rattle.mh_model.specs.declared.config.Config.{Config}
+use Rattle.mh_model.specs.declared.cycle.Phase.{Phase}
+use Rattle.mh_model.specs.declared.reply.Refusal.{Refusal}
+use Rattle.mh_model.specs.declared.reply.Refusal.TheVariants.{HeapFull}
+use Rattle.mh_model.specs.declared.reply.Reply.{Reply}
+use Rattle.mh_model.specs.declared.reply.Reply.TheVariants as reply
+use Rattle.mh_model.specs.Bound.{most_quanta}
+use Rattle.mh_model.specs.World.{first_world, never_full, refusal, world_step}
+use Rattle.mh_model.specs.Collector.{is_idle, quantum}
+use Rattle.mh_model.specs.Mutator.{heap_sight, new_group}
+use Rattle.mh_model.specs.Machine.{half_step, machine_after}
+use Rattle.mh_model.specs.Invariant.{IsFinished, IsLinked}
+use Rattle.mh_model.specs.Snapshot.{Moment, half_moment, has_quantum, is_heap_full, snapshot_at, world_beside}
+use Rattle.mh_model.specs.Trace.{least_mutator, floor}
+use Rattle.mh_laws.specs.BesideTheWorld.{IsFaithful, IsInCycle}
+use Rattle.mh_laws.specs.Bounds.{HasEnded, HasRun}
+use Rattle.mh_promise.specs.Runs.{Outcome, machine_at, moment_at, outcome_of, IsAnswered, IsTheMachines, AreAnsweredSoFar}
+
+-- Replies ----------------------------------------------------------------------------------------
+
+-- Each event has one reply
+abbrev pub AreAnswered : List Event → List Reply → Type 0
+AreAnswered events replies = length replies ≡ length events
+
+-- Every reply to a session but a full heap is that of a heap that never collects or moves, to which the commands that a full heap refused weren't given
+abbrev pub AreTheWorlds : Config → List Event → List Reply → Type 0
+AreTheWorlds config events replies = (before : List Event) (who : ℕ) (command : Command) (given : Reply) → IsAnswered events replies before (event.Session who command) given → is_heap_full given ≡ false
+    → given ≡ (world_step (world_beside (first_world config) before replies) who command).reply
+
+-- The heap is full only where some part of the new object has no place, and at each new object that no other test refuses where one has none
+pub record FullIsNoPlace (config : Config) (events : List Event) (replies : List Reply) : Type 0 where
+  pub only : (before : List Event) (who slot references numbers : ℕ) → IsAnswered events replies before (event.Session who (command.New slot references numbers)) (reply.Refused HeapFull) → new_group (machine_at config before).heap references numbers ≡ None
+  pub each : (before : List Event) (who slot references numbers : ℕ) (given : Reply) → IsAnswered events replies before (event.Session who (command.New slot references numbers)) given
+      → refusal (record (heap_sight (machine_at config before).heap) { is_full = never_full }) who (command.New slot references numbers) ≡ None → new_group (machine_at config before).heap references numbers ≡ None → given ≡ reply.Refused HeapFull
+
+-- A command that is refused, by a full heap too, changes nothing of the heap: only the quantum that it makes due may
+abbrev pub RefusedChangesNothing : Config → List Event → List Reply → Type 0
+RefusedChangesNothing config events replies = (before : List Event) (who : ℕ) (command : Command) (refused : Refusal) → IsAnswered events replies before (event.Session who command) (reply.Refused refused)
+    → (half_step (machine_at config before) (event.Session who command)).heap ≡ (machine_at config before).heap
+
+-- Quanta -----------------------------------------------------------------------------------------
+
+-- No quantum spends more units than are configured: by the greatest of the trace, and by what each reply tells
+pub record QuantaKeepTheirLimit (config : Config) (events : List Event) (outcome : Outcome) : Type 0 where
+  pub greatest : outcome.trace.greatest ≤ config.quantum
+  pub spent : (before : List Event) (event : Event) (units : ℕ) (phase : Phase) → IsAnswered events outcome.replies before event (reply.Spent units phase) → units ≤ config.quantum
+
+-- Each stretch of the trace has at least the floor of its length in units of the mutator (Cheng and Blelloch 2001)
+abbrev pub MutatorHasItsFloor : Config → Outcome → Type 0
+MutatorHasItsFloor config outcome = (window count : ℕ) → least_mutator window outcome.trace.letters ≡ Some count → floor config.every config.quantum window ≤ count
+
+-- A quantum that ends its cycle leaves just the objects that the world reached as the cycle started, and those born since: one that an event runs, and any that would be run after a command
+pub record CyclesLeaveWhatIsKept (config : Config) (events : List Event) : Type 0 where
+  pub run : (before : List Event) (event : Event) (later : List Event) → events ≡ before ++ event ∷ later → has_quantum (machine_at config before) event ≡ true →
+      let moment = half_moment (moment_at config before) event in
+      let after = (machine_at config (before ++ event ∷ [])).heap.collector in
+      IsInCycle moment.machine.heap → is_idle after.phase ≡ true → IsFinished (snapshot_at moment) moment.machine.heap.next_birth after
+  pub any : (before : List Event) (event : Event) (later : List Event) → events ≡ before ++ event ∷ later →
+      let moment = half_moment (moment_at config before) event in
+      let after = (quantum moment.machine.heap.config moment.machine.heap.collector).collector in
+      IsInCycle moment.machine.heap → is_idle after.phase ≡ true → IsFinished (snapshot_at moment) moment.machine.heap.next_birth after
+
+-- Moments ----------------------------------------------------------------------------------------
+
+-- a moment keeps the snapshot of its cycle and shows what agrees with the world, and its references lead in one hop at most to held blocks
+pub record IsSafe (moment : Moment) : Type 0 where
+  pub faithful : IsFaithful moment
+  pub linked : IsLinked moment.machine.heap.collector
+
+-- So is each moment between two events, and each between a command and the quantum that it makes due
+pub record MomentsAreSafe (config : Config) (events : List Event) : Type 0 where
+  pub each : (before later : List Event) → events ≡ before ++ later → IsSafe (moment_at config before)
+  pub half : (before : List Event) (event : Event) (later : List Event) → events ≡ before ++ event ∷ later → IsSafe (half_moment (moment_at config before) event)
+
+-- Cycles -----------------------------------------------------------------------------------------
+
+-- the cycle that runs after the events before has ended once so many quanta more have been run
+abbrev pub EndsAfter : Config → List Event → List Event → ℕ → Type 0
+EndsAfter config events before count = (more later : List Event) → events ≡ before ++ more ++ later →
+    let machine = machine_at config before in
+    let after = machine_after machine more in
+    HasRun count machine after → HasEnded machine.heap.collector.cycle after.heap.collector
+
+-- A cycle that runs has ended once the quanta that its bound leaves to it have been run, whatever the sessions do
+abbrev pub CyclesEnd : Config → List Event → Type 0
+CyclesEnd config events = (before : List Event) →
+    let collector = (machine_at config before).heap.collector in
+    is_idle collector.phase ≡ false → EndsAfter config events before (most_quanta config - collector.quanta)
+
+-- some quanta are told, and once so many have been run the cycle has ended
+pub record TellsTheEnd (config : Config) (events before : List Event) (given : Reply) : Type 0 where
+  pub count : ℕ
+  pub told : given ≡ reply.Left count
+  pub some : 1 ≤ count
+  pub ends : EndsAfter config events before count
+
+-- Who asks for the quanta left is told the end of the cycle that runs, and 0 where none does
+pub record LeftTellsTheEnd (config : Config) (events : List Event) (replies : List Reply) : Type 0 where
+  pub running : (before : List Event) (given : Reply) → IsAnswered events replies before (event.Control control.Left) given → is_idle (machine_at config before).heap.collector.phase ≡ false → TellsTheEnd config events before given
+  pub idle : (before : List Event) (given : Reply) → IsAnswered events replies before (event.Control control.Left) given → is_idle (machine_at config before).heap.collector.phase ≡ true → given ≡ reply.Left 0
+
+-- The promise ------------------------------------------------------------------------------------
+
+-- What a run promises of its outcome
+pub record IsPromised (config : Config) (events : List Event) (outcome : Outcome) : Type 0 where
+  -- each event is answered once
+  pub answered : AreAnswered events outcome.replies
+  -- replies are those of a heap that never collects or moves
+  pub replies : AreTheWorlds config events outcome.replies
+  -- a full heap is answered just where there is no place
+  pub full : FullIsNoPlace config events outcome.replies
+  -- what is refused changes nothing
+  pub refused : RefusedChangesNothing config events outcome.replies
+  -- no quantum is longer than configured
+  pub limit : QuantaKeepTheirLimit config events outcome
+  -- a cycle that ends leaves just what was reachable as it started, and what was born since
+  pub cycles : CyclesLeaveWhatIsKept config events
+  -- at each moment the snapshot is kept, what sessions see is the world's, and no reference leads to a freed place
+  pub moments : MomentsAreSafe config events
+  -- a cycle that runs ends within its bound of quanta
+  pub ends : CyclesEnd config events
+  -- and what is told of the quanta left is true
+  pub left : LeftTellsTheEnd config events outcome.replies
+  -- where the scheduler runs quanta, the mutator has its share of the time
+  pub share : 0 < config.every → MutatorHasItsFloor config outcome
+
+-- What a run that stopped early promises: its replies are the machine's to the first of its events, and all of the above holds of these
+pub record IsPromisedSoFar (config : Config) (events : List Event) (replies : List Reply) : Type 0 where
+  pub so_far : AreAnsweredSoFar config events replies
+  pub promise : IsPromised config so_far.done (outcome_of (machine_at config so_far.done) replies)
+
+-- An outcome that is the machine's keeps the promise
+abbrev pub RunsKeepTheirPromise : Type 0
+RunsKeepTheirPromise = (config : Config) (events : List Event) (outcome : Outcome) → IsTheMachines config events outcome → IsPromised config events outcome
+
+-- Replies that are the machine's to the first events keep it of these
+abbrev pub StoppedRunsKeepTheirPromise : Type 0
+StoppedRunsKeepTheirPromise = (config : Config) (events : List Event) (replies : List Reply) → AreAnsweredSoFar config events replies → IsPromisedSoFar config events replies

@@ -1,0 +1,31 @@
+-- Machines that go through their events one by one, and what they keep of the promise.
+use Rattle.std.specs.Prelude.{◌≡◌, List, [], ◌∷◌, ◌++◌}
+use Rattle.mh_model.specs.declared.command.Event.{Event}
+use Rattle.mh_model.specs.declared.config.Config.{Config}
+use Rattle.mh_model.specs.declared.reply.Reply.{Reply}
+use Rattle.mh_model.specs.World.{says}
+use Rattle.mh_model.specs.Machine.{Machine, first_machine, event_step, machine_after, machine_replies}
+use Rattle.mh_promise.specs.Runs.{machine_at, outcome_of, IsTheMachines}
+use Rattle.mh_promise.specs.Promise.{IsPromised}
+
+-- The machine after more events
+pub record MachineAfterMore : Type 0 where
+  pub events : (machine : Machine) (before more : List Event) → machine_after machine (before ++ more) ≡ machine_after (machine_after machine before) more
+  pub event : (machine : Machine) (before : List Event) (event : Event) → machine_after machine (before ++ event ∷ []) ≡ (event_step (machine_after machine before) event).state
+
+-- The replies to more events
+pub record MachineRepliesMore : Type 0 where
+  pub events : (machine : Machine) (before more : List Event) → machine_replies machine (before ++ more) ≡ machine_replies machine before ++ machine_replies (machine_after machine before) more
+  pub event : (machine : Machine) (before : List Event) (event : Event) → machine_replies machine (before ++ event ∷ []) ≡ machine_replies machine before ++ (event_step (machine_after machine before) event).reply ∷ []
+
+-- a machine and its replies are those of a history of events
+pub record IsReplay (config : Config) (events : List Event) (replies : List Reply) (machine : Machine) : Type 0 where
+  pub machine_is : machine ≡ machine_at config events
+  pub replies_are : replies ≡ machine_replies (first_machine config) events
+
+-- The first machine is the replay of no events, an event's step gives the replay with the event and its reply appended, and what a replay shows is the machine's and keeps the promise
+pub record EventsKeepTheReplay : Type 0 where
+  pub first : (config : Config) → IsReplay config [] [] (first_machine config)
+  pub step : (config : Config) (events : List Event) (replies : List Reply) (machine next : Machine) (event : Event) (given : Reply) → IsReplay config events replies machine → event_step machine event ≡ says given next → IsReplay config (events ++ event ∷ []) (replies ++ given ∷ []) next
+  pub machines : (config : Config) (events : List Event) (replies : List Reply) (machine : Machine) → IsReplay config events replies machine → IsTheMachines config events (outcome_of machine replies)
+  pub promise : (config : Config) (events : List Event) (replies : List Reply) (machine : Machine) → IsReplay config events replies machine → IsPromised config events (outcome_of machine replies)

@@ -1,0 +1,49 @@
+-- Runs: what one gives back, and when that is the machine's.
+use Rattle.std.specs.Prelude.{◌≡◌, ℕ, Some, List, ◌∷◌, ◌++◌, length, slice_get}
+use Rattle.mh_model.specs.declared.command.Event.{Event}
+use Rattle.mh_model.specs.declared.config.Config.{Config}
+use Rattle.mh_model.specs.declared.reply.Reply.{Reply}
+use Rattle.mh_model.specs.Pages.{Table, free_pages}
+use Rattle.mh_model.specs.Table.{Block}
+use Rattle.mh_model.specs.Machine.{Machine, first_machine, machine_after, machine_replies}
+use Rattle.mh_model.specs.Snapshot.{Moment, first_moment, moment_after}
+use Rattle.mh_model.specs.Trace.{TraceState}
+
+-- What a run gives back: the reply to each event, the heap's table, how many of its pages are free, and the trace
+pub record Outcome : Type 0 where
+  pub replies : List Reply
+  pub table : Table Block
+  pub free : ℕ
+  pub trace : TraceState
+
+-- the machine after the first events of a run
+abbrev pub machine_at : Config → List Event → Machine
+machine_at config before = machine_after (first_machine config) before
+
+-- the moment after them: that machine, the world beside it, and the snapshot of its cycle
+abbrev pub moment_at : Config → List Event → Moment
+moment_at config before = moment_after (first_moment config) before
+
+-- what a machine shows of a run, beside the replies that it gave
+abbrev pub outcome_of : Machine → List Reply → Outcome
+outcome_of machine replies = record { replies = replies; table = machine.heap.collector.table; free = free_pages machine.heap.collector.table; trace = machine.trace }
+
+-- an event of a run, with the events before it, and the reply that it was given
+pub record IsAnswered (events : List Event) (replies : List Reply) (before : List Event) (event : Event) (reply : Reply) : Type 0 where
+  pub later : List Event
+  pub split : events ≡ before ++ event ∷ later
+  pub given : slice_get replies (length before) ≡ Some reply
+
+-- The replies, the table, the free pages and the trace are those of the machine after the same events
+pub record IsTheMachines (config : Config) (events : List Event) (outcome : Outcome) : Type 0 where
+  pub replies : outcome.replies ≡ machine_replies (first_machine config) events
+  pub table : outcome.table ≡ (machine_at config events).heap.collector.table
+  pub free : outcome.free ≡ free_pages outcome.table
+  pub trace : outcome.trace ≡ (machine_at config events).trace
+
+-- A run that stopped early did the first of its events, left the others, and gave the machine's replies to those it did
+pub record AreAnsweredSoFar (config : Config) (events : List Event) (replies : List Reply) : Type 0 where
+  pub done : List Event
+  pub left : List Event
+  pub split : events ≡ done ++ left
+  pub machines : replies ≡ machine_replies (first_machine config) done
