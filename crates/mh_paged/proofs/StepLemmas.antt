@@ -1,4 +1,4 @@
--- The book's step of a command, from what its tests let through.
+-- The step of a command, from what its tests let through.
 use Rattle.std.proofs.Common.{◌≡◌, ℕ, ◌+◌, ◌*◌, Bool, true, false, Some, None, [], ◌∷◌, Ok, get_or, set, nat_le, nat_lt, refl, sym, ap, ◌∙◌, arith}
 use Rattle.std.proofs.lemmas.Grind.{common_steps}
 use Rattle.mh_model.specs.declared.command.Command.TheVariants as command

@@ -8,7 +8,7 @@ use Rattle.mh_model.specs.CycleBounds.{IsInBounds}
 use Rattle.mh_model.specs.Invariant.{IsKeeping}
 use Rattle.mh_cycle.specs.State.{CycleState}
 
--- the book's step of this command answers this reply and leaves this heap
+-- the step of this command on the pages answers this reply and leaves this heap
 abbrev pub Steps : HeapState → ℕ → Command → Reply → HeapState → Type 0
 Steps old who command reply new = mutator_step old who command ≡ says reply new
 

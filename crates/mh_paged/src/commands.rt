@@ -19,6 +19,7 @@ use mh_model::birth::Birth;
 use mh_model::reply::Refusal;
 use mh_model::shape::Shape;
 
+/// Each call is the command of its name by the session `who`, and takes no memory.
 impl KeptHeap {
     #[tactic(auto, unfolding(mh_model::specs::Mutator::mutator_step, mh_model::specs::Mutator::heap_effect))]
     pub fn make(&mut self, who: u8, slot: u32, references: u32, numbers: u32) -> Result<(), Refusal>
@@ -201,7 +202,6 @@ impl KeptHeap {
         Ok(())
     }
 
-    /// Ends a session, whose slots are emptied.
     #[tactic(auto, unfolding(mh_model::specs::Mutator::mutator_step))]
     pub fn end(&mut self, who: u8) -> Result<(), Refusal>
         ensures { Steps self.old who command.End (done_or result) self.new }
