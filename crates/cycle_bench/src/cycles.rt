@@ -13,7 +13,7 @@ use std::thread::Threads;
 use std::time::Instant;
 
 /// How many cycles each scanner has.
-const ROUNDS: u32 = 5;
+const ROUNDS: u32 = 3;
 
 /// Runs a cycle to its end, and answers the units that it spent.
 fn run_cycle<S: Scanner>(heap: &mut KeptHeap, scanner: &mut S) -> u64 {
