@@ -128,7 +128,7 @@ pub record IsPromised (config : Config) (events : List Event) (outcome : Outcome
   pub ends : CyclesEnd config events
   -- and what is told of the quanta left is true
   pub left : LeftTellsTheEnd config events outcome.replies
-  -- where the scheduler runs quanta, the mutator has its share of the time
+  -- where the scheduler runs quanta, the mutator has its share of the units
   pub share : 0 < config.every → MutatorHasItsFloor config outcome
 
 -- What a run that stopped early promises: its replies are the machine's to the first of its events, and all of the above holds of these
