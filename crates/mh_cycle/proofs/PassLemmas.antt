@@ -1,9 +1,9 @@
 -- The steps of defragmentation that pass unflagged pages are one stride.
-use Rattle.std.proofs.Common.{◌≡◌, ℕ, zero, suc, ◌+◌, ◌*◌, ◌/◌, ◌<◌, ◌≤◌, ◌||◌, Bool, true, false, if◌then◌else◌, length, is_some, Option, Some, None, option_map, option_and_then, unwrap_or, refl, sym, ap, ◌∙◌, arith}
+use Rattle.std.proofs.Common.{◌≡◌, ℕ, zero, suc, ◌+◌, ◌*◌, ◌/◌, ◌<◌, ◌≤◌, ◌||◌, Bool, false, if◌then◌else◌, length, is_some, Option, Some, None, option_map, option_and_then, unwrap_or, refl, sym, ap, ◌∙◌, arith}
 use Rattle.mh_model.specs.declared.cycle.Phase.TheVariants.{Defrag}
 use Rattle.mh_model.specs.Pages.{Page, Table, page_at, block_in, slot_number, flag_at}
 use Rattle.mh_model.specs.Table.{Block}
-use Rattle.mh_model.specs.Collector.{Collector, if_flagged, move_of, move_cost, next_move, next_place, flagged_page, cycle_end, is_idle, is_moving, is_moving_in, collector_step, step_cost}
+use Rattle.mh_model.specs.Collector.{Collector, if_flagged, move_of, move_cost, next_move, next_place, flagged_page, cycle_end, is_idle, is_moving, collector_step, step_cost}
 use Rattle.mh_defrag.specs.Moves.{moved, slots_moved, AreUnflagged}
 use Rattle.mh_cycle.specs.Advance.{IsStride}
 use Rattle.mh_cycle.proofs.StepLemmas.{cost-is, defrag-ends, defrag-goes}

@@ -1,4 +1,4 @@
-use Rattle.std.proofs.Common.{◌≡◌, ◌+◌, ◌/◌, ◌<◌, ◌∙◌, ap, length, arith}
+use Rattle.std.proofs.Common.{◌≡◌, ◌+◌, ◌/◌, ◌<◌, length, arith}
 use Rattle.mh_cycle.proofs.PassLemmas.{pass-goes, pass-ends}
 use Rattle.mh_cycle.proofs.cycle.Cycle.pass.Goals as goal
 
