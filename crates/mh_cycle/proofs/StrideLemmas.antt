@@ -167,9 +167,18 @@ pub advance-run : CollectorsStaySteady → (left units cost all : ℕ) (old mid 
 advance-run law left units cost all old mid new before sum state run =
     advance-on left units cost all false false old mid new before sum run.fits (ap (λ s. s.config) state) (stride-steady law cost false false mid.collector new.collector (run.goes false) before.steady) (run.goes false)
 
+-- a stride more, by whether the quantum has moved a block
+pub advance-stride : CollectorsStaySteady → (left units cost all : ℕ) (moved : Bool) (old mid new : CycleState) → IsAdvance left old units moved mid → all ≡ units + cost → cost ≤ left - units → new ≡ with_collector mid new.collector → IsStride cost moved mid.collector moved new.collector
+    → IsAdvance left old all moved new
+advance-stride law left units cost all moved old mid new before sum fits state stride =
+    advance-on left units cost all moved moved old mid new before sum fits (ap (λ s. s.config) state) (stride-steady law cost moved moved mid.collector new.collector stride before.steady) stride
+
 -- in this phase or past it after a step, and after some steps
 pub later-step : (phase : Phase) (mid new : CycleState) → mid.collector.phase ≡ phase → new ≡ with_collector mid (collector_step mid.collector) → order phase ≤ order new.collector.phase
 later-step phase mid new is by = rw (by, ← is) (step-later mid.collector)
+
+pub later-stride : (phase : Phase) (units : ℕ) (moved : Bool) (old new : Collector) → old.phase ≡ phase → IsStride units moved old moved new → order phase ≤ order new.phase
+later-stride phase units moved old new is stride = subst (λ p. order p ≤ order new.phase) is (stride-later units moved moved old new stride)
 
 pub from-step : (phase : Phase) (left : ℕ) (mid new : CycleState) → mid.collector.phase ≡ phase → new ≡ with_collector mid (collector_step mid.collector) → IsFrom phase left new.collector
 from-step phase left mid new is by = inl (later-step phase mid new is by)

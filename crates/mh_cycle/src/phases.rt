@@ -113,6 +113,12 @@ impl Cycle {
         let mut spent = 0;
         let mut has_moved = false;
         while self.is_in(Phase::Defrag) {
+            let count = self.unflagged_run(left - spent);
+            if count != 0 {
+                self.pass(count);
+                spent += count as u64;
+                continue;
+            }
             let target = self.next_target();
             let cost = self.move_cost(target, has_moved);
             if left - spent < cost {

@@ -1,13 +1,14 @@
 //! What a quantum does in one go: its start, and one step or some steps of a phase.
 ghost use Rattle.std.specs.Prelude.{◌≡◌, ◌+◌, ◌^◌, ◌<◌, ◌≤◌, ◌==◌, Bool, true, if◌then◌else◌, length};
 ghost use Rattle.mh_model.specs.declared.cycle.Phase.TheVariants.{Roots, Mark, Sweep, Defrag};
+ghost use Rattle.mh_model.specs.Pages.{page_number};
 ghost use Rattle.mh_model.specs.Collector.{is_idle, quantum_start, collector_step, step_cost};
 ghost use Rattle.mh_model.specs.Mutator.{in_roots, in_roots_or_mark};
 ghost use Rattle.mh_model.specs.Invariant.{IsSteady};
 ghost use Rattle.mh_mark.specs.First.{IsFirstGrey};
-ghost use Rattle.mh_defrag.specs.Moves.{IsTarget};
+ghost use Rattle.mh_defrag.specs.Moves.{IsTarget, AreUnflagged};
 ghost use Rattle.mh_cycle.specs.State.{with_collector};
-ghost use Rattle.mh_cycle.specs.Advance.{IsRun};
+ghost use Rattle.mh_cycle.specs.Advance.{IsRun, IsStride};
 
 use crate::cycle::Cycle;
 use mh_defrag::defrag;
@@ -22,6 +23,9 @@ use mh_model::place::Place;
 use mh_roots::roots::SLOTS;
 use mh_scan::scan::Scanner;
 use mh_sweep::sweep;
+
+/// How many places each page has, whatever its class.
+const PLACES: usize = 64;
 
 /// The phase in which blocks are marked while some are grey, and then the sweep.
 fn after_mark(grey: &Grey) -> Phase
@@ -168,6 +172,35 @@ impl Cycle {
             self.phase = Phase::Defrag;
         }
         swept.count as u64
+    }
+
+    /// How many unflagged pages the next steps of defragmentation pass, as many as fit in what is left.
+    pub(crate) fn unflagged_run(&self, left: u64) -> usize
+        requires { self.now.collector.phase ≡ Defrag }
+        ensures unflagged { AreUnflagged self.now.collector.table (page_number self.now.collector.cursor) result }
+        ensures fits { result ≤ left }
+        ensures inside { page_number self.now.collector.cursor + result ≤ length self.now.collector.table }
+    {
+        defrag::unflagged_run(&self.blocks, Place(self.cursor).page(), left as usize)
+    }
+
+    /// Passes so many unflagged pages.
+    pub(crate) fn pass(&mut self, count: usize)
+        requires phase { self.old.collector.phase ≡ Defrag }
+        requires some { 0 < count }
+        requires unflagged { AreUnflagged self.old.collector.table (page_number self.old.collector.cursor) count }
+        requires inside { page_number self.old.collector.cursor + count ≤ length self.old.collector.table }
+        ensures state { self.new ≡ with_collector self.old self.new.collector }
+        ensures stride { (moved : Bool) → IsStride count moved self.old.collector moved self.new.collector }
+    {
+        let pages = self.blocks.len();
+        let end = Place(self.cursor).page() + count;
+        self.cursor = PLACES * end;
+        if end == pages {
+            self.cursor = 0;
+            self.quanta = 0;
+            self.phase = Phase::Idle;
+        }
     }
 
     /// Where the next step of defragmentation moves a block, if it moves one.

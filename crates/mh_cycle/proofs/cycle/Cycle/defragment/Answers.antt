@@ -4,7 +4,7 @@ use Rattle.mh_model.specs.declared.cycle.Phase.TheVariants.{Defrag}
 use Rattle.mh_model.specs.Collector.{is_idle, is_moving}
 use Rattle.mh_laws.proofs.costs.Quanta.{step_cost-positive}
 use Rattle.mh_cycle.proofs.StepLemmas.{moving-defrag}
-use Rattle.mh_cycle.proofs.StrideLemmas.{advance-step, advance-ends, later-step, over, over-past}
+use Rattle.mh_cycle.proofs.StrideLemmas.{advance-step, advance-stride, advance-ends, later-step, later-stride, over, over-past}
 use Rattle.mh_cycle.proofs.cycle.Cycle.defragment.Goals.{then-has_moved, else-has_moved}
 use Rattle.mh_cycle.proofs.cycle.Cycle.defragment.Goals as goal
 
@@ -13,6 +13,14 @@ loop-self-smaller c =
     let phase = c.is_in.ensures.yes c.loop-self-test.true in
     let some : 0 < c.move_cost-cost.result = rw c.move_cost-cost.ensures (step_cost-positive _ _ (ap is_idle phase)) in
     omega (arith, some, c.if-left-spent.false)
+
+pub loop-self-preserved-then-count-ne0 : goal.loop-self-preserved-then-count-ne0
+loop-self-preserved-then-count-ne0 c =
+    let phase = c.is_in.ensures.yes c.loop-self-test.true in
+    record {
+      advance = advance-stride c.collectors_stay_steady.ensures _ _ _ _ _ _ _ _ c.loop-self.invariant.advance refl c.unflagged_run-count.ensures.fits c.pass.ensures.state (c.pass.ensures.stride c.loop-self.has_moved);
+      from = inl (later-stride Defrag _ c.loop-self.has_moved _ _ phase (c.pass.ensures.stride c.loop-self.has_moved));
+    }
 
 pub loop-self-preserved : goal.loop-self-preserved
 loop-self-preserved c =

@@ -1,4 +1,4 @@
-use Rattle.std.proofs.Common.{◌+◌, ◌<◌, refl, ap, ◌∙◌, arith, false}
+use Rattle.std.proofs.Common.{◌+◌, refl, ap, ◌∙◌, arith, false}
 use Rattle.mh_model.specs.declared.cycle.Phase.TheVariants.{Mark}
 use Rattle.mh_model.specs.Collector.{is_idle}
 use Rattle.mh_cycle.proofs.StrideLemmas.{advance-step, from-step, still}

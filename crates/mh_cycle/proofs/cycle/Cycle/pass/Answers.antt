@@ -1,0 +1,18 @@
+use Rattle.std.proofs.Common.{◌≡◌, ◌+◌, ◌/◌, ◌<◌, length, arith}
+use Rattle.mh_cycle.proofs.PassLemmas.{pass-goes, pass-ends}
+use Rattle.mh_cycle.proofs.cycle.Cycle.pass.Goals as goal
+
+pub returns-then-end-pages-clause-stride : goal.returns-then-end-pages-clause-stride
+returns-then-end-pages-clause-stride c =
+    let phase = rw (← c.self.view_is) at c.requires.phase in
+    let unflagged = rw (← c.self.view_is) at c.requires.unflagged in
+    let all : c.self.inside.cursor / 64 + c.args.count ≡ length c.self.inside.blocks = omega (arith, c.if-end-pages.true, c.len-pages.ensures.count, c.page.ensures) in
+    rw (← c.self.view_is) (λ moved. pass-ends _ _ moved phase unflagged c.requires.some all)
+
+pub returns-else-end-pages-clause-stride : goal.returns-else-end-pages-clause-stride
+returns-else-end-pages-clause-stride c =
+    let phase = rw (← c.self.view_is) at c.requires.phase in
+    let unflagged = rw (← c.self.view_is) at c.requires.unflagged in
+    let few = rw (← c.self.view_is) at c.requires.inside in
+    let inside : c.self.inside.cursor / 64 + c.args.count < length c.self.inside.blocks = omega (arith, few, c.if-end-pages.false, c.len-pages.ensures.count, c.page.ensures) in
+    rw (c.page.ensures, ← c.self.view_is) (λ moved. pass-goes _ _ moved phase unflagged c.requires.some inside)
