@@ -1,2 +1,4 @@
 pub mod Kept
 pub mod Tally
+pub mod Telling
+pub mod Told

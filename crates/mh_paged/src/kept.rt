@@ -2,6 +2,7 @@
 ghost use Rattle.std.specs.Prelude.{◌≡◌, ◌<◌, [], ◌∷◌, true, false, get_or, nat_le, nat_lt, ◌+◌, ◌≤◌, IfOk, MatchResult, Some, None};
 ghost use Rattle.mh_model.specs.World.{is_bad, own_slot, board_slot, most_fields};
 ghost use Rattle.mh_model.specs.Classes.{parts};
+ghost use Rattle.mh_model.specs.Pages.{free_pages};
 ghost use Rattle.mh_model.specs.declared.birth.TheConstants.{LIFE};
 ghost use Rattle.mh_model.specs.Collector.{quantum};
 ghost use Rattle.mh_model.specs.Machine.{dump_pages, quanta_left, stat_reply};
@@ -9,13 +10,20 @@ ghost use Rattle.mh_model.specs.Mutator.{first_heap, root_at, shape_at};
 ghost use Rattle.mh_model.specs.Invariant.{IsObjectAt};
 ghost use Rattle.mh_model.specs.declared.reply.Refusal.TheVariants.{BadSlot, Null, NoField, TooLarge, Ended, TooManySessions};
 ghost use Rattle.mh_heap.specs.Checks.{tested};
+ghost use Rattle.mh_paged.specs.Told.{IsTold};
 
 use crate::lent::{dump_table, free_pages, root, shape_of, tally_of};
 use mh_classes::parts::{Parts, parts};
 use mh_cycle::cycle::Cycle;
 use mh_groups::group::PartPlaces;
-use mh_laws::bounds::collectors_stay_in_bounds;
+use mh_laws::bounds::{collectors_stay_in_bounds, quantum_starts_one_cycle_at_most};
+use mh_laws::commands::command_keeps_the_course;
+use mh_laws::costs::quantum_keeps_its_limit;
 use mh_laws::fields::slots_hold_objects;
+use mh_laws::following::commands_follow;
+use mh_laws::showing::{
+    kept_views_agree_with_themselves, kept_views_are_closed, quanta_keep_the_view,
+};
 use mh_laws::snapshots::{collectors_stay_steady, heaps_stay_kept};
 use mh_model::config::Config;
 use mh_model::cycle::{Phase, Spent};
@@ -166,6 +174,13 @@ impl KeptHeap {
         self.cycle.quanta_left()
     }
 
+    /// How many pages are free.
+    pub fn free_pages(&self) -> u64
+        ensures { result ≡ free_pages self.now.collector.table }
+    {
+        free_pages(&self.cycle) as u64
+    }
+
     /// The free pages, the blocks that aren't forwarders, the forwarders, the phase and the cycles started.
     pub fn stat(&self) -> Reply
         ensures { result ≡ stat_reply self.now.collector }
@@ -199,6 +214,20 @@ impl KeptHeap {
         ensures { result ≡ self.now.config.quantum }
     {
         u64::from(self.cycle.config().quantum)
+    }
+
+    /// What the laws tell of this heap. It does nothing when it runs.
+    pub(crate) fn told(&self)
+        ensures { IsTold self.now }
+    {
+        kept_views_are_closed();
+        kept_views_agree_with_themselves();
+        commands_follow();
+        command_keeps_the_course();
+        quanta_keep_the_view();
+        quantum_keeps_its_limit();
+        quantum_starts_one_cycle_at_most();
+        let _next_birth = self.next_birth;
     }
 }
 

@@ -6,6 +6,7 @@ mod commands;
 mod crew_tests;
 pub mod kept;
 mod lent;
+pub mod paged;
 mod table;
 #[cfg(test)]
 mod tests;

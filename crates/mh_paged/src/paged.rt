@@ -1,0 +1,199 @@
+//! The heap of pages as its sessions see it.
+ghost use Rattle.std.specs.Prelude.{◌≡◌, true, IfOk};
+ghost use Rattle.mh_model.specs.Pages.{free_pages};
+ghost use Rattle.mh_model.specs.Machine.{dump_pages, quanta_left, stat_reply};
+ghost use Rattle.mh_model.specs.Mutator.{first_heap};
+ghost use Rattle.mh_paged.specs.Told.{IsTold};
+
+use crate::kept::KeptHeap;
+use mh_heap::heap::Heap;
+use mh_model::config::Config;
+use mh_model::cycle::{Phase, Spent};
+use mh_model::dump::Dump;
+use mh_model::memory::NoMemory;
+use mh_model::reply::{Refusal, Reply};
+use mh_model::shape::Shape;
+use mh_scan::scan::Scanner;
+use std::alloc::Global;
+
+/// The heap of pages, with what the laws tell of it at each moment.
+#[derive(Drop)]
+pub struct PagedHeap {
+    pub kept: KeptHeap,
+    ghost told: { IsTold kept },
+}
+
+impl PagedHeap {
+    /// The heap of a configuration, with all pages free and no cycle running.
+    pub fn open(alloc: Global, config: Config) -> Result<PagedHeap, NoMemory>
+        ensures { IfOk result (λ heap. heap.kept ≡ first_heap config) }
+    {
+        let kept = KeptHeap::open(alloc, config)?;
+        kept.told();
+        Ok(PagedHeap { kept })
+    }
+
+    /// Asks for a cycle, which the next quantum starts that finds none running.
+    pub fn start(&mut self)
+        ensures { self.new.kept ≡ record (self.old.kept) { collector = record (self.old.kept.collector) { is_asked = true } } }
+    {
+        let kept = &mut self.kept;
+        kept.start();
+        kept.told();
+    }
+
+    /// What the collector is at.
+    pub fn phase(&self) -> Phase
+        ensures { result ≡ self.now.kept.collector.phase }
+    {
+        self.kept.phase()
+    }
+
+    /// How many quanta the running cycle still has at most.
+    pub fn quanta_left(&self) -> u64
+        ensures { result ≡ quanta_left self.now.kept.config self.now.kept.collector }
+    {
+        self.kept.quanta_left()
+    }
+
+    /// How many pages are free.
+    pub fn free_pages(&self) -> u64
+        ensures { result ≡ free_pages self.now.kept.collector.table }
+    {
+        self.kept.free_pages()
+    }
+
+    /// The free pages, the blocks that aren't forwarders, the forwarders, the phase and the cycles started.
+    pub fn stat(&self) -> Reply
+        ensures { result ≡ stat_reply self.now.kept.collector }
+    {
+        self.kept.stat()
+    }
+
+    /// Each page in use with its blocks.
+    pub fn dump(&self, alloc: Global) -> Result<Dump, NoMemory>
+        ensures { IfOk result (λ dump. dump ≡ dump_pages 0 self.now.kept.collector.table) }
+    {
+        self.kept.dump(alloc)
+    }
+}
+
+impl Heap for PagedHeap {
+    ghost use Rattle.mh_paged.specs.Kept.{Steps};
+    ghost use Rattle.mh_paged.specs.Told.{IsQuantum, showing};
+    ghost use Rattle.mh_paged.specs.Telling.{commands_shown, quanta_shown};
+
+    ghost shown = { λ heap. showing heap.kept };
+
+    ghost performs = { λ old who command reply new. Steps old.kept who command reply new.kept };
+
+    ghost lacks = { λ heap. ⊥ };
+
+    ghost collects = { λ old spent new. IsQuantum old.kept spent new.kept };
+
+    ghost closed = { λ heap. heap.told.closed };
+
+    ghost shows_commands = { λ old new who command reply steps. commands_shown old.kept new.kept old.told who command reply steps };
+
+    ghost shows_quanta = { λ old new spent is. quanta_shown old.kept new.kept spent old.told is };
+
+    fn make(
+        &mut self,
+        who: u8,
+        slot: u32,
+        references: u32,
+        numbers: u32,
+    ) -> Result<Result<(), Refusal>, NoMemory> {
+        let kept = &mut self.kept;
+        let outcome = kept.make(who, slot, references, numbers);
+        kept.told();
+        Ok(outcome)
+    }
+
+    fn get(&mut self, who: u8, slot: u32, source: u32, field: u32) -> Result<(), Refusal> {
+        let kept = &mut self.kept;
+        let outcome = kept.get(who, slot, source, field);
+        kept.told();
+        outcome
+    }
+
+    fn put(&mut self, who: u8, slot: u32, field: u32, value: u32) -> Result<(), Refusal> {
+        let kept = &mut self.kept;
+        let outcome = kept.put(who, slot, field, value);
+        kept.told();
+        outcome
+    }
+
+    fn copy(&mut self, who: u8, slot: u32, source: u32) -> Result<(), Refusal> {
+        let kept = &mut self.kept;
+        let outcome = kept.copy(who, slot, source);
+        kept.told();
+        outcome
+    }
+
+    fn clear(&mut self, who: u8, slot: u32) -> Result<(), Refusal> {
+        let kept = &mut self.kept;
+        let outcome = kept.clear(who, slot);
+        kept.told();
+        outcome
+    }
+
+    fn read(&self, who: u8, slot: u32, index: u32) -> Result<u64, Refusal> {
+        self.kept.read(who, slot, index)
+    }
+
+    fn write(&mut self, who: u8, slot: u32, index: u32, number: u64) -> Result<(), Refusal> {
+        let kept = &mut self.kept;
+        let outcome = kept.write(who, slot, index, number);
+        kept.told();
+        outcome
+    }
+
+    fn same(&self, who: u8, left: u32, right: u32) -> Result<bool, Refusal> {
+        self.kept.same(who, left, right)
+    }
+
+    fn shape(&self, who: u8, slot: u32) -> Result<Shape, Refusal> {
+        self.kept.shape(who, slot)
+    }
+
+    fn post(&mut self, who: u8, board: u32, slot: u32) -> Result<(), Refusal> {
+        let kept = &mut self.kept;
+        let outcome = kept.post(who, board, slot);
+        kept.told();
+        outcome
+    }
+
+    fn take(&mut self, who: u8, slot: u32, board: u32) -> Result<(), Refusal> {
+        let kept = &mut self.kept;
+        let outcome = kept.take(who, slot, board);
+        kept.told();
+        outcome
+    }
+
+    fn end(&mut self, who: u8) -> Result<(), Refusal> {
+        let kept = &mut self.kept;
+        let outcome = kept.end(who);
+        kept.told();
+        outcome
+    }
+
+    fn quantum<S: Scanner>(&mut self, scanner: &mut S) -> Spent {
+        let kept = &mut self.kept;
+        let spent = kept.quantum(scanner);
+        kept.told();
+        spent
+    }
+
+    fn births(&self) -> u64 {
+        self.kept.births()
+    }
+
+    fn cycle_number(&self) -> u64 {
+        self.kept.cycle_number()
+    }
+
+    fn limit(&self) -> u64 {
+        self.kept.limit()
+    }
+}

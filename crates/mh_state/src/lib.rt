@@ -1,0 +1,4 @@
+//! The machine that runs, the state with its history, whole runs, and the judging of histories.
+#![tactic(auto)]
+
+pub mod machine;
