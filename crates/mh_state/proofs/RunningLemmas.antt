@@ -26,27 +26,12 @@ short-within count machine few small within =
     }
 
 module _ (law : RunsStayWithinTheirEvents) (config : Config) where
-  pub short-running : (running : Running) → IsRunning config running → IsShort running.machine
-  unfolding most_entries
-  short-running running is =
-      subst IsShort (sym is.machine_is)
-      (short-within (length is.events) (machine_after (first_machine config) is.events) (law.few (machine_after (first_machine config) is.events).heap.config) (omega (arith, is.few, is.count)) (law.after_events config is.events))
-
   -- one event more may be done
   pub short-half : (running : Running) (event : Event) → IsRunning config running → running.done < most_entries → IsShort (half_step running.machine event)
   unfolding most_entries
   short-half running event is more =
       subst (λ m. IsShort (half_step m event)) (sym is.machine_is)
       (short-within (suc (length is.events)) (half_step (machine_after (first_machine config) is.events) event) (law.few (half_step (machine_after (first_machine config) is.events) event).heap.config) (omega (arith, more, is.count)) (law.after_commands config is.events event))
-
--- an event leads on to a machine that runs
-pub running-on : MachineAfterMore → (config : Config) (old new : Running) (event : Event) (reply : Reply) → IsRunning config old → old.done < most_entries → Does old event reply new → IsRunning config new
-running-on law config old new event reply is more does = record {
-  events = is.events ++ event ∷ [];
-  few = omega (arith, more, does.done);
-  count = omega (arith, length-append is.events (event ∷ []), is.count, does.done);
-  machine_is = ap (λ a. a.state) (sym does.step) ∙ ap (λ m. (event_step m event).state) is.machine_is ∙ sym (law.event (first_machine config) is.events event);
-}
 
 -- the first machine runs
 pub first-running : (config : Config) (machine : Machine) → machine ≡ first_machine config → IsRunning config (record { machine = machine; done = 0 })
