@@ -1,1 +1,3 @@
+pub mod PlainReplies
 pub mod RunningLemmas
+pub mod StoringLemmas

@@ -1,17 +1,14 @@
 -- Machines that run: what their counts leave room for, and what an event leaves of them.
-use Rattle.std.proofs.Common.{◌≡◌, ℕ, suc, ◌*◌, ◌<◌, ◌≤◌, [], ◌∷◌, ◌++◌, length, refl, sym, ap, ◌∙◌, subst, arith}
+use Rattle.std.proofs.Common.{◌≡◌, ℕ, suc, ◌*◌, ◌<◌, ◌≤◌, [], length, refl, sym, ap, ◌∙◌, subst, arith}
 use Rattle.std.proofs.Math.Nat.{mul-le-mul}
-use Rattle.std.proofs.lemmas.List.{length-append}
 use Rattle.mh_model.specs.declared.command.Event.{Event}
 use Rattle.mh_model.specs.declared.config.Config.{Config}
-use Rattle.mh_model.specs.declared.reply.Reply.{Reply}
 use Rattle.mh_model.specs.Limits.{most_entries}
-use Rattle.mh_model.specs.Machine.{Machine, first_machine, half_step, event_step, machine_after}
+use Rattle.mh_model.specs.Machine.{Machine, first_machine, half_step, machine_after}
 use Rattle.mh_laws.specs.Bounds.{most_letters, IsWithinItsEvents, RunsStayWithinTheirEvents}
 use Rattle.mh_laws.proofs.bounds.CyclesInTime.{run-stays}
-use Rattle.mh_promise.specs.Replays.{MachineAfterMore}
 use Rattle.mh_state.specs.Engines.{IsShort}
-use Rattle.mh_state.specs.Running.{Running, Does, IsRunning}
+use Rattle.mh_state.specs.Running.{Running, IsRunning}
 
 -- a machine within so many events, which are few, is short
 short-within : (count : ℕ) (machine : Machine) → most_letters machine.heap.config ≤ 1003661 → count ≤ 1000000 → IsWithinItsEvents count machine → IsShort machine

@@ -3,3 +3,4 @@
 
 mod engine;
 pub mod machine;
+pub mod state;
