@@ -3,4 +3,5 @@
 
 mod engine;
 pub mod machine;
+pub mod run;
 pub mod state;
