@@ -3,16 +3,16 @@ use Rattle.std.specs.Prelude.{◌≡◌, ℕ, Some, List, ◌∷◌, ◌++◌, l
 use Rattle.mh_model.specs.declared.command.Event.{Event}
 use Rattle.mh_model.specs.declared.config.Config.{Config}
 use Rattle.mh_model.specs.declared.reply.Reply.{Reply}
-use Rattle.mh_model.specs.Pages.{Table, free_pages}
-use Rattle.mh_model.specs.Table.{Block}
+use Rattle.mh_model.specs.Pages.{free_pages}
+use Rattle.mh_model.specs.Mutator.{HeapState}
 use Rattle.mh_model.specs.Machine.{Machine, first_machine, machine_after, machine_replies}
 use Rattle.mh_model.specs.Snapshot.{Moment, first_moment, moment_after}
 use Rattle.mh_model.specs.Trace.{TraceState}
 
--- What a run gives back: the reply to each event, the heap's table, how many of its pages are free, and the trace
+-- What a run gives back: the reply to each event, the heap, how many of its pages are free, and the trace
 pub record Outcome : Type 0 where
   pub replies : List Reply
-  pub table : Table Block
+  pub heap : HeapState
   pub free : ℕ
   pub trace : TraceState
 
@@ -26,7 +26,7 @@ moment_at config before = moment_after (first_moment config) before
 
 -- what a machine shows of a run, beside the replies that it gave
 abbrev pub outcome_of : Machine → List Reply → Outcome
-outcome_of machine replies = record { replies = replies; table = machine.heap.collector.table; free = free_pages machine.heap.collector.table; trace = machine.trace }
+outcome_of machine replies = record { replies = replies; heap = machine.heap; free = free_pages machine.heap.collector.table; trace = machine.trace }
 
 -- an event of a run, with the events before it, and the reply that it was given
 pub record IsAnswered (events : List Event) (replies : List Reply) (before : List Event) (event : Event) (reply : Reply) : Type 0 where
@@ -34,11 +34,11 @@ pub record IsAnswered (events : List Event) (replies : List Reply) (before : Lis
   pub split : events ≡ before ++ event ∷ later
   pub given : slice_get replies (length before) ≡ Some reply
 
--- The replies, the table, the free pages and the trace are those of the machine after the same events
+-- The replies, the heap, the free pages and the trace are those of the machine after the same events
 pub record IsTheMachines (config : Config) (events : List Event) (outcome : Outcome) : Type 0 where
   pub replies : outcome.replies ≡ machine_replies (first_machine config) events
-  pub table : outcome.table ≡ (machine_at config events).heap.collector.table
-  pub free : outcome.free ≡ free_pages outcome.table
+  pub heap : outcome.heap ≡ (machine_at config events).heap
+  pub free : outcome.free ≡ free_pages outcome.heap.collector.table
   pub trace : outcome.trace ≡ (machine_at config events).trace
 
 -- A run that stopped early did the first of its events, left the others, and gave the machine's replies to those it did

@@ -1,0 +1,4 @@
+pub mod PlainReplies
+pub mod RunLemmas
+pub mod RunningLemmas
+pub mod StoringLemmas

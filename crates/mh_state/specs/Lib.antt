@@ -1,1 +1,4 @@
+pub mod Engines
 pub mod Running
+pub mod Storing
+pub mod Whole

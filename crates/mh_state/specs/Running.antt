@@ -1,12 +1,11 @@
 -- The machine that runs, with the number of events that it has done.
-use Rattle.std.specs.Prelude.{◌≡◌, ◌≤◌, ℕ, suc}
+use Rattle.std.specs.Prelude.{◌≡◌, ◌≤◌, ℕ, suc, List, length}
 use Rattle.mh_model.specs.declared.command.Event.{Event}
 use Rattle.mh_model.specs.declared.config.Config.{Config}
 use Rattle.mh_model.specs.declared.reply.Reply.{Reply}
 use Rattle.mh_model.specs.Limits.{most_entries}
 use Rattle.mh_model.specs.World.{says}
-use Rattle.mh_model.specs.Machine.{Machine, first_machine, event_step}
-use Rattle.mh_laws.specs.Bounds.{IsWithinItsEvents}
+use Rattle.mh_model.specs.Machine.{Machine, first_machine, event_step, machine_after}
 
 -- the machine, and how many events it has done
 pub record Running : Type 0 where
@@ -22,7 +21,9 @@ pub record Does (old : Running) (event : Event) (reply : Reply) (new : Running) 
   pub step : event_step old.machine event ≡ says reply new.machine
   pub done : new.done ≡ suc old.done
 
--- at most 1,000,000 events were done, and no count is past what so many can make
-pub record IsRunning (running : Running) : Type 0 where
+-- the machine is that after some events, as many as it has done, which are 1,000,000 at most
+pub record IsRunning (config : Config) (running : Running) : Type 0 where
+  pub events : List Event
   pub few : running.done ≤ most_entries
-  pub within : IsWithinItsEvents running.done running.machine
+  pub count : length events ≡ running.done
+  pub machine_is : running.machine ≡ machine_after (first_machine config) events

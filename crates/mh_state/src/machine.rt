@@ -4,11 +4,14 @@ ghost use Rattle.mh_model.specs.Limits.{most_entries};
 ghost use Rattle.mh_state.specs.Running.{first_running, Does};
 ghost use Rattle.mh_state.specs.declared.machine.Stop.{Stop};
 
+use crate::engine::Engine;
+use mh_laws::bounds::runs_stay_within_their_events;
 use mh_model::command::Event;
 use mh_model::config::Config;
 use mh_model::memory::NoMemory;
 use mh_model::reply::Reply;
 use mh_paged::paged::PagedHeap;
+use mh_promise::replays::machine_after_more;
 use mh_report::trace::Trace;
 use mh_scan::scan::Scanner;
 use std::alloc::Global;
@@ -38,21 +41,20 @@ impl From<NoMemory> for Stop {
 pub struct Machine {
     alloc: Global,
     config: Config,
-    heap: PagedHeap,
-    units: u64,
-    trace: Trace,
+    engine: Engine,
     done: u64,
 }
 
 impl Model for Machine {
     ghost use Rattle.std.specs.Prelude.{◌≡◌};
+    ghost use Rattle.mh_state.specs.Engines.{machine_of};
     ghost use Rattle.mh_state.specs.Running.{Running, IsRunning};
 
     ghost Value = { Running };
 
-    ghost view = { λ m. record { machine = record { heap = m.heap.kept; units = m.units; trace = m.trace.trace }; done = m.done } };
+    ghost view = { λ m. record { machine = machine_of m.engine; done = m.done } };
 
-    ghost invariant = { λ m. (m.config ≡ m.heap.kept.config) × IsRunning (record { machine = record { heap = m.heap.kept; units = m.units; trace = m.trace.trace }; done = m.done }) };
+    ghost invariant = { λ m. IsRunning m.config (record { machine = machine_of m.engine; done = m.done }) };
 }
 
 impl Machine {
@@ -63,9 +65,7 @@ impl Machine {
         Ok(Machine {
             alloc,
             config,
-            heap: PagedHeap::open(alloc, config)?,
-            units: 0,
-            trace: Trace::open(alloc),
+            engine: Engine::open(alloc, config)?,
             done: 0,
         })
     }
@@ -79,24 +79,38 @@ impl Machine {
         ensures full { IsErrOf result Stop.HistoryFull → self.old.done ≡ most_entries }
         ensures ends { self.old.done ≡ most_entries → IsErrOf result Stop.HistoryFull }
     {
+        runs_stay_within_their_events();
+        machine_after_more();
         if self.done == MOST_EVENTS {
             return Err(Stop::HistoryFull);
         }
-        let _ = event;
-        let _ = &mut *scanner;
-        Err(Stop::NoMemory)
+        match self.engine.event(self.alloc, &self.config, event, scanner) {
+            Err(NoMemory) => Err(Stop::NoMemory),
+            Ok(reply) => {
+                self.done += 1;
+                Ok(reply)
+            }
+        }
     }
 
     /// The heap, with the roots, the table and the collector.
     pub fn heap(&self) -> &PagedHeap
         ensures { result.now.kept ≡ self.now.machine.heap }
     {
-        &self.heap
+        &self.engine.heap
     }
 
     pub fn trace(&self) -> &Trace
         ensures { result.now.trace ≡ self.now.machine.trace }
     {
-        &self.trace
+        &self.engine.trace
+    }
+
+    /// The heap and the trace.
+    pub fn into_parts(self) -> (PagedHeap, Trace)
+        ensures heap { result.0.kept ≡ self.machine.heap }
+        ensures trace { result.1.trace ≡ self.machine.trace }
+    {
+        (self.engine.heap, self.engine.trace)
     }
 }

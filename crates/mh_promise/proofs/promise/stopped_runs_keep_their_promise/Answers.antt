@@ -5,5 +5,5 @@ use Rattle.mh_promise.proofs.promise.stopped_runs_keep_their_promise.Goals as go
 pub returns : goal.returns
 returns c config events replies is = record {
   so_far = is;
-  promise = c.runs_keep_their_promise.ensures config is.done (outcome_of (machine_at config is.done) replies) (record { replies = is.machines; table = refl; free = refl; trace = refl });
+  promise = c.runs_keep_their_promise.ensures config is.done (outcome_of (machine_at config is.done) replies) (record { replies = is.machines; heap = refl; free = refl; trace = refl });
 }

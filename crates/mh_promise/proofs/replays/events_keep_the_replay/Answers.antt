@@ -11,7 +11,7 @@ use Rattle.mh_promise.proofs.replays.events_keep_the_replay.Goals as goal
 the-machines : (config : Config) (events : List Event) (replies : List Reply) (machine : Machine) → IsReplay config events replies machine → IsTheMachines config events (outcome_of machine replies)
 the-machines config events replies machine is = record {
   replies = is.replies_are;
-  table = ap (λ m. m.heap.collector.table) is.machine_is;
+  heap = ap (λ m. m.heap) is.machine_is;
   free = refl;
   trace = ap (λ m. m.trace) is.machine_is;
 }

@@ -1,0 +1,15 @@
+use Rattle.std.proofs.Common.{◌≡◌, ◌≢◌, length, arith}
+use Rattle.mh_model.specs.Limits.{most_entries}
+use Rattle.mh_state.specs.Storing.{with_entry}
+use Rattle.mh_state.proofs.StoringLemmas.{stored-on}
+use Rattle.mh_state.proofs.state.State.enter.Goals as goal
+
+pub invariant_of-self : goal.invariant_of-self
+invariant_of-self g c = rw c.prepare.ensures.kept c.self.invariant
+
+pub invariant_of-self-in-Ok : goal.invariant_of-self-in-Ok
+unfolding most_entries
+invariant_of-self-in-Ok g c =
+    let more : length c.self.inside.history.items ≢ most_entries = omega (arith, c.self.inside.history.ok.0) in
+    let entered : c.push_reserved.new.self.items ≡ with_entry c.self.inside.history.items c.args.event c.in_ok-reply-in-Ok.reply = cc in
+    rw entered (stored-on c.events_keep_the_replay.ensures c.self.inside.machine c.step.new.self c.self.inside.history.items c.args.event c.in_ok-reply-in-Ok.reply c.self.invariant more c.in_ok-reply-in-Ok.ensures.step)

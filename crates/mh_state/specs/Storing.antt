@@ -1,0 +1,53 @@
+-- The machine that is stored with the history of what it did.
+use Rattle.std.specs.Prelude.{◌≡◌, List, [], ◌∷◌, ◌++◌, Option, Some, None, length, map}
+use Rattle.mh_model.specs.declared.command.Event.{Event}
+use Rattle.mh_model.specs.declared.config.Config.{Config}
+use Rattle.mh_model.specs.declared.dump.DumpItem.{DumpItem}
+use Rattle.mh_model.specs.declared.history.Entry.{Entry}
+use Rattle.mh_model.specs.declared.reply.Reply.{Reply}
+use Rattle.mh_model.specs.declared.reply.Reply.TheVariants as reply
+use Rattle.mh_model.specs.History.{IsLegal}
+use Rattle.mh_model.specs.Machine.{Machine, first_machine}
+use Rattle.mh_promise.specs.Replays.{IsReplay}
+use Rattle.mh_promise.specs.Runs.{outcome_of}
+use Rattle.mh_promise.specs.Promise.{IsPromised}
+use Rattle.mh_state.specs.Running.{Running}
+
+-- the machine, and each event that it did with its reply, in order
+pub record Stored : Type 0 where
+  pub machine : Machine
+  pub history : List Entry
+
+-- the first machine, which did none
+abbrev pub first_stored : Config → Stored
+first_stored config = record { machine = first_machine config; history = [] }
+
+abbrev pub events_of : List Entry → List Event
+events_of history = map (λ entry. entry.event) history
+
+abbrev pub replies_of : List Entry → List Reply
+replies_of history = map (λ entry. entry.reply) history
+
+-- a history with an event more and its reply
+abbrev pub with_entry : List Entry → Event → Reply → List Entry
+with_entry history event reply = history ++ record { event = event; reply = reply } ∷ []
+
+-- the history is that of the machine, and legal
+pub record IsStored (running : Running) (history : List Entry) : Type 0 where
+  pub replay : IsReplay running.machine.heap.config (events_of history) (replies_of history) running.machine
+  pub legal : IsLegal running.machine.heap.config history
+  pub count : length history ≡ running.done
+
+-- the replies of the history are the machine's and keep the promise
+abbrev pub KeepsItsPromise : Stored → Type 0
+KeepsItsPromise stored = IsPromised stored.machine.heap.config (events_of stored.history) (outcome_of stored.machine (replies_of stored.history))
+
+-- a reply that is no dump
+abbrev pub IsPlain : Reply → Type 0
+IsPlain (reply.Dump items) = ⊥
+IsPlain _ = Unit {0}
+
+-- the dump that a reply is, where it is one
+abbrev pub IsDumpOf : Reply → Option (List DumpItem) → Type 0
+IsDumpOf given None = IsPlain given
+IsDumpOf given (Some items) = given ≡ reply.Dump items

@@ -1,0 +1,209 @@
+//! What events change: the heap, the units since the last quantum, and the trace.
+ghost use Rattle.std.specs.Prelude.{◌≡◌, ℕ, ◌+◌, ◌<◌, ◌≤◌, IfOk, OnErr, length};
+ghost use Rattle.mh_model.specs.declared.birth.TheConstants.{LIFE};
+ghost use Rattle.mh_model.specs.declared.command.Command.TheVariants as commands;
+ghost use Rattle.mh_model.specs.declared.command.Control.TheVariants as controls;
+ghost use Rattle.mh_model.specs.declared.command.Event.TheVariants as events;
+ghost use Rattle.mh_model.specs.declared.reply.Reply.TheVariants as replies;
+ghost use Rattle.mh_model.specs.Classes.{parts};
+ghost use Rattle.mh_model.specs.World.{says};
+ghost use Rattle.mh_model.specs.Machine.{first_machine, new_units, command_units, quantum_run, with_due_quantum, command_step, control_step, half_step, event_step};
+ghost use Rattle.mh_state.specs.Engines.{machine_of, IsShort};
+
+use mh_classes::parts::parts;
+use mh_heap::heap::Heap;
+use mh_heap::perform::perform;
+use mh_model::command::{Command, Control, Event};
+use mh_model::config::{Config, Rules};
+use mh_model::cycle::Spent;
+use mh_model::memory::NoMemory;
+use mh_model::reply::Reply;
+use mh_paged::paged::PagedHeap;
+use mh_report::report::Report;
+use mh_report::trace::Trace;
+use mh_scan::scan::Scanner;
+use std::alloc::Global;
+
+/// The part of the machine that events change.
+#[derive(Drop)]
+pub(crate) struct Engine {
+    pub(crate) heap: PagedHeap,
+    units: u64,
+    pub(crate) trace: Trace,
+}
+
+/// How many blocks an object of so many fields has.
+fn block_count(references: u32, numbers: u32) -> u64
+    requires { references + numbers ≤ 216000 }
+    ensures { result ≡ length (parts references numbers) }
+{
+    parts(Rules::Second, references, numbers).map_or(1, |all| all.count() as u64)
+}
+
+/// How many units of the mutator a command with its reply is.
+fn units_of(config: &Config, command: &Command, reply: &Reply) -> u64
+    requires { (slot references numbers : ℕ) → command.now ≡ commands.New slot references numbers → reply.now ≡ replies.Done → references + numbers ≤ 216000 }
+    ensures { result ≡ command_units config.now command.now reply.now }
+{
+    match (config.rules(), command, reply) {
+        (
+            Rules::Second,
+            Command::New {
+                references,
+                numbers,
+                ..
+            },
+            Reply::Done,
+        ) => block_count(*references, *numbers),
+        _ => 1,
+    }
+}
+
+impl Engine {
+    pub(crate) fn open(alloc: Global, config: Config) -> Result<Engine, NoMemory>
+        ensures { IfOk result (λ engine. machine_of engine ≡ first_machine config) }
+    {
+        Ok(Engine {
+            heap: PagedHeap::open(alloc, config)?,
+            units: 0,
+            trace: Trace::open(alloc),
+        })
+    }
+
+    /// Runs a quantum.
+    #[tactic(auto, unfolding(mh_model::specs::Machine::quantum_run))]
+    fn quantum<S: Scanner>(&mut self, scanner: &mut S) -> Reply
+        requires room { 0 < self.old.trace.room }
+        requires short { IsShort (machine_of self.old) }
+        ensures { quantum_run (machine_of self.old) ≡ says result (machine_of self.new) }
+    {
+        let units = self.heap.quantum(scanner);
+        self.trace.spent(units.0);
+        self.units = 0;
+        Reply::Spent {
+            units,
+            phase: self.heap.phase(),
+        }
+    }
+
+    /// Performs a command.
+    #[tactic(auto, unfolding(mh_model::specs::Machine::command_step))]
+    fn command(&mut self, config: &Config, who: u8, command: &Command) -> Result<Reply, NoMemory>
+        requires config { config.now ≡ self.old.heap.kept.config }
+        requires room { 1 < self.old.trace.room }
+        requires short { IsShort (machine_of self.old) }
+        requires half { IsShort (half_step (machine_of self.old) (events.Session who command.now)) }
+        ensures step { IfOk result (λ reply. command_step (machine_of self.old) who command.now ≡ says reply (machine_of self.new)) }
+        ensures config { self.new.heap.kept.config ≡ self.old.heap.kept.config }
+        ensures room { 0 < self.new.trace.room }
+        ensures err { OnErr result (machine_of self.new ≡ machine_of self.old) }
+    {
+        let reply = perform(&mut self.heap, who, command)?;
+        let units = units_of(config, command, &reply);
+        self.trace.mutator(units);
+        self.units += units;
+        Ok(reply)
+    }
+
+    /// Runs the quantum that is due, if one is.
+    fn run_due<S: Scanner>(&mut self, config: &Config, scanner: &mut S)
+        requires config { config.now ≡ self.old.heap.kept.config }
+        requires room { 0 < self.old.trace.room }
+        requires short { IsShort (machine_of self.old) }
+        ensures { machine_of self.new ≡ with_due_quantum (machine_of self.old) }
+    {
+        let every = u64::from(config.every);
+        if every > 0 && self.units >= every {
+            let _ = self.quantum(scanner);
+        }
+    }
+
+    /// Performs a command of the session `who`, and then runs the quantum that it makes due.
+    #[tactic(auto, unfolding(mh_model::specs::Machine::event_step))]
+    fn session<S: Scanner>(
+        &mut self,
+        config: &Config,
+        who: u8,
+        command: &Command,
+        scanner: &mut S,
+    ) -> Result<Reply, NoMemory>
+        requires config { config.now ≡ self.old.heap.kept.config }
+        requires room { 1 < self.old.trace.room }
+        requires short { IsShort (machine_of self.old) }
+        requires half { IsShort (half_step (machine_of self.old) (events.Session who command.now)) }
+        ensures step { IfOk result (λ reply. event_step (machine_of self.old) (events.Session who command.now) ≡ says reply (machine_of self.new)) }
+        ensures err { OnErr result (machine_of self.new ≡ machine_of self.old) }
+    {
+        let reply = self.command(config, who, command)?;
+        self.run_due(config, scanner);
+        Ok(reply)
+    }
+
+    /// Runs a quantum by hand, where the scheduler runs none.
+    #[tactic(auto, unfolding(mh_model::specs::Machine::control_step))]
+    fn quantum_by_hand<S: Scanner>(&mut self, config: &Config, scanner: &mut S) -> Reply
+        requires config { config.now ≡ self.old.heap.kept.config }
+        requires room { 0 < self.old.trace.room }
+        requires short { IsShort (machine_of self.old) }
+        ensures { control_step (machine_of self.old) controls.Quantum ≡ says result (machine_of self.new) }
+    {
+        if config.every == 0 {
+            return self.quantum(scanner);
+        }
+        Reply::Spent {
+            units: Spent(0),
+            phase: self.heap.phase(),
+        }
+    }
+
+    /// Does a control. Only a dump asks for memory.
+    #[tactic(auto, unfolding(mh_model::specs::Machine::control_step))]
+    fn control<S: Scanner>(
+        &mut self,
+        alloc: Global,
+        config: &Config,
+        control: Control,
+        scanner: &mut S,
+    ) -> Result<Reply, NoMemory>
+        requires config { config.now ≡ self.old.heap.kept.config }
+        requires room { 0 < self.old.trace.room }
+        requires short { IsShort (machine_of self.old) }
+        ensures step { IfOk result (λ reply. control_step (machine_of self.old) control ≡ says reply (machine_of self.new)) }
+        ensures err { OnErr result (machine_of self.new ≡ machine_of self.old) }
+    {
+        let reply = match control {
+            Control::Quantum => self.quantum_by_hand(config, scanner),
+            Control::Start => {
+                self.heap.start();
+                Reply::Done
+            }
+            Control::Stat => self.heap.stat(),
+            Control::Dump => Reply::Dump(self.heap.dump(alloc)?),
+            Control::Left => Reply::Left(self.heap.quanta_left()),
+            Control::Report { window } => Report::new(&mut self.trace, config, window).reply(),
+        };
+        Ok(reply)
+    }
+
+    /// Does an event with the quantum that it makes due.
+    #[tactic(auto, unfolding(mh_model::specs::Machine::event_step))]
+    pub(crate) fn event<S: Scanner>(
+        &mut self,
+        alloc: Global,
+        config: &Config,
+        event: Event,
+        scanner: &mut S,
+    ) -> Result<Reply, NoMemory>
+        requires config { config.now ≡ self.old.heap.kept.config }
+        requires short { IsShort (machine_of self.old) }
+        requires half { IsShort (half_step (machine_of self.old) event) }
+        ensures step { IfOk result (λ reply. event_step (machine_of self.old) event ≡ says reply (machine_of self.new)) }
+        ensures err { OnErr result (machine_of self.new ≡ machine_of self.old) }
+    {
+        self.trace.room()?;
+        match event {
+            Event::Session(who, command) => self.session(config, who, &command, scanner),
+            Event::Control(control) => self.control(alloc, config, control, scanner),
+        }
+    }
+}

@@ -1,0 +1,123 @@
+//! Whole runs.
+ghost use Rattle.std.specs.Prelude.{◌≡◌, ◌<◌, ◌≤◌, IfOk, OnOk, IfErr, OnErr, IsErr, IsErrOf, length, vec_len};
+ghost use Rattle.mh_model.specs.Limits.{most_entries};
+ghost use Rattle.mh_promise.specs.Runs.{IsTheMachines, AreAnsweredSoFar};
+ghost use Rattle.mh_promise.specs.Replays.{IsReplay};
+ghost use Rattle.mh_promise.specs.Promise.{IsPromised, IsPromisedSoFar};
+ghost use Rattle.mh_state.specs.Whole.{shown, GoesOn};
+ghost use Rattle.mh_state.specs.declared.machine.Stop.{Stop};
+
+use crate::machine::{Machine, Stop};
+use mh_model::command::Event;
+use mh_model::config::Config;
+use mh_model::memory::NoMemory;
+use mh_model::reply::Reply;
+use mh_paged::paged::PagedHeap;
+use mh_promise::promise::{runs_keep_their_promise, stopped_runs_keep_their_promise};
+use mh_promise::replays::events_keep_the_replay;
+use mh_report::trace::Trace;
+use mh_scan::crew_scan::{CrewGate, CrewScan};
+use mh_scan::scan::Scanner;
+use std::alloc::Global;
+use std::thread::Threads;
+use thiserror::Error;
+
+/// What a run gives back: the reply to each event, the heap after the last, how many of its pages are free, and the trace.
+#[derive(Drop)]
+pub struct Outcome {
+    pub replies: Vec<Reply>,
+    pub heap: PagedHeap,
+    pub free: u64,
+    pub trace: Trace,
+}
+
+/// Why a run stopped, and the replies to the events that it did.
+#[derive(Debug, Drop, Error)]
+#[error("{stop}")]
+pub struct RunFault {
+    pub stop: Stop,
+    pub replies: Vec<Reply>,
+}
+
+/// Does an event, and keeps its reply.
+fn go_on<S: Scanner>(
+    machine: &mut Machine,
+    replies: &mut Vec<Reply>,
+    event: Event,
+    scanner: &mut S,
+) -> Result<(), Stop>
+    ensures done { OnOk result (GoesOn machine.old replies.old.items event machine.new replies.new.items) }
+    ensures machine { OnErr result (machine.new ≡ machine.old) }
+    ensures replies { OnErr result (replies.new.items ≡ replies.old.items) }
+    ensures full { IsErrOf result Stop.HistoryFull → machine.old.done ≡ most_entries }
+    ensures ends { machine.old.done ≡ most_entries → IsErr result }
+{
+    if replies.reserve(1).is_err() {
+        return Err(Stop::NoMemory);
+    }
+    let reply = machine.step(event, scanner)?;
+    replies.push_reserved(reply);
+    Ok(())
+}
+
+/// Does events one by one from the first machine on.
+fn replay<S: Scanner>(
+    alloc: Global,
+    config: Config,
+    events: &[Event],
+    scanner: &mut S,
+) -> Result<(Machine, Vec<Reply>), RunFault>
+    ensures replay { IfOk result (λ done. IsReplay config events.now done.1.items done.0.machine) }
+    ensures so_far { IfErr result (λ fault. AreAnsweredSoFar config events.now fault.replies.items) }
+    ensures full { IfErr result (λ fault. fault.stop ≡ Stop.HistoryFull → vec_len fault.replies ≡ most_entries) }
+    ensures more { IfErr result (λ fault. fault.stop ≡ Stop.HistoryFull → most_entries < length events.now) }
+    ensures ends { OnOk result (length events.now ≤ most_entries) }
+{
+    events_keep_the_replay();
+    let mut replies = Vec::new(alloc);
+    let mut machine = match Machine::open(alloc, config) {
+        Err(NoMemory) => {
+            let stop = Stop::NoMemory;
+            return Err(RunFault { stop, replies });
+        }
+        Ok(machine) => machine,
+    };
+    for event in events {
+        if let Err(stop) = go_on(&mut machine, &mut replies, *event, scanner) {
+            return Err(RunFault { stop, replies });
+        }
+    }
+    Ok((machine, replies))
+}
+
+/// Does all events, the cycles by as many workers at most as are asked for. A run that stops did the events before the one
+/// that it stopped at, and that one not at all.
+pub fn run<R: Threads, G: CrewGate>(
+    rt: &R,
+    alloc: Global,
+    config: Config,
+    events: &[Event],
+    workers: usize,
+    gate: &G,
+) -> Result<Outcome, RunFault>
+    requires { (0 < workers) × (workers ≤ 64) }
+    ensures machine { IfOk result (λ outcome. IsTheMachines config events.now (shown outcome)) }
+    ensures promise { IfOk result (λ outcome. IsPromised config events.now (shown outcome)) }
+    ensures so_far { IfErr result (λ fault. IsPromisedSoFar config events.now fault.replies.items) }
+    ensures full { IfErr result (λ fault. fault.stop ≡ Stop.HistoryFull → vec_len fault.replies ≡ most_entries) }
+    ensures more { IfErr result (λ fault. fault.stop ≡ Stop.HistoryFull → most_entries < length events.now) }
+    ensures ends { OnOk result (length events.now ≤ most_entries) }
+{
+    runs_keep_their_promise();
+    stopped_runs_keep_their_promise();
+    let mut scanner = CrewScan::new(rt, alloc, workers, gate);
+    let (machine, replies) = replay(alloc, config, events, &mut scanner)?;
+    let free = machine.heap().free_pages();
+    let (heap, trace) = machine.into_parts();
+    Ok(Outcome {
+        replies,
+        heap,
+        free,
+        trace,
+    })
+}

@@ -1,0 +1,219 @@
+//! The state: the machine with the history of what it did.
+ghost use Rattle.std.specs.Prelude.{◌≡◌, ◌<◌, IfOk, OnOk, OnErr, IsErrOf, length, vec_len};
+ghost use Rattle.std.specs.Vec.{vec_capacity};
+ghost use Rattle.mh_model.specs.History.{IsLegal};
+ghost use Rattle.mh_model.specs.Limits.{most_entries};
+ghost use Rattle.mh_model.specs.World.{says};
+ghost use Rattle.mh_model.specs.Machine.{event_step};
+ghost use Rattle.mh_state.specs.Storing.{first_stored, with_entry, KeepsItsPromise, IsPlain, IsDumpOf};
+ghost use Rattle.mh_state.specs.declared.machine.Stop.{Stop};
+
+use crate::machine::{MOST_EVENTS, Machine, Stop};
+use mh_model::command::{Control, Event};
+use mh_model::config::Config;
+use mh_model::dump::Dump;
+use mh_model::history::Entry;
+use mh_model::memory::NoMemory;
+use mh_model::reply::Reply;
+use mh_paged::paged::PagedHeap;
+use mh_promise::replays::events_keep_the_replay;
+use mh_report::trace::Trace;
+use mh_scan::scan::Scanner;
+use std::alloc::Global;
+use std::marker::Model;
+
+/// The machine, which enters each event that it does in its history.
+#[derive(Drop)]
+pub struct State {
+    alloc: Global,
+    machine: Machine,
+    history: Vec<Entry>,
+}
+
+impl Model for State {
+    ghost use Rattle.mh_state.specs.Storing.{Stored, IsStored};
+
+    ghost Value = { Stored };
+
+    ghost view = { λ s. record { machine = s.machine.machine; history = s.history.items } };
+
+    ghost invariant = { λ s. IsStored s.machine s.history.items };
+}
+
+/// The dump that an event will be answered, where it asks for one.
+#[tactic(auto, unfolding(mh_model::specs::Machine::event_step, mh_model::specs::Machine::control_step))]
+fn dump_for(alloc: Global, machine: &Machine, event: Event) -> Result<Option<Dump>, NoMemory>
+    ensures { IfOk result (λ dump. IsDumpOf (event_step machine.now.machine event).reply dump) }
+{
+    match event {
+        Event::Session(_, _) => Ok(None),
+        Event::Control(control) => match control {
+            Control::Dump => Ok(Some(machine.heap().dump(alloc)?)),
+            _ => Ok(None),
+        },
+    }
+}
+
+/// Makes room for an entry, and the dump that its event will be answered, where it asks for one.
+fn prepare(
+    alloc: Global,
+    history: &mut Vec<Entry>,
+    machine: &Machine,
+    event: Event,
+) -> Result<Option<Dump>, NoMemory>
+    ensures kept { history.new.items ≡ history.old.items }
+    ensures room { OnOk result (vec_len history.new < vec_capacity history.new) }
+    ensures dump { IfOk result (λ dump. IsDumpOf (event_step machine.now.machine event).reply dump) }
+{
+    history.reserve(1)?;
+    dump_for(alloc, machine, event)
+}
+
+/// An equal reply, which takes no memory.
+fn plain_copy(reply: &Reply) -> Reply
+    requires { IsPlain reply.now }
+    ensures { result ≡ reply.now }
+{
+    match reply {
+        Reply::Done => Reply::Done,
+        Reply::Number(number) => Reply::Number(*number),
+        Reply::Yes => Reply::Yes,
+        Reply::No => Reply::No,
+        Reply::Shape(shape) => Reply::Shape(*shape),
+        Reply::Refused(refusal) => Reply::Refused(*refusal),
+        Reply::Spent { units, phase } => Reply::Spent {
+            units: *units,
+            phase: *phase,
+        },
+        Reply::Stat {
+            free,
+            live,
+            old,
+            phase,
+            cycle,
+        } => Reply::Stat {
+            free: *free,
+            live: *live,
+            old: *old,
+            phase: *phase,
+            cycle: *cycle,
+        },
+        Reply::Dump(_) => unreachable!(),
+        Reply::Report {
+            mutator,
+            collector,
+            quanta,
+            greatest,
+            window,
+            least,
+            floor,
+        } => Reply::Report {
+            mutator: *mutator,
+            collector: *collector,
+            quanta: *quanta,
+            greatest: *greatest,
+            window: *window,
+            least: *least,
+            floor: *floor,
+        },
+        Reply::Left(quanta) => Reply::Left(*quanta),
+    }
+}
+
+/// An equal reply, of a dump by the dump that is given.
+fn copy_of(reply: &Reply, dump: Option<Dump>) -> Reply
+    requires { IsDumpOf reply.now dump }
+    ensures { result ≡ reply.now }
+{
+    match dump {
+        Some(dump) => Reply::Dump(dump),
+        None => plain_copy(reply),
+    }
+}
+
+impl State {
+    /// The machine of a configuration, which has done nothing.
+    pub fn open(alloc: Global, config: Config) -> Result<State, NoMemory>
+        ensures { IfOk result (λ state. state ≡ first_stored config) }
+    {
+        events_keep_the_replay();
+        Ok(State {
+            alloc,
+            machine: Machine::open(alloc, config)?,
+            history: Vec::new(alloc),
+        })
+    }
+
+    /// Does an event and enters it.
+    #[tactic(auto, unfolding(mh_model::specs::Limits::most_entries))]
+    fn enter<S: Scanner>(&mut self, event: Event, scanner: &mut S) -> Result<Reply, Stop>
+        ensures step { IfOk result (λ reply. event_step self.old.machine event ≡ says reply self.new.machine) }
+        ensures entered { IfOk result (λ reply. self.new.history ≡ with_entry self.old.history event reply) }
+        ensures stopped { OnErr result (self.new ≡ self.old) }
+        ensures full { IsErrOf result Stop.HistoryFull → length self.old.history ≡ most_entries }
+        ensures ends { length self.old.history ≡ most_entries → IsErrOf result Stop.HistoryFull }
+    {
+        events_keep_the_replay();
+        if self.history.len() as u64 == MOST_EVENTS {
+            return Err(Stop::HistoryFull);
+        }
+        match prepare(self.alloc, &mut self.history, &self.machine, event) {
+            Err(NoMemory) => Err(Stop::NoMemory),
+            Ok(dump) => {
+                let reply = self.machine.step(event, scanner)?;
+                let copy = copy_of(&reply, dump);
+                self.history.push_reserved(Entry { event, reply: copy });
+                Ok(reply)
+            }
+        }
+    }
+
+    /// What the laws tell of this state. It does nothing when it runs.
+    fn told(&self)
+        ensures legal { IsLegal self.now.machine.heap.config self.now.history }
+        ensures promise { KeepsItsPromise self.now }
+    {
+        events_keep_the_replay();
+        let _alloc = self.alloc;
+    }
+
+    /// Does an event with the quantum that it makes due, enters it in the history, and answers it. Memory is asked for
+    /// before anything changes.
+    pub fn apply<S: Scanner>(&mut self, event: Event, scanner: &mut S) -> Result<Reply, Stop>
+        ensures step { IfOk result (λ reply. event_step self.old.machine event ≡ says reply self.new.machine) }
+        ensures entered { IfOk result (λ reply. self.new.history ≡ with_entry self.old.history event reply) }
+        ensures stopped { OnErr result (self.new ≡ self.old) }
+        ensures full { IsErrOf result Stop.HistoryFull → length self.old.history ≡ most_entries }
+        ensures ends { length self.old.history ≡ most_entries → IsErrOf result Stop.HistoryFull }
+        ensures legal { IsLegal self.new.machine.heap.config self.new.history }
+        ensures promise { KeepsItsPromise self.new }
+    {
+        let outcome = self.enter(event, scanner);
+        self.told();
+        outcome
+    }
+
+    /// Each event that was done, with its reply, in order.
+    pub fn history(&self) -> &[Entry]
+        ensures { result.now ≡ self.now.history }
+    {
+        self.history.as_slice()
+    }
+
+    pub fn machine(&self) -> &Machine
+        ensures machine { result.now.machine ≡ self.now.machine }
+        ensures done { result.now.done ≡ length self.now.history }
+    {
+        &self.machine
+    }
+
+    /// The history, the heap and the trace.
+    pub fn into_parts(self) -> (Vec<Entry>, PagedHeap, Trace)
+        ensures history { result.0.items ≡ self.history }
+        ensures heap { result.1.kept ≡ self.machine.heap }
+        ensures trace { result.2.trace ≡ self.machine.trace }
+    {
+        let (heap, trace) = self.machine.into_parts();
+        (self.history, heap, trace)
+    }
+}
