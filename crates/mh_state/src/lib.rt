@@ -1,4 +1,8 @@
 //! The machine that runs, the state with its history, whole runs, and the judging of histories.
 #![tactic(auto)]
 
+pub mod judge;
+#[cfg(test)]
+mod judge_tests;
 pub mod machine;
+pub mod same;
