@@ -1,3 +1,4 @@
+pub mod JudgeLemmas
 pub mod PlainReplies
 pub mod RunLemmas
 pub mod RunningLemmas

@@ -1,4 +1,5 @@
 pub mod Engines
+pub mod Judging
 pub mod Running
 pub mod Storing
 pub mod Whole

@@ -2,6 +2,10 @@
 #![tactic(auto)]
 
 mod engine;
+pub mod judge;
+#[cfg(test)]
+mod judge_tests;
 pub mod machine;
 pub mod run;
+pub mod same;
 pub mod state;

@@ -1,0 +1,139 @@
+-- Histories that are judged entry by entry.
+use Rattle.std.proofs.Common.{◌≡◌, ◌≢◌, ◌∙◌, inl, inr, ℕ, suc, ◌+◌, ◌-◌, ◌<◌, ◌≤◌, true, false, List, [], ◌∷◌, ◌++◌, length, map, take, get_or, ap, sym, refl, subst, arith}
+use Rattle.std.proofs.lemmas.List.{length_push, take_more, map-append, same_from_push}
+use Rattle.mh_model.specs.declared.command.Event.{Event}
+use Rattle.mh_model.specs.declared.config.Config.{Config}
+use Rattle.mh_model.specs.declared.history.Entry.{Entry}
+use Rattle.mh_model.specs.declared.history.Measured.{Measured}
+use Rattle.mh_model.specs.declared.reply.Reply.{Reply}
+use Rattle.mh_model.specs.Limits.{most_entries}
+use Rattle.mh_model.specs.History.{IsLegal, IsFirstBadOf}
+use Rattle.mh_model.specs.HistoryTexts.{IsLegalRecord, measured_step, machine_record}
+use Rattle.mh_model.specs.Machine.{Machine, first_machine, event_step, machine_after, machine_replies}
+use Rattle.mh_promise.specs.Runs.{machine_at}
+use Rattle.mh_promise.proofs.RunsByEvents.{after_more, replies_more, no-events, no-replies}
+use Rattle.mh_state.specs.Running.{Running, first_running}
+use Rattle.mh_state.specs.Judging.{IsAnswered, IsMeasured, IsTried}
+
+none_are_few : 0 ≤ most_entries
+none_are_few = omega arith
+
+-- Any rule ---------------------------------------------------------------------------------------
+
+-- A rule of lists of 1,000,000 elements at most, each of which fits the machine after the events before it
+pub record IsRule {X : Type 0} (config : Config) (event_of : X → Event) (Fits : Machine → X → Type 0) (Lawful : List X → Type 0) : Type 0 where
+  pub empty : Lawful []
+  pub few : (xs : List X) → Lawful xs → length xs ≤ most_entries
+  pub more : (xs : List X) (x : X) → Lawful xs → length xs ≢ most_entries → Fits (machine_at config (map event_of xs)) x → Lawful (xs ++ x ∷ [])
+  pub last : (xs : List X) (x : X) → Lawful (xs ++ x ∷ []) → Fits (machine_at config (map event_of xs)) x
+
+-- the machine has done the events of a lawful list
+pub record HasJudged {X : Type 0} (config : Config) (event_of : X → Event) (Lawful : List X → Type 0) (xs : List X) (running : Running) : Type 0 where
+  pub machine : running.machine ≡ machine_at config (map event_of xs)
+  pub done : running.done ≡ length xs
+  pub lawful : Lawful xs
+
+pub none_judged : {X : Type 0} (config : Config) (event_of : X → Event) (Fits : Machine → X → Type 0) (Lawful : List X → Type 0) → IsRule config event_of Fits Lawful
+    → HasJudged config event_of Lawful [] (first_running config)
+none_judged config event_of Fits Lawful rule = record { machine = no-events config; done = refl; lawful = rule.empty }
+
+judged_push : {X : Type 0} (config : Config) (event_of : X → Event) (Fits : Machine → X → Type 0) (Lawful : List X → Type 0) → IsRule config event_of Fits Lawful
+    → (xs : List X) (x : X) (old new : Running) → HasJudged config event_of Lawful xs old → IsTried (Fits old.machine x) old (event_of x) new true
+    → HasJudged config event_of Lawful (xs ++ x ∷ []) new
+judged_push config event_of Fits Lawful rule xs x old new judged found =
+    let events = map event_of xs in
+    let fits = subst (λ (machine : Machine). Fits machine x) judged.machine found.1 in
+    record {
+      machine = ap (λ (r : Running). r.machine) found.2 ∙ ap (λ (machine : Machine). (event_step machine (event_of x)).state) judged.machine
+          ∙ sym (after_more.event (first_machine config) events (event_of x)) ∙ ap (machine_at config) (sym (map-append event_of xs (x ∷ [])));
+      done = ap (λ (r : Running). r.done) found.2 ∙ ap suc judged.done ∙ sym (omega (arith, length_push xs x));
+      lawful = rule.more xs x judged.lawful (λ full. found.0 (judged.done ∙ full)) fits;
+    }
+
+pub judged_more : {X : Type 0} (config : Config) (event_of : X → Event) (Fits : Machine → X → Type 0) (Lawful : List X → Type 0) → IsRule config event_of Fits Lawful
+    → (xs : List X) (i : ℕ) (x : X) (old new : Running) → i < length xs → x ≡ get_or xs i x → HasJudged config event_of Lawful (take i xs) old
+    → IsTried (Fits old.machine x) old (event_of x) new true → HasJudged config event_of Lawful (take (i + 1) xs) new
+judged_more {X} config event_of Fits Lawful rule xs i x old new below is judged found =
+    let cut : take (i + 1) xs ≡ take i xs ++ x ∷ [] = take_more xs i x below ∙ ap (λ (y : X). take i xs ++ y ∷ []) (sym is) in
+    rw cut (judged_push config event_of Fits Lawful rule (take i xs) x old new judged found)
+
+bad_push : {X : Type 0} (config : Config) (event_of : X → Event) (Fits : Machine → X → Type 0) (Lawful : List X → Type 0) → IsRule config event_of Fits Lawful
+    → (xs : List X) (x : X) (old new : Running) → HasJudged config event_of Lawful xs old → IsTried (Fits old.machine x) old (event_of x) new false
+    → Lawful (xs ++ x ∷ []) → ⊥
+bad_push config event_of Fits Lawful rule xs x old new judged (inl full) lawful = omega (arith, full, judged.done, rule.few (xs ++ x ∷ []) lawful, length_push xs x)
+bad_push config event_of Fits Lawful rule xs x old new judged (inr other) lawful =
+    other (subst (λ (machine : Machine). Fits machine x) (sym judged.machine) (rule.last xs x lawful))
+
+-- an entry that was not found to be right is the first bad one
+pub first_bad : {X : Type 0} (config : Config) (event_of : X → Event) (Fits : Machine → X → Type 0) (Lawful : List X → Type 0) → IsRule config event_of Fits Lawful
+    → (xs : List X) (i : ℕ) (x : X) (old new : Running) → i < length xs → x ≡ get_or xs i x → HasJudged config event_of Lawful (take i xs) old
+    → IsTried (Fits old.machine x) old (event_of x) new false → IsFirstBadOf Lawful xs (i + 1)
+first_bad {X} config event_of Fits Lawful rule xs i x old new below is judged found =
+    let cut : take (i + 1) xs ≡ take i xs ++ x ∷ [] = take_more xs i x below ∙ ap (λ (y : X). take i xs ++ y ∷ []) (sym is) in
+    let before : i + 1 - 1 ≡ i = omega arith in
+    record {
+      counted = omega arith;
+      within = omega arith;
+      before = rw before judged.lawful;
+      bad = λ lawful. bad_push config event_of Fits Lawful rule (take i xs) x old new judged found (subst Lawful cut lawful);
+    }
+
+-- Histories --------------------------------------------------------------------------------------
+
+abbrev pub event_of : Entry → Event
+event_of entry = entry.event
+
+abbrev reply_of : Entry → Reply
+reply_of entry = entry.reply
+
+few_more : {X : Type 0} (xs : List X) (x : X) → length xs ≤ most_entries → length xs ≢ most_entries → length (xs ++ x ∷ []) ≤ most_entries
+few_more xs x few other = omega (arith, length_push xs x)
+
+answers-push : (config : Config) (xs : List Entry) (x : Entry) → machine_replies (first_machine config) (map event_of (xs ++ x ∷ []))
+    ≡ machine_replies (first_machine config) (map event_of xs) ++ (event_step (machine_at config (map event_of xs)) x.event).reply ∷ []
+answers-push config xs x = ap (machine_replies (first_machine config)) (map-append event_of xs (x ∷ [])) ∙ replies_more.event (first_machine config) (map event_of xs) x.event
+
+pub legal_rule : (config : Config) → IsRule config event_of IsAnswered (IsLegal config)
+legal_rule config = record {
+  empty = record { few = none_are_few; replies = no-replies config };
+  few = λ xs legal. legal.few;
+  more = λ xs x legal other fits. record {
+    few = few_more xs x legal.few other;
+    replies = map-append reply_of xs (x ∷ []) ∙ ap (λ replies. replies ++ x.reply ∷ []) legal.replies ∙ ap (λ reply. machine_replies (first_machine config) (map event_of xs) ++ reply ∷ []) fits
+        ∙ sym (answers-push config xs x);
+  };
+  last = λ xs x legal. (same_from_push _ _ _ _ (sym (map-append reply_of xs (x ∷ [])) ∙ legal.replies ∙ answers-push config xs x)).1;
+}
+
+-- Records ----------------------------------------------------------------------------------------
+
+abbrev pub measured_event : Measured → Event
+measured_event measured = measured.entry.event
+
+record-more : (machine : Machine) (before : List Event) (event : Event)
+    → machine_record machine (before ++ event ∷ []) ≡ machine_record machine before ++ measured_step (machine_after machine before) event (event_step (machine_after machine before) event) ∷ []
+unfolding machine_record machine_after
+record-more machine [] event = refl
+record-more machine (first ∷ before) event = ap (λ entries. measured_step machine first (event_step machine first) ∷ entries) (record-more (event_step machine first).state before event)
+
+record-push : (config : Config) (xs : List Measured) (x : Measured) → machine_record (first_machine config) (map measured_event (xs ++ x ∷ []))
+    ≡ machine_record (first_machine config) (map measured_event xs)
+    ++ measured_step (machine_at config (map measured_event xs)) x.entry.event (event_step (machine_at config (map measured_event xs)) x.entry.event) ∷ []
+record-push config xs x =
+    ap (machine_record (first_machine config)) (map-append measured_event xs (x ∷ [])) ∙ record-more (first_machine config) (map measured_event xs) x.entry.event
+
+no-record : (config : Config) → [] ≡ machine_record (first_machine config) []
+unfolding machine_record
+no-record config = refl
+
+pub record_rule : (config : Config) → IsRule config measured_event IsMeasured (IsLegalRecord config)
+record_rule config = record {
+  empty = record { few = none_are_few; same = no-record config };
+  few = λ xs legal. legal.few;
+  more = λ xs x legal other fits. record {
+    few = few_more xs x legal.few other;
+    same = ap (λ entries. entries ++ x ∷ []) legal.same ∙ ap (λ entry. machine_record (first_machine config) (map measured_event xs) ++ entry ∷ []) fits
+        ∙ sym (record-push config xs x);
+  };
+  last = λ xs x legal. (same_from_push xs _ x _ (legal.same ∙ record-push config xs x)).1;
+}

@@ -1,0 +1,54 @@
+//! Whether two replies are equal.
+ghost use Rattle.std.specs.Prelude.{◌≡◌, ◌↔◌, IsTrue};
+
+use mh_model::dump::Dump;
+use mh_model::reply::Reply;
+
+/// Whether two dumps have the same items.
+fn is_same_dump(left: &Dump, right: &Dump) -> bool
+    ensures { IsTrue result ↔ (left.now ≡ right.now) }
+{
+    left.items() == right.items()
+}
+
+/// Whether two replies are the same reply.
+pub fn is_same(left: &Reply, right: &Reply) -> bool
+    ensures { IsTrue result ↔ (left.now ≡ right.now) }
+{
+    match left {
+        Reply::Done => matches!(right, Reply::Done),
+        Reply::Number(number) => matches!(right, Reply::Number(other) if number == other),
+        Reply::Yes => matches!(right, Reply::Yes),
+        Reply::No => matches!(right, Reply::No),
+        Reply::Shape(shape) => matches!(right, Reply::Shape(other) if shape == other),
+        Reply::Refused(refusal) => matches!(right, Reply::Refused(other) if refusal == other),
+        Reply::Spent { units, phase } => {
+            matches!(right, Reply::Spent { units: spent, phase: after } if units == spent && phase == after)
+        }
+        Reply::Stat {
+            free,
+            live,
+            old,
+            phase,
+            cycle,
+        } => {
+            let parts = (free, live, old, phase, cycle);
+            matches!(right, Reply::Stat { free, live, old, phase, cycle } if parts == (free, live, old, phase, cycle))
+        }
+        Reply::Dump(dump) => matches!(right, Reply::Dump(other) if is_same_dump(dump, other)),
+        Reply::Report {
+            mutator,
+            collector,
+            quanta,
+            greatest,
+            window,
+            least,
+            floor,
+        } => {
+            let parts = (mutator, collector, quanta, greatest, window, least, floor);
+            matches!(right, Reply::Report { mutator, collector, quanta, greatest, window, least, floor }
+                if parts == (mutator, collector, quanta, greatest, window, least, floor))
+        }
+        Reply::Left(quanta) => matches!(right, Reply::Left(other) if quanta == other),
+    }
+}
