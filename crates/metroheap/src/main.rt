@@ -1,6 +1,7 @@
 //! The program: scripts from standard input, replies to standard output.
 #![tactic(auto)]
 
+use mh_claims::gate::Open;
 use mh_script::program::program;
 use mh_text::sink::StdSink;
 use mh_text::source::StdSource;
@@ -13,6 +14,14 @@ fn main(rt: HostRuntime) -> ExitCode {
     let mut sink = StdSink::new(io::writer(&rt));
     let stderr = rt.stderr();
     let mut errors = StdSink::new(io::writer(&stderr));
-    let status = program(rt.alloc(), words, &mut source, &mut sink, &mut errors);
+    let status = program(
+        &rt,
+        rt.alloc(),
+        words,
+        &mut source,
+        &mut sink,
+        &mut errors,
+        &Open,
+    );
     ExitCode::from(status)
 }

@@ -1,4 +1,5 @@
 pub mod BufferLemmas
+pub mod MachineLemmas
 pub mod RunLemmas
-pub mod StageLemmas
 pub mod SourceLemmas
+pub mod WorkerLemmas

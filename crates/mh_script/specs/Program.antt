@@ -64,5 +64,5 @@ pub record Declines (source source' sink sink' errors errors' : Device) (fault :
 
 -- What the program does on an order, or on words that give none
 abbrev pub Serves : Result Order LineFault → (source source' sink sink' errors errors' : Device) → ℕ → Type 0
-Serves (Ok Run) source source' sink sink' errors errors' status = Obeys source source' sink sink' errors errors' status
+Serves (Ok (Run workers)) source source' sink sink' errors errors' status = Obeys source source' sink sink' errors errors' status
 Serves (Err fault) source source' sink sink' errors errors' status = Declines source source' sink sink' errors errors' fault status

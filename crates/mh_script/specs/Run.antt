@@ -2,10 +2,9 @@
 use Rattle.std.specs.Prelude.{◌≡◌, ℕ, ◌<◌, ◌≤◌, ◌++◌, length, Option, IfSome, Result, Err, IfOk, OnErr, IsErrOf}
 use Rattle.std.specs.Io.KnownBytes.{Appends, Consumes, IsAtEnd, Keeps}
 use Rattle.mh_model.specs.Bytes.{Text}
-use Rattle.mh_model.specs.Limits.{most_entries}
-use Rattle.mh_model.specs.Script.{BadLine, Means, Meaning}
+use Rattle.mh_model.specs.Output as model
+use Rattle.mh_model.specs.Output.{Ending, output, ending}
 use Rattle.mh_text.specs.Stream.{ConsumesBeginning}
-use Rattle.mh_script.specs.Stage.{served_reading, served_output}
 use Rattle.mh_script.specs.declared.end.End.{End}
 use Rattle.mh_script.specs.declared.end.End.TheVariants.{Done, Refused}
 use Rattle.mh_script.specs.declared.fault.ScriptFault.{ScriptFault}
@@ -35,33 +34,21 @@ pub record Device : Type 0 where
 abbrev pub device : Option Text → ℕ → Device
 device bytes failures = record { bytes = bytes; failures = failures }
 
--- the script of the source is served, and its output was written
-pub record Answers (known old new : Option Text) (meaning : Meaning) : Type 0 where
+-- the output of the source's script was written whole, and a run of that script ends so
+pub record Outputs (known old new : Option Text) (ended : Ending) : Type 0 where
   pub script : Text
   pub is_script : IsScriptOf known script
-  pub means : served_reading script ≡ Means meaning
-  pub wrote : Appends old new (served_output script)
-
--- all events were answered
-abbrev pub RunsToEnd : Option Text → Option Text → Option Text → Type 0
-RunsToEnd known old new = (meaning : Meaning) × Answers known old new meaning × (length meaning.events ≤ most_entries)
-
--- as many events were answered as a history has room for, and more are left
-abbrev pub FillsHistory : Option Text → Option Text → Option Text → Type 0
-FillsHistory known old new = (meaning : Meaning) × Answers known old new meaning × (most_entries < length meaning.events)
-
--- this is the script's least line that is bad or isn't served, and its output, which says so, was written
-abbrev pub RefusesAt : Option Text → Option Text → Option Text → ℕ → Type 0
-RefusesAt known old new line = (script : Text) × IsScriptOf known script × (served_reading script ≡ BadLine line) × Appends old new (served_output script)
+  pub ends : ending script ≡ ended
+  pub wrote : Appends old new (output script)
 
 -- a beginning of the output of the source's script was written
 abbrev pub WritesBeginning : Option Text → Option Text → Option Text → Type 0
-WritesBeginning known old new = (script front rest : Text) × IsScriptOf known script × (front ++ rest ≡ served_output script) × Appends old new front
+WritesBeginning known old new = (script front rest : Text) × IsScriptOf known script × (front ++ rest ≡ output script) × Appends old new front
 
 -- what a run that ended well has read and written
 abbrev pub EndsAs : Option Text → Option Text → Option Text → End → Type 0
-EndsAs known old new Done = RunsToEnd known old new
-EndsAs known old new (Refused line) = RefusesAt known old new line
+EndsAs known old new Done = Outputs known old new model.Done
+EndsAs known old new (Refused line) = Outputs known old new (model.Refused line)
 
 -- the source is read as far as its script goes, unless it failed or memory was wanting
 abbrev pub LeavesSource : Option Text → Option Text → Result End ScriptFault → Type 0
@@ -79,7 +66,7 @@ Blames source source' sink sink' _ = (source' ≡ source) × (sink' ≡ sink)
 pub record IsRun (source source' sink sink' : Device) (ended : Result End ScriptFault) : Type 0 where
   pub ends : IfOk ended (EndsAs source.bytes sink.bytes sink'.bytes)
   pub begun : OnErr ended (WritesBeginning source.bytes sink.bytes sink'.bytes)
-  pub full : IsErrOf ended HistoryFull → FillsHistory source.bytes sink.bytes sink'.bytes
+  pub full : IsErrOf ended HistoryFull → Outputs source.bytes sink.bytes sink'.bytes model.HistoryFull
   pub unread : IsErrOf ended Read → Keeps sink.bytes sink'.bytes
   pub taken : LeavesSource source.bytes source'.bytes ended
   pub blames : Blames source.failures source'.failures sink.failures sink'.failures ended

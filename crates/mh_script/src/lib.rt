@@ -11,10 +11,11 @@ pub mod program;
 #[cfg(test)]
 mod program_tests;
 pub mod replies;
+#[cfg(test)]
+mod row_tests;
 pub mod run;
 #[cfg(test)]
 mod run_tests;
-pub mod stage;
 pub mod status;
 #[cfg(test)]
 mod test_devices;

@@ -5,20 +5,33 @@ use crate::status::line_status;
 use std::test::Fail;
 
 #[test]
-fn the_one_word(rt: HostRuntime) -> Result<(), Fail> {
-    let words = ["metroheap", "run"];
-    assert_eq!(rt; order(rt.alloc(), words.as_slice()).ok(), Some(Order::Run));
+fn words_that_are_an_order(rt: HostRuntime) -> Result<(), Fail> {
+    let run = ["metroheap", "run"];
+    assert_eq!(rt; order(rt.alloc(), run.as_slice()).ok(), Some(Order::Run(1)));
+    let alone = ["metroheap", "run", "--workers", "1"];
+    assert_eq!(rt;
+        order(rt.alloc(), alone.as_slice()).ok(),
+        Some(Order::Run(1))
+    );
+    let most = ["metroheap", "run", "--workers", "64"];
+    assert_eq!(rt;
+        order(rt.alloc(), most.as_slice()).ok(),
+        Some(Order::Run(64))
+    );
     Ok(())
 }
 
 #[test]
 fn other_words(rt: HostRuntime) -> Result<(), Fail> {
-    let lines: [&[&str]; 6] = [
+    let lines: [&[&str]; 9] = [
         &["metroheap"],
         &["metroheap", "walk"],
         &["metroheap", "--help"],
         &["metroheap", "help"],
         &["metroheap", "run", "--workers"],
+        &["metroheap", "run", "--workers", "0"],
+        &["metroheap", "run", "--workers", "65"],
+        &["metroheap", "run", "--workers", "many"],
         &["metroheap", "run", "twice"],
     ];
     for words in lines {

@@ -1,10 +1,11 @@
-ghost use Rattle.std.specs.Prelude.{◌≡◌, ◌<◌, ◌^◌, Result, MatchResult, map};
+ghost use Rattle.std.specs.Prelude.{◌≡◌, ◌<◌, ◌^◌, Result, IfOk, MatchResult, map};
 ghost use Rattle.std.specs.IoError.{error_kind};
 ghost use Rattle.std.specs.String.{string_bytes};
 ghost use Rattle.std.specs.Vec.Iter.{into_iter_items};
 ghost use Rattle.mh_model.specs.Bytes.{line_text};
 ghost use Rattle.mh_script.specs.declared.fault.LineFault.{LineFault};
 ghost use Rattle.mh_script.specs.declared.line.Order.{Order};
+ghost use Rattle.mh_script.specs.Line.{HasFewWorkers};
 ghost use Rattle.mh_script.specs.Program.{fault_text, OrdersBy, Unreads, Serves, Tells, TellsLine};
 ghost use Rattle.mh_script.specs.Run.{device};
 
@@ -13,12 +14,14 @@ use crate::line::Order;
 use crate::order::line_order;
 use crate::run::run_script;
 use crate::status::{line_status, status};
+use mh_scan::crew_scan::CrewGate;
 use mh_text::sink::Sink;
 use mh_text::source::Source;
 use mh_text::stream::write_text;
 use std::alloc::Global;
 use std::env::Args;
 use std::io;
+use std::thread::Threads;
 
 /// The line that tells a fault of a run.
 fn fault_line(fault: ScriptFault) -> &'static [u8]
@@ -55,13 +58,16 @@ fn tell_line<E: Sink>(alloc: Global, errors: &mut E, fault: &LineFault)
 }
 
 /// Does what the command line asks for, tells on `errors` what went wrong, and gives the exit status.
-pub fn serve<S: Source, W: Sink, E: Sink>(
+pub fn serve<R: Threads, S: Source, W: Sink, E: Sink, G: CrewGate>(
+    rt: &R,
     alloc: Global,
     order: Result<Order, LineFault>,
     source: &mut S,
     sink: &mut W,
     errors: &mut E,
+    gate: &G,
 ) -> u8
+    requires few { IfOk order HasFewWorkers }
     requires source_count { S.failures source.old < 2 ^ 62 }
     requires sink_count { W.failures sink.old < 2 ^ 62 }
     requires errors_count { E.failures errors.old < 2 ^ 62 }
@@ -71,8 +77,8 @@ pub fn serve<S: Source, W: Sink, E: Sink>(
         (device (E.written errors.old) (E.failures errors.old)) (device (E.written errors.new) (E.failures errors.new)) result }
 {
     match order {
-        Ok(Order::Run) => {
-            let ended = run_script(alloc, source, sink);
+        Ok(Order::Run(workers)) => {
+            let ended = run_script(rt, alloc, source, sink, workers, gate);
             if let Err(fault) = ended {
                 tell(errors, fault_line(fault));
             }
@@ -87,12 +93,14 @@ pub fn serve<S: Source, W: Sink, E: Sink>(
 
 /// The program: does what the words of the command line ask for, of which the first is its own name, tells on `errors` what
 /// went wrong, and gives the exit status.
-pub fn program<S: Source, W: Sink, E: Sink>(
+pub fn program<R: Threads, S: Source, W: Sink, E: Sink, G: CrewGate>(
+    rt: &R,
     alloc: Global,
     words: io::Result<Args>,
     source: &mut S,
     sink: &mut W,
     errors: &mut E,
+    gate: &G,
 ) -> u8
     requires source_count { S.failures source.old < 2 ^ 62 }
     requires sink_count { W.failures sink.old < 2 ^ 62 }
@@ -105,5 +113,5 @@ pub fn program<S: Source, W: Sink, E: Sink>(
         (device (E.written errors.old) (E.failures errors.old)) (device (E.written errors.new) (E.failures errors.new)) result }
 {
     let order = line_order(alloc, words);
-    serve(alloc, order, source, sink, errors)
+    serve(rt, alloc, order, source, sink, errors, gate)
 }

@@ -1,5 +1,6 @@
 use crate::program::program;
 use crate::test_devices::{ShortSink, ShortSource};
+use mh_claims::gate::Open;
 use mh_text::sink::StdSink;
 use mh_text::source::StdSource;
 use std::alloc::{AllocError, Global};
@@ -7,6 +8,7 @@ use std::env::Args;
 use std::io;
 use std::process::Abort;
 use std::test::Fail;
+use std::thread::Threads;
 
 fn words(alloc: Global, words: &[&str]) -> Result<Args, AllocError> {
     let mut texts = Vec::new(alloc);
@@ -17,8 +19,8 @@ fn words(alloc: Global, words: &[&str]) -> Result<Args, AllocError> {
 }
 
 /// What the program writes, tells and answers on a script.
-fn check(
-    rt: &impl Abort,
+fn check<R: Threads + Abort>(
+    rt: &R,
     alloc: Global,
     line: io::Result<Args>,
     script: &[u8],
@@ -27,7 +29,7 @@ fn check(
     let mut source = StdSource::new(script);
     let mut sink = StdSink::new(Vec::new(alloc));
     let mut errors = StdSink::new(Vec::new(alloc));
-    let status = program(alloc, line, &mut source, &mut sink, &mut errors);
+    let status = program(rt, alloc, line, &mut source, &mut sink, &mut errors, &Open);
     assert_eq!(rt; sink.writer.as_slice(), wanted.0);
     assert_eq!(rt; errors.writer.as_slice(), wanted.1);
     assert_eq!(rt; status, wanted.2);
@@ -38,7 +40,7 @@ fn runs_a_script(rt: HostRuntime) -> Result<(), Fail> {
     let line = words(rt.alloc(), &["metroheap", "run"])?;
     let script = b"config 4 209 0 0\na new 0 0 0\n";
     check(&rt, rt.alloc(), Ok(line), script, (b"ok\n", b"", 0));
-    let line = words(rt.alloc(), &["metroheap", "run"])?;
+    let line = words(rt.alloc(), &["metroheap", "run", "--workers", "2"])?;
     check(
         &rt,
         rt.alloc(),
@@ -76,7 +78,15 @@ fn tells_why_the_words_give_no_order(rt: HostRuntime) -> Result<(), Fail> {
         let mut source = StdSource::new(b"config 4 209 0 0\n".as_slice());
         let mut sink = StdSink::new(Vec::new(rt.alloc()));
         let mut errors = StdSink::new(Vec::new(rt.alloc()));
-        let status = program(rt.alloc(), Ok(line), &mut source, &mut sink, &mut errors);
+        let status = program(
+            &rt,
+            rt.alloc(),
+            Ok(line),
+            &mut source,
+            &mut sink,
+            &mut errors,
+            &Open,
+        );
         assert_eq!(rt; status, 2);
         assert!(rt; sink.writer.is_empty());
         assert!(rt; errors.writer.as_slice().starts_with(b"error: "));
@@ -91,7 +101,15 @@ fn tells_which_device_failed(rt: HostRuntime) -> Result<(), Fail> {
     let mut source = ShortSource::new(script, 2);
     let mut sink = ShortSink::new(rt.alloc(), 5, 0);
     let mut errors = StdSink::new(Vec::new(rt.alloc()));
-    let status = program(rt.alloc(), Ok(line), &mut source, &mut sink, &mut errors);
+    let status = program(
+        &rt,
+        rt.alloc(),
+        Ok(line),
+        &mut source,
+        &mut sink,
+        &mut errors,
+        &Open,
+    );
     assert_eq!(rt;
         errors.writer.as_slice(),
         b"metroheap: read failed\n".as_slice()
@@ -101,7 +119,15 @@ fn tells_which_device_failed(rt: HostRuntime) -> Result<(), Fail> {
     let mut source = ShortSource::new(script, 0);
     let mut sink = ShortSink::new(rt.alloc(), 5, 1);
     let mut errors = StdSink::new(Vec::new(rt.alloc()));
-    let status = program(rt.alloc(), Ok(line), &mut source, &mut sink, &mut errors);
+    let status = program(
+        &rt,
+        rt.alloc(),
+        Ok(line),
+        &mut source,
+        &mut sink,
+        &mut errors,
+        &Open,
+    );
     assert_eq!(rt;
         errors.writer.as_slice(),
         b"metroheap: write failed\n".as_slice()

@@ -1,16 +1,16 @@
-ghost use Rattle.std.specs.Prelude.{◌≡◌, ◌+◌, ◌<◌, ◌≤◌, ◌^◌, ◌++◌, [], ◌∷◌, length, IfOk, OnOk, OnErr, IsErrOf};
+ghost use Rattle.std.specs.Prelude.{◌≡◌, ◌+◌, ◌<◌, ◌≤◌, ◌^◌, ◌++◌, [], ◌∷◌, suc, length, IfOk, OnOk, OnErr, IsErrOf};
 ghost use Rattle.std.specs.String.{string_bytes};
 ghost use Rattle.std.specs.Io.KnownBytes.{Appends};
-ghost use Rattle.mh_model.specs.declared.birth.TheConstants.{LIFE};
-ghost use Rattle.mh_model.specs.World.{births, never_full, world_after, world_replies};
+ghost use Rattle.mh_model.specs.Limits.{most_entries};
+ghost use Rattle.mh_model.specs.Machine.{event_step, machine_after, machine_replies};
 ghost use Rattle.mh_model.specs.Replies.{replies_text};
 ghost use Rattle.mh_text.specs.Stream.{AppendsBeginning};
 ghost use Rattle.mh_script.specs.Run.{Buffers};
 
-use mh_heap::heap::Heap;
-use mh_heap::perform::perform;
 use mh_model::command::Event;
 use mh_model::memory::NoMemory;
+use mh_scan::scan::Scanner;
+use mh_state::machine::{Machine, Stop};
 use mh_text::device::DeviceFailed;
 use mh_text::reply_text::ReplyText;
 use mh_text::sink::Sink;
@@ -31,22 +31,26 @@ pub enum WriteError {
     NoMemory,
 }
 
-/// Does an event, and adds the line of its reply to the text. The world knows of no control.
-fn answer<H: Heap>(heap: &mut H, event: &Event, text: &mut String) -> Result<(), NoMemory>
-    requires never_full { (H.shown heap.old).is_full ≡ never_full }
-    requires births { births (H.shown heap.old).view < LIFE }
-    ensures view { OnOk result ((H.shown heap.new).view ≡ world_after (H.shown heap.old).view (event.now ∷ [])) }
-    ensures text { OnOk result (string_bytes text.new ≡ string_bytes text.old ++ replies_text (world_replies (H.shown heap.old).view (event.now ∷ []))) }
+/// Does an event, and adds the line of its reply to the text.
+fn answer<S: Scanner>(
+    machine: &mut Machine,
+    event: Event,
+    scanner: &mut S,
+    text: &mut String,
+) -> Result<(), NoMemory>
+    requires { machine.old.done < most_entries }
+    ensures machine { OnOk result (machine.new.machine ≡ (event_step machine.old.machine event).state) }
+    ensures count { OnOk result (machine.new.done ≡ suc machine.old.done) }
+    ensures text { OnOk result (string_bytes text.new ≡ string_bytes text.old ++ replies_text ((event_step machine.old.machine event).reply ∷ [])) }
 {
-    match event {
-        Event::Session(who, command) => {
-            let reply = perform(heap, *who, command)?;
-            let line = ReplyText(&reply);
-            writeln!(text, "{line}")?;
-            Ok(())
-        }
-        Event::Control(_) => Ok(()),
-    }
+    let reply = match machine.step(event, scanner) {
+        Ok(reply) => reply,
+        Err(Stop::NoMemory) => return Err(NoMemory),
+        Err(Stop::HistoryFull) => unreachable!(),
+    };
+    let line = ReplyText(&reply);
+    writeln!(text, "{line}")?;
+    Ok(())
 }
 
 /// Writes the text that waits, and empties it.
@@ -82,25 +86,26 @@ fn flush_full<W: Sink>(sink: &mut W, text: &mut String) -> Result<(), DeviceFail
 }
 
 /// Does the events in turn, and writes the lines of their replies.
-pub fn write_replies<H: Heap, W: Sink>(
+pub fn write_replies<S: Scanner, W: Sink>(
     alloc: Global,
-    heap: &mut H,
+    machine: &mut Machine,
     events: &[Event],
+    scanner: &mut S,
     sink: &mut W,
 ) -> Result<(), WriteError>
-    requires never_full { (any : H) → (H.shown any).is_full ≡ never_full }
-    requires births { births (H.shown heap.old).view + length events.now < LIFE }
+    requires room { machine.old.done + length events.now ≤ most_entries }
     requires count { W.failures sink.old < 2 ^ 62 }
-    ensures done { OnOk result (Appends (W.written sink.old) (W.written sink.new) (replies_text (world_replies (H.shown heap.old).view events.now))) }
-    ensures view { OnOk result ((H.shown heap.new).view ≡ world_after (H.shown heap.old).view events.now) }
-    ensures begun { OnErr result (AppendsBeginning (W.written sink.old) (W.written sink.new) (replies_text (world_replies (H.shown heap.old).view events.now))) }
+    ensures done { OnOk result (Appends (W.written sink.old) (W.written sink.new) (replies_text (machine_replies machine.old.machine events.now))) }
+    ensures machine { OnOk result (machine.new.machine ≡ machine_after machine.old.machine events.now) }
+    ensures events { OnOk result (machine.new.done ≡ machine.old.done + length events.now) }
+    ensures begun { OnErr result (AppendsBeginning (W.written sink.old) (W.written sink.new) (replies_text (machine_replies machine.old.machine events.now))) }
     ensures no_failure { OnOk result (W.failures sink.new ≡ W.failures sink.old) }
     ensures blamed { IsErrOf result WriteError.Device → W.failures sink.old < W.failures sink.new }
     ensures not_blamed { IsErrOf result WriteError.NoMemory → W.failures sink.new ≡ W.failures sink.old }
 {
     let mut text = String::new(alloc);
     for event in events {
-        let Ok(()) = answer(heap, event, &mut text) else {
+        let Ok(()) = answer(machine, *event, scanner, &mut text) else {
             return Err(WriteError::NoMemory);
         };
         let Ok(()) = flush_full(sink, &mut text) else {

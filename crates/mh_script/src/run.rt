@@ -1,27 +1,30 @@
-ghost use Rattle.std.specs.Prelude.{◌≡◌, ◌<◌, ◌^◌, take, IfOk, OnOk, OnErr, IsErrOf};
+ghost use Rattle.std.specs.Prelude.{◌≡◌, ◌<◌, ◌≤◌, ◌^◌, length, take, IfOk, OnOk, OnErr, IsErrOf};
 ghost use Rattle.std.specs.Io.KnownBytes.{Appends, Keeps};
 ghost use Rattle.mh_model.specs.Bytes.{line_text};
 ghost use Rattle.mh_model.specs.Limits.{most_entries};
+ghost use Rattle.mh_model.specs.Output as model;
+ghost use Rattle.mh_model.specs.Output.{output_of};
 ghost use Rattle.mh_model.specs.Replies.{bad_line_text};
 ghost use Rattle.mh_model.specs.Script.{Means};
 ghost use Rattle.mh_text.specs.Stream.{AppendsBeginning};
-ghost use Rattle.mh_script.specs.Run.{EndsAs, FillsHistory, WritesBeginning, LeavesSource, Blames};
-ghost use Rattle.mh_script.specs.Stage.{served_output_of};
+ghost use Rattle.mh_script.specs.Run.{EndsAs, Outputs, WritesBeginning, LeavesSource, Blames};
 
 use crate::end::End;
 use crate::fault::ScriptFault;
 use crate::replies::{WriteError, write_replies};
-use crate::stage::{parse_served, under_first};
 use arrayvec::ArrayString;
 use itoa::Buffer;
-use mh_heap::plain::PlainHeap;
 use mh_model::command::Event;
+use mh_scan::crew_scan::{CrewGate, CrewScan};
+use mh_scan::scan::Scanner;
+use mh_state::machine::Machine;
 use mh_text::device::DeviceFailed;
-use mh_text::script::{SCRIPT_BYTES, Script, ScriptError};
+use mh_text::script::{SCRIPT_BYTES, Script, ScriptError, parse};
 use mh_text::sink::Sink;
 use mh_text::source::Source;
 use mh_text::stream::{ReadError, read_text, write_text};
 use std::alloc::Global;
+use std::thread::Threads;
 
 /// The most events that are answered.
 const MOST_ENTRIES: usize = 1_000_000;
@@ -30,24 +33,33 @@ const MOST_ENTRIES: usize = 1_000_000;
 const REFUSAL_BYTES: usize = 64;
 
 /// The events that are answered.
-#[tactic(auto, using(crate::proofs::RunLemmas::take_min), unfolding(mh_model::specs::Limits::most_entries))]
+#[tactic(auto, using(crate::proofs::RunLemmas::take_min, crate::proofs::RunLemmas::front_is_few), unfolding(mh_model::specs::Limits::most_entries))]
 fn answered(events: &[Event]) -> &[Event]
-    ensures { result.now ≡ take most_entries events.now }
+    ensures events { result.now ≡ take most_entries events.now }
+    ensures few { length result.now ≤ most_entries }
 {
     &events[..events.len().min(MOST_ENTRIES)]
 }
 
-/// Answers the events of a script, as far as a history has room, over a heap that never collects.
-fn write_answers<W: Sink>(alloc: Global, script: &Script, sink: &mut W) -> Result<(), WriteError>
+/// Answers the events of a script, as far as a history has room.
+fn write_answers<C: Scanner, W: Sink>(
+    alloc: Global,
+    script: &Script,
+    scanner: &mut C,
+    sink: &mut W,
+) -> Result<(), WriteError>
     requires { W.failures sink.old < 2 ^ 62 }
-    ensures done { OnOk result (Appends (W.written sink.old) (W.written sink.new) (served_output_of (Means script.now))) }
-    ensures begun { OnErr result (AppendsBeginning (W.written sink.old) (W.written sink.new) (served_output_of (Means script.now))) }
+    ensures done { OnOk result (Appends (W.written sink.old) (W.written sink.new) (output_of (Means script.now))) }
+    ensures begun { OnErr result (AppendsBeginning (W.written sink.old) (W.written sink.new) (output_of (Means script.now))) }
     ensures no_failure { OnOk result (W.failures sink.new ≡ W.failures sink.old) }
     ensures blamed { IsErrOf result WriteError.Device → W.failures sink.old < W.failures sink.new }
     ensures not_blamed { IsErrOf result WriteError.NoMemory → W.failures sink.new ≡ W.failures sink.old }
 {
-    let mut heap = PlainHeap::open(alloc, under_first(script.config()));
-    write_replies(alloc, &mut heap, answered(script.events()), sink)
+    let Ok(mut machine) = Machine::open(alloc, script.config()) else {
+        return Err(WriteError::NoMemory);
+    };
+    let events = answered(script.events());
+    write_replies(alloc, &mut machine, events, scanner, sink)
 }
 
 fn refusal_line(line: u64) -> ArrayString<REFUSAL_BYTES>
@@ -73,17 +85,22 @@ fn write_refusal<W: Sink>(line: u64, sink: &mut W) -> Result<(), DeviceFailed>
 }
 
 /// Reads a whole script, and then writes its output: a line for each reply, or the one line that names the least line that
-/// is outside the grammar or of a form that isn't served yet.
-pub fn run_script<S: Source, W: Sink>(
+/// is outside the grammar. At most `workers` threads scan at a time, the calling one among them. How many they are, and what
+/// the gate holds them for, changes nothing of the output.
+pub fn run_script<R: Threads, S: Source, W: Sink, G: CrewGate>(
+    rt: &R,
     alloc: Global,
     source: &mut S,
     sink: &mut W,
+    workers: usize,
+    gate: &G,
 ) -> Result<End, ScriptFault>
+    requires workers { (0 < workers) × (workers ≤ 64) }
     requires source_count { S.failures source.old < 2 ^ 62 }
     requires sink_count { W.failures sink.old < 2 ^ 62 }
     ensures ends { IfOk result (EndsAs (S.rest source.old) (W.written sink.old) (W.written sink.new)) }
     ensures begun { OnErr result (WritesBeginning (S.rest source.old) (W.written sink.old) (W.written sink.new)) }
-    ensures full { IsErrOf result ScriptFault.HistoryFull → FillsHistory (S.rest source.old) (W.written sink.old) (W.written sink.new) }
+    ensures full { IsErrOf result ScriptFault.HistoryFull → Outputs (S.rest source.old) (W.written sink.old) (W.written sink.new) model.HistoryFull }
     ensures unread { IsErrOf result ScriptFault.Read → Keeps (W.written sink.old) (W.written sink.new) }
     ensures taken { LeavesSource (S.rest source.old) (S.rest source.new) result }
     ensures blames { Blames (S.failures source.old) (S.failures source.new) (W.failures sink.old) (W.failures sink.new) result }
@@ -93,8 +110,9 @@ pub fn run_script<S: Source, W: Sink>(
         Err(ReadError::Device) => return Err(ScriptFault::Read),
         Err(ReadError::NoMemory) => return Err(ScriptFault::NoMemory),
     };
-    match parse_served(alloc, text.as_slice()) {
-        Ok(script) => match write_answers(alloc, &script, sink) {
+    let mut scanner = CrewScan::new(rt, alloc, workers, gate);
+    match parse(alloc, text.as_slice()) {
+        Ok(script) => match write_answers(alloc, &script, &mut scanner, sink) {
             Ok(()) if script.events().len() > MOST_ENTRIES => Err(ScriptFault::HistoryFull),
             Ok(()) => Ok(End::Done),
             Err(WriteError::Device) => Err(ScriptFault::Write),

@@ -1,6 +1,6 @@
 use Rattle.std.proofs.Common.{sym, ap, ◌∙◌}
 use Rattle.mh_model.specs.Script.{BadLine}
-use Rattle.mh_script.proofs.SourceLemmas.{Reads-slice, RefusesAt-reads, RunsToEnd-reads, FillsHistory-reads, WritesBeginning-nothing, WritesBeginning-reads, beginning_of, few_entries, many_entries}
+use Rattle.mh_script.proofs.SourceLemmas.{Reads-slice, Refused-reads, Done-reads, HistoryFull-reads, WritesBeginning-nothing, WritesBeginning-reads, beginning_of, few_entries, many_entries}
 use Rattle.mh_script.proofs.run.run_script.Goals as goal
 
 pub returns-in-Err-Device-clause-begun : goal.returns-in-Err-Device-clause-begun
@@ -12,33 +12,33 @@ returns-in-Err-NoMemory-clause-begun g c = WritesBeginning-nothing _ _
 pub returns-in-Ok-write_answers-clause-begun : goal.returns-in-Ok-write_answers-clause-begun
 returns-in-Ok-write_answers-clause-begun g c =
     let reads = Reads-slice _ _ _ _ c.as_slice.ensures.value c.in-Ok.ensures.read c.in-Ok.ensures.whole in
-    WritesBeginning-reads reads _ _ _ c.in-Ok-parse_served.ensures.script (beginning_of _ _ _ c.in-Ok-write_answers.ensures.done)
+    WritesBeginning-reads reads _ _ _ c.in-Ok-parse.ensures.script (beginning_of _ _ _ c.in-Ok-write_answers.ensures.done)
 
 pub returns-in-Ok-write_answers-clause-full : goal.returns-in-Ok-write_answers-clause-full
 returns-in-Ok-write_answers-clause-full g c = λ is.
     let reads = Reads-slice _ _ _ _ c.as_slice.ensures.value c.in-Ok.ensures.read c.in-Ok.ensures.whole in
-    FillsHistory-reads reads _ _ _ c.in-Ok-parse_served.ensures.script c.in-Ok-write_answers.ensures.done (many_entries _ c.events.result.now c.events.ensures c.if-events-gt-MOST_ENTRIES.true)
+    HistoryFull-reads reads _ _ _ c.in-Ok-parse.ensures.script c.in-Ok-write_answers.ensures.done (many_entries _ c.events.result.now c.events.ensures c.if-events-gt-MOST_ENTRIES.true)
 
 pub returns-in-Ok-2-clause-ends : goal.returns-in-Ok-2-clause-ends
 returns-in-Ok-2-clause-ends g c =
     let reads = Reads-slice _ _ _ _ c.as_slice.ensures.value c.in-Ok.ensures.read c.in-Ok.ensures.whole in
-    RunsToEnd-reads reads _ _ _ c.in-Ok-parse_served.ensures.script c.in-Ok-2.ensures.done (few_entries _ c.events.result.now c.events.ensures c.if-events-gt-MOST_ENTRIES.false)
+    Done-reads reads _ _ _ c.in-Ok-parse.ensures.script c.in-Ok-2.ensures.done (few_entries _ c.events.result.now c.events.ensures c.if-events-gt-MOST_ENTRIES.false)
 
 pub returns-in-Err-Device-write_answers-clause-begun : goal.returns-in-Err-Device-write_answers-clause-begun
 returns-in-Err-Device-write_answers-clause-begun g c =
     let reads = Reads-slice _ _ _ _ c.as_slice.ensures.value c.in-Ok.ensures.read c.in-Ok.ensures.whole in
-    WritesBeginning-reads reads _ _ _ c.in-Ok-parse_served.ensures.script c.in-Err-Device-write_answers.ensures.begun
+    WritesBeginning-reads reads _ _ _ c.in-Ok-parse.ensures.script c.in-Err-Device-write_answers.ensures.begun
 
-pub returns-in-Ok-parse_served-clause-begun : goal.returns-in-Ok-parse_served-clause-begun
-returns-in-Ok-parse_served-clause-begun g c =
+pub returns-in-Ok-parse-clause-begun : goal.returns-in-Ok-parse-clause-begun
+returns-in-Ok-parse-clause-begun g c =
     let reads = Reads-slice _ _ _ _ c.as_slice.ensures.value c.in-Ok.ensures.read c.in-Ok.ensures.whole in
-    WritesBeginning-reads reads _ _ _ c.in-Ok-parse_served.ensures.script c.in-Err-NoMemory-write_answers.ensures.begun
+    WritesBeginning-reads reads _ _ _ c.in-Ok-parse.ensures.script c.in-Err-NoMemory-write_answers.ensures.begun
 
 pub returns-in-Ok-write_refusal-clause-ends : goal.returns-in-Ok-write_refusal-clause-ends
 returns-in-Ok-write_refusal-clause-ends g c =
     let reads = Reads-slice _ _ _ _ c.as_slice.ensures.value c.in-Ok.ensures.read c.in-Ok.ensures.whole in
     let bad = rw c.in-Err-Line.field-0-is at c.in-Err-Line.ensures.line in
-    RefusesAt-reads reads _ _ _ (bad ∙ ap BadLine (sym c.in-Err-Line.line-is)) c.in-Ok-write_refusal.ensures.done
+    Refused-reads reads _ _ _ (bad ∙ ap BadLine (sym c.in-Err-Line.line-is)) c.in-Ok-write_refusal.ensures.done
 
 pub returns-in-Err-Line-clause-begun : goal.returns-in-Err-Line-clause-begun
 returns-in-Err-Line-clause-begun g c =
