@@ -13,7 +13,7 @@ use Rattle.mh_model.specs.Machine.{Machine, first_machine, event_step, machine_a
 use Rattle.mh_promise.specs.Runs.{machine_at}
 use Rattle.mh_promise.proofs.RunsByEvents.{after_more, replies_more, no-events, no-replies}
 use Rattle.mh_state.specs.Running.{Running, first_running}
-use Rattle.mh_state.specs.Judging.{IsAnswered, IsMeasured, IsTried}
+use Rattle.mh_state.specs.Judging.{HasItsReply, IsMeasured, IsTried}
 
 none_are_few : 0 ≤ most_entries
 none_are_few = omega arith
@@ -21,7 +21,7 @@ none_are_few = omega arith
 -- Any rule ---------------------------------------------------------------------------------------
 
 -- A rule of lists of 1,000,000 elements at most, each of which fits the machine after the events before it
-pub record IsRule {X : Type 0} (config : Config) (event_of : X → Event) (Fits : Machine → X → Type 0) (Lawful : List X → Type 0) : Type 0 where
+pub record IsEventRule {X : Type 0} (config : Config) (event_of : X → Event) (Fits : Machine → X → Type 0) (Lawful : List X → Type 0) : Type 0 where
   pub empty : Lawful []
   pub few : (xs : List X) → Lawful xs → length xs ≤ most_entries
   pub more : (xs : List X) (x : X) → Lawful xs → length xs ≢ most_entries → Fits (machine_at config (map event_of xs)) x → Lawful (xs ++ x ∷ [])
@@ -33,11 +33,11 @@ pub record HasJudged {X : Type 0} (config : Config) (event_of : X → Event) (La
   pub done : running.done ≡ length xs
   pub lawful : Lawful xs
 
-pub none_judged : {X : Type 0} (config : Config) (event_of : X → Event) (Fits : Machine → X → Type 0) (Lawful : List X → Type 0) → IsRule config event_of Fits Lawful
+pub none_judged : {X : Type 0} (config : Config) (event_of : X → Event) (Fits : Machine → X → Type 0) (Lawful : List X → Type 0) → IsEventRule config event_of Fits Lawful
     → HasJudged config event_of Lawful [] (first_running config)
 none_judged config event_of Fits Lawful rule = record { machine = no-events config; done = refl; lawful = rule.empty }
 
-judged_push : {X : Type 0} (config : Config) (event_of : X → Event) (Fits : Machine → X → Type 0) (Lawful : List X → Type 0) → IsRule config event_of Fits Lawful
+judged_push : {X : Type 0} (config : Config) (event_of : X → Event) (Fits : Machine → X → Type 0) (Lawful : List X → Type 0) → IsEventRule config event_of Fits Lawful
     → (xs : List X) (x : X) (old new : Running) → HasJudged config event_of Lawful xs old → IsTried (Fits old.machine x) old (event_of x) new true
     → HasJudged config event_of Lawful (xs ++ x ∷ []) new
 judged_push config event_of Fits Lawful rule xs x old new judged found =
@@ -50,14 +50,14 @@ judged_push config event_of Fits Lawful rule xs x old new judged found =
       lawful = rule.more xs x judged.lawful (λ full. found.0 (judged.done ∙ full)) fits;
     }
 
-pub judged_more : {X : Type 0} (config : Config) (event_of : X → Event) (Fits : Machine → X → Type 0) (Lawful : List X → Type 0) → IsRule config event_of Fits Lawful
+pub judged_more : {X : Type 0} (config : Config) (event_of : X → Event) (Fits : Machine → X → Type 0) (Lawful : List X → Type 0) → IsEventRule config event_of Fits Lawful
     → (xs : List X) (i : ℕ) (x : X) (old new : Running) → i < length xs → x ≡ get_or xs i x → HasJudged config event_of Lawful (take i xs) old
     → IsTried (Fits old.machine x) old (event_of x) new true → HasJudged config event_of Lawful (take (i + 1) xs) new
 judged_more {X} config event_of Fits Lawful rule xs i x old new below is judged found =
     let cut : take (i + 1) xs ≡ take i xs ++ x ∷ [] = take_more xs i x below ∙ ap (λ (y : X). take i xs ++ y ∷ []) (sym is) in
     rw cut (judged_push config event_of Fits Lawful rule (take i xs) x old new judged found)
 
-bad_push : {X : Type 0} (config : Config) (event_of : X → Event) (Fits : Machine → X → Type 0) (Lawful : List X → Type 0) → IsRule config event_of Fits Lawful
+bad_push : {X : Type 0} (config : Config) (event_of : X → Event) (Fits : Machine → X → Type 0) (Lawful : List X → Type 0) → IsEventRule config event_of Fits Lawful
     → (xs : List X) (x : X) (old new : Running) → HasJudged config event_of Lawful xs old → IsTried (Fits old.machine x) old (event_of x) new false
     → Lawful (xs ++ x ∷ []) → ⊥
 bad_push config event_of Fits Lawful rule xs x old new judged (inl full) lawful = omega (arith, full, judged.done, rule.few (xs ++ x ∷ []) lawful, length_push xs x)
@@ -65,7 +65,7 @@ bad_push config event_of Fits Lawful rule xs x old new judged (inr other) lawful
     other (subst (λ (machine : Machine). Fits machine x) (sym judged.machine) (rule.last xs x lawful))
 
 -- an entry that was not found to be right is the first bad one
-pub first_bad : {X : Type 0} (config : Config) (event_of : X → Event) (Fits : Machine → X → Type 0) (Lawful : List X → Type 0) → IsRule config event_of Fits Lawful
+pub first_bad : {X : Type 0} (config : Config) (event_of : X → Event) (Fits : Machine → X → Type 0) (Lawful : List X → Type 0) → IsEventRule config event_of Fits Lawful
     → (xs : List X) (i : ℕ) (x : X) (old new : Running) → i < length xs → x ≡ get_or xs i x → HasJudged config event_of Lawful (take i xs) old
     → IsTried (Fits old.machine x) old (event_of x) new false → IsFirstBadOf Lawful xs (i + 1)
 first_bad {X} config event_of Fits Lawful rule xs i x old new below is judged found =
@@ -93,7 +93,7 @@ answers-push : (config : Config) (xs : List Entry) (x : Entry) → machine_repli
     ≡ machine_replies (first_machine config) (map event_of xs) ++ (event_step (machine_at config (map event_of xs)) x.event).reply ∷ []
 answers-push config xs x = ap (machine_replies (first_machine config)) (map-append event_of xs (x ∷ [])) ∙ replies_more.event (first_machine config) (map event_of xs) x.event
 
-pub legal_rule : (config : Config) → IsRule config event_of IsAnswered (IsLegal config)
+pub legal_rule : (config : Config) → IsEventRule config event_of HasItsReply (IsLegal config)
 legal_rule config = record {
   empty = record { few = none_are_few; replies = no-replies config };
   few = λ xs legal. legal.few;
@@ -126,7 +126,7 @@ no-record : (config : Config) → [] ≡ machine_record (first_machine config) [
 unfolding machine_record
 no-record config = refl
 
-pub record_rule : (config : Config) → IsRule config measured_event IsMeasured (IsLegalRecord config)
+pub record_rule : (config : Config) → IsEventRule config measured_event IsMeasured (IsLegalRecord config)
 record_rule config = record {
   empty = record { few = none_are_few; same = no-record config };
   few = λ xs legal. legal.few;

@@ -12,8 +12,8 @@ use Rattle.mh_state.specs.declared.judge.CheckFault.{CheckFault}
 use Rattle.mh_state.specs.declared.judge.CheckFault.TheVariants.{FirstBad, NoMemory}
 
 -- an entry has the machine's reply to its event
-abbrev pub IsAnswered : Machine → Entry → Type 0
-IsAnswered machine entry = entry.reply ≡ (event_step machine entry.event).reply
+abbrev pub HasItsReply : Machine → Entry → Type 0
+HasItsReply machine entry = entry.reply ≡ (event_step machine entry.event).reply
 
 -- and the letters that it adds to the trace
 abbrev pub IsMeasured : Machine → Measured → Type 0
@@ -25,6 +25,6 @@ IsTried Right old event new true = (old.done ≢ most_entries) × Right × (new 
 IsTried Right old event new false = (old.done ≡ most_entries) ⊎ ¬ Right
 
 -- A fault tells the first bad entry by a rule; want of memory tells nothing of the history
-abbrev pub Tells : {X : Type 0} → (List X → Type 0) → List X → CheckFault → Type 0
-Tells Lawful history (FirstBad number) = IsFirstBadOf Lawful history number
-Tells Lawful history NoMemory = Unit {0}
+abbrev pub TellsFirstBad : {X : Type 0} → (List X → Type 0) → List X → CheckFault → Type 0
+TellsFirstBad Lawful history (FirstBad number) = IsFirstBadOf Lawful history number
+TellsFirstBad Lawful history NoMemory = Unit {0}

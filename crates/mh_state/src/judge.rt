@@ -2,7 +2,7 @@
 ghost use Rattle.std.specs.Prelude.{◌≡◌, IfOk, IfErr, OnOk};
 ghost use Rattle.mh_model.specs.History.{IsLegal};
 ghost use Rattle.mh_model.specs.HistoryTexts.{IsLegalRecord};
-ghost use Rattle.mh_state.specs.Judging.{IsAnswered, IsMeasured, IsTried, Tells};
+ghost use Rattle.mh_state.specs.Judging.{HasItsReply, IsMeasured, IsTried, TellsFirstBad};
 ghost use Rattle.mh_state.specs.declared.judge.CheckFault.{CheckFault};
 
 use crate::machine::{Machine, Stop};
@@ -34,7 +34,7 @@ impl From<NoMemory> for CheckFault {
 
 /// Does an entry's event, unless 1,000,000 were done, and tells whether it was answered with the entry's reply.
 fn try_entry(machine: &mut Machine, scanner: &mut OneScan, entry: &Entry) -> Result<bool, NoMemory>
-    ensures { IfOk result (IsTried (IsAnswered machine.old.machine entry.now) machine.old entry.now.event machine.new) }
+    ensures { IfOk result (IsTried (HasItsReply machine.old.machine entry.now) machine.old entry.now.event machine.new) }
 {
     match machine.step(entry.event, scanner) {
         Ok(reply) => Ok(is_same(&entry.reply, &reply)),
@@ -65,7 +65,7 @@ fn try_measured(
 /// Replays a history with one worker. An entry past the 1,000,000th is bad.
 pub fn check(alloc: Global, config: Config, history: &[Entry]) -> Result<(), CheckFault>
     ensures legal { OnOk result (IsLegal config history.now) }
-    ensures bad { IfErr result (Tells (IsLegal config) history.now) }
+    ensures bad { IfErr result (TellsFirstBad (IsLegal config) history.now) }
 {
     let mut machine = Machine::open(alloc, config)?;
     let mut scanner = OneScan::new(alloc);
@@ -80,7 +80,7 @@ pub fn check(alloc: Global, config: Config, history: &[Entry]) -> Result<(), Che
 /// Replays a history whose entries tell their units, with one worker. An entry past the 1,000,000th is bad.
 pub fn audit(alloc: Global, config: Config, entries: &[Measured]) -> Result<(), CheckFault>
     ensures legal { OnOk result (IsLegalRecord config entries.now) }
-    ensures bad { IfErr result (Tells (IsLegalRecord config) entries.now) }
+    ensures bad { IfErr result (TellsFirstBad (IsLegalRecord config) entries.now) }
 {
     let mut machine = Machine::open(alloc, config)?;
     let mut scanner = OneScan::new(alloc);
