@@ -5,3 +5,5 @@ mod engine;
 pub mod machine;
 pub mod run;
 pub mod state;
+#[cfg(test)]
+mod tests;
