@@ -9,3 +9,5 @@ pub mod machine;
 pub mod run;
 pub mod same;
 pub mod state;
+#[cfg(test)]
+mod tests;
