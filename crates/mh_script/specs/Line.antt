@@ -29,7 +29,7 @@ optional_app = with_subcommand (new_app (codes "metroheap")) run_app.top
 abbrev pub metroheap : App
 metroheap = record optional_app { top = record optional_app.top { subcommand_required = true; disable_help_subcommand = true } }
 
--- the number that a text of digits is, and 1 where there is none
+-- the number that a text of digits is, after a plus if it has one, and 1 where there is no text
 abbrev pub number_or_one : Option Text → ℕ
 number_or_one None = 1
 number_or_one (Some text) = digits_value 10 (without_leading_plus text)

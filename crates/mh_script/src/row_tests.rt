@@ -19,8 +19,8 @@ fn check<R: Threads + Abort>(rt: &R, alloc: Global, script: &[u8], output: &[u8]
     }
 }
 
-/// A text, and after it another so many times.
-fn repeated(alloc: Global, first: &[u8], more: &[u8], count: usize) -> Result<Vec<u8>, Fail> {
+/// A text, and after it another, so many times.
+pub fn repeated(alloc: Global, first: &[u8], more: &[u8], count: usize) -> Result<Vec<u8>, Fail> {
     let mut text = Vec::from_slice(alloc, first)?;
     for _ in 0..count {
         text.extend_from_slice(more)?;

@@ -85,8 +85,8 @@ fn write_refusal<W: Sink>(line: u64, sink: &mut W) -> Result<(), DeviceFailed>
 }
 
 /// Reads a whole script, and then writes its output: a line for each reply, or the one line that names the least line that
-/// is outside the grammar. At most `workers` threads scan at a time, the calling one among them. How many they are, and what
-/// the gate holds them for, changes nothing of the output.
+/// is outside the grammar. At most `workers` threads scan at a time, the calling one among them. Neither their number nor the
+/// gate changes the output.
 pub fn run_script<R: Threads, S: Source, W: Sink, G: CrewGate>(
     rt: &R,
     alloc: Global,
