@@ -85,7 +85,7 @@ module _ {X : Type 0} where
   none_at (suc count) zero = refl
   none_at (suc count) (suc slot) = none_at count slot
 
-  block_in-page_for : (page : Option (Page X)) (size slot : ℕ) → block_in slot (page_for size page) ≡ option_and_then (block_in slot) page
+  pub block_in-page_for : (page : Option (Page X)) (size slot : ℕ) → block_in slot (page_for size page) ≡ option_and_then (block_in slot) page
   block_in-page_for None size slot = none_at (slots_in size) slot
   block_in-page_for (Some page) size slot = refl
 

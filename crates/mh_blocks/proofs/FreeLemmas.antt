@@ -13,7 +13,7 @@ if_some (Some x) P each = each x refl
 pub at_some : {A : Type 0} (content : Option A) (P : A → Type 0) (x : A) → content ≡ Some x → P x → IfSome content P
 at_some content P x is here = if_some content P (λ y other. subst P (same_Some x y (sym is ∙ other)) here)
 
-of_some : {A : Type 0} (content : Option A) (P : A → Type 0) (x : A) → content ≡ Some x → IfSome content P → P x
+pub of_some : {A : Type 0} (content : Option A) (P : A → Type 0) (x : A) → content ≡ Some x → IfSome content P → P x
 of_some {A = A} content P x is all = let Q = λ (c : Option A). IfSome c P in subst Q is all
 
 -- a place that is free above for the class, if there is one, is free for it below

@@ -1,6 +1,8 @@
 pub mod TableMapLemmas
 pub mod PageMapLemmas
 pub mod ChangeLemmas
+pub mod CountLemmas
+pub mod CountedLemmas
 pub mod BlockLemmas
 pub mod ReadLemmas
 pub mod WriteLemmas
@@ -8,3 +10,4 @@ pub mod PackedLemmas
 pub mod FreeLemmas
 pub mod MadeLemmas
 pub mod MovedLemmas
+pub mod InvariantLemmas

@@ -1,4 +1,5 @@
 pub mod TableMaps
 pub mod Words
 pub mod Packed
+pub mod Counted
 pub mod Headers

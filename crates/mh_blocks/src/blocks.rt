@@ -1,8 +1,9 @@
-ghost use Rattle.std.specs.Prelude.{◌≡◌, ◌<◌, ◌≤◌, ◌^◌, IsSome, IfSome, IfOk, OnErr, Some, None, true, false, length, set, replicate, is_some};
+ghost use Rattle.std.specs.Prelude.{◌≡◌, ◌<◌, ◌≤◌, ◌^◌, IsSome, IfSome, IfOk, OnErr, Some, None, true, false, length, set, replicate, filter, is_some};
 ghost use Rattle.mh_model.specs.Classes.{class_of, part_words};
 ghost use Rattle.mh_model.specs.Pages.{page_number, page_at, block_at, Leads, class_at, flag_at, count_at, has_denser, least_place, least_dense_place, free_pages, with_taken, with_released, with_flag, HaveTheirSlots, IsFreeFor};
-ghost use Rattle.mh_model.specs.Table.{references_at, reference_at, with_reference_at, numbers_at, number_at, with_number_at, stamp_at, with_stamp_at, forward_at, resolve, target_of, new_block, made_part};
+ghost use Rattle.mh_model.specs.Table.{references_at, reference_at, with_reference_at, numbers_at, number_at, with_number_at, stamp_at, with_stamp_at, forward_at, resolve, target_of, new_block, made_part, is_forwarder};
 ghost use Rattle.mh_model.specs.Collector.{moved_table};
+ghost use Rattle.mh_model.specs.Machine.{blocks_of};
 ghost use Rattle.mh_pages.specs.Addresses.{address_in};
 
 use crate::packing::{
@@ -24,23 +25,25 @@ use std::marker::Model;
 #[derive(Clone, Copy, Debug, PartialEq, Eq)]
 pub struct Full;
 
-/// The table of blocks.
+/// The table of blocks, with how many there are and how many of them are forwarders.
 #[derive(Drop)]
 pub struct Blocks {
     pages: Pages,
+    block_count: u64,
+    forwarder_count: u64,
 }
 
 impl Model for Blocks {
     ghost use Rattle.mh_model.specs.Pages.{Table};
     ghost use Rattle.mh_model.specs.Table.{Block};
     ghost use Rattle.mh_blocks.specs.Words.{blocks_of};
-    ghost use Rattle.mh_blocks.specs.Packed.{ArePacked};
+    ghost use Rattle.mh_blocks.specs.Counted.{AreCounted};
 
     ghost Value = { Table Block };
 
     ghost view = { λ blocks. blocks_of blocks.pages };
 
-    ghost invariant = { λ blocks. ArePacked blocks.pages };
+    ghost invariant = { λ blocks. AreCounted blocks.pages blocks.block_count blocks.forwarder_count };
 }
 
 /// Pages and places.
@@ -51,7 +54,11 @@ impl Blocks {
         ensures { IfOk result (λ opened. opened ≡ replicate pages None) }
     {
         let pages = Pages::open(alloc, pages)?;
-        Ok(Blocks { pages })
+        Ok(Blocks {
+            pages,
+            block_count: 0,
+            forwarder_count: 0,
+        })
     }
 
     /// How many pages there are.
@@ -68,6 +75,20 @@ impl Blocks {
         ensures { result ≡ free_pages self.now }
     {
         self.pages.free_pages()
+    }
+
+    /// How many blocks there are, forwarders among them.
+    pub fn block_count(&self) -> u64
+        ensures { result ≡ length (blocks_of self.now) }
+    {
+        self.block_count
+    }
+
+    /// How many forwarders there are.
+    pub fn forwarder_count(&self) -> u64
+        ensures { result ≡ length (filter is_forwarder (blocks_of self.now)) }
+    {
+        self.forwarder_count
     }
 
     /// The class of a page in use.
@@ -169,9 +190,12 @@ impl Blocks {
         requires index { index < 3661 }
         ensures { IfSome (class_of (part_words part)) (λ size. self.new ≡ with_taken self.old size place (new_block birth stamp index part)) }
     {
+        // Its contract bounds how many blocks there are.
+        let _ = self.len();
         self.pages.take(part.class(), place);
         let header = new_header(birth, stamp, index, part.header());
         self.pages.set_header(place, header);
+        self.block_count += 1;
     }
 
     /// Puts a part, as it is born, at the least place of its class.
@@ -203,7 +227,10 @@ impl Blocks {
         requires alone { frees_page ≡ true → count_at self.old (page_number place) ≡ 1 }
         ensures { self.new ≡ with_released self.old place frees_page }
     {
+        let is_forwarder = self.forward(place).is_some();
         self.pages.release(place, frees_page);
+        self.block_count -= 1;
+        self.forwarder_count -= u64::from(is_forwarder);
     }
 
     /// Moves a block to a free place of its class, and leaves a forwarder.
@@ -213,11 +240,15 @@ impl Blocks {
         requires free { IfSome (class_at self.old (page_number place)) (λ size. IsFreeFor self.old size to) }
         ensures { IfSome (block_at self.old place) (λ block. IfSome (class_at self.old (page_number place)) (λ size. self.new ≡ moved_table self.old place (record { block = block; class_size = size; target = to }))) }
     {
+        // Its contract bounds how many blocks there are.
+        let _ = self.len();
         let class = self.pages.class_at(place.page()).unwrap();
         self.pages.take_copy(class, to, place);
         let address = self.pages.address(place);
         self.pages
             .set_word_from(address, FORWARD, place_word(Some(to)));
+        self.block_count += 1;
+        self.forwarder_count += 1;
     }
 }
 

@@ -277,6 +277,8 @@ fn stores_loads_and_moves(rt: HostRuntime) -> Result<(), Fail> {
     assert_eq!(rt; number(&blocks, THIRD), Some(7));
     assert_eq!(rt; reference(&blocks, FIRST), Some(SECOND));
     assert_eq!(rt; load(&blocks, FIRST), Some(THIRD));
+    assert_eq!(rt; blocks.block_count(), 3);
+    assert_eq!(rt; blocks.forwarder_count(), 1);
     Ok(())
 }
 

@@ -2,5 +2,3 @@ pub mod FieldLemmas
 pub mod KeptLemmas
 pub mod MadeLemmas
 pub mod StepLemmas
-pub mod TableLemmas
-pub mod TallyLemmas

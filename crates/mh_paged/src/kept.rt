@@ -12,7 +12,7 @@ ghost use Rattle.mh_model.specs.declared.reply.Refusal.TheVariants.{BadSlot, Nul
 ghost use Rattle.mh_heap.specs.Checks.{tested};
 ghost use Rattle.mh_paged.specs.Told.{IsTold};
 
-use crate::lent::{dump_table, free_pages, root, shape_of, tally_of};
+use crate::lent::{dump_table, forwarder_count, free_pages, live_count, root, shape_of};
 use mh_classes::parts::{Parts, parts};
 use mh_cycle::cycle::Cycle;
 use mh_groups::group::PartPlaces;
@@ -185,11 +185,10 @@ impl KeptHeap {
     pub fn stat(&self) -> Reply
         ensures { result ≡ stat_reply self.now.collector }
     {
-        let count = tally_of(&self.cycle);
         Reply::Stat {
             free: free_pages(&self.cycle) as u64,
-            live: count.live,
-            old: count.old,
+            live: live_count(&self.cycle),
+            old: forwarder_count(&self.cycle),
             phase: self.cycle.phase(),
             cycle: self.cycle.cycle_number(),
         }

@@ -1,15 +1,14 @@
 //! What commands do with the table and the roots that the collector lends: each function opens it once.
-ghost use Rattle.std.specs.Prelude.{◌≡◌, ◌^◌, ◌<◌, ◌≤◌, ◌+◌, Some, None, IsSome, IfOk, OnErr, get_or, length, option_map};
+ghost use Rattle.std.specs.Prelude.{◌≡◌, ◌^◌, ◌<◌, ◌≤◌, ◌+◌, Some, None, IsSome, IfOk, OnErr, get_or, length, option_map, filter, not};
 ghost use Rattle.mh_model.specs.Classes.{parts};
 ghost use Rattle.mh_model.specs.Pages.{block_at, free_pages, Leads};
-ghost use Rattle.mh_model.specs.Table.{references_at, numbers_at, forward_at, position_of, reference_in, loaded_reference, number_index, number_in, made_group};
+ghost use Rattle.mh_model.specs.Table.{references_at, numbers_at, forward_at, position_of, reference_in, loaded_reference, number_index, number_in, made_group, is_forwarder};
 ghost use Rattle.mh_model.specs.Machine.{blocks_of, dump_pages};
 ghost use Rattle.mh_model.specs.Mutator.{with_root, with_reference_stored, with_number_stored, with_roots_cleared};
 ghost use Rattle.mh_model.specs.Invariant.{IsFindable, IsSteady};
 ghost use Rattle.mh_cycle.specs.State.{with_collector};
-ghost use Rattle.mh_paged.specs.Tally.{live_count, old_count};
 
-use crate::table::{Tally, count_blocks, dump};
+use crate::table::dump;
 use mh_blocks::blocks::Full;
 use mh_classes::parts::Parts;
 use mh_cycle::cycle::Cycle;
@@ -134,12 +133,18 @@ pub(crate) fn clear_roots(cycle: &mut Cycle, first: usize)
     }
 }
 
-/// How many blocks the table has.
-pub(crate) fn tally_of(cycle: &Cycle) -> Tally
-    ensures live { result.live ≡ live_count (blocks_of cycle.now.collector.table) }
-    ensures old { result.old ≡ old_count (blocks_of cycle.now.collector.table) }
+/// How many blocks aren't forwarders.
+pub(crate) fn live_count(cycle: &Cycle) -> u64
+    ensures { result ≡ length (filter (λ block. not (is_forwarder block)) (blocks_of cycle.now.collector.table)) }
 {
-    count_blocks(&cycle.blocks)
+    cycle.blocks.block_count() - cycle.blocks.forwarder_count()
+}
+
+/// How many forwarders there are.
+pub(crate) fn forwarder_count(cycle: &Cycle) -> u64
+    ensures { result ≡ length (filter is_forwarder (blocks_of cycle.now.collector.table)) }
+{
+    cycle.blocks.forwarder_count()
 }
 
 /// How many pages are free.

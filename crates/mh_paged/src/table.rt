@@ -1,9 +1,8 @@
-//! What is in the table: how many blocks, and all of them in order.
-ghost use Rattle.std.specs.Prelude.{◌≡◌, ◌<◌, ◌≤◌, ◌++◌, IsSome, IfSome, IfOk, Some, is_some, length};
+//! The blocks of the table in order.
+ghost use Rattle.std.specs.Prelude.{◌≡◌, ◌<◌, ◌++◌, IsSome, IfSome, IfOk, Some, length};
 ghost use Rattle.mh_model.specs.Pages.{slot_number, page_at, block_at, class_at, HaveTheirSlots};
-ghost use Rattle.mh_model.specs.Table.{forward_at};
-ghost use Rattle.mh_model.specs.Machine.{blocks_in, blocks_of, dump_block, dump_slots, dump_pages};
-ghost use Rattle.mh_paged.specs.Tally.{slots_at, old_count, live_count, page_items};
+ghost use Rattle.mh_model.specs.Machine.{dump_block, dump_slots, dump_pages};
+ghost use Rattle.mh_paged.specs.Dumped.{slots_at, page_items};
 
 use mh_blocks::blocks::Blocks;
 use mh_classes::class::Class;
@@ -14,55 +13,6 @@ use std::alloc::Global;
 
 /// How many places each page has, whatever its class.
 const PLACES: usize = 64;
-
-/// How many blocks the table has that aren't forwarders, and how many that are.
-#[derive(Clone, Copy, Debug, PartialEq, Eq)]
-pub(crate) struct Tally {
-    pub(crate) live: u64,
-    pub(crate) old: u64,
-}
-
-/// Whether a forwarder is at a place.
-fn is_old(blocks: &Blocks, place: Place) -> bool
-    ensures { result ≡ is_some (forward_at blocks.now place) }
-{
-    blocks.is_taken(place) && blocks.forward(place).is_some()
-}
-
-/// How many forwarders a page in use has.
-fn old_in(blocks: &Blocks, page: usize, class: Class) -> u64
-    requires class { class_at blocks.now page ≡ Some class }
-    requires few { page < 4096 }
-    requires slots { HaveTheirSlots blocks.now }
-    ensures count { result ≡ old_count (blocks_in (slots_at blocks.now page)) }
-    ensures few { result ≤ 64 }
-{
-    let mut old = 0;
-    for slot in 0..class.slots() {
-        let place = Place(PLACES * page + slot);
-        old += u64::from(is_old(blocks, place));
-    }
-    old
-}
-
-/// Counts the blocks of the table.
-pub(crate) fn count_blocks(blocks: &Blocks) -> Tally
-    ensures live { result.live ≡ live_count (blocks_of blocks.now) }
-    ensures old { result.old ≡ old_count (blocks_of blocks.now) }
-{
-    let mut all = 0;
-    let mut old = 0;
-    for page in 0..blocks.len() {
-        if let Some(class) = blocks.class_at(page) {
-            all += blocks.live_in(page) as u64;
-            old += old_in(blocks, page, class);
-        }
-    }
-    Tally {
-        live: all - old,
-        old,
-    }
-}
 
 /// What a dump says of the block at a place.
 fn block_item(blocks: &Blocks, place: Place) -> DumpItem

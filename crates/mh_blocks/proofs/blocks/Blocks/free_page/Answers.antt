@@ -1,7 +1,7 @@
 use Rattle.std.proofs.Common.{◌∙◌, sym}
 use Rattle.mh_blocks.proofs.TableMapLemmas.{freed-table_map}
 use Rattle.mh_blocks.proofs.PageMapLemmas.{is_used-table_map, count_at-table_map}
-use Rattle.mh_blocks.proofs.PackedLemmas.{freed_packed}
+use Rattle.mh_blocks.proofs.InvariantLemmas.{freed_counted}
 use Rattle.mh_blocks.specs.Words.{block_of}
 use Rattle.mh_blocks.proofs.blocks.Blocks.free_page.Goals as goal
 
@@ -12,7 +12,7 @@ pub free_page-requires-clause-empty : goal.free_page-requires-clause-empty
 free_page-requires-clause-empty c = let empty = rw (← c.self.view_is) at c.requires.empty in sym (count_at-table_map block_of c.self.inside.pages _) ∙ empty
 
 pub invariant_of-self : goal.invariant_of-self
-invariant_of-self c = rw c.free_page.ensures (freed_packed _ _ c.self.invariant)
+invariant_of-self c = let empty = rw (← c.self.view_is) at c.requires.empty in rw c.free_page.ensures (freed_counted _ _ _ _ empty c.self.invariant)
 
 pub returns : goal.returns
 returns c = rw (c.free_page.ensures, ← c.self.view_is) (freed-table_map block_of c.self.inside.pages _)

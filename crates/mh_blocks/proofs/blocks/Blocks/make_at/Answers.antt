@@ -1,8 +1,10 @@
-use Rattle.std.proofs.Common.{ap, is_some}
+use Rattle.std.proofs.Common.{ap, is_some, refl, arith}
 use Rattle.mh_model.specs.Classes.{class_of, part_words}
 use Rattle.mh_blocks.proofs.ChangeLemmas.{block_at-taken}
 use Rattle.mh_blocks.proofs.FreeLemmas.{free_for_class}
 use Rattle.mh_blocks.proofs.MadeLemmas.{made_at}
+use Rattle.mh_blocks.proofs.CountedLemmas.{few_counts}
+use Rattle.mh_blocks.proofs.InvariantLemmas.{made_counted}
 use Rattle.mh_blocks.proofs.blocks.Blocks.make_at.Goals as goal
 
 pub take-requires : goal.take-requires
@@ -13,14 +15,21 @@ set_header-requires c =
     let free = free_for_class c.self.inside.pages _ (class_of (part_words c.args.part)) _ _ c.self.view_is c.requires.free c.class.ensures.class in
     rw c.take.ensures (ap is_some (block_at-taken c.self.inside.pages _ _ _ free))
 
+pub overflow_add-self : goal.overflow_add-self
+overflow_add-self c =
+    let slots = rw (← c.self.view_is) at c.len.ensures.slots in
+    let count = rw (← c.self.view_is) at c.len.ensures.count in
+    omega (arith, (few_counts _ _ _ slots (omega (arith, count, c.len.ensures.few)) c.self.invariant.counts).0)
+
 pub invariant_of-self : goal.invariant_of-self
 invariant_of-self c =
     let free = free_for_class c.self.inside.pages _ (class_of (part_words c.args.part)) _ _ c.self.view_is c.requires.free c.class.ensures.class in
     let new = rw c.header.ensures at c.new_header-header.ensures in
-    rw (c.set_header.ensures, c.take.ensures) (made_at _ _ _ _ _ _ _ _ _ c.self.view_is c.self.invariant free c.class.ensures.class c.class.ensures.packed new).packed
+    let made = made_at c.self.inside.pages _ _ _ _ _ _ _ _ refl c.self.invariant.packed free c.class.ensures.class c.class.ensures.packed new in
+    rw (c.set_header.ensures, c.take.ensures) (made_counted _ _ _ _ _ _ _ _ _ _ free c.class.ensures.class made c.self.invariant)
 
 pub returns : goal.returns
 returns c =
     let free = free_for_class c.self.inside.pages _ (class_of (part_words c.args.part)) _ _ c.self.view_is c.requires.free c.class.ensures.class in
     let new = rw c.header.ensures at c.new_header-header.ensures in
-    rw (c.set_header.ensures, c.take.ensures) (made_at _ _ _ _ _ _ _ _ _ c.self.view_is c.self.invariant free c.class.ensures.class c.class.ensures.packed new).made
+    rw (c.set_header.ensures, c.take.ensures) (made_at _ _ _ _ _ _ _ _ _ c.self.view_is c.self.invariant.packed free c.class.ensures.class c.class.ensures.packed new).made

@@ -1,10 +1,11 @@
 use Rattle.std.proofs.Common.{◌∙◌, ap}
-use Rattle.mh_blocks.proofs.PackedLemmas.{empty_packed, empty_blocks}
+use Rattle.mh_blocks.proofs.PackedLemmas.{empty_blocks}
+use Rattle.mh_blocks.proofs.InvariantLemmas.{empty_counted}
 use Rattle.mh_blocks.specs.Words.{blocks_of}
 use Rattle.mh_blocks.proofs.blocks.Blocks.open.Goals as goal
 
 pub invariant_of-result : goal.invariant_of-result
-invariant_of-result c = rw (c.in_ok-pages.ensures {u = tt}) (empty_packed _ c.requires)
+invariant_of-result c = rw (c.in_ok-pages.ensures {u = tt}) (empty_counted _ c.requires)
 
 pub returns : goal.returns
 returns c = ap blocks_of (c.in_ok-pages.ensures {u = tt}) ∙ empty_blocks _

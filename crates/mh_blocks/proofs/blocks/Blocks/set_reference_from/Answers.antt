@@ -1,6 +1,6 @@
 use Rattle.std.proofs.Common.{◌∙◌, arith}
 use Rattle.mh_blocks.proofs.PageMapLemmas.{address_in-table_map}
-use Rattle.mh_blocks.proofs.PackedLemmas.{word_packed}
+use Rattle.mh_blocks.proofs.InvariantLemmas.{reference_counted}
 use Rattle.mh_blocks.proofs.ReadLemmas.{has_reference, reference_within, small_target}
 use Rattle.mh_blocks.proofs.WriteLemmas.{with_word-reference}
 use Rattle.mh_blocks.specs.Words.{block_of}
@@ -9,10 +9,10 @@ use Rattle.mh_blocks.proofs.blocks.Blocks.set_reference_from.Goals as goal
 pub overflow_add-index : goal.overflow_add-index
 overflow_add-index c =
     let there = rw (← c.self.view_is) at c.requires.there in
-    omega (arith, reference_within _ _ _ (has_reference _ _ _ c.self.invariant there))
+    omega (arith, reference_within _ _ _ (has_reference _ _ _ c.self.invariant.packed there))
 
 pub place_word-requires : goal.place_word-requires
-place_word-requires c = let leads = rw (← c.self.view_is) at c.requires.leads in small_target _ _ c.self.invariant leads
+place_word-requires c = let leads = rw (← c.self.view_is) at c.requires.leads in small_target _ _ c.self.invariant.packed leads
 
 pub set_word_from-requires-clause-at : goal.set_word_from-requires-clause-at
 set_word_from-requires-clause-at c = let at = rw (← c.self.view_is) at c.requires.at in at ∙ address_in-table_map block_of c.self.inside.pages _
@@ -20,12 +20,14 @@ set_word_from-requires-clause-at c = let at = rw (← c.self.view_is) at c.requi
 pub set_word_from-requires-clause-within : goal.set_word_from-requires-clause-within
 set_word_from-requires-clause-within c =
     let there = rw (← c.self.view_is) at c.requires.there in
-    (reference_within _ _ _ (has_reference _ _ _ c.self.invariant there)).0
+    (reference_within _ _ _ (has_reference _ _ _ c.self.invariant.packed there)).0
 
 pub invariant_of-self : goal.invariant_of-self
-invariant_of-self c = rw c.set_word_from.ensures (word_packed _ _ _ _ (omega arith) c.self.invariant)
+invariant_of-self c =
+    let there = rw (← c.self.view_is) at c.requires.there in
+    rw c.set_word_from.ensures (reference_counted _ _ _ _ _ _ (has_reference _ _ _ c.self.invariant.packed there) c.self.invariant)
 
 pub returns : goal.returns
 returns c =
     let there = rw (← c.self.view_is) at c.requires.there in
-    rw (c.set_word_from.ensures, ← c.self.view_is) (with_word-reference _ _ _ _ _ (has_reference _ _ _ c.self.invariant there) c.place_word.ensures)
+    rw (c.set_word_from.ensures, ← c.self.view_is) (with_word-reference _ _ _ _ _ (has_reference _ _ _ c.self.invariant.packed there) c.place_word.ensures)

@@ -1,6 +1,6 @@
 use Rattle.std.proofs.Common.{◌∙◌, arith}
 use Rattle.mh_blocks.proofs.PageMapLemmas.{address_in-table_map}
-use Rattle.mh_blocks.proofs.PackedLemmas.{word_packed}
+use Rattle.mh_blocks.proofs.InvariantLemmas.{stamp_counted}
 use Rattle.mh_blocks.proofs.ReadLemmas.{words_there, header_within}
 use Rattle.mh_blocks.proofs.WriteLemmas.{with_word-stamp}
 use Rattle.mh_blocks.specs.Words.{block_of}
@@ -12,10 +12,10 @@ set_word_from-requires-clause-at c = let at = rw (← c.self.view_is) at c.requi
 pub set_word_from-requires-clause-within : goal.set_word_from-requires-clause-within
 set_word_from-requires-clause-within c =
     let there = rw (← c.self.view_is) at c.requires.there in
-    omega (arith, header_within _ _ (words_there _ _ c.self.invariant there))
+    omega (arith, header_within _ _ (words_there _ _ c.self.invariant.packed there))
 
 pub invariant_of-self : goal.invariant_of-self
-invariant_of-self c = rw c.set_word_from.ensures (word_packed _ _ _ _ (omega arith) c.self.invariant)
+invariant_of-self c = let there = rw (← c.self.view_is) at c.requires.there in rw c.set_word_from.ensures (stamp_counted _ _ _ _ _ there c.self.invariant)
 
 pub returns : goal.returns
-returns c = rw (c.set_word_from.ensures, ← c.self.view_is) (with_word-stamp _ _ _ c.self.invariant)
+returns c = rw (c.set_word_from.ensures, ← c.self.view_is) (with_word-stamp _ _ _ c.self.invariant.packed)

@@ -1,7 +1,7 @@
 use Rattle.std.proofs.Common.{◌∙◌, sym}
 use Rattle.mh_blocks.proofs.TableMapLemmas.{with_flag-table_map}
 use Rattle.mh_blocks.proofs.PageMapLemmas.{is_used-table_map}
-use Rattle.mh_blocks.proofs.PackedLemmas.{flagged_packed}
+use Rattle.mh_blocks.proofs.InvariantLemmas.{flagged_counted}
 use Rattle.mh_blocks.specs.Words.{block_of}
 use Rattle.mh_blocks.proofs.blocks.Blocks.unflag.Goals as goal
 
@@ -9,7 +9,7 @@ pub unflag-requires : goal.unflag-requires
 unflag-requires c = let used = rw (← c.self.view_is) at c.requires in sym (is_used-table_map block_of c.self.inside.pages _) ∙ used
 
 pub invariant_of-self : goal.invariant_of-self
-invariant_of-self c = rw c.unflag.ensures (flagged_packed _ _ _ c.self.invariant)
+invariant_of-self c = rw c.unflag.ensures (flagged_counted _ _ _ _ _ c.self.invariant)
 
 pub returns : goal.returns
 returns c = rw (c.unflag.ensures, ← c.self.view_is) (with_flag-table_map block_of c.self.inside.pages _ _)

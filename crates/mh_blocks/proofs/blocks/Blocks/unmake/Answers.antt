@@ -1,7 +1,9 @@
-use Rattle.std.proofs.Common.{◌∙◌, sym}
+use Rattle.std.proofs.Common.{◌∙◌, sym, ap, is_some}
+use mir.Val.{bool_byte}
 use Rattle.mh_blocks.proofs.TableMapLemmas.{with_released-table_map}
 use Rattle.mh_blocks.proofs.PageMapLemmas.{is_taken-table_map, count_at-table_map}
-use Rattle.mh_blocks.proofs.PackedLemmas.{released_packed}
+use Rattle.mh_blocks.proofs.CountedLemmas.{released_counts}
+use Rattle.mh_blocks.proofs.InvariantLemmas.{released_counted}
 use Rattle.mh_blocks.specs.Words.{block_of}
 use Rattle.mh_blocks.proofs.blocks.Blocks.unmake.Goals as goal
 
@@ -11,8 +13,25 @@ release-requires-clause-there c = let there = rw (← c.self.view_is) at c.requi
 pub release-requires-clause-alone : goal.release-requires-clause-alone
 release-requires-clause-alone c = λ frees. let alone = rw (← c.self.view_is) at (c.requires.alone frees) in sym (count_at-table_map block_of c.self.inside.pages _) ∙ alone
 
+pub overflow_sub-self : goal.overflow_sub-self
+overflow_sub-self c =
+    let there = rw (← c.self.view_is) at c.requires.there in
+    let released = released_counts _ c.args.place c.args.frees_page _ _ there (λ frees. rw (← c.self.view_is) at (c.requires.alone frees)) c.self.invariant.counts in
+    released.some
+
+pub overflow_sub-self-2 : goal.overflow_sub-self-2
+overflow_sub-self-2 c =
+    let there = rw (← c.self.view_is) at c.requires.there in
+    let released = released_counts _ c.args.place c.args.frees_page _ _ there (λ frees. rw (← c.self.view_is) at (c.requires.alone frees)) c.self.invariant.counts in
+    let old = rw (← c.self.view_is) at (c.from.ensures ∙ ap bool_byte (c.is_some-is_forwarder.ensures ∙ ap is_some c.forward.ensures)) in
+    rw old released.enough
+
 pub invariant_of-self : goal.invariant_of-self
-invariant_of-self c = rw c.release.ensures (released_packed _ _ _ c.self.invariant)
+invariant_of-self c =
+    let there = rw (← c.self.view_is) at c.requires.there in
+    let released = released_counts _ c.args.place c.args.frees_page _ _ there (λ frees. rw (← c.self.view_is) at (c.requires.alone frees)) c.self.invariant.counts in
+    let old = rw (← c.self.view_is) at (c.from.ensures ∙ ap bool_byte (c.is_some-is_forwarder.ensures ∙ ap is_some c.forward.ensures)) in
+    rw (c.release.ensures, old) (released_counted _ _ _ _ _ released c.self.invariant)
 
 pub returns : goal.returns
 returns c = rw (c.release.ensures, ← c.self.view_is) (with_released-table_map block_of c.self.inside.pages _ _)
