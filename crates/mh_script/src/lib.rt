@@ -1,6 +1,8 @@
 //! Runs over texts: the command line, scripts from their bytes to their replies, and the program.
 #![tactic(auto)]
 
+#[cfg(test)]
+mod collector_tests;
 pub mod end;
 pub mod fault;
 pub mod line;

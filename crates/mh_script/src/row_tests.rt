@@ -8,9 +8,9 @@ use std::process::Abort;
 use std::test::Fail;
 use std::thread::Threads;
 
-/// A script has this output and this exit status, also by a crew.
-fn check<R: Threads + Abort>(rt: &R, alloc: Global, script: &[u8], output: &[u8], wanted: u8) {
-    for workers in [1, 7] {
+/// A script has this output and this exit status, also by crews.
+pub fn check<R: Threads + Abort>(rt: &R, alloc: Global, script: &[u8], output: &[u8], wanted: u8) {
+    for workers in [1, 2, 7, 64] {
         let mut source = StdSource::new(script);
         let mut sink = StdSink::new(Vec::new(alloc));
         let ended = run_script(rt, alloc, &mut source, &mut sink, workers, &Open);
