@@ -1,11 +1,10 @@
 -- Where all logs have come to one seat, the value is at home and each log is what its seat owns.
-use Rattle.std.proofs.Common.{arith, ◌≡◌, ◌≢◌, ℕ, zero, suc, ◌+◌, ◌<◌, ◌==◌, cond, All, Some, None, List, [], ◌∷◌, ◌++◌, length, get_or, set, map, count_by, sym, refl, ap, ◌∙◌, subst, ⊎_elim}
-use Rattle.std.proofs.lemmas.List.{length-map}
+use Rattle.std.proofs.Common.{arith, ◌≡◌, ◌≢◌, ℕ, zero, suc, ◌<◌, ◌==◌, cond, All, None, List, [], ◌∷◌, ◌++◌, length, get_or, set, map, count_by, sym, refl, ap, ◌∙◌, subst, ⊎_elim}
 use Rattle.std.proofs.lemmas.List.Sums.{sum_by-cons}
 use mathlib.Core.Option.{some, some-injective}
 use lib.ListN.{get_elem?}
 use Rattle.atomic_table.specs.Table.{State, Seen}
-use Rattle.mh_model.specs.History.{LockState, owned_by, IsAtHome, IsOut, IsKeptBy}
+use Rattle.mh_model.specs.History.{LockState, owned_by, IsAtHome, IsOut}
 use Rattle.mh_seat_laws.specs.Weights.{weigh_below, total}
 use Rattle.mh_seat_laws.specs.Lock.{Logs, weigh_numbers, StandIn, Fits, AllOwned, HasHome, HasHolder, IsLocked, Shows}
 use Rattle.mh_seat_laws.specs.declared.seat_view.SeatView.{SeatView}

@@ -1,15 +1,14 @@
 -- Each step at the word of the lock keeps its rule.
-use Rattle.std.proofs.Common.{arith, ◌≡◌, ◌≢◌, inl, inr, ℕ, zero, suc, ◌+◌, ◌<◌, ◌≤◌, cond, eqb, List, [], ◌∷◌, ◌++◌, length, get_or, set, take, drop, Some, None, sym, refl, ap, ◌∙◌, subst, length-set, get_or-set_same, eq-eqb, ne_eqb, append-nil, ⊎_elim, Result, Ok, Err, IfOk, OnErr, Bool, true, false, All}
+use Rattle.std.proofs.Common.{arith, ◌≡◌, ◌≢◌, inl, inr, ℕ, zero, suc, ◌<◌, cond, eqb, List, [], ◌∷◌, ◌++◌, length, get_or, set, take, drop, Some, None, sym, refl, ap, ◌∙◌, subst, length-set, get_or-set_same, eq-eqb, ne_eqb, append-nil, ⊎_elim, Result, Ok, Err, IfOk, OnErr, Bool, true, false}
 use mathlib.Core.Logic.{dite}
 use native.Mathlib.Decide.{ℕ_discrete}
 use mathlib.Core.Option.{none, some, some-injective, some-ne-none}
 use lib.ListN.{get_elem?}
 use prog.Atomic.{either}
 use Rattle.std.proofs.lemmas.List.Elements.{filter-append, All-nil, All-push}
-use Rattle.atomic_table.specs.Table.{State, Me, step, keeps, takes, gives, opening, stepped, Allows, Splits, Joins}
+use Rattle.atomic_table.specs.Table.{State, step, keeps, takes, gives, opening, stepped, Allows, Splits, Joins}
 use Rattle.atomic_table.proofs.Lists.{at_set, at_snoc, set_again, set_here, set_else, at_longer}
 use Rattle.mh_model.specs.History.{owned_by}
-use Rattle.mh_seat_laws.specs.Weights.{weigh_below, total}
 use Rattle.mh_seat_laws.specs.Lock.{Logs, weigh_numbers, Fits, AllFit, AllOwned, HasHome, HasHolder, IsLocked}
 use Rattle.mh_seat_laws.specs.declared.seat_view.SeatView.{SeatView}
 use Rattle.mh_seat_laws.proofs.TotalLemmas.{total-set, total-append_one}

@@ -4,3 +4,5 @@
 pub mod entries;
 pub mod lock;
 pub mod seat;
+#[cfg(test)]
+mod tests;

@@ -1,4 +1,4 @@
-use Rattle.std.proofs.Common.{◌≡◌, ℕ, List, ap, sym, ◌∙◌, subst}
+use Rattle.std.proofs.Common.{◌≡◌, ℕ, ap, sym, ◌∙◌, subst}
 use Rattle.mh_lock.specs.Steps.{number_in, log_in, held, holding, Grows}
 use Rattle.mh_lock.proofs.LockSteps.{answer-grows}
 use Rattle.mh_lock.proofs.LockSeats.{held-grown}

@@ -1,10 +1,9 @@
-use Rattle.std.proofs.Common.{arith, ◌≡◌, ℕ, ◌∷◌, ◌++◌, [], Some, None, append-nil, ap, ◌∙◌, sym, subst}
+use Rattle.std.proofs.Common.{arith, ◌≡◌, ℕ, ◌∷◌, ◌++◌, [], Some, append-nil, ap, ◌∙◌, sym, subst}
 use Rattle.std.proofs.lemmas.List.Elements.{All-pop}
 use Rattle.std.proofs.lemmas.List.{nil_from_length}
 use mathlib.Core.Option.{some-injective}
-use Rattle.atomic_table.specs.Table.{Me, Seen}
+use Rattle.atomic_table.specs.Table.{Seen}
 use Rattle.mh_seat_laws.specs.Lock.{IsLocked}
-use Rattle.mh_seat_laws.specs.declared.seat_view.SeatView.{SeatView}
 use Rattle.mh_lock.specs.Seats.{LockSeatView, IsOf}
 use Rattle.mh_lock.specs.Steps.{alone}
 use Rattle.mh_lock.proofs.LockSteps.{join-kept}
