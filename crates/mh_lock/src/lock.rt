@@ -143,14 +143,15 @@ impl<T: Entries<E> + Drop, E: Owned> Lock<T, E> {
         false
     }
 
-    // Until the value is given back, or for no reason less long.
+    // Sleeps until a wake, unless the word is 0 again. It may also return for no reason.
     fn sleep<R: Wait>(&self, rt: &R) {
         self.sleepers.fetch_add(1, SeqCst);
         self.table.shared.park(rt, 0, 1);
         self.sleepers.fetch_sub(1, SeqCst);
     }
 
-    // A thread counts itself before the kernel looks at the word, which is 0 by now: none that is not seen here sleeps.
+    // The word is 0 by now. A thread is counted before it looks at the word for the last time, so one that isn't counted
+    // yet finds 0 and doesn't sleep.
     fn wake(&self) {
         if self.sleepers.load(SeqCst) != 0 {
             self.table.shared.wake_one(0);
