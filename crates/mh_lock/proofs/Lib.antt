@@ -1,0 +1,4 @@
+pub mod SeatNumbers
+pub mod LockSteps
+pub mod LockSeats
+pub mod ClosedLocks

@@ -1,0 +1,305 @@
+-- Each step at the word of the lock keeps its rule.
+use Rattle.std.proofs.Common.{arith, ◌≡◌, ◌≢◌, inl, inr, ℕ, zero, suc, ◌<◌, cond, eqb, List, [], ◌∷◌, ◌++◌, length, get_or, set, take, drop, Some, None, sym, refl, ap, ◌∙◌, subst, length-set, get_or-set_same, eq-eqb, ne_eqb, append-nil, ⊎_elim, Result, Ok, Err, IfOk, OnErr, Bool, true, false}
+use mathlib.Core.Logic.{dite}
+use native.Mathlib.Decide.{ℕ_discrete}
+use mathlib.Core.Option.{none, some, some-injective, some-ne-none}
+use lib.ListN.{get_elem?}
+use prog.Atomic.{either}
+use Rattle.std.proofs.lemmas.List.Elements.{filter-append, All-nil, All-push}
+use Rattle.atomic_table.specs.Table.{State, step, keeps, takes, gives, opening, stepped, Allows, Splits, Joins}
+use Rattle.atomic_table.proofs.Lists.{at_set, at_snoc, set_again, set_here, set_else, at_longer}
+use Rattle.mh_model.specs.History.{owned_by}
+use Rattle.mh_seat_laws.specs.Lock.{Logs, weigh_numbers, Fits, AllFit, AllOwned, HasHome, HasHolder, IsLocked}
+use Rattle.mh_seat_laws.specs.declared.seat_view.SeatView.{SeatView}
+use Rattle.mh_seat_laws.proofs.TotalLemmas.{total-set, total-append_one}
+use Rattle.mh_lock.specs.Steps.{seat_view, empty_logs, all_seats, alone, holding, Grows, Takes, Gives}
+use Rattle.mh_lock.proofs.SeatNumbers.{part-of_total, two_parts-of_total, is, is-same, none-above, at_most-one, weigh-append, weigh-cut, weigh-all}
+
+set-there : {A : Type 0} (l : List A) (i : ℕ) (v w : A) → get_elem? l i ≡ some v → get_elem? (set l i w) i ≡ some w
+set-there [] i v w there = absurd (some-ne-none v (sym there))
+set-there (x ∷ xs) zero v w there = refl
+set-there (x ∷ xs) (suc i) v w there = set-there xs i v w there
+
+set-first : (l : List ℕ) (x : ℕ) → length l ≡ 1 → x ≡ get_or l 0 0 → set l 0 x ≡ l
+set-first [] x one same = absurd (omega arith)
+set-first (y ∷ ys) x one same = ap (λ (z : ℕ). z ∷ ys) same
+
+-- What a seat owns of a history that grows -------------------------------------------------------
+
+module _ {E : Type 0} (owner : E → ℕ) where
+  owned-append_one : (seat : ℕ) (history : List E) (entry : E) → owned_by owner seat (history ++ entry ∷ []) ≡ owned_by owner seat history ++ owned_by owner seat (entry ∷ [])
+  owned-append_one seat history entry = filter-append (λ e. eqb (owner e) seat) history (entry ∷ [])
+
+  owned-other : (other seat : ℕ) (before after : List E) → other ≢ seat → Grows owner seat before after → owned_by owner other after ≡ owned_by owner other before
+  owned-other other seat before after apart (inl same) = ap (owned_by owner other) same
+  owned-other other seat before after apart (inr more) = let no : eqb (owner more.0) other ≡ false = ne_eqb (owner more.0) other (λ same. apart (sym same ∙ more.1)) in
+      ap (owned_by owner other) more.2
+      ∙ (owned-append_one other before more.0 ∙ (ap (λ (b : Bool). owned_by owner other before ++ cond b (more.0 ∷ []) []) no ∙ append-nil (owned_by owner other before)))
+
+  fits-other : (seat : ℕ) (before after : List E) (logs : Logs E) → weigh_numbers (is seat) logs ≡ 0 → Grows owner seat before after → Fits owner before logs → Fits owner after logs
+  fits-other seat before after [] without grows fits = tt
+  fits-other seat before after (l ∷ ls) without grows fits =
+      let apart : l.0 ≢ seat = λ same. absurd (omega (arith, is-same seat l.0 same)) in
+      (fits.0 ∙ sym (owned-other l.0 seat before after apart grows), fits-other seat before after ls (omega arith) grows fits.1)
+
+  all_owned-grows : (seat seats : ℕ) (before after : List E) → seat < seats → Grows owner seat before after → AllOwned owner seats before → AllOwned owner seats after
+  all_owned-grows seat seats before after low (inl same) all = subst (AllOwned owner seats) (sym same) all
+  all_owned-grows seat seats before after low (inr more) all =
+      subst (AllOwned owner seats) (sym more.2) (All-push (λ e. owner e < seats) before more.0 all (subst (λ (k : ℕ). k < seats) (sym more.1) low))
+
+  -- what a call leaves of the history
+  pub answer-grows : {R S : Type 0} (seat : ℕ) (before after : List E) (answer : Result R S) (entry : R → E) → IfOk answer (λ r. after ≡ before ++ entry r ∷ []) → OnErr answer (after ≡ before)
+      → ((r : R) → owner (entry r) ≡ seat) → Grows owner seat before after
+  answer-grows seat before after (Ok r) entry ok err mine = inr (entry r, mine r, ok)
+  answer-grows seat before after (Err s) entry ok err mine = inl err
+
+module _ {T E : Type 0} (owner : E → ℕ) (entries : T → List E) (seats : ℕ) where
+  abbrev Kept : State T (SeatView E) → Type 0
+  Kept = IsLocked owner entries seats
+
+  -- Taking the value -----------------------------------------------------------------------------
+
+  -- the seat takes the value that is at home
+  taken : (table : State T (SeatView E)) → Kept table → (id number : ℕ) (log : List E) → get_elem? table.views id ≡ some (seat_view ((number, log) ∷ []) None) → (home : HasHome owner entries seats table)
+      → Kept (stepped table 0 1 id [] (seat_view ((number, log) ∷ []) (Some (entries home.value))) (takes 0 home.value))
+  taken table rule id number log there home =
+      let before : SeatView E = seat_view ((number, log) ∷ []) None in
+      let after : SeatView E = seat_view ((number, log) ∷ []) (Some (entries home.value)) in record {
+        words = length-set table.words 0 1 ∙ rule.words;
+        slots = length-set table.homes 0 none ∙ rule.slots;
+        numbers = λ h. omega (arith, total-set (λ view. weigh_numbers h view.logs) table.views id before after there, rule.numbers h);
+        place = inr record {
+          word = get_or-set_same table.words 0 1 0 (omega (arith, rule.words));
+          history = entries home.value;
+          holder = id;
+          view = after;
+          holder_view = set-there table.views id before after there;
+          found = refl;
+          some_log = omega arith;
+          fits = λ other view is_there. ⊎_elim
+              (λ t. subst (λ (v : SeatView E). Fits owner (entries home.value) v.logs) t.1 (home.fits id before there))
+              (λ t. home.fits other view t.1)
+              (at_set table.views id other after view is_there);
+          owned_all = home.owned_all;
+          others = λ other view is_there apart. ⊎_elim (λ t. absurd (apart t.0)) (λ t. home.nobody other view t.1) (at_set table.views id other after view is_there);
+        };
+      }
+
+  -- nothing changes
+  left : (table : State T (SeatView E)) → Kept table → (id : ℕ) (view : SeatView E) → get_elem? table.views id ≡ some view → (word : ℕ) → word ≡ get_or table.words 0 0
+      → Kept (stepped table 0 word id [] view keeps)
+  left table rule id view there word same =
+      subst (λ (z : List ℕ × List (SeatView E)). Kept record { words = z.0; homes = table.homes; views = z.1 })
+      (λ i. (sym (set-first table.words word rule.words same) i, sym (set_again table.views id view there) i)) rule
+
+  pub take-allowed : (slots id number : ℕ) (log : List E)
+      → Allows Kept slots id (alone number log) 0 (λ word. either (eqb word 0) 1 word) (Takes owner entries (step slots 0 0 1 none) (alone number log))
+  take-allowed slots id number log table rule _ there _ =
+      let word : ℕ = get_or table.words 0 0 in
+      ⊎_elim
+      (λ home. let hit : eqb word 0 ≡ true = eq-eqb word 0 home.word in (
+        seat_view ((number, log) ∷ []) (Some (entries home.value)),
+        takes 0 home.value,
+        home.at_home,
+        subst
+            (λ (b : Bool). Kept (stepped table 0 (either b 1 word) id [] (seat_view ((number, log) ∷ []) (Some (entries home.value))) (takes 0 home.value)))
+            (sym hit)
+            (taken table rule id number log there home),
+        ((λ _. (home.value, refl, (home.fits id (seat_view ((number, log) ∷ []) None) there).0)), λ missed. absurd (missed home.word)),
+      ))
+      (λ out. let missed : eqb word 0 ≡ false = ne_eqb word 0 (λ zero_found. let one = out.word in absurd (omega arith)) in (
+        seat_view ((number, log) ∷ []) None,
+        keeps,
+        tt,
+        subst
+            (λ (b : Bool). Kept (stepped table 0 (either b 1 word) id [] (seat_view ((number, log) ∷ []) None) keeps))
+            (sym missed)
+            (left table rule id (seat_view ((number, log) ∷ []) None) there word refl),
+        ((λ zero_found. let one = out.word in absurd (omega arith)), λ _. refl),
+      ))
+      rule.place
+
+  -- Giving it back -------------------------------------------------------------------------------
+
+  -- the seat that has the value gives it back
+  given : (table : State T (SeatView E)) → Kept table → (id number : ℕ) (log history : List E) (value : T) → get_elem? table.views id ≡ some (seat_view ((number, log) ∷ []) (Some history))
+      → Grows owner number history (entries value) → HasHolder owner entries seats table
+      → Kept (stepped table 0 0 id ((0, value) ∷ []) (seat_view ((number, owned_by owner number (entries value)) ∷ []) None) gives)
+  given table rule id number log history value there grows out =
+      let before : SeatView E = seat_view ((number, log) ∷ []) (Some history) in
+      let after : SeatView E = seat_view ((number, owned_by owner number (entries value)) ∷ []) None in
+      let mine : is number number ≡ 1 = is-same number number refl in
+      let here : id ≡ out.holder = dite (ℕ_discrete id out.holder) (λ e. e) (λ apart. let none_found = out.others id before there apart in absurd cc) in
+      let same_view : out.view ≡ before = some-injective out.view before (sym out.holder_view ∙ (ap (get_elem? table.views) (sym here) ∙ there)) in
+      let same : out.history ≡ history = let a = out.found in let b = ap (λ (view : SeatView E). view.found) same_view in cc in
+      let more : Grows owner number out.history (entries value) = subst (λ h. Grows owner number h (entries value)) (sym same) grows in
+      let low : number < seats = grind (arith, none-above number seats, part-of_total (λ view. weigh_numbers (is number) view.logs) table.views id before there, mine, rule.numbers (is number)) in record {
+        words = length-set table.words 0 0 ∙ rule.words;
+        slots = length-set table.homes 0 (some value) ∙ rule.slots;
+        numbers = λ h. omega (arith, total-set (λ view. weigh_numbers h view.logs) table.views id before after there, rule.numbers h);
+        place = inl record {
+          word = get_or-set_same table.words 0 0 0 (omega (arith, rule.words));
+          value = value;
+          at_home = set_here table.homes 0 (some value) (omega (arith, rule.slots));
+          fits = λ other view is_there. ⊎_elim
+              (λ t. subst (λ (v : SeatView E). Fits owner (entries value) v.logs) t.1 (refl, tt))
+              (λ t. let two = two_parts-of_total (λ v. weigh_numbers (is number) v.logs) table.views id other before view (λ i. t.0 (sym i)) there t.1 in
+              fits-other owner number out.history (entries value) view.logs (omega (arith, mine, rule.numbers (is number), at_most-one number seats)) more (out.fits other view t.1))
+              (at_set table.views id other after view is_there);
+          owned_all = all_owned-grows owner number seats out.history (entries value) low more out.owned_all;
+          nobody = λ other view is_there. ⊎_elim
+              (λ t. ap (λ (v : SeatView E). v.found) (sym t.1))
+              (λ t. out.others other view t.1 (λ i. t.0 (i ∙ sym here)))
+              (at_set table.views id other after view is_there);
+        };
+      }
+
+  pub give-allowed : (slots id number : ℕ) (log history : List E) (value : T) → Grows owner number history (entries value)
+      → Allows Kept slots id (holding number log history value) 0 (λ _. 0) (λ _. Gives owner entries (step slots 0 0 0 none) (holding number log history value) 0)
+  give-allowed slots id number log history value grows table rule _ there _ = ⊎_elim
+      (λ home. let none_found = home.nobody id (seat_view ((number, log) ∷ []) (Some history)) there in absurd cc)
+      (λ out. (
+        seat_view ((number, owned_by owner number (entries value)) ∷ []) None,
+        gives,
+        tt,
+        given table rule id number log history value there grows out,
+        refl,
+      ))
+      rule.place
+
+  -- The start ------------------------------------------------------------------------------------
+
+  fits-empty : (history : List E) (k n : ℕ) → history ≡ [] → Fits owner history (empty_logs k n)
+  fits-empty history k zero empty = tt
+  fits-empty history k (suc n) empty = (sym (ap (owned_by owner k) empty), fits-empty history (suc k) n empty)
+
+  only : (P : SeatView E → Type 0) → P (all_seats seats) → (id : ℕ) (view : SeatView E) → get_elem? (all_seats seats ∷ []) id ≡ some view → P view
+  only P p zero view there = subst P (some-injective (all_seats seats) view there) p
+  only P p (suc id) view there = absurd (some-ne-none view (sym there))
+
+  pub opening-locked : (value : T) → entries value ≡ [] → Kept (opening (0 ∷ []) (value ∷ []) (all_seats seats))
+  opening-locked value empty = record {
+    words = refl;
+    slots = refl;
+    numbers = λ h. omega (arith, weigh-all E h seats);
+    place = inl record {
+      word = refl;
+      value = value;
+      at_home = refl;
+      fits = λ id view there. only (λ v. Fits owner (entries value) v.logs) (fits-empty (entries value) 0 seats empty) id view there;
+      owned_all = subst (AllOwned owner seats) (sym empty) (All-nil (λ e. owner e < seats));
+      nobody = λ id view there. only (λ v. v.found ≡ None) refl id view there;
+    };
+  }
+
+  -- Splits and joins of seats without the value --------------------------------------------------
+
+  -- such a seat isn't the one that has it
+  apart-holder : (table : State T (SeatView E)) (out : HasHolder owner entries seats table) (id : ℕ) (view : SeatView E) → get_elem? table.views id ≡ some view → view.found ≡ None → out.holder ≢ id
+  apart-holder table out id view there free same =
+      let is_view : out.view ≡ view = some-injective out.view view (sym out.holder_view ∙ (ap (get_elem? table.views) same ∙ there)) in
+      let found = out.found in let also = ap (λ (v : SeatView E). v.found) is_view in absurd cc
+
+  fits-rest : (history : List E) (logs : Logs E) → Fits owner history logs → Fits owner history (drop 1 logs)
+  fits-rest history [] fits = tt
+  fits-rest history (l ∷ ls) fits = fits.1
+
+  fits-first : (history : List E) (logs : Logs E) → Fits owner history logs → Fits owner history (take 1 logs)
+  fits-first history [] fits = tt
+  fits-first history (l ∷ ls) fits = (fits.0, tt)
+
+  pub split-kept : (id : ℕ) (view : SeatView E) → view.found ≡ None → Splits Kept id view (seat_view (drop 1 view.logs) view.found) (seat_view (take 1 view.logs) None)
+  split-kept id view free table rule there =
+      let rest : SeatView E = seat_view (drop 1 view.logs) view.found in
+      let new : SeatView E = seat_view (take 1 view.logs) None in
+      let cut : List (SeatView E) = set table.views id rest in
+      let fits : (history : List E) → AllFit owner history table.views → AllFit owner history (cut ++ new ∷ []) = λ history all other seen is_there. ⊎_elim
+      (λ old. ⊎_elim (λ t. subst (λ (v : SeatView E). Fits owner history v.logs) t.1 (fits-rest history view.logs (all id view there))) (λ t. all other seen t.1) (at_set table.views id other rest seen old))
+      (λ added. subst (λ (v : SeatView E). Fits owner history v.logs) added (fits-first history view.logs (all id view there)))
+      (at_snoc cut new seen other is_there) in
+      let without : (other : ℕ) (seen : SeatView E) → get_elem? (cut ++ new ∷ []) other ≡ some seen → (get_elem? table.views other ≡ some seen → seen.found ≡ None) → seen.found ≡ None = λ other seen is_there before. ⊎_elim
+      (λ old. ⊎_elim (λ t. ap (λ (v : SeatView E). v.found) (sym t.1) ∙ free) (λ t. before t.1) (at_set table.views id other rest seen old))
+      (λ added. ap (λ (v : SeatView E). v.found) (sym added))
+      (at_snoc cut new seen other is_there) in record {
+        words = rule.words;
+        slots = rule.slots;
+        numbers = λ h. omega (arith, total-append_one (λ v. weigh_numbers h v.logs) cut new, total-set (λ v. weigh_numbers h v.logs) table.views id view rest there, weigh-cut h view.logs, rule.numbers h);
+        place = ⊎_elim
+            (λ home. inl record {
+              word = home.word;
+              value = home.value;
+              at_home = home.at_home;
+              fits = fits (entries home.value) home.fits;
+              owned_all = home.owned_all;
+              nobody = λ other seen is_there. without other seen is_there (home.nobody other seen);
+            })
+            (λ out. inr record {
+              word = out.word;
+              history = out.history;
+              holder = out.holder;
+              view = out.view;
+              holder_view = at_longer cut (new ∷ []) out.holder out.view (set_else table.views id out.holder rest (apart-holder table out id view there free) ∙ out.holder_view);
+              found = out.found;
+              some_log = out.some_log;
+              fits = fits out.history out.fits;
+              owned_all = out.owned_all;
+              others = λ other seen is_there apart. without other seen is_there (λ old. out.others other seen old apart);
+            })
+            rule.place;
+      }
+
+  fits-append : (history : List E) (ls ms : Logs E) → Fits owner history ls → Fits owner history ms → Fits owner history (ls ++ ms)
+  fits-append history [] ms a b = b
+  fits-append history (l ∷ ls) ms a b = (a.0, fits-append history ls ms a.1 b)
+
+  pub join-kept : (id : ℕ) (view : SeatView E) (other : ℕ) (before : SeatView E) → view.found ≡ None → before.found ≡ None
+      → Joins Kept id view other before (seat_view (before.logs ++ view.logs) view.found) (seat_view [] None)
+  join-kept id view other before free before_free table rule there apart joined =
+      let both : SeatView E = seat_view (before.logs ++ view.logs) view.found in
+      let spent : SeatView E = seat_view [] None in
+      let views : List (SeatView E) = set table.views id both in
+      let was : get_elem? table.views other ≡ some before = ⊎_elim (λ t. absurd (apart t.0)) (λ t. t.1) (at_set table.views id other both before joined) in
+      let fits : (history : List E) → AllFit owner history table.views → AllFit owner history (set views other spent) = λ history all seat seen is_there. ⊎_elim
+      (λ t. subst (λ (v : SeatView E). Fits owner history v.logs) t.1 tt)
+      (λ t. ⊎_elim
+      (λ k. subst (λ (v : SeatView E). Fits owner history v.logs) k.1 (fits-append history before.logs view.logs (all other before was) (all id view there)))
+      (λ k. all seat seen k.1)
+      (at_set table.views id seat both seen t.1))
+      (at_set views other seat spent seen is_there) in
+      let without : (seat : ℕ) (seen : SeatView E) → get_elem? (set views other spent) seat ≡ some seen → (get_elem? table.views seat ≡ some seen → seen.found ≡ None) → seen.found ≡ None = λ seat seen is_there old. ⊎_elim
+      (λ t. ap (λ (v : SeatView E). v.found) (sym t.1))
+      (λ t. ⊎_elim (λ k. ap (λ (v : SeatView E). v.found) (sym k.1) ∙ free) (λ k. old k.1) (at_set table.views id seat both seen t.1))
+      (at_set views other seat spent seen is_there) in record {
+        words = rule.words;
+        slots = rule.slots;
+        numbers = λ h. omega (
+          arith,
+          total-set (λ v. weigh_numbers h v.logs) views other before spent joined,
+          total-set (λ v. weigh_numbers h v.logs) table.views id view both there,
+          weigh-append h before.logs view.logs,
+          rule.numbers h,
+        );
+        place = ⊎_elim
+            (λ home. inl record {
+              word = home.word;
+              value = home.value;
+              at_home = home.at_home;
+              fits = fits (entries home.value) home.fits;
+              owned_all = home.owned_all;
+              nobody = λ seat seen is_there. without seat seen is_there (home.nobody seat seen);
+            })
+            (λ out. inr record {
+              word = out.word;
+              history = out.history;
+              holder = out.holder;
+              view = out.view;
+              holder_view = set_else views other out.holder spent (apart-holder table out other before was before_free)
+                  ∙ (set_else table.views id out.holder both (apart-holder table out id view there free) ∙ out.holder_view);
+              found = out.found;
+              some_log = out.some_log;
+              fits = fits out.history out.fits;
+              owned_all = out.owned_all;
+              others = λ seat seen is_there apart_holder. without seat seen is_there (λ old. out.others seat seen old apart_holder);
+            })
+            rule.place;
+      }

@@ -1,0 +1,5 @@
+use Rattle.std.proofs.Common.{◌≡◌}
+use Rattle.mh_lock.proofs.lock.Lock.try_to_take.Given as goal
+
+abbrev pub invariant-loop : goal.invariant-loop
+invariant-loop g l = record { table : l.seat.table_id ≡ l.initial.seat.table_id; id : l.seat.id ≡ l.initial.seat.id; me : l.seat.me ≡ l.initial.seat.me }

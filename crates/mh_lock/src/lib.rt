@@ -1,0 +1,8 @@
+//! A lock over a value that is seen as its list of entries. Each seat of it has a log: the entries of its own calls, in order.
+#![tactic(auto)]
+
+pub mod entries;
+pub mod lock;
+pub mod seat;
+#[cfg(test)]
+mod tests;

@@ -1,0 +1,267 @@
+//! The lock.
+ghost use Rattle.std.specs.Prelude.{◌≡◌, ◌≢◌, ◌+◌, ◌<◌, ◌==◌, [], ◌∷◌, ◌++◌, ℕ, List, true, false, All, IfOk, IfErr, OnErr, count_by, map, slice_index_or, vec_len};
+ghost use Rattle.mh_model.specs.History.{owned_by};
+ghost use Rattle.mh_lock.specs.Seats.{LockSeatView, IsOf, new_seat, IsKeptAtHome};
+ghost use Rattle.mh_lock.specs.Steps.{alone, holding, log_in, number_in, held, HasTaken, Grows};
+
+use crate::entries::{Entries, Owned, Work};
+use crate::seat::{HasSeat, LockSeat};
+use atomic_table::{Join, Play, Seat, Split, Table, TableRule};
+use mh_model::memory::NoMemory;
+use mh_seat_laws::SeatView;
+use std::alloc::Global;
+use std::marker::{Model, PhantomData};
+use std::sync::Wait;
+use std::sync::atomic::AtomicU64;
+use std::sync::atomic::Ordering::SeqCst;
+use std::thread;
+
+/// How often a call tries to take the value before it sleeps.
+const TRIES: u64 = 100;
+
+/// The rule of the lock, about the number of its seats.
+struct LockRule<T, E> {
+    marker: PhantomData<(T, E)>,
+}
+
+impl<T: Entries<E>, E: Owned> TableRule<T, SeatView<E>, u64> for LockRule<T, E> {
+    ghost use Rattle.mh_seat_laws.specs.Lock.{IsLocked};
+    ghost use Rattle.mh_lock.specs.Steps.{all_seats};
+
+    ghost holds = { IsLocked E.owner T.entries };
+
+    ghost first = { all_seats };
+}
+
+struct Take;
+
+impl<T: Entries<E>, E: Owned> Play<T, SeatView<E>> for Take {
+    ghost use Rattle.mh_lock.specs.Steps.{Takes};
+
+    ghost then = { Takes E.owner T.entries };
+}
+
+struct Give;
+
+impl<T: Entries<E>, E: Owned> Play<T, SeatView<E>> for Give {
+    ghost use Rattle.mh_lock.specs.Steps.{Gives};
+
+    ghost then = { Gives E.owner T.entries };
+}
+
+/// The first log goes to the new seat.
+struct TakeFirst;
+
+impl<E> Split<SeatView<E>> for TakeFirst {
+    ghost use Rattle.std.specs.Prelude.{take, drop, None};
+    ghost use Rattle.mh_lock.specs.Steps.{seat_view};
+
+    ghost left = { λ view. seat_view (drop 1 view.logs) view.found };
+
+    ghost right = { λ view. seat_view (take 1 view.logs) None };
+}
+
+/// The logs of the seat that is taken in stand before the others.
+struct TakeIn;
+
+impl<E> Join<SeatView<E>> for TakeIn {
+    ghost use Rattle.std.specs.Prelude.{[], ◌++◌, None};
+    ghost use Rattle.mh_lock.specs.Steps.{seat_view};
+
+    ghost both = { λ view before. seat_view (before.logs ++ view.logs) view.found };
+
+    ghost spent = { seat_view [] None };
+}
+
+/// A value that one seat at a time works on.
+#[derive(Drop)]
+pub struct Lock<T: Entries<E> + Drop, E: Owned> {
+    table: Table<T, SeatView<E>, u64, LockRule<T, E>, Global>,
+    seats: u64,
+    // How many threads sleep until the value is back, or are about to.
+    sleepers: AtomicU64,
+}
+
+impl<T: Entries<E> + Drop, E: Owned> Model for Lock<T, E> {
+    ghost use Rattle.mh_lock.specs.Seats.{LockView};
+
+    ghost Value = { LockView };
+
+    ghost use Rattle.std.specs.Prelude.{◌≡◌, ◌<◌};
+
+    ghost view = { λ lock. record { table = lock.table.shared.table_id; seats = lock.seats } };
+
+    ghost invariant = { λ lock. (0 < lock.seats) × (lock.table.shared.table_id.words ≡ 1) × (lock.table.shared.table_id.slots ≡ 1) × (lock.table.shared.key ≡ lock.seats) };
+}
+
+impl<T: Entries<E> + Drop, E: Owned> Lock<T, E> {
+    /// A lock over a value without entries, and its seats, numbered from 0.
+    pub fn open(
+        alloc: Global,
+        value: T,
+        seats: u64,
+    ) -> Result<(Lock<T, E>, Vec<LockSeat<T, E>>), NoMemory>
+        requires some { 0 < seats }
+        requires fresh { T.entries value ≡ [] }
+        ensures lock { IfOk result (λ made. made.0.seats ≡ seats) }
+        ensures count { IfOk result (λ made. vec_len made.1 ≡ seats) }
+        ensures each { IfOk result (λ made. (number : ℕ) (other : LockSeatView E) → number < seats → slice_index_or made.1.items number other ≡ new_seat made.0 number) }
+    {
+        let mut slots = Vec::new(alloc);
+        slots.push(value)?;
+        let Ok((table, mut rest)) = Table::new(alloc, &[0], slots, &seats) else {
+            return Err(NoMemory);
+        };
+        let mut all = Vec::new(alloc);
+        for number in 0..seats - 1 {
+            let first = table.shared.split_seat::<TakeFirst>(&mut rest);
+            all.push(LockSeat::new(first, number))?;
+        }
+        all.push(LockSeat::new(rest, seats - 1))?;
+        let lock = Lock {
+            table,
+            seats,
+            sleepers: AtomicU64::new(0),
+        };
+        Ok((lock, all))
+    }
+
+    // Whether one of a few tries took the value.
+    fn try_to_take(&self, seat: &mut Seat<T, SeatView<E>>) -> bool
+        requires own { seat.old.table_id ≡ self.now.table }
+        requires alone { seat.old.me ≡ alone (number_in seat.old.me) (log_in seat.old.me) }
+        ensures own { (seat.new.table_id ≡ seat.old.table_id) × (seat.new.id ≡ seat.old.id) }
+        ensures taken { result ≡ true → HasTaken E.owner T.entries seat.old.me seat.new.me }
+        ensures same { result ≡ false → seat.new.me ≡ seat.old.me }
+    {
+        for _ in 0..TRIES {
+            if self.table.shared.compare_exchange::<Take>(seat, 0, 0, 1) == 0 {
+                return true;
+            }
+            thread::yield_now();
+        }
+        false
+    }
+
+    // Sleeps until a wake, unless the word is 0 again. It may also return for no reason.
+    fn sleep<R: Wait>(&self, rt: &R) {
+        self.sleepers.fetch_add(1, SeqCst);
+        self.table.shared.park(rt, 0, 1);
+        self.sleepers.fetch_sub(1, SeqCst);
+    }
+
+    // The word is 0 by now. A thread is counted before it looks at the word for the last time, so one that isn't counted
+    // yet finds 0 and doesn't sleep.
+    fn wake(&self) {
+        if self.sleepers.load(SeqCst) != 0 {
+            self.table.shared.wake_one(0);
+        }
+    }
+
+    // Waits until the value is at home, and takes it.
+    fn take<R: Wait>(&self, rt: &R, seat: &mut Seat<T, SeatView<E>>)
+        requires own { seat.old.table_id ≡ self.now.table }
+        requires alone { seat.old.me ≡ alone (number_in seat.old.me) (log_in seat.old.me) }
+        ensures own { (seat.new.table_id ≡ seat.old.table_id) × (seat.new.id ≡ seat.old.id) }
+        ensures taken { HasTaken E.owner T.entries seat.old.me seat.new.me }
+    {
+        for _ in rt.forever() {
+            if self.try_to_take(seat) {
+                return;
+            }
+            self.sleep(rt);
+        }
+        unreachable!()
+    }
+
+    // Runs the work on the value that the seat has.
+    fn run_on<W: Work<T, E>>(
+        &self,
+        seat: &mut Seat<T, SeatView<E>>,
+        work: W,
+    ) -> Result<W::Reply, W::Refusal>
+        requires own { seat.old.table_id ≡ self.now.table }
+        requires held { (value : T) × (seat.old.me.1 ≡ (0, value) ∷ []) }
+        ensures own { (seat.new.table_id ≡ seat.old.table_id) × (seat.new.id ≡ seat.old.id) × (seat.new.me.0 ≡ seat.old.me.0) }
+        ensures held { (value : T) × (seat.new.me.1 ≡ (0, value) ∷ []) }
+        ensures ok { IfOk result (λ reply. held E.owner T.entries seat.new.me.1 ≡ held E.owner T.entries seat.old.me.1 ++ W.entry work reply ∷ []) }
+        ensures err { OnErr result (held E.owner T.entries seat.new.me.1 ≡ held E.owner T.entries seat.old.me.1) }
+    {
+        work.run(seat.slot_mut(&self.table.shared, 0))
+    }
+
+    // Gives the value back, which has the entries that the seat found, or one more, which the seat owns.
+    fn give(&self, seat: &mut Seat<T, SeatView<E>>)
+        requires own { seat.old.table_id ≡ self.now.table }
+        requires holding { (history : List E) × (value : T) × (seat.old.me ≡ holding (number_in seat.old.me) (log_in seat.old.me) history value) × Grows E.owner (number_in seat.old.me) history (T.entries value) }
+        ensures own { (seat.new.table_id ≡ seat.old.table_id) × (seat.new.id ≡ seat.old.id) }
+        ensures given { seat.new.me ≡ alone (number_in seat.old.me) (owned_by E.owner (number_in seat.old.me) (held E.owner T.entries seat.old.me.1)) }
+    {
+        self.table.shared.store::<Give>(seat, 0, 0);
+        self.wake();
+    }
+
+    /// Runs the work once while no other call runs. A call that finds the value with another seat waits until it is back.
+    pub fn call<R: Wait, W: Work<T, E>>(
+        &self,
+        rt: &R,
+        seat: &mut LockSeat<T, E>,
+        work: W,
+    ) -> Result<W::Reply, W::Refusal>
+        requires own { IsOf self.now seat.old }
+        requires owned { (reply : W.Reply) → E.owner (W.entry work reply) ≡ seat.old.number }
+        ensures own { IsOf self.now seat.new × (seat.new.number ≡ seat.old.number) }
+        ensures ok { IfOk result (λ reply. seat.new.log ≡ seat.old.log ++ W.entry work reply ∷ []) }
+        ensures err { OnErr result (seat.new.log ≡ seat.old.log) }
+    {
+        self.take(rt, &mut seat.seat);
+        let answer = self.run_on(&mut seat.seat, work);
+        self.give(&mut seat.seat);
+        answer
+    }
+
+    /// The value, once all seats are handed in. Where one is missing, lock and seats come back. It asks for no memory.
+    pub fn close<S: HasSeat<T, E>>(self, seats: Vec<S>) -> Result<T, (Lock<T, E>, Vec<S>)>
+        requires { All (λ seat. IsOf self (S.seat_of seat)) seats.items }
+        ensures count { IfOk result (λ value. vec_len seats ≡ self.seats) }
+        ensures numbers { IfOk result (λ value. (number : ℕ) → number < self.seats → count_by (λ seat. (S.seat_of seat).number == number) seats.items ≡ 1) }
+        ensures logs { IfOk result (λ value. All (λ seat. (S.seat_of seat).log ≡ owned_by E.owner (S.seat_of seat).number (T.entries value)) seats.items) }
+        ensures owned { IfOk result (λ value. All (λ entry. E.owner entry < self.seats) (T.entries value)) }
+        ensures kept { IfOk result (λ value. IsKeptAtHome E.owner self (map S.seat_of seats.items) (T.entries value)) }
+        ensures err { IfErr result (λ back. (vec_len seats ≢ self.seats) × (back.0 ≡ self) × (back.1 ≡ seats)) }
+    {
+        if seats.len() as u64 != self.seats {
+            return Err((self, seats));
+        }
+        Ok(self.join_all(seats))
+    }
+
+    // All logs go to one seat.
+    fn join_all<S: HasSeat<T, E>>(self, mut seats: Vec<S>) -> T
+        requires count { vec_len seats ≡ self.seats }
+        requires each { All (λ seat. IsOf self (S.seat_of seat)) seats.items }
+        ensures numbers { (number : ℕ) → number < self.seats → count_by (λ seat. (S.seat_of seat).number == number) seats.items ≡ 1 }
+        ensures logs { All (λ seat. (S.seat_of seat).log ≡ owned_by E.owner (S.seat_of seat).number (T.entries result)) seats.items }
+        ensures owned { All (λ entry. E.owner entry < self.seats) (T.entries result) }
+        ensures kept { IsKeptAtHome E.owner self (map S.seat_of seats.items) (T.entries result) }
+    {
+        let Lock {
+            table,
+            seats: _,
+            sleepers: _,
+        } = self;
+        let Some(last) = seats.pop() else {
+            unreachable!()
+        };
+        let mut all = last.into_lock_seat().into_seat();
+        while let Some(before) = seats.pop() {
+            table
+                .shared
+                .join_seat::<TakeIn>(&mut all, before.into_lock_seat().into_seat());
+        }
+        let mut closed = table.close_with(all);
+        let value = closed.take(0);
+        closed.free();
+        value
+    }
+}

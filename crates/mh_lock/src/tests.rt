@@ -1,0 +1,120 @@
+ghost use Rattle.std.specs.Prelude.{◌≡◌, ◌<◌, All, IfOk, length, vec_len};
+ghost use Rattle.mh_lock.specs.Seats.{IsOf};
+
+use crate::entries::{Entries, Owned, Work};
+use crate::lock::Lock;
+use crate::seat::LockSeat;
+use mh_model::memory::NoMemory;
+use std::alloc::AllocError;
+use std::sync::Wait;
+use std::test::Fail;
+use std::thread;
+use std::thread::Threads;
+
+/// How many calls each seat makes.
+const CALLS: u64 = 500;
+
+#[derive(Clone, Copy, PartialEq, Eq, Debug)]
+struct Mark {
+    by: u64,
+    count: u64,
+}
+
+impl Owned for Mark {
+    ghost owner = { λ mark. mark.by };
+}
+
+#[derive(Drop)]
+struct Marks(Vec<Mark>);
+
+impl Entries<Mark> for Marks {
+    ghost entries = { λ marks. marks.0.items };
+}
+
+/// Adds a mark, and replies how many there were before.
+#[derive(Clone, Copy)]
+struct Add(Mark);
+
+impl Work<Marks, Mark> for Add {
+    type Reply = usize;
+
+    type Refusal = AllocError;
+
+    ghost entry = { λ add _. add.0 };
+
+    fn run(self, value: &mut Marks) -> Result<usize, AllocError> {
+        let before = value.0.len();
+        value.0.push(self.0)?;
+        Ok(before)
+    }
+}
+
+#[test]
+fn a_lock_closes_with_all_its_seats(rt: HostRuntime) -> Result<(), Fail> {
+    let alloc = rt.alloc();
+    let (lock, mut seats) = Lock::<Marks, Mark>::open(alloc, Marks(Vec::new(alloc)), 3)?;
+    let mut last = seats.pop().ok_or("no seat")?;
+    let mark = Mark { by: 2, count: 7 };
+    assert_eq!(rt; last.number(), 2);
+    assert_eq!(rt; lock.call(&rt, &mut last, Add(mark)), Ok(0));
+    let Err((lock, mut seats)) = lock.close(seats) else {
+        panic!(rt; "closed with a seat missing")
+    };
+    assert_eq!(rt; seats.len(), 2);
+    seats.push(last)?;
+    let Ok(marks) = lock.close(seats) else {
+        panic!(rt; "not closed")
+    };
+    assert_eq!(rt; marks.0.as_slice(), [mark].as_slice());
+    Ok(())
+}
+
+fn call_often<R: Wait>(rt: &R, lock: &Lock<Marks, Mark>, seat: &mut LockSeat<Marks, Mark>)
+    requires { IsOf lock.now seat.old }
+    ensures { IsOf lock.now seat.new }
+{
+    for count in 0..CALLS {
+        let by = seat.number();
+        let _ = lock.call(rt, seat, Add(Mark { by, count }));
+    }
+}
+
+/// Each seat in a thread of its own.
+fn call_by_threads<R: Threads + Wait + Sync>(
+    rt: &R,
+    lock: &Lock<Marks, Mark>,
+    seats: &mut [LockSeat<Marks, Mark>],
+)
+    requires { All (IsOf lock.now) seats.old }
+    ensures { All (IsOf lock.now) seats.new }
+{
+    let one = |_index: usize, seat: &mut LockSeat<Marks, Mark>|
+        requires { IsOf lock.now seat.now }
+    { call_often(rt, lock, seat) };
+    thread::for_each_mut(rt, seats, 2, &one);
+}
+
+/// Whether the marks of a seat are those of its calls, in order.
+fn are_in_order(marks: &Marks, by: u64) -> bool {
+    let mut counts = 0..CALLS;
+    for mark in &marks.0 {
+        if mark.by == by && counts.next() != Some(mark.count) {
+            return false;
+        }
+    }
+    counts.next() == None
+}
+
+#[test]
+fn two_threads_call_at_once(rt: HostRuntime) -> Result<(), Fail> {
+    let alloc = rt.alloc();
+    let (lock, mut seats) = Lock::<Marks, Mark>::open(alloc, Marks(Vec::new(alloc)), 2)?;
+    call_by_threads(&rt, &lock, &mut seats);
+    let Ok(marks) = lock.close(seats) else {
+        panic!(rt; "not closed")
+    };
+    assert_eq!(rt; marks.0.len(), 1_000);
+    assert!(rt; are_in_order(&marks, 0));
+    assert!(rt; are_in_order(&marks, 1));
+    Ok(())
+}
