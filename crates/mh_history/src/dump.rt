@@ -27,10 +27,10 @@ fn two_parts(text: &[u8], byte: u8) -> Option<(&[u8], &[u8])>
 
 /// A slot, and the two numbers after its mark.
 #[derive(Clone, Copy)]
-pub struct Placed {
-    pub slot: u64,
-    pub first: u64,
-    pub second: u64,
+struct Placed {
+    slot: u64,
+    first: u64,
+    second: u64,
 }
 
 #[tactic(auto, using(crate::proofs::DumpLemmas::placed_unmarked, crate::proofs::DumpLemmas::placed_unpointed, crate::proofs::DumpLemmas::placed_no_slot, crate::proofs::DumpLemmas::placed_no_first, crate::proofs::DumpLemmas::placed_no_second, crate::proofs::DumpLemmas::placed_is))]
@@ -53,25 +53,18 @@ fn placed_at(word: &[u8], mark: u8) -> Option<Placed>
 fn placed_of(word: &[u8]) -> Option<DumpItem>
     ensures { result ≡ placed_of word.now }
 {
-    if let Some(
-        Placed {
-            slot,
-            first: birth,
-            second: part,
-        },
-    ) = placed_at(word, b'=')
-    {
-        return Some(DumpItem::Block { slot, birth, part });
+    if let Some(block) = placed_at(word, b'=') {
+        return Some(DumpItem::Block {
+            slot: block.slot,
+            birth: block.first,
+            part: block.second,
+        });
     }
-    let Placed {
-        slot,
-        first: to_page,
-        second: to_slot,
-    } = placed_at(word, b'>')?;
+    let forwarder = placed_at(word, b'>')?;
     Some(DumpItem::Forwarder {
-        slot,
-        to_page,
-        to_slot,
+        slot: forwarder.slot,
+        to_page: forwarder.first,
+        to_slot: forwarder.second,
     })
 }
 
@@ -96,7 +89,7 @@ fn item_from(word: &[u8], words: &mut Words<'_>) -> Option<DumpItem>
 
 /// The page and the slot that a dump has come to.
 #[derive(Clone, Copy)]
-pub struct Reached {
+struct Reached {
     page: Option<u64>,
     slot: Option<u64>,
 }

@@ -7,8 +7,12 @@ pub mod entry_text;
 mod event;
 mod header;
 pub mod history;
+#[cfg(test)]
+mod history_tests;
 mod keyed;
 mod lines;
 pub mod record;
+#[cfg(test)]
+mod record_tests;
 mod reply;
 mod said;
