@@ -80,7 +80,7 @@ has_entry read old new entries done some = record {
   some = some;
 } where
   alone : entries_from read old.number (done.head ++ []) [] ≡ with_entries entries (Means []) → entries_from read old.number done.head [] ≡ Means entries
-  alone same = rw append-nil at (rw append-nil at same)
+  alone same = ap (λ (lines : List Text). entries_from read old.number lines []) (sym (append-nil done.head)) ∙ (same ∙ ap Means (append-nil entries))
 
 pub walked_entry : {X : Type 0} (read : Text → Option X) (old mid new : Lines) (entries : List X) (n : ℕ) (line : Text) → Walked read old mid entries → TakesLine mid new n line → IsSome (read line) → HasEntry read old
 walked_entry {X} read old mid new entries n line done takes some = by_read (read line) refl some where

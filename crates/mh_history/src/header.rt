@@ -30,6 +30,7 @@ fn header_with(rules: u64, numbers: &[u64]) -> Option<Config>
     }
 }
 
+#[tactic(auto, using(crate::proofs::HeaderLemmas::header_first, crate::proofs::HeaderLemmas::header_second))]
 fn configured(rules: u64, pages: u64, quantum: u64, trigger: u64, every: u64) -> Option<Config>
     ensures { result ≡ header_by (rules ∷ pages ∷ quantum ∷ trigger ∷ every ∷ []) }
 {
