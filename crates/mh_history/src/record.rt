@@ -1,0 +1,76 @@
+ghost use Rattle.std.specs.Prelude.{◌≡◌, IfOk, IfErr, IsErrOf};
+ghost use Rattle.mh_model.specs.HistoryTexts.{recorded_reading};
+ghost use Rattle.mh_model.specs.Script.{Means};
+ghost use Rattle.mh_text.specs.TextErrors.{Refuses};
+ghost use Rattle.mh_history.specs.Beginnings.{BeginsWithMeasured};
+
+use crate::header::header_of;
+use crate::lines::entries_from;
+use mh_model::config::Config;
+use mh_model::history::Measured;
+use mh_text::pieces::{Lines, Words};
+use mh_text::text_error::TextError;
+use std::alloc::Global;
+use std::marker::Model;
+
+/// The most bytes that a history of version 2 has.
+pub const RECORD_BYTES: usize = 2_147_483_648;
+
+/// A history of version 2: its configuration, and its entries with their units.
+#[derive(Debug, Drop)]
+pub struct Record {
+    config: Config,
+    entries: Vec<Measured>,
+}
+
+impl Model for Record {
+    ghost use Rattle.mh_model.specs.HistoryTexts.{Recorded};
+
+    ghost Value = { Recorded };
+
+    ghost view = { λ read. record { config = read.config; entries = read.entries.items } };
+}
+
+impl Record {
+    pub fn config(&self) -> Config
+        ensures { result ≡ self.now.config }
+    {
+        self.config
+    }
+
+    /// One entry for each line after the first, in the order of the lines.
+    pub fn entries(&self) -> &[Measured]
+        ensures { result.now ≡ self.now.entries }
+    {
+        self.entries.as_slice()
+    }
+
+    pub fn into_entries(self) -> Vec<Measured>
+        ensures { result.items ≡ self.entries }
+    {
+        let Record { config: _, entries } = self;
+        entries
+    }
+}
+
+/// Reads a history of version 2, up to its first bad line. It takes memory for entries alone, so a text that is refused before
+/// its first entry is never answered with want of memory.
+#[tactic(auto, using(crate::proofs::HistoryLemmas::record_long, crate::proofs::HistoryLemmas::record_empty, crate::proofs::HistoryLemmas::record_wrong, crate::proofs::HistoryLemmas::record_first, crate::proofs::HistoryLemmas::begins_with_measured))]
+pub fn parse_record(alloc: Global, text: &[u8]) -> Result<Record, TextError>
+    ensures record { IfOk result (λ read. recorded_reading text.now ≡ Means read) }
+    ensures line { IfErr result (Refuses (recorded_reading text.now)) }
+    ensures memory { IsErrOf result TextError.NoMemory → BeginsWithMeasured text.now }
+{
+    if text.len() > RECORD_BYTES {
+        return Err(TextError::Line(0));
+    }
+    let mut lines = Lines::new(text);
+    let Some((_, line)) = lines.next_line() else {
+        return Err(TextError::Line(1));
+    };
+    let Some(config) = header_of(Words::new(line)) else {
+        return Err(TextError::Line(1));
+    };
+    let entries = entries_from(alloc, lines)?;
+    Ok(Record { config, entries })
+}
