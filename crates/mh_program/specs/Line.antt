@@ -6,10 +6,10 @@ use Rattle.std.specs.declared.io.ErrorKind.TheVariants.{InvalidData}
 use Rattle.clap.specs.Words.{App, IsUnsignedIn, Row, Rule, Text, new_app, new_rule, one_of, with_rule, with_subcommand, subcommand_of, fault_of, kind_of, IsAmong}
 use Rattle.clap.specs.declared.builder.value_parser.ValueParser.{ValueParser}
 use Rattle.clap.specs.declared.builder.value_parser.ValueParser.TheVariants.{Unsigned}
-use Rattle.mh_script.specs.declared.fault.LineFault.{LineFault}
-use Rattle.mh_script.specs.declared.fault.LineFault.TheVariants.{Words, NotText, NoMemory}
-use Rattle.mh_script.specs.declared.line.Order.{Order}
-use Rattle.mh_script.specs.declared.line.Order.TheVariants.{Run}
+use Rattle.mh_program.specs.declared.fault.LineFault.{LineFault}
+use Rattle.mh_program.specs.declared.fault.LineFault.TheVariants.{Words, NotText, NoMemory}
+use Rattle.mh_program.specs.declared.line.Order.{Order}
+use Rattle.mh_program.specs.declared.line.Order.TheVariants.{Run}
 
 -- a number from 1 to 64
 abbrev pub worker_numbers : ValueParser

@@ -1,5 +1,5 @@
-use Rattle.mh_script.proofs.WorkerLemmas.{matched_few, matched_run}
-use Rattle.mh_script.proofs.order.order.Goals as goal
+use Rattle.mh_program.proofs.WorkerLemmas.{matched_few, matched_run}
+use Rattle.mh_program.proofs.order.order.Goals as goal
 
 pub order_of-requires-clause-named : goal.order_of-requires-clause-named
 order_of-requires-clause-named g c =

@@ -1,7 +1,7 @@
 use Rattle.std.specs.Str.Parse.{ParsesUnsigned, ExplainsUnsignedError, HasUnsignedDigitsIfOk}
 use Rattle.clap.specs.Words.{found_of}
-use Rattle.mh_script.proofs.WorkerLemmas.{order-few}
-use Rattle.mh_script.proofs.order.order_of.Goals as goal
+use Rattle.mh_program.proofs.WorkerLemmas.{order-few}
+use Rattle.mh_program.proofs.order.order_of.Goals as goal
 
 pub returns-clause-order : goal.returns-clause-order
 returns-clause-order c =

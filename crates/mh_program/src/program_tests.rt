@@ -1,5 +1,5 @@
 use crate::program::program;
-use crate::test_devices::{ShortSink, ShortSource};
+use crate::test_devices::Broken;
 use mh_claims::gate::Open;
 use mh_text::sink::StdSink;
 use mh_text::source::StdSource;
@@ -96,16 +96,14 @@ fn tells_why_the_words_give_no_order(rt: HostRuntime) -> Result<(), Fail> {
 
 #[test]
 fn tells_which_device_failed(rt: HostRuntime) -> Result<(), Fail> {
-    let script = b"config 4 209 0 0\na new 0 0 0\n";
     let line = words(rt.alloc(), &["metroheap", "run"])?;
-    let mut source = ShortSource::new(script, 2);
-    let mut sink = ShortSink::new(rt.alloc(), 5, 0);
+    let mut sink = StdSink::new(Vec::new(rt.alloc()));
     let mut errors = StdSink::new(Vec::new(rt.alloc()));
     let status = program(
         &rt,
         rt.alloc(),
         Ok(line),
-        &mut source,
+        &mut Broken::new(),
         &mut sink,
         &mut errors,
         &Open,
@@ -116,15 +114,14 @@ fn tells_which_device_failed(rt: HostRuntime) -> Result<(), Fail> {
     );
     assert_eq!(rt; status, 3);
     let line = words(rt.alloc(), &["metroheap", "run"])?;
-    let mut source = ShortSource::new(script, 0);
-    let mut sink = ShortSink::new(rt.alloc(), 5, 1);
+    let mut source = StdSource::new(b"config 4 209 0 0\na new 0 0 0\n".as_slice());
     let mut errors = StdSink::new(Vec::new(rt.alloc()));
     let status = program(
         &rt,
         rt.alloc(),
         Ok(line),
         &mut source,
-        &mut sink,
+        &mut Broken::new(),
         &mut errors,
         &Open,
     );

@@ -28,8 +28,8 @@ use Rattle.clap.specs.declared.parser.matches.ArgMatches.{ArgMatches}
 use Rattle.clap.specs.declared.parser.matches.Found.{Found}
 use Rattle.clap.proofs.ValueTestLemmas.{accepts-Accepts}
 use Rattle.clap.proofs.WalkLemmas.{one_text-rows}
-use Rattle.mh_script.specs.declared.line.Order.TheVariants.{Run}
-use Rattle.mh_script.specs.Line.{AsksForFew, HasFewWorkers, IsOrder, NamesRun, metroheap, number_or_one, run_app, worker_numbers, workers_rule}
+use Rattle.mh_program.specs.declared.line.Order.TheVariants.{Run}
+use Rattle.mh_program.specs.Line.{AsksForFew, HasFewWorkers, IsOrder, NamesRun, metroheap, number_or_one, run_app, worker_numbers, workers_rule}
 
 -- Faults -----------------------------------------------------------------------------------------
 

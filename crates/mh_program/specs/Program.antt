@@ -6,14 +6,14 @@ use Rattle.mh_text.specs.Stream.{AppendsBeginning}
 use Rattle.mh_script.specs.declared.end.End.{End}
 use Rattle.mh_script.specs.declared.fault.ScriptFault.{ScriptFault}
 use Rattle.mh_script.specs.declared.fault.ScriptFault.TheVariants.{Read, Write, NoMemory, HistoryFull}
-use Rattle.mh_script.specs.declared.fault.LineFault.{LineFault}
-use Rattle.mh_script.specs.declared.fault.LineFault.TheVariants as line
-use Rattle.mh_script.specs.declared.line.Order.{Order}
-use Rattle.mh_script.specs.declared.line.Order.TheVariants.{Run}
+use Rattle.mh_program.specs.declared.fault.LineFault.{LineFault}
+use Rattle.mh_program.specs.declared.fault.LineFault.TheVariants as line
+use Rattle.mh_program.specs.declared.line.Order.{Order}
+use Rattle.mh_program.specs.declared.line.Order.TheVariants.{Run}
 use Rattle.std.specs.declared.io.ErrorKind.{ErrorKind}
-use Rattle.mh_script.specs.Line.{GivesOrder, IsFault, IsUnread}
+use Rattle.mh_program.specs.Line.{GivesOrder, IsFault, IsUnread}
 use Rattle.mh_script.specs.Run.{Device, IsRun}
-use Rattle.mh_script.specs.Status.{status_of, line_status_of}
+use Rattle.mh_program.specs.Status.{status_of, line_status_of}
 
 -- what words that are text give: an order, or a fault
 abbrev pub OrdersBy : List Text → Result Order LineFault → Type 0

@@ -1,8 +1,9 @@
 ghost use Rattle.std.specs.Prelude.{◌≡◌};
-ghost use Rattle.mh_script.specs.Status.{line_status_of, status_of};
+ghost use Rattle.mh_program.specs.Status.{line_status_of, status_of};
 
-use crate::end::End;
-use crate::fault::{LineFault, ScriptFault};
+use crate::fault::LineFault;
+use mh_script::end::End;
+use mh_script::fault::ScriptFault;
 
 /// The exit status that a run of a script gives the program.
 pub fn status(ended: &Result<End, ScriptFault>) -> u8

@@ -4,7 +4,7 @@ ghost use Rattle.std.specs.String.{string_bytes};
 ghost use Rattle.std.specs.Vec.Iter.{into_iter_items};
 ghost use Rattle.clap.specs.Words.{app_of, rule_of, subcommand_rows_of};
 ghost use Rattle.clap.specs.declared.builder.command.Command.TheViews.{out-Command};
-ghost use Rattle.mh_script.specs.Line.{metroheap, optional_app, run_app, workers_rule, NamesRun, AsksForFew, IsOrder, HasFewWorkers, GivesOrder, IsFault, IsUnread};
+ghost use Rattle.mh_program.specs.Line.{metroheap, optional_app, run_app, workers_rule, NamesRun, AsksForFew, IsOrder, HasFewWorkers, GivesOrder, IsFault, IsUnread};
 
 use crate::fault::LineFault;
 use crate::line::Order;
