@@ -1,1 +1,4 @@
-pub mod WorkerLemmas
+pub mod CommandLemmas
+pub mod OptionLemmas
+pub mod ReadingLemmas
+pub mod SubcommandLemmas

@@ -1,75 +1,93 @@
--- The command line: what `clap` is told, and the order that its matches give.
-use Rattle.std.specs.Prelude.{◌≡◌, ◌≢◌, ◌<◌, ◌≤◌, ℕ, List, [], Option, Some, None, true, codes, IfSome}
+-- The command line as `clap` is told it, and what the options in its matches say.
+use Rattle.std.specs.Prelude.{◌≡◌, ◌⊎◌, ℕ, List, Option, Some, true, codes, IfSome, IsSomeAnd, option_map}
+use Rattle.std.specs.Option.{option_map_or}
 use Rattle.std.specs.Str.Parse.{digits_value, without_leading_plus}
-use Rattle.std.specs.declared.io.ErrorKind.{ErrorKind}
-use Rattle.std.specs.declared.io.ErrorKind.TheVariants.{InvalidData}
-use Rattle.clap.specs.Words.{App, IsUnsignedIn, Row, Rule, Text, new_app, new_rule, one_of, with_rule, with_subcommand, subcommand_of, fault_of, kind_of, IsAmong}
+use Rattle.clap.specs.Words.{App, IsUnsignedIn, Row, Rule, Text, new_app, new_rule, one_of, with_rule, with_subcommand}
 use Rattle.clap.specs.declared.builder.value_parser.ValueParser.{ValueParser}
 use Rattle.clap.specs.declared.builder.value_parser.ValueParser.TheVariants.{Unsigned}
-use Rattle.mh_program.specs.declared.fault.LineFault.{LineFault}
-use Rattle.mh_program.specs.declared.fault.LineFault.TheVariants.{Words, NotText, NoMemory}
-use Rattle.mh_program.specs.declared.line.Order.{Order}
-use Rattle.mh_program.specs.declared.line.Order.TheVariants.{Run}
 
--- a number from 1 to 64
+-- Options ----------------------------------------------------------------------------------------
+
+-- the numbers from 1 to 64
 abbrev pub worker_numbers : ValueParser
 worker_numbers = Unsigned 1 64
 
--- the option `--workers W`
+-- the numbers of 32 bits
+abbrev pub config_numbers : ValueParser
+config_numbers = Unsigned 0 4294967295
+
+-- the option `--workers W`, which may be left out
 abbrev pub workers_rule : Rule
 workers_rule = record (new_rule (codes "workers")) { long = Some (codes "workers"); value_names = 1; parser = Some worker_numbers }
 
-abbrev pub run_app : App
-run_app = with_rule (new_app (codes "run")) workers_rule
+-- an option with a number of a configuration, which has to be given
+abbrev pub number_rule : Text → Rule
+number_rule name = record (new_rule name) { long = Some name; value_names = 1; parser = Some config_numbers; required = true }
 
+-- Subcommands ------------------------------------------------------------------------------------
+
+-- a subcommand with a number of workers
+abbrev pub workers_app : Text → App
+workers_app name = with_rule (new_app name) workers_rule
+
+-- a subcommand with the four numbers of a configuration
+abbrev pub config_app : Text → App
+config_app name = with_rule (with_rule (with_rule (with_rule (new_app name) (number_rule (codes "pages"))) (number_rule (codes "quantum"))) (number_rule (codes "trigger"))) (number_rule (codes "every"))
+
+-- the five subcommands
 abbrev pub optional_app : App
-optional_app = with_subcommand (new_app (codes "metroheap")) run_app.top
+optional_app =
+    with_subcommand (with_subcommand (with_subcommand (with_subcommand (with_subcommand (new_app (codes "metroheap"))
+    (workers_app (codes "run")).top)
+    (workers_app (codes "race")).top)
+    (config_app (codes "check")).top)
+    (new_app (codes "audit")).top)
+    (config_app (codes "migrate")).top
 
 -- the program, whose words name a subcommand; `help` is none
 abbrev pub metroheap : App
 metroheap = record optional_app { top = record optional_app.top { subcommand_required = true; disable_help_subcommand = true } }
 
--- the number that a text of digits is, after a plus if it has one, and 1 where there is no text
-abbrev pub number_or_one : Option Text → ℕ
-number_or_one None = 1
-number_or_one (Some text) = digits_value 10 (without_leading_plus text)
+-- Numbers ----------------------------------------------------------------------------------------
 
--- how many workers the matches of `run` ask for
+-- the number that a text of digits is, after a plus if it has one
+abbrev pub number_in : Text → ℕ
+number_in text = digits_value 10 (without_leading_plus text)
+
+-- how many workers the matches ask for, which is 1 where they don't say
 abbrev pub workers_of : List Row → ℕ
-workers_of rows = number_or_one (one_of (codes "workers") rows)
+workers_of rows = option_map_or number_in (one_of (codes "workers") rows) 1
 
--- the words name the subcommand `run`
-abbrev pub NamesRun : Option (Text × List Row) → Type 0
-NamesRun None = ⊥
-NamesRun (Some subcommand) = subcommand.0 ≡ codes "run"
+-- the option is given with this number
+abbrev pub HasNumber : List Row → Text → ℕ → Type 0
+HasNumber rows name n = option_map number_in (one_of name rows) ≡ Some n
 
--- and ask for no number of workers, or for one from 1 to 64
-abbrev pub AsksForFew : Option (Text × List Row) → Type 0
-AsksForFew matched = IfSome matched (λ subcommand. IfSome (one_of (codes "workers") subcommand.1) (IsUnsignedIn 1 64))
+-- What `clap` has seen to -------------------------------------------------------------------------
 
--- the order that the subcommand gives
-abbrev pub IsOrder : Option (Text × List Row) → Order → Type 0
-IsOrder None order = ⊥
-IsOrder (Some subcommand) (Run workers) = (subcommand.0 ≡ codes "run") × (workers ≡ workers_of subcommand.1)
+-- no number of workers is given, or one from 1 to 64
+abbrev pub AsksForFew : List Row → Type 0
+AsksForFew rows = IfSome (one_of (codes "workers") rows) (IsUnsignedIn 1 64)
 
--- from 1 to 64 workers
-abbrev pub HasFewWorkers : Order → Type 0
-HasFewWorkers (Run workers) = (0 < workers) × (workers ≤ 64)
+-- the option is given with a number of 32 bits
+abbrev pub IsGiven : List Row → Text → Type 0
+IsGiven rows name = IsSomeAnd (one_of name rows) (IsUnsignedIn 0 4294967295)
 
--- `clap` takes the words, and their subcommand gives the order
-pub record GivesOrder (words : List Text) (order : Order) : Type 0 where
-  pub taken : fault_of metroheap words ≡ []
-  pub named : IsOrder (subcommand_of metroheap words) order
-  pub few : HasFewWorkers order
+-- each option of a configuration is
+abbrev pub AreGiven : List Row → Type 0
+AreGiven rows = IsGiven rows (codes "pages") × IsGiven rows (codes "quantum") × IsGiven rows (codes "trigger") × IsGiven rows (codes "every")
 
--- words are refused only where `clap` doesn't take them, with one of the kinds of fault that it finds first
-abbrev pub IsFault : List Text → LineFault → Type 0
-IsFault words (Words error) = IsAmong (kind_of error) (fault_of metroheap words)
-IsFault words NotText = ⊥
-IsFault words NoMemory = Unit {0}
+abbrev pub TakesWorkers : Text → Type 0
+TakesWorkers name = (name ≡ codes "run") ⊎ (name ≡ codes "race")
 
--- what is said of words that weren't read: where one isn't text, that it isn't, and else that memory was wanting
-abbrev pub IsUnread : ErrorKind → LineFault → Type 0
-IsUnread kind (Words error) = ⊥
-IsUnread kind NotText = kind ≡ InvalidData
-IsUnread kind NoMemory = kind ≢ InvalidData
+abbrev pub TakesNumbers : Text → Type 0
+TakesNumbers name = (name ≡ codes "check") ⊎ (name ≡ codes "migrate")
+
+-- a subcommand of the program, with what its options may be
+pub data IsAsked (name : Text) (rows : List Row) : Type 0 where
+  Workers : TakesWorkers name → AsksForFew rows → IsAsked name rows
+  Numbers : TakesNumbers name → AreGiven rows → IsAsked name rows
+  Nothing : name ≡ codes "audit" → IsAsked name rows
+
+-- the words name one
+abbrev pub NamesOne : Option (Text × List Row) → Type 0
+NamesOne matched = IsSomeAnd matched (λ subcommand. IsAsked subcommand.0 subcommand.1)

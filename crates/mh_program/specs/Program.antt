@@ -3,15 +3,14 @@ use Rattle.std.specs.Prelude.{◌≡◌, ℕ, ◌<◌, List, [], Result, Ok, Err
 use Rattle.std.specs.Io.KnownBytes.{Appends}
 use Rattle.mh_model.specs.Bytes.{Text, line_text}
 use Rattle.mh_text.specs.Stream.{AppendsBeginning}
-use Rattle.mh_script.specs.declared.end.End.{End}
 use Rattle.mh_script.specs.declared.fault.ScriptFault.{ScriptFault}
 use Rattle.mh_script.specs.declared.fault.ScriptFault.TheVariants.{Read, Write, NoMemory, HistoryFull}
 use Rattle.mh_program.specs.declared.fault.LineFault.{LineFault}
 use Rattle.mh_program.specs.declared.fault.LineFault.TheVariants as line
 use Rattle.mh_program.specs.declared.line.Order.{Order}
-use Rattle.mh_program.specs.declared.line.Order.TheVariants.{Run}
+use Rattle.mh_program.specs.declared.line.Order.TheVariants.{Run, Race, Check, Audit, Migrate}
 use Rattle.std.specs.declared.io.ErrorKind.{ErrorKind}
-use Rattle.mh_program.specs.Line.{GivesOrder, IsFault, IsUnread}
+use Rattle.mh_program.specs.Orders.{GivesOrder, IsFault, IsUnread}
 use Rattle.mh_script.specs.Run.{Device, IsRun}
 use Rattle.mh_program.specs.Status.{status_of, line_status_of}
 
@@ -38,7 +37,7 @@ pub data Tells (old new : Device) (text : Text) : Type 0 where
   Broken : AppendsBeginning old.bytes new.bytes text → old.failures < new.failures → Tells old new text
 
 -- what is told of a run: nothing where it ended well, and else the line of its fault
-abbrev pub TellsRun : Device → Device → Result End ScriptFault → Type 0
+abbrev pub TellsRun : {T : Type 0} → Device → Device → Result T ScriptFault → Type 0
 TellsRun old new (Ok end) = Tells old new []
 TellsRun old new (Err fault) = Tells old new (line_text (fault_text fault))
 
@@ -46,14 +45,15 @@ TellsRun old new (Err fault) = Tells old new (line_text (fault_text fault))
 abbrev pub TellsLine : Device → Device → LineFault → Type 0
 TellsLine old new (line.Words error) = (text : Text) × Tells old new text
 TellsLine old new line.NotText = Tells old new (line_text (codes "metroheap: a word is not text"))
+TellsLine old new line.Configuration = Tells old new (line_text (codes "metroheap: bad configuration"))
 TellsLine old new line.NoMemory = Tells old new (line_text (codes "metroheap: no memory"))
 
--- an order was carried out: the script was run, and a fault of the run was told
-pub record Obeys (source source' sink sink' errors errors' : Device) (status : ℕ) : Type 0 where
-  pub ended : Result End ScriptFault
-  pub run : IsRun source source' sink sink' ended
+-- an order was carried out: its run ended so, a fault of the run was told, and the status is the end's
+pub record Obeys {T : Type 0} (Ends : Result T ScriptFault → Type 0) (status_by : Result T ScriptFault → ℕ) (errors errors' : Device) (status : ℕ) : Type 0 where
+  pub ended : Result T ScriptFault
+  pub run : Ends ended
   pub told : TellsRun errors errors' ended
-  pub exit : status ≡ status_of ended
+  pub exit : status ≡ status_by ended
 
 -- there was no order: nothing was read or written, and why was told
 pub record Declines (source source' sink sink' errors errors' : Device) (fault : LineFault) (status : ℕ) : Type 0 where
@@ -62,7 +62,11 @@ pub record Declines (source source' sink sink' errors errors' : Device) (fault :
   pub told : TellsLine errors errors' fault
   pub exit : status ≡ line_status_of fault
 
--- What the program does on an order, or on words that give none
+-- What the program does on an order, or on words that give none; nothing is claimed yet of a race and of histories
 abbrev pub Serves : Result Order LineFault → (source source' sink sink' errors errors' : Device) → ℕ → Type 0
-Serves (Ok (Run workers)) source source' sink sink' errors errors' status = Obeys source source' sink sink' errors errors' status
+Serves (Ok (Run workers)) source source' sink sink' errors errors' status = Obeys (IsRun source source' sink sink') status_of errors errors' status
+Serves (Ok (Race workers)) source source' sink sink' errors errors' status = Unit {0}
+Serves (Ok (Check config)) source source' sink sink' errors errors' status = Unit {0}
+Serves (Ok Audit) source source' sink sink' errors errors' status = Unit {0}
+Serves (Ok (Migrate config)) source source' sink sink' errors errors' status = Unit {0}
 Serves (Err fault) source source' sink sink' errors errors' status = Declines source source' sink sink' errors errors' fault status

@@ -8,6 +8,9 @@ pub enum LineFault {
     /// A word isn't UTF-8.
     #[error("metroheap: a word is not text\n")]
     NotText,
+    /// The numbers of a configuration are outside its limits.
+    #[error("metroheap: bad configuration\n")]
+    Configuration,
     #[error("metroheap: no memory\n")]
     NoMemory,
 }

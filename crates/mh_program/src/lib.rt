@@ -1,6 +1,7 @@
 //! The command line, what the program does on its words, and the exit statuses.
 #![tactic(auto)]
 
+mod command;
 pub mod fault;
 pub mod line;
 pub mod order;

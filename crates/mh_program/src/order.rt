@@ -1,78 +1,77 @@
-ghost use Rattle.std.specs.Prelude.{◌≡◌, Some, IfOk, IfErr, IsErr, false, map};
+ghost use Rattle.std.specs.Prelude.{◌≡◌, ◌<◌, ◌≤◌, IfOk, IfErr, IfSome, IsErr, IsNone, IsSomeAnd, map};
 ghost use Rattle.std.specs.IoError.{error_kind};
 ghost use Rattle.std.specs.String.{string_bytes};
 ghost use Rattle.std.specs.Vec.Iter.{into_iter_items};
-ghost use Rattle.clap.specs.Words.{app_of, rule_of, subcommand_rows_of};
-ghost use Rattle.clap.specs.declared.builder.command.Command.TheViews.{out-Command};
-ghost use Rattle.mh_program.specs.Line.{metroheap, optional_app, run_app, workers_rule, NamesRun, AsksForFew, IsOrder, HasFewWorkers, GivesOrder, IsFault, IsUnread};
+ghost use Rattle.clap.specs.Words.{found_of, rows_of, subcommand_rows_of};
+ghost use Rattle.mh_program.specs.Line.{AreGiven, AsksForFew, HasNumber, IsAsked, IsGiven, NamesOne, workers_of};
+ghost use Rattle.mh_program.specs.Orders.{GivesOrder, HasFewWorkers, HasFirstRules, IsFault, IsOrder, IsOutside, IsUnread, MakesConfig};
 
+use crate::command::command;
 use crate::fault::LineFault;
 use crate::line::Order;
-use clap::builder::ValueParser;
+use clap::ArgMatches;
 use clap::error::ErrorKind;
-use clap::{Arg, ArgMatches, Command};
+use mh_model::config::Config;
 use std::alloc::{AllocError, Global};
 use std::convert::AsStr;
 use std::env::Args;
 use std::io;
 
-/// The most workers that scan at a time.
-const MOST_WORKERS: u64 = 64;
-
-const ABOUT_RUN: &str =
-    "Reads a script from standard input and prints the reply to each of its events, or the line that refuses the script";
-
-const STATUSES: &str =
-    "Exit status: 0 where the script was run, 1 where it was refused, 2 where the command line was, 3 where memory was wanting, a device failed or the history was full";
-
-fn workers<'a>(alloc: Global) -> Arg<'a>
-    ensures rule { rule_of result ≡ workers_rule }
-    ensures local { result.global ≡ false }
+fn workers_asked(matches: &ArgMatches<'_>) -> usize
+    requires { AsksForFew (rows_of (found_of matches.now)) }
+    ensures value { result ≡ workers_of (rows_of (found_of matches.now)) }
+    ensures few { (0 < result) × (result ≤ 64) }
 {
-    Arg::new(alloc, "workers")
-        .long("workers")
-        .value_name("W")
-        .value_parser(ValueParser::unsigned(1, MOST_WORKERS))
-        .help("How many threads scan at a time at most, from 1 to 64; 1 where it is not given")
+    matches.get_one::<usize>("workers").unwrap_or(1)
 }
 
-fn run<'a>(alloc: Global) -> Result<Command<'a>, AllocError>
-    ensures app { IfOk result (λ command. app_of command ≡ run_app) }
-    ensures local { IfOk result (λ command. (out-Command command).has_globals ≡ false) }
+fn number_given(matches: &ArgMatches<'_>, name: &str) -> u32
+    requires { IsGiven (rows_of (found_of matches.now)) name.now }
+    ensures { HasNumber (rows_of (found_of matches.now)) name.now result }
 {
-    let run = Command::new(alloc, "run")
-        .about(ABOUT_RUN)
-        .after_help(STATUSES);
-    run.arg(workers(alloc))
+    matches.get_one::<u32>(name).unwrap()
 }
 
-fn optional<'a>(alloc: Global) -> Result<Command<'a>, AllocError>
-    ensures { IfOk result (λ command. app_of command ≡ optional_app) }
+/// The configuration of a subcommand's options. None exactly outside its limits.
+fn config_given(matches: &ArgMatches<'_>) -> Option<Config>
+    requires { AreGiven (rows_of (found_of matches.now)) }
+    ensures { MakesConfig (rows_of (found_of matches.now)) result }
 {
-    let run = run(alloc)?;
-    Command::new(alloc, "metroheap").subcommand(run)
-}
-
-fn command<'a>(alloc: Global) -> Result<Command<'a>, AllocError>
-    ensures { IfOk result (λ command. app_of command ≡ metroheap) }
-{
-    let command = optional(alloc)?;
-    Ok(
-        command
-            .subcommand_required(true)
-            .disable_help_subcommand(true),
+    Config::first(
+        number_given(matches, "pages"),
+        number_given(matches, "quantum"),
+        number_given(matches, "trigger"),
+        number_given(matches, "every"),
     )
 }
 
-/// The order of a subcommand that `clap` found, of which there is one.
-fn order_of(matches: &ArgMatches<'_>) -> Order
-    requires named { NamesRun (subcommand_rows_of matches.now) }
-    requires few { AsksForFew (subcommand_rows_of matches.now) }
-    ensures order { IsOrder (subcommand_rows_of matches.now) result }
-    ensures few { HasFewWorkers result }
+fn order_named(name: &str, matches: &ArgMatches<'_>) -> Option<Order>
+    requires { IsAsked name.now (rows_of (found_of matches.now)) }
+    ensures order { IfSome result (IsOrder name.now (rows_of (found_of matches.now))) }
+    ensures few { IfSome result HasFewWorkers }
+    ensures rules { IfSome result HasFirstRules }
+    ensures outside { IsNone result → IsOutside name.now (rows_of (found_of matches.now)) }
 {
-    match matches.subcommand_matches("run") {
-        Some(run) => Order::Run(run.get_one::<usize>("workers").unwrap_or(1)),
+    match name {
+        "run" => Some(Order::Run(workers_asked(matches))),
+        "race" => Some(Order::Race(workers_asked(matches))),
+        "check" => Some(Order::Check(config_given(matches)?)),
+        "audit" => Some(Order::Audit),
+        "migrate" => Some(Order::Migrate(config_given(matches)?)),
+        _ => unreachable!(),
+    }
+}
+
+/// The order of what `clap` found. None exactly where a configuration is outside its limits.
+fn order_of(matches: &ArgMatches<'_>) -> Option<Order>
+    requires { NamesOne (subcommand_rows_of matches.now) }
+    ensures order { IfSome result (λ order. IsSomeAnd (subcommand_rows_of matches.now) (λ subcommand. IsOrder subcommand.0 subcommand.1 order)) }
+    ensures few { IfSome result HasFewWorkers }
+    ensures rules { IfSome result HasFirstRules }
+    ensures outside { IsNone result → IsSomeAnd (subcommand_rows_of matches.now) (λ subcommand. IsOutside subcommand.0 subcommand.1) }
+{
+    match matches.subcommand() {
+        Some((name, matches)) => order_named(name, matches),
         None => unreachable!(),
     }
 }
@@ -86,7 +85,10 @@ pub fn order<T: AsStr>(alloc: Global, words: &[T]) -> Result<Order, LineFault>
         return Err(LineFault::NoMemory);
     };
     match command.try_get_matches_from(words) {
-        Ok(matches) => Ok(order_of(&matches)),
+        Ok(matches) => match order_of(&matches) {
+            Some(order) => Ok(order),
+            None => Err(LineFault::Configuration),
+        },
         Err(error) if error.kind() == ErrorKind::OutOfMemory => Err(LineFault::NoMemory),
         Err(error) => Err(LineFault::Words(error)),
     }
@@ -129,6 +131,7 @@ pub fn line_order(alloc: Global, words: io::Result<Args>) -> Result<Order, LineF
     ensures unread { IfErr words (λ error. IfErr result (IsUnread (error_kind error))) }
     ensures no_order { IsErr words → IsErr result }
     ensures few { IfOk result HasFewWorkers }
+    ensures rules { IfOk result HasFirstRules }
 {
     match words {
         Ok(words) => order_of_texts(alloc, words),

@@ -1,13 +1,14 @@
-ghost use Rattle.std.specs.Prelude.{◌≡◌, ◌<◌, ◌^◌, Result, IfOk, MatchResult, map};
+ghost use Rattle.std.specs.Prelude.{◌≡◌, ◌<◌, ◌≤◌, ◌^◌, Result, IfOk, MatchResult, map};
 ghost use Rattle.std.specs.IoError.{error_kind};
 ghost use Rattle.std.specs.String.{string_bytes};
 ghost use Rattle.std.specs.Vec.Iter.{into_iter_items};
 ghost use Rattle.mh_model.specs.Bytes.{line_text};
 ghost use Rattle.mh_program.specs.declared.fault.LineFault.{LineFault};
 ghost use Rattle.mh_program.specs.declared.line.Order.{Order};
-ghost use Rattle.mh_program.specs.Line.{HasFewWorkers};
-ghost use Rattle.mh_program.specs.Program.{fault_text, OrdersBy, Unreads, Serves, Tells, TellsLine};
-ghost use Rattle.mh_script.specs.Run.{device};
+ghost use Rattle.mh_program.specs.Orders.{HasFewWorkers};
+ghost use Rattle.mh_program.specs.Program.{fault_text, Obeys, OrdersBy, Unreads, Serves, Tells, TellsLine, TellsRun};
+ghost use Rattle.mh_program.specs.Status.{status_of};
+ghost use Rattle.mh_script.specs.Run.{device, IsRun};
 
 use crate::fault::LineFault;
 use crate::line::Order;
@@ -44,6 +45,16 @@ fn tell<E: Sink>(errors: &mut E, text: &[u8])
     let _ = write_text(errors, text);
 }
 
+/// Tells the fault of a run, if it has one.
+fn tell_fault<T, E: Sink>(errors: &mut E, ended: &Result<T, ScriptFault>)
+    requires { E.failures errors.old < 2 ^ 62 }
+    ensures { TellsRun (device (E.written errors.old) (E.failures errors.old)) (device (E.written errors.new) (E.failures errors.new)) ended.now }
+{
+    if let Err(fault) = ended {
+        tell(errors, fault_line(*fault));
+    }
+}
+
 fn tell_line<E: Sink>(alloc: Global, errors: &mut E, fault: &LineFault)
     requires { E.failures errors.old < 2 ^ 62 }
     ensures { TellsLine (device (E.written errors.old) (E.failures errors.old)) (device (E.written errors.new) (E.failures errors.new)) fault.now }
@@ -54,8 +65,60 @@ fn tell_line<E: Sink>(alloc: Global, errors: &mut E, fault: &LineFault)
             Err(_) => tell(errors, b"metroheap: bad command line\n"),
         },
         LineFault::NotText => tell(errors, b"metroheap: a word is not text\n"),
+        LineFault::Configuration => tell(errors, b"metroheap: bad configuration\n"),
         LineFault::NoMemory => tell(errors, b"metroheap: no memory\n"),
     }
+}
+
+fn run<R: Threads, S: Source, W: Sink, E: Sink, G: CrewGate>(
+    rt: &R,
+    alloc: Global,
+    workers: usize,
+    source: &mut S,
+    sink: &mut W,
+    errors: &mut E,
+    gate: &G,
+) -> u8
+    requires few { (0 < workers) × (workers ≤ 64) }
+    requires source_count { S.failures source.old < 2 ^ 62 }
+    requires sink_count { W.failures sink.old < 2 ^ 62 }
+    requires errors_count { E.failures errors.old < 2 ^ 62 }
+    ensures { Obeys (IsRun
+        (device (S.rest source.old) (S.failures source.old)) (device (S.rest source.new) (S.failures source.new))
+        (device (W.written sink.old) (W.failures sink.old)) (device (W.written sink.new) (W.failures sink.new))) status_of
+        (device (E.written errors.old) (E.failures errors.old)) (device (E.written errors.new) (E.failures errors.new)) result }
+{
+    let ended = run_script(rt, alloc, source, sink, workers, gate);
+    tell_fault(errors, &ended);
+    status(&ended)
+}
+
+fn race<E: Sink>(errors: &mut E) -> u8
+    requires { E.failures errors.old < 2 ^ 62 }
+{
+    tell(errors, b"metroheap: race is not served yet\n");
+    2
+}
+
+fn check<E: Sink>(errors: &mut E) -> u8
+    requires { E.failures errors.old < 2 ^ 62 }
+{
+    tell(errors, b"metroheap: check is not served yet\n");
+    2
+}
+
+fn audit<E: Sink>(errors: &mut E) -> u8
+    requires { E.failures errors.old < 2 ^ 62 }
+{
+    tell(errors, b"metroheap: audit is not served yet\n");
+    2
+}
+
+fn migrate<E: Sink>(errors: &mut E) -> u8
+    requires { E.failures errors.old < 2 ^ 62 }
+{
+    tell(errors, b"metroheap: migrate is not served yet\n");
+    2
 }
 
 /// Does what the command line asks for, tells on `errors` what went wrong, and gives the exit status.
@@ -78,13 +141,11 @@ pub fn serve<R: Threads, S: Source, W: Sink, E: Sink, G: CrewGate>(
         (device (E.written errors.old) (E.failures errors.old)) (device (E.written errors.new) (E.failures errors.new)) result }
 {
     match order {
-        Ok(Order::Run(workers)) => {
-            let ended = run_script(rt, alloc, source, sink, workers, gate);
-            if let Err(fault) = ended {
-                tell(errors, fault_line(fault));
-            }
-            status(&ended)
-        }
+        Ok(Order::Run(workers)) => run(rt, alloc, workers, source, sink, errors, gate),
+        Ok(Order::Race(_)) => race(errors),
+        Ok(Order::Check(_)) => check(errors),
+        Ok(Order::Audit) => audit(errors),
+        Ok(Order::Migrate(_)) => migrate(errors),
         Err(fault) => {
             tell_line(alloc, errors, &fault);
             line_status(&fault)

@@ -95,6 +95,51 @@ fn tells_why_the_words_give_no_order(rt: HostRuntime) -> Result<(), Fail> {
 }
 
 #[test]
+fn tells_a_bad_configuration(rt: HostRuntime) -> Result<(), Fail> {
+    for subcommand in ["check", "migrate"] {
+        let line = [
+            "metroheap",
+            subcommand,
+            "--pages=4097",
+            "--quantum=209",
+            "--trigger=0",
+            "--every=0",
+        ];
+        let line = words(rt.alloc(), &line)?;
+        check(
+            &rt,
+            rt.alloc(),
+            Ok(line),
+            b"history 1\n",
+            (b"", b"metroheap: bad configuration\n", 2),
+        );
+    }
+    Ok(())
+}
+
+#[test]
+fn tells_what_a_subcommand_does(rt: HostRuntime) -> Result<(), Fail> {
+    for subcommand in ["run", "race", "check", "audit", "migrate"] {
+        let line = words(rt.alloc(), &["metroheap", subcommand, "--help"])?;
+        let mut sink = StdSink::new(Vec::new(rt.alloc()));
+        let mut errors = StdSink::new(Vec::new(rt.alloc()));
+        let status = program(
+            &rt,
+            rt.alloc(),
+            Ok(line),
+            &mut StdSource::new(b"".as_slice()),
+            &mut sink,
+            &mut errors,
+            &Open,
+        );
+        assert_eq!(rt; status, 2);
+        assert!(rt; sink.writer.is_empty());
+        assert!(rt; errors.writer.as_slice().starts_with(b"Reads a "));
+    }
+    Ok(())
+}
+
+#[test]
 fn tells_which_device_failed(rt: HostRuntime) -> Result<(), Fail> {
     let line = words(rt.alloc(), &["metroheap", "run"])?;
     let mut sink = StdSink::new(Vec::new(rt.alloc()));
