@@ -2,7 +2,7 @@
 #![tactic(auto)]
 
 use mh_claims::gate::Open;
-use mh_script::program::program;
+use mh_program::program::program;
 use mh_text::sink::StdSink;
 use mh_text::source::StdSource;
 use std::process::ExitCode;

@@ -2,4 +2,3 @@ pub mod BufferLemmas
 pub mod MachineLemmas
 pub mod RunLemmas
 pub mod SourceLemmas
-pub mod WorkerLemmas

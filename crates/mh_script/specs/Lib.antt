@@ -1,4 +1,1 @@
-pub mod Line
-pub mod Status
 pub mod Run
-pub mod Program

@@ -1,5 +1,6 @@
+use crate::end::End;
+use crate::fault::ScriptFault;
 use crate::run::run_script;
-use crate::status::status;
 use mh_claims::gate::Open;
 use mh_text::sink::StdSink;
 use mh_text::source::StdSource;
@@ -7,6 +8,14 @@ use std::alloc::Global;
 use std::process::Abort;
 use std::test::Fail;
 use std::thread::Threads;
+
+fn status(ended: &Result<End, ScriptFault>) -> u8 {
+    match ended {
+        Ok(End::Done) => 0,
+        Ok(End::Refused(_)) => 1,
+        Err(_) => 3,
+    }
+}
 
 /// A script has this output and this exit status, also by crews.
 pub fn check<R: Threads + Abort>(rt: &R, alloc: Global, script: &[u8], output: &[u8], wanted: u8) {

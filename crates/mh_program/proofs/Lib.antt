@@ -1,0 +1,4 @@
+pub mod CommandLemmas
+pub mod OptionLemmas
+pub mod ReadingLemmas
+pub mod SubcommandLemmas

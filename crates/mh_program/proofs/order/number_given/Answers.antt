@@ -1,0 +1,20 @@
+use Rattle.std.proofs.Common.{◌∙◌, lit<}
+use Rattle.std.specs.Str.Parse.{ParsesUnsigned, ExplainsUnsignedError, HasUnsignedDigitsIfOk}
+use Rattle.clap.proofs.WalkLemmas.{one_text-rows}
+use Rattle.clap.specs.Words.{found_of, one_of, rows_of}
+use Rattle.mh_program.proofs.ReadingLemmas.{must-read, some-read}
+use Rattle.mh_program.proofs.order.number_given.Goals as goal
+
+pub unwrap-requires : goal.unwrap-requires
+unwrap-requires c =
+    let same = one_text-rows (found_of c.args.matches.now) c.args.name.now in
+    let read = must-read 32 (λ text r. ParsesUnsigned 32 10 text r × ExplainsUnsignedError 10 text r × HasUnsignedDigitsIfOk text r) (λ text r gives. gives.0)
+    4294967295 (one_of c.args.name.now (rows_of (found_of c.args.matches.now))) c.get_one.result (lit< tt) c.requires (λ t e. c.get_one.ensures.value t (same ∙ e)) in
+    some-read _ _ read c.requires
+
+pub returns : goal.returns
+returns c =
+    let same = one_text-rows (found_of c.args.matches.now) c.args.name.now in
+    let read = must-read 32 (λ text r. ParsesUnsigned 32 10 text r × ExplainsUnsignedError 10 text r × HasUnsignedDigitsIfOk text r) (λ text r gives. gives.0)
+    4294967295 (one_of c.args.name.now (rows_of (found_of c.args.matches.now))) c.get_one.result (lit< tt) c.requires (λ t e. c.get_one.ensures.value t (same ∙ e)) in
+    read ∙ c.unwrap.ensures

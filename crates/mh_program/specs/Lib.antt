@@ -1,0 +1,4 @@
+pub mod Line
+pub mod Orders
+pub mod Status
+pub mod Program

@@ -1,0 +1,93 @@
+-- The command line as `clap` is told it, and what the options in its matches say.
+use Rattle.std.specs.Prelude.{◌≡◌, ◌⊎◌, ℕ, List, Option, Some, true, codes, IfSome, IsSomeAnd, option_map}
+use Rattle.std.specs.Option.{option_map_or}
+use Rattle.std.specs.Str.Parse.{digits_value, without_leading_plus}
+use Rattle.clap.specs.Words.{App, IsUnsignedIn, Row, Rule, Text, new_app, new_rule, one_of, with_rule, with_subcommand}
+use Rattle.clap.specs.declared.builder.value_parser.ValueParser.{ValueParser}
+use Rattle.clap.specs.declared.builder.value_parser.ValueParser.TheVariants.{Unsigned}
+
+-- Options ----------------------------------------------------------------------------------------
+
+-- the numbers from 1 to 64
+abbrev pub worker_numbers : ValueParser
+worker_numbers = Unsigned 1 64
+
+-- the numbers of 32 bits
+abbrev pub config_numbers : ValueParser
+config_numbers = Unsigned 0 4294967295
+
+-- the option `--workers W`, which may be left out
+abbrev pub workers_rule : Rule
+workers_rule = record (new_rule (codes "workers")) { long = Some (codes "workers"); value_names = 1; parser = Some worker_numbers }
+
+-- an option with a number of a configuration, which has to be given
+abbrev pub number_rule : Text → Rule
+number_rule name = record (new_rule name) { long = Some name; value_names = 1; parser = Some config_numbers; required = true }
+
+-- Subcommands ------------------------------------------------------------------------------------
+
+-- a subcommand with a number of workers
+abbrev pub workers_app : Text → App
+workers_app name = with_rule (new_app name) workers_rule
+
+-- a subcommand with the four numbers of a configuration
+abbrev pub config_app : Text → App
+config_app name = with_rule (with_rule (with_rule (with_rule (new_app name) (number_rule (codes "pages"))) (number_rule (codes "quantum"))) (number_rule (codes "trigger"))) (number_rule (codes "every"))
+
+-- the five subcommands
+abbrev pub optional_app : App
+optional_app =
+    with_subcommand (with_subcommand (with_subcommand (with_subcommand (with_subcommand (new_app (codes "metroheap"))
+    (workers_app (codes "run")).top)
+    (workers_app (codes "race")).top)
+    (config_app (codes "check")).top)
+    (new_app (codes "audit")).top)
+    (config_app (codes "migrate")).top
+
+-- the program, whose words name a subcommand; `help` is none
+abbrev pub metroheap : App
+metroheap = record optional_app { top = record optional_app.top { subcommand_required = true; disable_help_subcommand = true } }
+
+-- Numbers ----------------------------------------------------------------------------------------
+
+-- the number that a text of digits is, after a plus if it has one
+abbrev pub number_in : Text → ℕ
+number_in text = digits_value 10 (without_leading_plus text)
+
+-- how many workers the matches ask for, which is 1 where they don't say
+abbrev pub workers_of : List Row → ℕ
+workers_of rows = option_map_or number_in (one_of (codes "workers") rows) 1
+
+-- the option is given with this number
+abbrev pub HasNumber : List Row → Text → ℕ → Type 0
+HasNumber rows name n = option_map number_in (one_of name rows) ≡ Some n
+
+-- What `clap` has seen to -------------------------------------------------------------------------
+
+-- no number of workers is given, or one from 1 to 64
+abbrev pub AsksForFew : List Row → Type 0
+AsksForFew rows = IfSome (one_of (codes "workers") rows) (IsUnsignedIn 1 64)
+
+-- the option is given with a number of 32 bits
+abbrev pub IsGiven : List Row → Text → Type 0
+IsGiven rows name = IsSomeAnd (one_of name rows) (IsUnsignedIn 0 4294967295)
+
+-- each option of a configuration is
+abbrev pub AreGiven : List Row → Type 0
+AreGiven rows = IsGiven rows (codes "pages") × IsGiven rows (codes "quantum") × IsGiven rows (codes "trigger") × IsGiven rows (codes "every")
+
+abbrev pub TakesWorkers : Text → Type 0
+TakesWorkers name = (name ≡ codes "run") ⊎ (name ≡ codes "race")
+
+abbrev pub TakesNumbers : Text → Type 0
+TakesNumbers name = (name ≡ codes "check") ⊎ (name ≡ codes "migrate")
+
+-- a subcommand of the program, with what its options may be
+pub data IsAsked (name : Text) (rows : List Row) : Type 0 where
+  Workers : TakesWorkers name → AsksForFew rows → IsAsked name rows
+  Numbers : TakesNumbers name → AreGiven rows → IsAsked name rows
+  Nothing : name ≡ codes "audit" → IsAsked name rows
+
+-- the words name one
+abbrev pub NamesOne : Option (Text × List Row) → Type 0
+NamesOne matched = IsSomeAnd matched (λ subcommand. IsAsked subcommand.0 subcommand.1)

@@ -1,0 +1,79 @@
+-- The order that the matches of a command line give, and why other words give none.
+use Rattle.std.specs.Prelude.{◌≡◌, ◌≢◌, ◌<◌, ◌≤◌, ℕ, List, [], Option, Some, None, codes, IsSomeAnd}
+use Rattle.std.specs.declared.io.ErrorKind.{ErrorKind}
+use Rattle.std.specs.declared.io.ErrorKind.TheVariants.{InvalidData}
+use Rattle.clap.specs.Words.{Row, Text, subcommand_of, fault_of, kind_of, IsAmong}
+use Rattle.mh_model.specs.Configs.{configured_first}
+use Rattle.mh_model.specs.declared.config.Config.{Config}
+use Rattle.mh_model.specs.declared.config.Rules.TheVariants.{First}
+use Rattle.mh_program.specs.declared.fault.LineFault.{LineFault}
+use Rattle.mh_program.specs.declared.fault.LineFault.TheVariants.{Words, NotText, Configuration, NoMemory}
+use Rattle.mh_program.specs.declared.line.Order.{Order}
+use Rattle.mh_program.specs.declared.line.Order.TheVariants.{Run, Race, Check, Audit, Migrate}
+use Rattle.mh_program.specs.Line.{HasNumber, TakesNumbers, metroheap, workers_of}
+
+-- Orders -----------------------------------------------------------------------------------------
+
+-- what the four numbers in the matches make under the first rules: a configuration, or none outside the limits
+pub record MakesConfig (rows : List Row) (made : Option Config) : Type 0 where
+  pub pages : ℕ
+  pub quantum : ℕ
+  pub trigger : ℕ
+  pub every : ℕ
+  pub has_pages : HasNumber rows (codes "pages") pages
+  pub has_quantum : HasNumber rows (codes "quantum") quantum
+  pub has_trigger : HasNumber rows (codes "trigger") trigger
+  pub has_every : HasNumber rows (codes "every") every
+  pub makes : configured_first pages quantum trigger every ≡ made
+
+-- the order of a subcommand with its matches
+abbrev pub IsOrder : Text → List Row → Order → Type 0
+IsOrder name rows (Run workers) = (name ≡ codes "run") × (workers ≡ workers_of rows)
+IsOrder name rows (Race workers) = (name ≡ codes "race") × (workers ≡ workers_of rows)
+IsOrder name rows (Check config) = (name ≡ codes "check") × MakesConfig rows (Some config)
+IsOrder name rows Audit = name ≡ codes "audit"
+IsOrder name rows (Migrate config) = (name ≡ codes "migrate") × MakesConfig rows (Some config)
+
+-- the subcommand takes the numbers of a configuration, and they are outside the limits
+abbrev pub IsOutside : Text → List Row → Type 0
+IsOutside name rows = TakesNumbers name × MakesConfig rows None
+
+-- from 1 to 64 workers, where the order has workers
+abbrev pub HasFewWorkers : Order → Type 0
+HasFewWorkers (Run workers) = (0 < workers) × (workers ≤ 64)
+HasFewWorkers (Race workers) = (0 < workers) × (workers ≤ 64)
+HasFewWorkers order = Unit {0}
+
+-- the first rules, where the order has a configuration
+abbrev pub HasFirstRules : Order → Type 0
+HasFirstRules (Check config) = config.rules ≡ First
+HasFirstRules (Migrate config) = config.rules ≡ First
+HasFirstRules order = Unit {0}
+
+-- Words ------------------------------------------------------------------------------------------
+
+-- `clap` takes the words, and their subcommand gives the order
+pub record GivesOrder (words : List Text) (order : Order) : Type 0 where
+  pub taken : fault_of metroheap words ≡ []
+  pub named : IsSomeAnd (subcommand_of metroheap words) (λ subcommand. IsOrder subcommand.0 subcommand.1 order)
+  pub few : HasFewWorkers order
+  pub rules : HasFirstRules order
+
+-- `clap` takes the words, and the numbers of their subcommand are outside the limits of a configuration
+pub record AsksOutside (words : List Text) : Type 0 where
+  pub taken : fault_of metroheap words ≡ []
+  pub named : IsSomeAnd (subcommand_of metroheap words) (λ subcommand. IsOutside subcommand.0 subcommand.1)
+
+-- words are refused only where `clap` doesn't take them, with one of the kinds of fault that it finds first, or where their
+-- configuration is outside the limits
+abbrev pub IsFault : List Text → LineFault → Type 0
+IsFault words (Words error) = IsAmong (kind_of error) (fault_of metroheap words)
+IsFault words NotText = ⊥
+IsFault words Configuration = AsksOutside words
+IsFault words NoMemory = Unit {0}
+
+-- what is said of words that weren't read: where one isn't text, that it isn't, and else that memory was wanting
+abbrev pub IsUnread : ErrorKind → LineFault → Type 0
+IsUnread kind NotText = kind ≡ InvalidData
+IsUnread kind NoMemory = kind ≢ InvalidData
+IsUnread kind fault = ⊥

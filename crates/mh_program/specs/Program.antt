@@ -1,0 +1,72 @@
+-- What the program does with the words of its command line, and what it tells on standard error.
+use Rattle.std.specs.Prelude.{◌≡◌, ℕ, ◌<◌, List, [], Result, Ok, Err, codes}
+use Rattle.std.specs.Io.KnownBytes.{Appends}
+use Rattle.mh_model.specs.Bytes.{Text, line_text}
+use Rattle.mh_text.specs.Stream.{AppendsBeginning}
+use Rattle.mh_script.specs.declared.fault.ScriptFault.{ScriptFault}
+use Rattle.mh_script.specs.declared.fault.ScriptFault.TheVariants.{Read, Write, NoMemory, HistoryFull}
+use Rattle.mh_program.specs.declared.fault.LineFault.{LineFault}
+use Rattle.mh_program.specs.declared.fault.LineFault.TheVariants as line
+use Rattle.mh_program.specs.declared.line.Order.{Order}
+use Rattle.mh_program.specs.declared.line.Order.TheVariants.{Run, Race, Check, Audit, Migrate}
+use Rattle.std.specs.declared.io.ErrorKind.{ErrorKind}
+use Rattle.mh_program.specs.Orders.{GivesOrder, IsFault, IsUnread}
+use Rattle.mh_script.specs.Run.{Device, IsRun}
+use Rattle.mh_program.specs.Status.{status_of, line_status_of}
+
+-- what words that are text give: an order, or a fault
+abbrev pub OrdersBy : List Text → Result Order LineFault → Type 0
+OrdersBy words (Ok order) = GivesOrder words order
+OrdersBy words (Err fault) = IsFault words fault
+
+-- words that weren't read give no order
+abbrev pub Unreads : ErrorKind → Result Order LineFault → Type 0
+Unreads kind (Ok order) = ⊥
+Unreads kind (Err fault) = IsUnread kind fault
+
+-- the line of a fault
+abbrev pub fault_text : ScriptFault → Text
+fault_text Read = codes "metroheap: read failed"
+fault_text Write = codes "metroheap: write failed"
+fault_text NoMemory = codes "metroheap: no memory"
+fault_text HistoryFull = codes "metroheap: history full"
+
+-- a text was written whole, or a beginning of it where the device failed
+pub data Tells (old new : Device) (text : Text) : Type 0 where
+  Whole : Appends old.bytes new.bytes text → new.failures ≡ old.failures → Tells old new text
+  Broken : AppendsBeginning old.bytes new.bytes text → old.failures < new.failures → Tells old new text
+
+-- what is told of a run: nothing where it ended well, and else the line of its fault
+abbrev pub TellsRun : {T : Type 0} → Device → Device → Result T ScriptFault → Type 0
+TellsRun old new (Ok end) = Tells old new []
+TellsRun old new (Err fault) = Tells old new (line_text (fault_text fault))
+
+-- what is told of words that gave no order: what `clap` says of them, or a line
+abbrev pub TellsLine : Device → Device → LineFault → Type 0
+TellsLine old new (line.Words error) = (text : Text) × Tells old new text
+TellsLine old new line.NotText = Tells old new (line_text (codes "metroheap: a word is not text"))
+TellsLine old new line.Configuration = Tells old new (line_text (codes "metroheap: bad configuration"))
+TellsLine old new line.NoMemory = Tells old new (line_text (codes "metroheap: no memory"))
+
+-- an order was carried out: its run ended so, a fault of the run was told, and the status is the end's
+pub record Obeys {T : Type 0} (Ends : Result T ScriptFault → Type 0) (status_by : Result T ScriptFault → ℕ) (errors errors' : Device) (status : ℕ) : Type 0 where
+  pub ended : Result T ScriptFault
+  pub run : Ends ended
+  pub told : TellsRun errors errors' ended
+  pub exit : status ≡ status_by ended
+
+-- there was no order: nothing was read or written, and why was told
+pub record Declines (source source' sink sink' errors errors' : Device) (fault : LineFault) (status : ℕ) : Type 0 where
+  pub unread : source' ≡ source
+  pub unwritten : sink' ≡ sink
+  pub told : TellsLine errors errors' fault
+  pub exit : status ≡ line_status_of fault
+
+-- What the program does on an order, or on words that give none; nothing is claimed yet of a race and of histories
+abbrev pub Serves : Result Order LineFault → (source source' sink sink' errors errors' : Device) → ℕ → Type 0
+Serves (Ok (Run workers)) source source' sink sink' errors errors' status = Obeys (IsRun source source' sink sink') status_of errors errors' status
+Serves (Ok (Race workers)) source source' sink sink' errors errors' status = Unit {0}
+Serves (Ok (Check config)) source source' sink sink' errors errors' status = Unit {0}
+Serves (Ok Audit) source source' sink sink' errors errors' status = Unit {0}
+Serves (Ok (Migrate config)) source source' sink sink' errors errors' status = Unit {0}
+Serves (Err fault) source source' sink sink' errors errors' status = Declines source source' sink sink' errors errors' fault status

@@ -1,0 +1,29 @@
+-- Exit statuses.
+use Rattle.std.specs.Prelude.{ℕ, Result, Ok, Err}
+use Rattle.mh_model.specs.declared.history.Verdict.{Verdict}
+use Rattle.mh_model.specs.declared.history.Verdict.TheVariants as verdict
+use Rattle.mh_script.specs.declared.end.End.{End}
+use Rattle.mh_script.specs.declared.end.End.TheVariants.{Done, Refused}
+use Rattle.mh_program.specs.declared.fault.LineFault.{LineFault}
+use Rattle.mh_program.specs.declared.fault.LineFault.TheVariants.{Words, NotText, Configuration, NoMemory}
+use Rattle.mh_script.specs.declared.fault.ScriptFault.{ScriptFault}
+
+-- 0 for a script that was run, 1 for one that was refused, 3 for a fault of memory or of a device, and for a full history
+abbrev pub status_of : Result End ScriptFault → ℕ
+status_of (Ok Done) = 0
+status_of (Ok (Refused line)) = 1
+status_of (Err fault) = 3
+
+-- 0 for a legal history, 1 for a text that was refused as one, 4 for a history that isn't legal, 3 for a fault
+abbrev pub verdict_status_of : Result Verdict ScriptFault → ℕ
+verdict_status_of (Ok (verdict.Legal entries)) = 0
+verdict_status_of (Ok (verdict.Refused line)) = 1
+verdict_status_of (Ok (verdict.FirstBad entry)) = 4
+verdict_status_of (Err fault) = 3
+
+-- 2 for words that are refused, 3 for want of memory
+abbrev pub line_status_of : LineFault → ℕ
+line_status_of (Words error) = 2
+line_status_of NotText = 2
+line_status_of Configuration = 2
+line_status_of NoMemory = 3

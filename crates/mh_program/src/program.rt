@@ -1,0 +1,179 @@
+ghost use Rattle.std.specs.Prelude.{◌≡◌, ◌<◌, ◌≤◌, ◌^◌, Result, IfOk, MatchResult, map};
+ghost use Rattle.std.specs.IoError.{error_kind};
+ghost use Rattle.std.specs.String.{string_bytes};
+ghost use Rattle.std.specs.Vec.Iter.{into_iter_items};
+ghost use Rattle.mh_model.specs.Bytes.{line_text};
+ghost use Rattle.mh_program.specs.declared.fault.LineFault.{LineFault};
+ghost use Rattle.mh_program.specs.declared.line.Order.{Order};
+ghost use Rattle.mh_program.specs.Orders.{HasFewWorkers};
+ghost use Rattle.mh_program.specs.Program.{fault_text, Obeys, OrdersBy, Unreads, Serves, Tells, TellsLine, TellsRun};
+ghost use Rattle.mh_program.specs.Status.{status_of};
+ghost use Rattle.mh_script.specs.Run.{device, IsRun};
+
+use crate::fault::LineFault;
+use crate::line::Order;
+use crate::order::line_order;
+use crate::status::{line_status, status};
+use mh_scan::crew_scan::CrewGate;
+use mh_script::fault::ScriptFault;
+use mh_script::run::run_script;
+use mh_text::sink::Sink;
+use mh_text::source::Source;
+use mh_text::stream::write_text;
+use std::alloc::Global;
+use std::env::Args;
+use std::io;
+use std::thread::Threads;
+
+/// The line that tells a fault of a run.
+fn fault_line(fault: ScriptFault) -> &'static [u8]
+    ensures { result.now ≡ line_text (fault_text fault) }
+{
+    match fault {
+        ScriptFault::Read => b"metroheap: read failed\n",
+        ScriptFault::Write => b"metroheap: write failed\n",
+        ScriptFault::NoMemory => b"metroheap: no memory\n",
+        ScriptFault::HistoryFull => b"metroheap: history full\n",
+    }
+}
+
+/// Tells a text. Where standard error fails there is nobody left to tell.
+fn tell<E: Sink>(errors: &mut E, text: &[u8])
+    requires { E.failures errors.old < 2 ^ 62 }
+    ensures { Tells (device (E.written errors.old) (E.failures errors.old)) (device (E.written errors.new) (E.failures errors.new)) text.now }
+{
+    let _ = write_text(errors, text);
+}
+
+/// Tells the fault of a run, if it has one.
+fn tell_fault<T, E: Sink>(errors: &mut E, ended: &Result<T, ScriptFault>)
+    requires { E.failures errors.old < 2 ^ 62 }
+    ensures { TellsRun (device (E.written errors.old) (E.failures errors.old)) (device (E.written errors.new) (E.failures errors.new)) ended.now }
+{
+    if let Err(fault) = ended {
+        tell(errors, fault_line(*fault));
+    }
+}
+
+fn tell_line<E: Sink>(alloc: Global, errors: &mut E, fault: &LineFault)
+    requires { E.failures errors.old < 2 ^ 62 }
+    ensures { TellsLine (device (E.written errors.old) (E.failures errors.old)) (device (E.written errors.new) (E.failures errors.new)) fault.now }
+{
+    match fault {
+        LineFault::Words(error) => match format!(in alloc; "{error}") {
+            Ok(text) => tell(errors, text.as_bytes()),
+            Err(_) => tell(errors, b"metroheap: bad command line\n"),
+        },
+        LineFault::NotText => tell(errors, b"metroheap: a word is not text\n"),
+        LineFault::Configuration => tell(errors, b"metroheap: bad configuration\n"),
+        LineFault::NoMemory => tell(errors, b"metroheap: no memory\n"),
+    }
+}
+
+fn run<R: Threads, S: Source, W: Sink, E: Sink, G: CrewGate>(
+    rt: &R,
+    alloc: Global,
+    workers: usize,
+    source: &mut S,
+    sink: &mut W,
+    errors: &mut E,
+    gate: &G,
+) -> u8
+    requires few { (0 < workers) × (workers ≤ 64) }
+    requires source_count { S.failures source.old < 2 ^ 62 }
+    requires sink_count { W.failures sink.old < 2 ^ 62 }
+    requires errors_count { E.failures errors.old < 2 ^ 62 }
+    ensures { Obeys (IsRun
+        (device (S.rest source.old) (S.failures source.old)) (device (S.rest source.new) (S.failures source.new))
+        (device (W.written sink.old) (W.failures sink.old)) (device (W.written sink.new) (W.failures sink.new))) status_of
+        (device (E.written errors.old) (E.failures errors.old)) (device (E.written errors.new) (E.failures errors.new)) result }
+{
+    let ended = run_script(rt, alloc, source, sink, workers, gate);
+    tell_fault(errors, &ended);
+    status(&ended)
+}
+
+fn race<E: Sink>(errors: &mut E) -> u8
+    requires { E.failures errors.old < 2 ^ 62 }
+{
+    tell(errors, b"metroheap: race is not served yet\n");
+    2
+}
+
+fn check<E: Sink>(errors: &mut E) -> u8
+    requires { E.failures errors.old < 2 ^ 62 }
+{
+    tell(errors, b"metroheap: check is not served yet\n");
+    2
+}
+
+fn audit<E: Sink>(errors: &mut E) -> u8
+    requires { E.failures errors.old < 2 ^ 62 }
+{
+    tell(errors, b"metroheap: audit is not served yet\n");
+    2
+}
+
+fn migrate<E: Sink>(errors: &mut E) -> u8
+    requires { E.failures errors.old < 2 ^ 62 }
+{
+    tell(errors, b"metroheap: migrate is not served yet\n");
+    2
+}
+
+/// Does what the command line asks for, tells on `errors` what went wrong, and gives the exit status.
+pub fn serve<R: Threads, S: Source, W: Sink, E: Sink, G: CrewGate>(
+    rt: &R,
+    alloc: Global,
+    order: Result<Order, LineFault>,
+    source: &mut S,
+    sink: &mut W,
+    errors: &mut E,
+    gate: &G,
+) -> u8
+    requires few { IfOk order HasFewWorkers }
+    requires source_count { S.failures source.old < 2 ^ 62 }
+    requires sink_count { W.failures sink.old < 2 ^ 62 }
+    requires errors_count { E.failures errors.old < 2 ^ 62 }
+    ensures { Serves order
+        (device (S.rest source.old) (S.failures source.old)) (device (S.rest source.new) (S.failures source.new))
+        (device (W.written sink.old) (W.failures sink.old)) (device (W.written sink.new) (W.failures sink.new))
+        (device (E.written errors.old) (E.failures errors.old)) (device (E.written errors.new) (E.failures errors.new)) result }
+{
+    match order {
+        Ok(Order::Run(workers)) => run(rt, alloc, workers, source, sink, errors, gate),
+        Ok(Order::Race(_)) => race(errors),
+        Ok(Order::Check(_)) => check(errors),
+        Ok(Order::Audit) => audit(errors),
+        Ok(Order::Migrate(_)) => migrate(errors),
+        Err(fault) => {
+            tell_line(alloc, errors, &fault);
+            line_status(&fault)
+        }
+    }
+}
+
+/// The program: does what the words of the command line ask for, of which the first is its own name, tells on `errors` what
+/// went wrong, and gives the exit status.
+pub fn program<R: Threads, S: Source, W: Sink, E: Sink, G: CrewGate>(
+    rt: &R,
+    alloc: Global,
+    words: io::Result<Args>,
+    source: &mut S,
+    sink: &mut W,
+    errors: &mut E,
+    gate: &G,
+) -> u8
+    requires source_count { S.failures source.old < 2 ^ 62 }
+    requires sink_count { W.failures sink.old < 2 ^ 62 }
+    requires errors_count { E.failures errors.old < 2 ^ 62 }
+    ensures { (order : Result Order LineFault)
+        × MatchResult words (λ words. OrdersBy (map string_bytes (into_iter_items words)) order) (λ error. Unreads (error_kind error) order)
+        × Serves order
+        (device (S.rest source.old) (S.failures source.old)) (device (S.rest source.new) (S.failures source.new))
+        (device (W.written sink.old) (W.failures sink.old)) (device (W.written sink.new) (W.failures sink.new))
+        (device (E.written errors.old) (E.failures errors.old)) (device (E.written errors.new) (E.failures errors.new)) result }
+{
+    let order = line_order(alloc, words);
+    serve(rt, alloc, order, source, sink, errors, gate)
+}

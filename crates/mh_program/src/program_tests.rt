@@ -1,0 +1,179 @@
+use crate::program::program;
+use crate::test_devices::Broken;
+use mh_claims::gate::Open;
+use mh_text::sink::StdSink;
+use mh_text::source::StdSource;
+use std::alloc::{AllocError, Global};
+use std::env::Args;
+use std::io;
+use std::process::Abort;
+use std::test::Fail;
+use std::thread::Threads;
+
+fn words(alloc: Global, words: &[&str]) -> Result<Args, AllocError> {
+    let mut texts = Vec::new(alloc);
+    for word in words {
+        texts.push(word.to_string(alloc)?)?;
+    }
+    Ok(texts.into_iter())
+}
+
+/// What the program writes, tells and answers on a script.
+fn check<R: Threads + Abort>(
+    rt: &R,
+    alloc: Global,
+    line: io::Result<Args>,
+    script: &[u8],
+    wanted: (&[u8], &[u8], u8),
+) {
+    let mut source = StdSource::new(script);
+    let mut sink = StdSink::new(Vec::new(alloc));
+    let mut errors = StdSink::new(Vec::new(alloc));
+    let status = program(rt, alloc, line, &mut source, &mut sink, &mut errors, &Open);
+    assert_eq!(rt; sink.writer.as_slice(), wanted.0);
+    assert_eq!(rt; errors.writer.as_slice(), wanted.1);
+    assert_eq!(rt; status, wanted.2);
+}
+
+#[test]
+fn runs_a_script(rt: HostRuntime) -> Result<(), Fail> {
+    let line = words(rt.alloc(), &["metroheap", "run"])?;
+    let script = b"config 4 209 0 0\na new 0 0 0\n";
+    check(&rt, rt.alloc(), Ok(line), script, (b"ok\n", b"", 0));
+    let line = words(rt.alloc(), &["metroheap", "run", "--workers", "2"])?;
+    check(
+        &rt,
+        rt.alloc(),
+        Ok(line),
+        b"config\n",
+        (b"refused 10 line 1\n", b"", 1),
+    );
+    Ok(())
+}
+
+#[test]
+fn tells_why_the_words_give_no_order(rt: HostRuntime) -> Result<(), Fail> {
+    let error = io::Error::from(io::ErrorKind::InvalidData);
+    check(
+        &rt,
+        rt.alloc(),
+        Err(error),
+        b"",
+        (b"", b"metroheap: a word is not text\n", 2),
+    );
+    let error = io::Error::from(io::ErrorKind::OutOfMemory);
+    check(
+        &rt,
+        rt.alloc(),
+        Err(error),
+        b"",
+        (b"", b"metroheap: no memory\n", 3),
+    );
+    for line in [
+        ["metroheap", "walk"].as_slice(),
+        ["metroheap", "help"].as_slice(),
+        ["metroheap"].as_slice(),
+    ] {
+        let line = words(rt.alloc(), line)?;
+        let mut source = StdSource::new(b"config 4 209 0 0\n".as_slice());
+        let mut sink = StdSink::new(Vec::new(rt.alloc()));
+        let mut errors = StdSink::new(Vec::new(rt.alloc()));
+        let status = program(
+            &rt,
+            rt.alloc(),
+            Ok(line),
+            &mut source,
+            &mut sink,
+            &mut errors,
+            &Open,
+        );
+        assert_eq!(rt; status, 2);
+        assert!(rt; sink.writer.is_empty());
+        assert!(rt; errors.writer.as_slice().starts_with(b"error: "));
+    }
+    Ok(())
+}
+
+#[test]
+fn tells_a_bad_configuration(rt: HostRuntime) -> Result<(), Fail> {
+    for subcommand in ["check", "migrate"] {
+        let line = [
+            "metroheap",
+            subcommand,
+            "--pages=4097",
+            "--quantum=209",
+            "--trigger=0",
+            "--every=0",
+        ];
+        let line = words(rt.alloc(), &line)?;
+        check(
+            &rt,
+            rt.alloc(),
+            Ok(line),
+            b"history 1\n",
+            (b"", b"metroheap: bad configuration\n", 2),
+        );
+    }
+    Ok(())
+}
+
+#[test]
+fn tells_what_a_subcommand_does(rt: HostRuntime) -> Result<(), Fail> {
+    for subcommand in ["run", "race", "check", "audit", "migrate"] {
+        let line = words(rt.alloc(), &["metroheap", subcommand, "--help"])?;
+        let mut sink = StdSink::new(Vec::new(rt.alloc()));
+        let mut errors = StdSink::new(Vec::new(rt.alloc()));
+        let status = program(
+            &rt,
+            rt.alloc(),
+            Ok(line),
+            &mut StdSource::new(b"".as_slice()),
+            &mut sink,
+            &mut errors,
+            &Open,
+        );
+        assert_eq!(rt; status, 2);
+        assert!(rt; sink.writer.is_empty());
+        assert!(rt; errors.writer.as_slice().starts_with(b"Reads a "));
+    }
+    Ok(())
+}
+
+#[test]
+fn tells_which_device_failed(rt: HostRuntime) -> Result<(), Fail> {
+    let line = words(rt.alloc(), &["metroheap", "run"])?;
+    let mut sink = StdSink::new(Vec::new(rt.alloc()));
+    let mut errors = StdSink::new(Vec::new(rt.alloc()));
+    let status = program(
+        &rt,
+        rt.alloc(),
+        Ok(line),
+        &mut Broken::new(),
+        &mut sink,
+        &mut errors,
+        &Open,
+    );
+    assert_eq!(rt;
+        errors.writer.as_slice(),
+        b"metroheap: read failed\n".as_slice()
+    );
+    assert_eq!(rt; status, 3);
+    let line = words(rt.alloc(), &["metroheap", "run"])?;
+    let mut source = StdSource::new(b"config 4 209 0 0\na new 0 0 0\n".as_slice());
+    let mut errors = StdSink::new(Vec::new(rt.alloc()));
+    let status = program(
+        &rt,
+        rt.alloc(),
+        Ok(line),
+        &mut source,
+        &mut Broken::new(),
+        &mut errors,
+        &Open,
+    );
+    assert_eq!(rt;
+        errors.writer.as_slice(),
+        b"metroheap: write failed\n".as_slice()
+    );
+    assert_eq!(rt; status, 3);
+    Ok(())
+}

@@ -1,0 +1,40 @@
+ghost use Rattle.std.specs.Prelude.{◌≡◌};
+ghost use Rattle.mh_program.specs.Status.{line_status_of, status_of, verdict_status_of};
+
+use crate::fault::LineFault;
+use mh_model::history::Verdict;
+use mh_script::end::End;
+use mh_script::fault::ScriptFault;
+
+/// The exit status that a run of a script gives the program.
+pub fn status(ended: &Result<End, ScriptFault>) -> u8
+    ensures { result ≡ status_of ended.now }
+{
+    match ended {
+        Ok(End::Done) => 0,
+        Ok(End::Refused(_)) => 1,
+        Err(_) => 3,
+    }
+}
+
+/// The exit status that the judgement of a history gives the program.
+pub fn verdict_status(ended: &Result<Verdict, ScriptFault>) -> u8
+    ensures { result ≡ verdict_status_of ended.now }
+{
+    match ended {
+        Ok(Verdict::Legal(_)) => 0,
+        Ok(Verdict::Refused(_)) => 1,
+        Ok(Verdict::FirstBad(_)) => 4,
+        Err(_) => 3,
+    }
+}
+
+/// The exit status that a command line without an order gives the program.
+pub fn line_status(fault: &LineFault) -> u8
+    ensures { result ≡ line_status_of fault.now }
+{
+    match fault {
+        LineFault::Words(_) | LineFault::NotText | LineFault::Configuration => 2,
+        LineFault::NoMemory => 3,
+    }
+}

@@ -1,4 +1,0 @@
-use Rattle.mh_script.proofs.order.order_of_texts.Goals as goal
-
-pub returns-clause-fault : goal.returns-clause-fault
-returns-clause-fault c = rw (c.as_slice.ensures.value, c.in-Ok.ensures) at c.order.ensures.fault
