@@ -1,3 +1,4 @@
+pub mod AddedLines
 pub mod BufferLemmas
 pub mod MachineLemmas
 pub mod RunLemmas

@@ -21,3 +21,4 @@ mod run_tests;
 pub mod status;
 #[cfg(test)]
 mod test_devices;
+mod texts;
