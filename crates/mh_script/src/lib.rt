@@ -12,6 +12,7 @@ mod order_tests;
 pub mod program;
 #[cfg(test)]
 mod program_tests;
+mod record;
 pub mod replies;
 #[cfg(test)]
 mod row_tests;

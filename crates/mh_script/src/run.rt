@@ -18,9 +18,10 @@ use mh_scan::crew_scan::{CrewGate, CrewScan};
 use mh_scan::scan::Scanner;
 use mh_state::machine::Machine;
 use mh_text::device::DeviceFailed;
-use mh_text::script::{SCRIPT_BYTES, Script, ScriptError, parse};
+use mh_text::script::{SCRIPT_BYTES, Script, parse};
 use mh_text::sink::Sink;
 use mh_text::source::Source;
+use mh_text::text_error::TextError;
 use std::alloc::Global;
 use std::thread::Threads;
 
@@ -85,10 +86,10 @@ pub fn run_script<R: Threads, S: Source, W: Sink, G: CrewGate>(
             Err(WriteError::Device) => Err(ScriptFault::Write),
             Err(WriteError::NoMemory) => Err(ScriptFault::NoMemory),
         },
-        Err(ScriptError::Line(line)) => match write_verdict(Verdict::Refused(line), sink) {
+        Err(TextError::Line(line)) => match write_verdict(Verdict::Refused(line), sink) {
             Ok(()) => Ok(End::Refused(line)),
             Err(DeviceFailed) => Err(ScriptFault::Write),
         },
-        Err(ScriptError::NoMemory) => Err(ScriptFault::NoMemory),
+        Err(TextError::NoMemory) => Err(ScriptFault::NoMemory),
     }
 }

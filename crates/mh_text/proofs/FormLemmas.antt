@@ -6,11 +6,12 @@ use Rattle.mh_model.specs.declared.command.Command.TheVariants as command
 use Rattle.mh_model.specs.declared.command.Control.TheVariants as control
 use Rattle.mh_model.specs.Bytes.{Text, is_text}
 use Rattle.mh_model.specs.Forms.{within, u32, u64, command_rows, command_of, control_rows, control_of}
-use Rattle.mh_model.specs.declared.history.Version.TheVariants.{Two}
+use Rattle.mh_model.specs.declared.history.Version.{Version}
+use Rattle.mh_model.specs.declared.history.Version.TheVariants.{One, Two}
 use Rattle.mh_text.specs.Words.{few_numbers}
-use Rattle.mh_text.specs.Rows.{said, three_rows, two_rows, one_rows, no_rows, plain_rows}
+use Rattle.mh_text.specs.Rows.{said, with_count, three_rows, two_rows, one_rows, no_rows, plain_rows}
 use Rattle.mh_text.proofs.WordLemmas.{few_same, none_of}
-use Rattle.mh_text.proofs.RowLemmas.{formed_said, said_counted, said_long}
+use Rattle.mh_text.proofs.RowLemmas.{text_same, are_distinct, are_short, formed_said, said_counted, said_long}
 
 -- Numbers of 32 bits -----------------------------------------------------------------------------
 
@@ -67,19 +68,37 @@ three_said verb (a ∷ b ∷ c ∷ d ∷ ns) first second three x y = absurd (om
 
 -- Controls ---------------------------------------------------------------------------------------
 
-pub control_said : (line : List Text) (verb : Text) (words : List Text) (ns : List ℕ) → line ≡ verb ∷ words → few_numbers words ≡ Some ns → control_of Two line ≡ said (control_rows Two) verb ns
-control_said line verb words ns is few = rw is (formed_said (control_rows Two) verb words ∙ rw (few_same words ns few) refl)
+control_distinct : (version : Version) → are_distinct (control_rows version) ≡ true
+control_distinct One = refl
+control_distinct Two = refl
 
-pub control_none : (line : List Text) (verb : Text) (words : List Text) → line ≡ verb ∷ words → few_numbers words ≡ None → control_of Two line ≡ None
-control_none line verb words is few = rw is (formed_said (control_rows Two) verb words ∙ none_of (said (control_rows Two) verb) (λ found many. said_long (control_rows Two) verb found refl (omega arith)) words few)
+control_short : (version : Version) → are_short (control_rows version) ≡ true
+control_short One = refl
+control_short Two = refl
 
-pub plain_said : (verb : Text) (ns : List ℕ) → length ns ≡ 0 → said (control_rows Two) verb ns ≡ said plain_rows verb []
-plain_said verb [] none = said_counted (control_rows Two) verb [] refl
-plain_said verb (n ∷ ns) none = absurd (omega arith)
+pub control_said : (version : Version) (line : List Text) (verb : Text) (words : List Text) (ns : List ℕ) → line ≡ verb ∷ words → few_numbers words ≡ Some ns → control_of version line ≡ said (control_rows version) verb ns
+control_said version line verb words ns is few = rw is (formed_said (control_rows version) verb words ∙ rw (few_same words ns few) refl)
 
-pub report_said : (verb : Text) (ns : List ℕ) → length ns ≡ 1 → get_or ns 0 0 < 2 ^ 64 → is_text verb (codes "report") ≡ true → said (control_rows Two) verb ns ≡ Some (control.Report (get_or ns 0 0))
-report_said verb [] one small is = absurd (omega arith)
-report_said verb (n ∷ []) one small is =
+pub control_none : (version : Version) (line : List Text) (verb : Text) (words : List Text) → line ≡ verb ∷ words → few_numbers words ≡ None → control_of version line ≡ None
+control_none version line verb words is few =
+    rw is (formed_said (control_rows version) verb words ∙ none_of (said (control_rows version) verb) (λ found many. said_long (control_rows version) verb found (control_short version) (omega arith)) words few)
+
+pub plain_said : (version : Version) (verb : Text) (ns : List ℕ) → length ns ≡ 0 → said (control_rows version) verb ns ≡ said (plain_rows version) verb []
+plain_said version verb [] none = said_counted (control_rows version) verb [] (control_distinct version)
+plain_said version verb (n ∷ ns) none = absurd (omega arith)
+
+-- the first version has no `left`, and this word is none of the others
+pub left_unknown : (version : Version) (verb : Text) → (version ≡ Two → ⊥) → is_text verb (codes "left") ≡ true → said (plain_rows version) verb [] ≡ None
+left_unknown One verb other is = rw (text_same verb (codes "left") is) refl
+left_unknown Two verb other is = absurd (other refl)
+
+report_by : (version : Version) (verb : Text) (n : ℕ) → nat_lt n u64 ≡ true → is_text verb (codes "report") ≡ true → said (with_count 1 (control_rows version)) verb (n ∷ []) ≡ Some (control.Report n)
+report_by One verb n below is = rw (is, below) refl
+report_by Two verb n below is = rw (is, below) refl
+
+pub report_said : (version : Version) (verb : Text) (ns : List ℕ) → length ns ≡ 1 → get_or ns 0 0 < 2 ^ 64 → is_text verb (codes "report") ≡ true → said (control_rows version) verb ns ≡ Some (control.Report (get_or ns 0 0))
+report_said version verb [] one small is = absurd (omega arith)
+report_said version verb (n ∷ []) one small is =
     let below : nat_lt n u64 ≡ true = grind (arith, nat_tests) in
-    said_counted (control_rows Two) verb (n ∷ []) refl ∙ rw (is, below) refl
-report_said verb (n ∷ m ∷ ns) one small is = absurd (omega arith)
+    said_counted (control_rows version) verb (n ∷ []) (control_distinct version) ∙ report_by version verb n below is
+report_said version verb (n ∷ m ∷ ns) one small is = absurd (omega arith)

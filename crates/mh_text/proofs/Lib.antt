@@ -1,5 +1,6 @@
 pub mod StreamLemmas
 pub mod PieceLemmas
+pub mod HalfLemmas
 pub mod WordLemmas
 pub mod RowLemmas
 pub mod FormLemmas

@@ -1,5 +1,5 @@
 -- Where the first piece of a text ends.
-use Rattle.std.proofs.Common.{◌≡◌, ℕ, suc, ◌+◌, ◌<◌, ◌==◌, not, cond, Bool, true, false, Option, Some, None, List, [], ◌∷◌, length, take, drop, ap, sym, refl, subst, ◌≤◌, ◌-◌, nat_lt, MatchOption, IsTrue, ◌↔◌, arith}
+use Rattle.std.proofs.Common.{◌≡◌, ℕ, suc, ◌+◌, ◌<◌, ◌==◌, not, cond, Bool, true, false, Option, Some, None, List, [], ◌∷◌, ◌++◌, length, take, drop, ap, sym, refl, subst, ◌≤◌, ◌-◌, nat_lt, MatchOption, IsTrue, ◌↔◌, arith}
 use Rattle.std.proofs.lemmas.Bool.Decides.{nat_tests}
 use Rattle.std.proofs.lemmas.List.{take_rest}
 use Rattle.std.specs.List.{position, position_or_len}
@@ -75,6 +75,43 @@ split_some end place text found =
 
 pub split_none : (end : ℕ) (text : Text) → position (λ b. b == end) text ≡ None → cut_after end text ≡ record { pieces = []; rest = text }
 split_none end text found = cut_none end text (place_or_none end text _ None refl found)
+
+-- the piece before the first `end` has none, and the text is that piece, `end` and what follows
+alone_at : (end byte : ℕ) (bytes : Text) (is : Bool) → (byte == end) ≡ is → cut_after end (take (before end bytes) bytes) ≡ record { pieces = []; rest = take (before end bytes) bytes }
+    → cut_after end (take (cond (not is) (1 + before end bytes) 0) (byte ∷ bytes)) ≡ record { pieces = []; rest = take (cond (not is) (1 + before end bytes) 0) (byte ∷ bytes) }
+alone_at end byte bytes true same rest = refl
+alone_at end byte bytes false same rest =
+    let one : 1 + before end bytes ≡ suc (before end bytes) = omega arith in
+    rw one (rw (same, rest) refl)
+
+cut_alone : (end : ℕ) (text : Text) → cut_after end (take (before end text) text) ≡ record { pieces = []; rest = take (before end text) text }
+cut_alone end [] = refl
+cut_alone end (byte ∷ bytes) = alone_at end byte bytes (byte == end) refl (cut_alone end bytes)
+
+whole_at : (end byte : ℕ) (bytes : Text) (is : Bool) → (byte == end) ≡ is → (before end bytes < length bytes → bytes ≡ take (before end bytes) bytes ++ end ∷ drop (suc (before end bytes)) bytes)
+    → cond (not is) (1 + before end bytes) 0 < suc (length bytes)
+    → byte ∷ bytes ≡ take (cond (not is) (1 + before end bytes) 0) (byte ∷ bytes) ++ end ∷ drop (cond (not is) (1 + before end bytes) 0) bytes
+whole_at end byte bytes true same rest below = let one : byte ≡ end = grind (arith, nat_tests) in ap (λ (b : ℕ). b ∷ bytes) one
+whole_at end byte bytes false same rest below =
+    let one : 1 + before end bytes ≡ suc (before end bytes) = omega arith in
+    rw one (ap (λ (t : Text). byte ∷ t) (rest (omega arith)))
+
+cut_whole : (end : ℕ) (text : Text) → before end text < length text → text ≡ take (before end text) text ++ end ∷ drop (suc (before end text)) text
+cut_whole end [] below = absurd (omega arith)
+cut_whole end (byte ∷ bytes) below = whole_at end byte bytes (byte == end) refl (cut_whole end bytes) below
+
+pub split_whole : (end place : ℕ) (text : Text) → position (λ b. b == end) text ≡ Some place → text ≡ take place text ++ end ∷ take (length text - (place + 1)) (drop (place + 1) text)
+split_whole end place text found =
+    let is = place_or_none end text _ (Some place) refl found in
+    let one : place + 1 ≡ suc (before end text) = omega (arith, is.0) in
+    let below : before end text < length text = omega (arith, is.0, is.1) in
+    let P : ℕ → Type 0 = λ n. text ≡ take n text ++ end ∷ drop (suc (before end text)) text in
+    rw (take_rest, one) (subst P (sym is.0) (cut_whole end text below))
+
+pub split_alone : (end place : ℕ) (text : Text) → position (λ b. b == end) text ≡ Some place → cut_after end (take place text) ≡ record { pieces = []; rest = take place text }
+split_alone end place text found =
+    let is = place_or_none end text _ (Some place) refl found in
+    rw is.0 (cut_alone end text)
 
 -- the lines of a text without bytes
 pub empty_left : (number : ℕ) (text : Text) → IsTrue (length text == 0) ↔ (((lines_from number text).rest ≡ []) × ((lines_from number text).lines ≡ []))

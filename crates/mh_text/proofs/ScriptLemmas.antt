@@ -11,7 +11,7 @@ use Rattle.mh_model.specs.declared.command.Event.{Event}
 use Rattle.mh_model.specs.declared.command.Event.TheVariants as event
 use Rattle.mh_model.specs.Bytes.{Text, words, cut_after}
 use Rattle.mh_model.specs.Script.{Reading, BadLine, Means, Blank, Calls, Asks, Wrong, line_of, is_blank, config_words, session_number, with_name, with_event, at_end, events_from, script_from, reading}
-use Rattle.mh_text.specs.declared.script.ScriptError.{ScriptError}
+use Rattle.mh_text.specs.declared.text_error.TextError.{TextError}
 use Rattle.mh_text.specs.Pieces.{Lines, TakesLine, lines_from}
 use Rattle.mh_text.specs.Reading.{script_left, events_left, with_config, TakesConfig, HasEvent, BeginsWithEvent}
 
@@ -70,7 +70,7 @@ blanks_config old mid new n line config done takes full is = record {
   reads = λ more rest. rw append_assoc (done.reads (line ∷ more) rest ∙ rw takes.counted (config_good mid.number line config more rest full is));
 }
 
-pub blanks_found : (old mid new : Lines) (n : ℕ) (line : Text) (found : Result Config ScriptError) → Blanks old mid → TakesLine mid new n line → is_blank line ≡ false → config_words (words line) ≡ result_ok found → IfOk found (TakesConfig old new)
+pub blanks_found : (old mid new : Lines) (n : ℕ) (line : Text) (found : Result Config TextError) → Blanks old mid → TakesLine mid new n line → is_blank line ≡ false → config_words (words line) ≡ result_ok found → IfOk found (TakesConfig old new)
 blanks_found old mid new n line (Ok config) done takes full is = blanks_config old mid new n line config done takes full is
 blanks_found old mid new n line (Err error) done takes full is = tt
 

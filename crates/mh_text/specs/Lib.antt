@@ -3,6 +3,7 @@ pub mod Pieces
 pub mod Words
 pub mod Rows
 pub mod Line
+pub mod TextErrors
 pub mod Names
 pub mod Reading
 pub mod ReplyWords

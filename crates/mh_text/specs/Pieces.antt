@@ -1,10 +1,15 @@
 -- What is left of a text that is read piece by piece.
-use Rattle.std.specs.Prelude.{◌≡◌, ℕ, suc, Option, Some, None, List, [], ◌∷◌}
+use Rattle.std.specs.Prelude.{◌≡◌, ℕ, suc, Option, Some, None, option_map, List, [], ◌∷◌}
+use Rattle.std.specs.Borrow.{Bor}
 use Rattle.mh_model.specs.Bytes.{Text, Cut, cut_after, words}
 
 -- a cut with one more piece in front
 abbrev pub with_piece : Text → Cut → Cut
 with_piece piece cut = record { pieces = piece ∷ cut.pieces; rest = cut.rest }
+
+-- the text that a reference points to, where there is one
+abbrev pub text_shown : Option (Bor (List ℕ)) → Option Text
+text_shown text = option_map (λ text. text.now) text
 
 -- the words of a text, where there is one
 abbrev pub words_left : Option Text → List Text

@@ -1,12 +1,10 @@
--- How a text is read from a line on, and what an error says of it.
+-- How a script is read from a line on.
 use Rattle.std.specs.Prelude.{◌≡◌, ℕ, ◌<◌, ◌≤◌, List, [], ◌++◌, length, take, map}
 use Rattle.mh_model.specs.declared.config.Config.{Config}
 use Rattle.mh_model.specs.declared.command.Event.{Event}
 use Rattle.mh_model.specs.Bytes.{Text, Cut, cut_after}
-use Rattle.mh_model.specs.Script.{Meaning, Reading, BadLine, Means, reading_map, line_of, script_from, events_from, script_of}
+use Rattle.mh_model.specs.Script.{Meaning, Reading, Means, reading_map, line_of, script_from, events_from, script_of}
 use Rattle.mh_text.specs.Pieces.{Lines}
-use Rattle.mh_text.specs.declared.script.ScriptError.{ScriptError}
-use Rattle.mh_text.specs.declared.script.ScriptError.TheVariants.{Line, NoMemory}
 
 abbrev pub script_left : Lines → Reading Meaning
 script_left left = script_from left.number left.lines left.rest
@@ -24,11 +22,6 @@ pub record TakesConfig (old new : Lines) (config : Config) : Type 0 where
   pub lines : old.lines ≡ head ++ new.lines
   pub after : new.rest ≡ old.rest
   pub reads : (more : List Text) (rest : Text) → script_from old.number (head ++ more) rest ≡ with_config config (events_from [] new.number (map line_of more) rest)
-
--- an error names the line at which a text is refused; want of memory says nothing of the text
-abbrev pub Refuses : {X : Type 0} → Reading X → ScriptError → Type 0
-Refuses reading (Line number) = reading ≡ BadLine number
-Refuses reading NoMemory = Unit {0}
 
 -- some of these lines, from the first on, have events and no bad line
 pub record HasEvent (left : Lines) : Type 0 where

@@ -2,7 +2,7 @@
 use Rattle.std.specs.Prelude.{ℕ, ◌==◌, if◌then◌else◌, Option, None, List, [], ◌∷◌, length}
 use Rattle.mh_model.specs.declared.command.Command.{Command}
 use Rattle.mh_model.specs.declared.command.Control.{Control}
-use Rattle.mh_model.specs.declared.history.Version.TheVariants.{Two}
+use Rattle.mh_model.specs.declared.history.Version.{Version}
 use Rattle.mh_model.specs.Bytes.{Text, is_text}
 use Rattle.mh_model.specs.Forms.{Row, within, are_below, command_rows, control_rows}
 
@@ -30,5 +30,5 @@ abbrev pub no_rows : List (Row Command)
 no_rows = with_count 0 command_rows
 
 -- the controls with no number
-abbrev pub plain_rows : List (Row Control)
-plain_rows = with_count 0 (control_rows Two)
+abbrev pub plain_rows : Version → List (Row Control)
+plain_rows version = with_count 0 (control_rows version)

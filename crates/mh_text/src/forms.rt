@@ -1,11 +1,11 @@
 ghost use Rattle.std.specs.Prelude.{◌≡◌, nat_lt, [], ◌∷◌};
 ghost use Rattle.mh_model.specs.Forms.{within, u32, command_rows, command_of, control_rows, control_of};
-ghost use Rattle.mh_model.specs.declared.history.Version.TheVariants.{Two};
 ghost use Rattle.mh_text.specs.Rows.{said, three_rows, two_rows, one_rows, plain_rows};
 
 use crate::pieces::Words;
 use crate::word::{is_word, numbers};
 use mh_model::command::{Command, Control};
+use mh_model::history::Version;
 
 /// A number of 32 bits.
 pub fn small(number: u64) -> Option<u32>
@@ -112,27 +112,28 @@ fn with_three(verb: &[u8], first: u32, second: u32, third: u64) -> Option<Comman
     }
 }
 
-/// The control that words are the form of.
+/// The control that words are the form of, where the version knows it.
 #[tactic(auto, using(crate::proofs::FormLemmas::control_said, crate::proofs::FormLemmas::control_none))]
-pub fn control_of(mut words: Words<'_>) -> Option<Control>
-    ensures { result ≡ control_of Two words.entry }
+pub fn control_of(version: Version, mut words: Words<'_>) -> Option<Control>
+    ensures { result ≡ control_of version words.entry }
 {
     let verb = words.next_word()?;
-    control_with(verb, numbers(words)?.as_slice())
+    control_with(version, verb, numbers(words)?.as_slice())
 }
 
-fn control_with(verb: &[u8], numbers: &[u64]) -> Option<Control>
-    ensures { result ≡ said (control_rows Two) verb.now numbers.now }
+fn control_with(version: Version, verb: &[u8], numbers: &[u64]) -> Option<Control>
+    ensures { result ≡ said (control_rows version) verb.now numbers.now }
 {
     match *numbers {
-        [] => plain_control(verb),
+        [] => plain_control(version, verb),
         [window] if is_word(verb, b"report") => Some(Control::Report { window }),
         _ => None,
     }
 }
 
-fn plain_control(verb: &[u8]) -> Option<Control>
-    ensures { result ≡ said plain_rows verb.now [] }
+#[tactic(auto, using(crate::proofs::FormLemmas::left_unknown))]
+fn plain_control(version: Version, verb: &[u8]) -> Option<Control>
+    ensures { result ≡ said (plain_rows version) verb.now [] }
 {
     if is_word(verb, b"quantum") {
         Some(Control::Quantum)
@@ -142,7 +143,7 @@ fn plain_control(verb: &[u8]) -> Option<Control>
         Some(Control::Stat)
     } else if is_word(verb, b"dump") {
         Some(Control::Dump)
-    } else if is_word(verb, b"left") {
+    } else if is_word(verb, b"left") && version == Version::Two {
         Some(Control::Left)
     } else {
         None

@@ -2,7 +2,7 @@
 #![tactic(auto)]
 
 pub mod device;
-mod forms;
+pub mod forms;
 pub mod line;
 mod names;
 pub mod pieces;
@@ -15,4 +15,5 @@ pub mod source;
 pub mod stream;
 #[cfg(test)]
 mod stream_tests;
-mod word;
+pub mod text_error;
+pub mod word;

@@ -9,6 +9,7 @@ use crate::pieces::Words;
 use crate::word::{is_name, is_word, numbers};
 use mh_model::command::{Command, Control};
 use mh_model::config::Config;
+use mh_model::history::Version;
 
 /// What a line after the configuration says.
 #[derive(Clone, Copy, Debug)]
@@ -83,7 +84,7 @@ fn line_words(mut words: Words<'_>) -> Line<'_>
         return Line::Wrong;
     };
     if is_word(name, b"*") {
-        return match control_of(words) {
+        return match control_of(Version::Two, words) {
             Some(control) => Line::Asks(control),
             None => Line::Wrong,
         };

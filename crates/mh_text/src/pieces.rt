@@ -1,7 +1,9 @@
-ghost use Rattle.std.specs.Prelude.{◌≡◌, ◌==◌, ◌<◌, ◌^◌, ◌+◌, ◌↔◌, [], ◌∷◌, length, position, IfSome, IfNone, IsTrue};
+ghost use Rattle.std.specs.Prelude.{◌≡◌, ◌==◌, ◌<◌, ◌^◌, ◌+◌, ◌↔◌, [], ◌∷◌, ◌++◌, length, position, Some, None, IfSome, IfNone, IsTrue};
 ghost use Rattle.mh_model.specs.Bytes.{cut_after, words};
-ghost use Rattle.mh_text.specs.Pieces.{with_piece, lines_from, TakesLine};
+ghost use Rattle.mh_model.specs.HistoryTexts.{halves_at};
+ghost use Rattle.mh_text.specs.Pieces.{with_piece, lines_from, TakesLine, text_shown, words_left};
 
+use crate::word::is_word;
 use std::marker::Model;
 
 /// The place of the first such byte.
@@ -12,16 +14,41 @@ fn place_of(text: &[u8], byte: u8) -> Option<usize>
 }
 
 /// The bytes before the first `end`, and those after it.
-#[tactic(auto, using(crate::proofs::PieceLemmas::place_found, crate::proofs::PieceLemmas::split_some, crate::proofs::PieceLemmas::split_none))]
-fn split_at_byte(text: &[u8], end: u8) -> Option<(&[u8], &[u8])>
+#[tactic(auto, using(crate::proofs::PieceLemmas::place_found, crate::proofs::PieceLemmas::split_some, crate::proofs::PieceLemmas::split_whole, crate::proofs::PieceLemmas::split_alone, crate::proofs::PieceLemmas::split_none))]
+pub fn split_at_byte(text: &[u8], end: u8) -> Option<(&[u8], &[u8])>
     ensures some { IfSome result
         (λ parts. cut_after end text.now ≡ with_piece parts.0.now (cut_after end parts.1.now)) }
     ensures none { IfNone result
         (cut_after end text.now ≡ record { pieces = []; rest = text.now }) }
+    ensures whole { IfSome result (λ parts. text.now ≡ parts.0.now ++ end ∷ parts.1.now) }
+    ensures first { IfSome result
+        (λ parts. cut_after end parts.0.now ≡ record { pieces = []; rest = parts.0.now }) }
     ensures shorter { IfSome result (λ parts. length parts.1.now < length text.now) }
 {
     let place = place_of(text, end)?;
     Some((&text[..place], &text[place + 1..]))
+}
+
+/// The bytes before the first word that is this one, and those after it. None where no word is there.
+fn halves_of<'a>(line: &'a [u8], mark: &[u8]) -> Option<(Option<&'a [u8]>, Option<&'a [u8]>)>
+    ensures some { IfSome result (λ halves. halves_at mark.now (words line.now)
+        ≡ Some (record { before = words_left (text_shown halves.0); after = words_left (text_shown halves.1) })) }
+    ensures none { IfNone result (halves_at mark.now (words line.now) ≡ None) }
+{
+    let mut before = None;
+    let mut rest = line;
+    while let Some((word, next)) = split_at_byte(rest, b' ') {
+        if is_word(word, mark) {
+            return Some((before, Some(next)));
+        }
+        before = Some(&line[..line.len() - next.len() - 1]);
+        rest = next;
+    }
+    if is_word(rest, mark) {
+        Some((before, None))
+    } else {
+        None
+    }
 }
 
 /// The words of a line that are left.
@@ -31,12 +58,12 @@ pub struct Words<'a> {
 }
 
 impl<'a> Model for Words<'a> {
-    ghost use Rattle.std.specs.Prelude.{List, ℕ, option_map};
-    ghost use Rattle.mh_text.specs.Pieces.{words_left};
+    ghost use Rattle.std.specs.Prelude.{List, ℕ};
+    ghost use Rattle.mh_text.specs.Pieces.{text_shown, words_left};
 
     ghost Value = { List (List ℕ) };
 
-    ghost view = { λ words. words_left (option_map (λ text. text.now) words.left) };
+    ghost view = { λ words. words_left (text_shown words.left) };
 }
 
 impl<'a> Words<'a> {
@@ -64,6 +91,23 @@ impl<'a> Words<'a> {
                 Some(line)
             }
         }
+    }
+
+    /// The words before the first that is this one, and those after it.
+    pub fn cut_at(self, mark: &[u8]) -> Option<(Words<'a>, Words<'a>)>
+        ensures some { IfSome result (λ halves. halves_at mark.now self.entry
+            ≡ Some (record { before = halves.0; after = halves.1 })) }
+        ensures none { IfNone result (halves_at mark.now self.entry ≡ None) }
+    {
+        let (before, after) = halves_of(self.left?, mark)?;
+        Some((Words { left: before }, Words { left: after }))
+    }
+
+    /// The same words once more.
+    pub fn copy(&self) -> Words<'a>
+        ensures { result ≡ self.now }
+    {
+        Words { left: self.left }
     }
 }
 

@@ -1,39 +1,19 @@
 ghost use Rattle.std.specs.Prelude.{◌≡◌, ◌≢◌, IfOk, IfErr, IsErrOf};
 ghost use Rattle.mh_model.specs.Script.{Means, reading};
-ghost use Rattle.mh_text.specs.Reading.{Refuses, TakesConfig, HasEvent, BeginsWithEvent, script_left, events_left};
+ghost use Rattle.mh_text.specs.Reading.{TakesConfig, HasEvent, BeginsWithEvent, script_left, events_left};
+ghost use Rattle.mh_text.specs.TextErrors.{Refuses};
 
 use crate::line::{Line, config_line, is_blank, line_of};
 use crate::names::Names;
 use crate::pieces::Lines;
+use crate::text_error::TextError;
 use mh_model::command::Event;
 use mh_model::config::Config;
-use std::alloc::{AllocFailed, Global};
+use std::alloc::Global;
 use std::marker::Model;
-use thiserror::Error;
 
 /// The most bytes that a script has.
 pub const SCRIPT_BYTES: usize = 67_108_864;
-
-/// Why a text is no script.
-#[derive(Clone, Copy, Debug, PartialEq, Eq, Error)]
-pub enum ScriptError {
-    /// The first bad line, counted from 1. Line 0 is that of a text that is too long.
-    #[error("bad line {0}")]
-    Line(u64),
-    #[error("no memory")]
-    NoMemory,
-}
-
-impl<T: Drop> From<AllocFailed<T>> for ScriptError {
-    ghost use Rattle.std.specs.Prelude.{◌≡◌};
-    ghost use Rattle.mh_text.specs.declared.script.ScriptError.TheVariants.{NoMemory};
-
-    ghost from_gives = { λ _ error. error ≡ NoMemory };
-
-    fn from(_error: AllocFailed<T>) -> ScriptError {
-        ScriptError::NoMemory
-    }
-}
 
 /// A script that is within the grammar: its configuration and its events.
 #[derive(Debug, Drop)]
@@ -68,13 +48,13 @@ impl Script {
 /// Reads a script, up to its first bad line. It takes memory for events alone, so a text that is refused before its
 /// first event is never answered with want of memory.
 #[tactic(auto, using(crate::proofs::ScriptLemmas::reading_long, crate::proofs::ScriptLemmas::reading_left, crate::proofs::ScriptLemmas::begins_with_event))]
-pub fn parse(alloc: Global, text: &[u8]) -> Result<Script, ScriptError>
+pub fn parse(alloc: Global, text: &[u8]) -> Result<Script, TextError>
     ensures script { IfOk result (λ script. reading text.now ≡ Means script) }
     ensures line { IfErr result (Refuses (reading text.now)) }
-    ensures memory { IsErrOf result ScriptError.NoMemory → BeginsWithEvent text.now }
+    ensures memory { IsErrOf result TextError.NoMemory → BeginsWithEvent text.now }
 {
     if text.len() > SCRIPT_BYTES {
-        return Err(ScriptError::Line(0));
+        return Err(TextError::Line(0));
     }
     let mut lines = Lines::new(text);
     let config = config_from(&mut lines)?;
@@ -83,24 +63,24 @@ pub fn parse(alloc: Global, text: &[u8]) -> Result<Script, ScriptError>
 }
 
 /// Reads up to the configuration, the first line that isn't blank.
-fn config_from(lines: &mut Lines<'_>) -> Result<Config, ScriptError>
+fn config_from(lines: &mut Lines<'_>) -> Result<Config, TextError>
     ensures config { IfOk result (TakesConfig lines.old lines.new) }
     ensures line { IfErr result (Refuses (script_left lines.old)) }
-    ensures memory { result ≢ Err ScriptError.NoMemory }
+    ensures memory { result ≢ Err TextError.NoMemory }
 {
     while let Some((number, line)) = lines.next_line() {
         if !is_blank(line) {
-            return config_line(line).ok_or(ScriptError::Line(number));
+            return config_line(line).ok_or(TextError::Line(number));
         }
     }
-    Err(ScriptError::Line(lines.number()))
+    Err(TextError::Line(lines.number()))
 }
 
 /// Reads the lines after the configuration.
-fn events_from(alloc: Global, mut lines: Lines<'_>) -> Result<Vec<Event>, ScriptError>
+fn events_from(alloc: Global, mut lines: Lines<'_>) -> Result<Vec<Event>, TextError>
     ensures events { IfOk result (λ events. events_left lines.entry ≡ Means events.items) }
     ensures line { IfErr result (Refuses (events_left lines.entry)) }
-    ensures memory { IsErrOf result ScriptError.NoMemory → HasEvent lines.entry }
+    ensures memory { IsErrOf result TextError.NoMemory → HasEvent lines.entry }
 {
     let mut events = Vec::new(alloc);
     let mut names = Names::new();
@@ -112,12 +92,12 @@ fn events_from(alloc: Global, mut lines: Lines<'_>) -> Result<Vec<Event>, Script
                 events.push(Event::Session(who, command))?;
             }
             Line::Asks(control) => events.push(Event::Control(control))?,
-            Line::Wrong => return Err(ScriptError::Line(number)),
+            Line::Wrong => return Err(TextError::Line(number)),
         }
     }
     if lines.is_empty() {
         Ok(events)
     } else {
-        Err(ScriptError::Line(lines.number()))
+        Err(TextError::Line(lines.number()))
     }
 }

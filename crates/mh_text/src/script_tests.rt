@@ -1,6 +1,7 @@
 use crate::line::{Line, config_line, line_of};
 use crate::pieces::Lines;
-use crate::script::{SCRIPT_BYTES, Script, ScriptError, parse};
+use crate::script::{SCRIPT_BYTES, Script, parse};
+use crate::text_error::TextError;
 use mh_model::command::{Command, Control, Event};
 use std::alloc::{AllocError, Global};
 use std::test::Fail;
@@ -12,7 +13,7 @@ fn script_of(alloc: Global, lines: &[u8]) -> Result<Vec<u8>, AllocError> {
     Ok(text)
 }
 
-fn refusal(alloc: Global, text: &[u8]) -> Option<ScriptError> {
+fn refusal(alloc: Global, text: &[u8]) -> Option<TextError> {
     match parse(alloc, text) {
         Ok(_) => None,
         Err(error) => Some(error),
@@ -168,7 +169,7 @@ fn refuses_a_first_line(rt: HostRuntime) {
         (b"config 4 209 0 0\na end\nb end\nb\n", 4),
         (b"config 4 209 0 0\n\na new 0 0 0\na\nb\n", 4),
     ] {
-        assert_eq!(rt; refusal(rt.alloc(), text), Some(ScriptError::Line(line)));
+        assert_eq!(rt; refusal(rt.alloc(), text), Some(TextError::Line(line)));
     }
 }
 
@@ -203,7 +204,7 @@ fn refuses_a_line(rt: HostRuntime) -> Result<(), Fail> {
         b"a-b new 0 0 0\n",
     ] {
         let text = script_of(rt.alloc(), line)?;
-        assert_eq!(rt; refusal(rt.alloc(), &text), Some(ScriptError::Line(2)));
+        assert_eq!(rt; refusal(rt.alloc(), &text), Some(TextError::Line(2)));
     }
     Ok(())
 }
@@ -225,13 +226,13 @@ fn numbers_names_as_they_are_seen(rt: HostRuntime) -> Result<(), Fail> {
 fn reads_the_longest_text(rt: HostRuntime) -> Result<(), Fail> {
     let mut text = script_of(rt.alloc(), b"#")?;
     text.resize(SCRIPT_BYTES, b'#')?;
-    assert_eq!(rt; refusal(rt.alloc(), &text), Some(ScriptError::Line(2)));
+    assert_eq!(rt; refusal(rt.alloc(), &text), Some(TextError::Line(2)));
     text.pop();
     text.push(b'\n')?;
     let script: Script = parse(rt.alloc(), &text)?;
     assert!(rt; script.events().is_empty());
     text.push(b'\n')?;
-    assert_eq!(rt; refusal(rt.alloc(), &text), Some(ScriptError::Line(0)));
+    assert_eq!(rt; refusal(rt.alloc(), &text), Some(TextError::Line(0)));
     Ok(())
 }
 

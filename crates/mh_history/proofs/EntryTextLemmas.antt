@@ -1,0 +1,57 @@
+-- The text of an entry by its parts.
+use Rattle.std.proofs.Common.{◌≡◌, List, [], ◌∷◌, ◌++◌, refl, ap, ◌∙◌, append_assoc}
+use Rattle.std.specs.Prelude.{codes, decimal}
+use Rattle.mh_model.specs.declared.command.Event.{Event}
+use Rattle.mh_model.specs.declared.command.Event.TheVariants as event
+use Rattle.mh_model.specs.declared.reply.Reply.{Reply}
+use Rattle.mh_model.specs.declared.reply.Reply.TheVariants as reply
+use Rattle.mh_model.specs.declared.history.Measured.{Measured}
+use Rattle.mh_model.specs.Bytes.{Text, joined}
+use Rattle.mh_model.specs.Replies.{reply_words, reply_text}
+use Rattle.mh_model.specs.HistoryTexts.{event_words, measured_words}
+
+-- words of which there is one at least
+record Full (words : List Text) : Type 0 where
+  pub first : Text
+  pub more : List Text
+  pub words_are : words ≡ first ∷ more
+
+full_reply : (r : Reply) → Full (reply_words r)
+full_reply reply.Done = record { first = _; more = _; words_are = refl }
+full_reply (reply.Number number) = record { first = _; more = _; words_are = refl }
+full_reply reply.Yes = record { first = _; more = _; words_are = refl }
+full_reply reply.No = record { first = _; more = _; words_are = refl }
+full_reply (reply.Shape shape) = record { first = _; more = _; words_are = refl }
+full_reply (reply.Refused refusal) = record { first = _; more = _; words_are = refl }
+full_reply (reply.Spent units phase) = record { first = _; more = _; words_are = refl }
+full_reply (reply.Stat free live old phase cycle) = record { first = _; more = _; words_are = refl }
+full_reply (reply.Dump items) = record { first = _; more = _; words_are = refl }
+full_reply (reply.Report mutator collector quanta greatest window least floor) = record { first = _; more = _; words_are = refl }
+full_reply (reply.Left quanta) = record { first = _; more = _; words_are = refl }
+
+full_event : (e : Event) → Full (event_words e)
+full_event (event.Session who command) = record { first = _; more = _; words_are = refl }
+full_event (event.Control control) = record { first = _; more = _; words_are = refl }
+
+joined_more : (first : Text) (more : List Text) (next : Text) (words : List Text) → joined ((first ∷ more) ++ next ∷ words) ≡ joined (first ∷ more) ++ 32 ∷ joined (next ∷ words)
+joined_more first [] next words = refl
+joined_more first (second ∷ more) next words =
+    ap (λ (text : Text). first ++ 32 ∷ text) (joined_more second more next words) ∙ rw append_assoc refl
+
+joined_full : (words : List Text) (next : Text) (more : List Text) → Full words → joined (words ++ next ∷ more) ≡ joined words ++ 32 ∷ joined (next ∷ more)
+joined_full words next more full = rw full.words_are (joined_more full.first full.more next more)
+
+equals_part : (words : List Text) → Full words → joined (codes "=" ∷ words) ≡ 61 ∷ 32 ∷ joined words
+equals_part words full = rw full.words_are refl
+
+entry_parts : (e : Event) (r : Reply) (next : Text) (more : List Text)
+    → joined ((event_words e ++ codes "=" ∷ reply_words r) ++ next ∷ more) ≡ joined (event_words e) ++ (codes " = " ++ (reply_text r ++ 32 ∷ joined (next ∷ more)))
+entry_parts e r next more =
+    let full : Full (codes "=" ∷ reply_words r) = record { first = _; more = _; words_are = refl } in
+    let reply_is = joined_full (codes "=" ∷ reply_words r) next more full ∙ ap (λ (text : Text). text ++ 32 ∷ joined (next ∷ more)) (equals_part (reply_words r) (full_reply r)) in
+    rw append_assoc (joined_full (event_words e) (codes "=") (reply_words r ++ next ∷ more) (full_event e) ∙ ap (λ (text : Text). joined (event_words e) ++ 32 ∷ text) reply_is)
+
+pub measured_parts : (m : Measured)
+    → joined (measured_words m)
+    ≡ joined (event_words m.entry.event) ++ (codes " = " ++ (reply_text m.entry.reply ++ (codes " units " ++ (decimal m.mutator ++ (codes " " ++ decimal m.collector)))))
+measured_parts m = entry_parts m.entry.event m.entry.reply (codes "units") (decimal m.mutator ∷ decimal m.collector ∷ [])
