@@ -1,5 +1,6 @@
 pub mod AddedLines
 pub mod BufferLemmas
+pub mod JudgedLemmas
 pub mod MachineLemmas
 pub mod RunLemmas
 pub mod SourceLemmas

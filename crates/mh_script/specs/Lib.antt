@@ -1,4 +1,5 @@
 pub mod Line
+pub mod Judged
 pub mod Status
 pub mod Texts
 pub mod Run

@@ -43,3 +43,13 @@ BlamesSource source source' (Err _) = ⊥
 abbrev pub IsWriteFault : WriteError → ScriptFault → Type 0
 IsWriteFault error.Device fault = fault ≡ Write
 IsWriteFault error.NoMemory fault = fault ≡ NoMemory
+
+-- the same where no source was read, so that writing, want of memory or a full history alone is the fault
+abbrev pub BlamesSink : {X : Type 0} → (sink sink' : ℕ) → Result X ScriptFault → Type 0
+BlamesSink sink sink' (Err Read) = ⊥
+BlamesSink sink sink' (Err Write) = sink < sink'
+BlamesSink sink sink' _ = sink' ≡ sink
+
+-- a text of this kind was written, and nothing else
+abbrev pub Writes : (Text → Type 0) → Option Text → Option Text → Type 0
+Writes Is old new = (written : Text) × Is written × Appends old new written

@@ -5,6 +5,7 @@
 mod collector_tests;
 pub mod end;
 pub mod fault;
+pub mod judge;
 pub mod line;
 pub mod order;
 #[cfg(test)]
