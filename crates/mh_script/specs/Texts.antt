@@ -2,9 +2,11 @@
 use Rattle.std.specs.Prelude.{◌≡◌, ℕ, ◌<◌, ◌≤◌, ◌++◌, length, Option, IfSome, Result, Ok, Err}
 use Rattle.std.specs.Io.KnownBytes.{Appends, Consumes, IsAtEnd}
 use Rattle.mh_model.specs.Bytes.{Text}
+use Rattle.mh_state.specs.declared.machine.Stop.{Stop}
+use Rattle.mh_state.specs.declared.machine.Stop.TheVariants as stop
 use Rattle.mh_text.specs.Stream.{ConsumesBeginning}
 use Rattle.mh_script.specs.declared.fault.ScriptFault.{ScriptFault}
-use Rattle.mh_script.specs.declared.fault.ScriptFault.TheVariants.{Read, Write, NoMemory}
+use Rattle.mh_script.specs.declared.fault.ScriptFault.TheVariants.{Read, Write, NoMemory, HistoryFull}
 use Rattle.mh_script.specs.declared.fault.WriteError.{WriteError}
 use Rattle.mh_script.specs.declared.fault.WriteError.TheVariants as error
 
@@ -39,11 +41,6 @@ BlamesSource source source' (Err Read) = source < source'
 BlamesSource source source' (Err NoMemory) = source' ≡ source
 BlamesSource source source' (Err _) = ⊥
 
--- a sink that failed, or want of memory, as a fault
-abbrev pub IsWriteFault : WriteError → ScriptFault → Type 0
-IsWriteFault error.Device fault = fault ≡ Write
-IsWriteFault error.NoMemory fault = fault ≡ NoMemory
-
 -- the same where no source was read, so that writing, want of memory or a full history alone is the fault
 abbrev pub BlamesSink : {X : Type 0} → (sink sink' : ℕ) → Result X ScriptFault → Type 0
 BlamesSink sink sink' (Err Read) = ⊥
@@ -53,3 +50,13 @@ BlamesSink sink sink' _ = sink' ≡ sink
 -- a text of this kind was written, and nothing else
 abbrev pub Writes : (Text → Type 0) → Option Text → Option Text → Type 0
 Writes Is old new = (written : Text) × Is written × Appends old new written
+
+-- a sink that failed, or want of memory, as a fault
+abbrev pub IsWriteFault : WriteError → ScriptFault → Type 0
+IsWriteFault error.Device fault = fault ≡ Write
+IsWriteFault error.NoMemory fault = fault ≡ NoMemory
+
+-- why a machine did no further event, as a fault
+abbrev pub IsStopFault : Stop → ScriptFault → Type 0
+IsStopFault stop.HistoryFull fault = fault ≡ HistoryFull
+IsStopFault stop.NoMemory fault = fault ≡ NoMemory

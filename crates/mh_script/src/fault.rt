@@ -1,4 +1,5 @@
 use mh_model::memory::NoMemory;
+use mh_state::machine::Stop;
 use mh_text::device::DeviceFailed;
 use thiserror::Error;
 
@@ -36,6 +37,19 @@ impl From<NoMemory> for ScriptFault {
 
     fn from(_error: NoMemory) -> ScriptFault {
         ScriptFault::NoMemory
+    }
+}
+
+impl From<Stop> for ScriptFault {
+    ghost use Rattle.mh_script.specs.Texts.{IsStopFault};
+
+    ghost from_gives = { IsStopFault };
+
+    fn from(stop: Stop) -> ScriptFault {
+        match stop {
+            Stop::HistoryFull => ScriptFault::HistoryFull,
+            Stop::NoMemory => ScriptFault::NoMemory,
+        }
     }
 }
 

@@ -22,11 +22,7 @@ use mh_text_laws::verdicts::{texts_are_audited, texts_are_checked};
 use std::alloc::Global;
 
 /// The verdict on the entries of a history.
-pub(crate) fn judged(
-    alloc: Global,
-    config: Config,
-    entries: &[Entry],
-) -> Result<Verdict, NoMemory>
+pub(crate) fn judged(alloc: Global, config: Config, entries: &[Entry]) -> Result<Verdict, NoMemory>
     ensures { IfOk result (IsJudged (IsLegal config) entries.now) }
 {
     match check(alloc, config, entries) {

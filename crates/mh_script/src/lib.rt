@@ -7,6 +7,7 @@ pub mod end;
 pub mod fault;
 pub mod judge;
 pub mod line;
+pub mod migrate;
 pub mod order;
 #[cfg(test)]
 mod order_tests;
