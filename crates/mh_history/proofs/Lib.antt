@@ -1,1 +1,9 @@
 pub mod EntryTextLemmas
+pub mod SaidLemmas
+pub mod KeyedLemmas
+pub mod DumpLemmas
+pub mod ReplyLemmas
+pub mod HeaderLemmas
+pub mod EntryLemmas
+pub mod LineLemmas
+pub mod HistoryLemmas

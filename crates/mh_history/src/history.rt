@@ -1,19 +1,36 @@
-ghost use Rattle.std.specs.Prelude.{◌≡◌, IfOk, IfErr};
+ghost use Rattle.std.specs.Prelude.{◌≡◌, IfOk, IfErr, IsErrOf};
 ghost use Rattle.mh_model.specs.HistoryTexts.{history_reading};
 ghost use Rattle.mh_model.specs.Script.{Means};
 ghost use Rattle.mh_text.specs.TextErrors.{Refuses};
+ghost use Rattle.mh_history.specs.Beginnings.{BeginsWithEntry};
 
+use crate::lines::entries_from;
 use mh_model::history::Entry;
+use mh_text::pieces::Lines;
 use mh_text::text_error::TextError;
+use mh_text::word::is_word;
 use std::alloc::Global;
 
 /// The most bytes that a history of version 1 has.
 pub const HISTORY_BYTES: usize = 1_073_741_824;
 
-/// Reads a history of version 1, up to its first bad line. Memory is taken for entries alone.
-pub fn parse_history(_alloc: Global, _text: &[u8]) -> Result<Vec<Entry>, TextError>
-    ensures entries { IfOk result (λ entries. history_reading _text.now ≡ Means entries.items) }
-    ensures line { IfErr result (Refuses (history_reading _text.now)) }
+/// Reads a history of version 1, up to its first bad line. It takes memory for entries alone, so a text that is refused before
+/// its first entry is never answered with want of memory.
+#[tactic(auto, using(crate::proofs::HistoryLemmas::history_long, crate::proofs::HistoryLemmas::history_empty, crate::proofs::HistoryLemmas::history_wrong, crate::proofs::HistoryLemmas::history_first, crate::proofs::HistoryLemmas::begins_with_entry))]
+pub fn parse_history(alloc: Global, text: &[u8]) -> Result<Vec<Entry>, TextError>
+    ensures entries { IfOk result (λ entries. history_reading text.now ≡ Means entries.items) }
+    ensures line { IfErr result (Refuses (history_reading text.now)) }
+    ensures memory { IsErrOf result TextError.NoMemory → BeginsWithEntry text.now }
 {
-    Err(TextError::NoMemory)
+    if text.len() > HISTORY_BYTES {
+        return Err(TextError::Line(0));
+    }
+    let mut lines = Lines::new(text);
+    let Some((_, line)) = lines.next_line() else {
+        return Err(TextError::Line(1));
+    };
+    if !is_word(line, b"history 1") {
+        return Err(TextError::Line(1));
+    }
+    entries_from(alloc, lines)
 }

@@ -1,10 +1,14 @@
-ghost use Rattle.std.specs.Prelude.{◌≡◌, IfOk, IfErr};
+ghost use Rattle.std.specs.Prelude.{◌≡◌, IfOk, IfErr, IsErrOf};
 ghost use Rattle.mh_model.specs.HistoryTexts.{recorded_reading};
 ghost use Rattle.mh_model.specs.Script.{Means};
 ghost use Rattle.mh_text.specs.TextErrors.{Refuses};
+ghost use Rattle.mh_history.specs.Beginnings.{BeginsWithMeasured};
 
+use crate::header::header_of;
+use crate::lines::entries_from;
 use mh_model::config::Config;
 use mh_model::history::Measured;
+use mh_text::pieces::{Lines, Words};
 use mh_text::text_error::TextError;
 use std::alloc::Global;
 use std::marker::Model;
@@ -49,10 +53,24 @@ impl Record {
     }
 }
 
-/// Reads a history of version 2, up to its first bad line. Memory is taken for entries alone.
-pub fn parse_record(_alloc: Global, _text: &[u8]) -> Result<Record, TextError>
-    ensures record { IfOk result (λ read. recorded_reading _text.now ≡ Means read) }
-    ensures line { IfErr result (Refuses (recorded_reading _text.now)) }
+/// Reads a history of version 2, up to its first bad line. It takes memory for entries alone, so a text that is refused before
+/// its first entry is never answered with want of memory.
+#[tactic(auto, using(crate::proofs::HistoryLemmas::record_long, crate::proofs::HistoryLemmas::record_empty, crate::proofs::HistoryLemmas::record_wrong, crate::proofs::HistoryLemmas::record_first, crate::proofs::HistoryLemmas::begins_with_measured))]
+pub fn parse_record(alloc: Global, text: &[u8]) -> Result<Record, TextError>
+    ensures record { IfOk result (λ read. recorded_reading text.now ≡ Means read) }
+    ensures line { IfErr result (Refuses (recorded_reading text.now)) }
+    ensures memory { IsErrOf result TextError.NoMemory → BeginsWithMeasured text.now }
 {
-    Err(TextError::NoMemory)
+    if text.len() > RECORD_BYTES {
+        return Err(TextError::Line(0));
+    }
+    let mut lines = Lines::new(text);
+    let Some((_, line)) = lines.next_line() else {
+        return Err(TextError::Line(1));
+    };
+    let Some(config) = header_of(Words::new(line)) else {
+        return Err(TextError::Line(1));
+    };
+    let entries = entries_from(alloc, lines)?;
+    Ok(Record { config, entries })
 }

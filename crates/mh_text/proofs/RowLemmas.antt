@@ -77,7 +77,7 @@ and_false true = refl
 and_false false = refl
 
 -- so many numbers are not below so many other bounds
-below_other : (bounds ns : List ℕ) → (length bounds ≡ length ns → ⊥) → are_below bounds ns ≡ false
+pub below_other : (bounds ns : List ℕ) → (length bounds ≡ length ns → ⊥) → are_below bounds ns ≡ false
 below_other [] [] other = absurd (other refl)
 below_other [] (n ∷ ns) other = refl
 below_other (bound ∷ bounds) [] other = refl

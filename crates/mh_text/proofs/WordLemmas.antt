@@ -72,7 +72,7 @@ length_next (Some n) (Some ns) count found same is =
     let one : length ns ≡ count = same ns refl in
     rw (← all, one) refl
 
-length_numbers : (words : List Text) (found : List ℕ) → numbers words ≡ Some found → length found ≡ length words
+pub length_numbers : (words : List Text) (found : List ℕ) → numbers words ≡ Some found → length found ≡ length words
 length_numbers [] found is = let none : [] ≡ found = cc in rw (← none) refl
 length_numbers (word ∷ words) found is = length_next (number word) (numbers words) (length words) found (length_numbers words) is
 

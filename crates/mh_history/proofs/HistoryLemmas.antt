@@ -1,0 +1,135 @@
+-- Whole texts by their first line and the lines after it.
+use Rattle.std.proofs.Common.{◌≡◌, ℕ, suc, ◌<◌, ◌≤◌, nat_lt, Bool, true, false, if◌then◌else◌, Option, Some, None, List, [], ◌∷◌, length, take, ap, sym, refl, ◌∙◌, arith}
+use Rattle.std.specs.Prelude.{codes}
+use Rattle.std.proofs.lemmas.Bool.Decides.{nat_tests}
+use Rattle.mh_model.specs.declared.config.Config.{Config}
+use Rattle.mh_model.specs.declared.history.Entry.{Entry}
+use Rattle.mh_model.specs.declared.history.Measured.{Measured}
+use Rattle.mh_model.specs.declared.history.Version.TheVariants.{One}
+use Rattle.mh_model.specs.Bytes.{Text, cut_after, words, is_text}
+use Rattle.mh_model.specs.Script.{Reading, BadLine, reading_map}
+use Rattle.mh_model.specs.HistoryTexts.{Recorded, entry_of, measured_of, header_of, entries_from, history_of, history_reading, recorded_by, recorded_of, recorded_reading}
+use Rattle.mh_text.specs.Pieces.{Lines, TakesLine, lines_from}
+use Rattle.mh_text.specs.Reading.{first_lines}
+use Rattle.mh_text.specs.TextErrors.{Refuses}
+use Rattle.mh_text.specs.declared.text_error.TextError.{TextError}
+use Rattle.mh_text.specs.declared.text_error.TextError.TheVariants.{Line, NoMemory}
+use Rattle.mh_history.specs.Beginnings.{entries_left, HasEntry, BeginsWithEntry, BeginsWithMeasured}
+
+abbrev pub entry_line : Text → Option Entry
+entry_line line = entry_of One (words line)
+
+abbrev pub measured_line : Text → Option Measured
+measured_line line = measured_of (words line)
+
+-- the pieces of a cut that is one line and what a reader of lines has left
+taken : (text : Text) (new : Lines) (n : ℕ) (line : Text) → TakesLine (lines_from 1 text) new n line → cut_after 10 text ≡ record { pieces = line ∷ new.lines; rest = new.rest }
+taken text new n line takes =
+    let lines : (cut_after 10 text).pieces ≡ line ∷ new.lines = takes.taken in
+    let rest : new.rest ≡ (cut_after 10 text).rest = takes.after in
+    ap (λ (pieces : List Text). record { pieces = pieces; rest = (cut_after 10 text).rest }) lines ∙ ap (λ (rest : Text). record { pieces = line ∷ new.lines; rest = rest }) (sym rest)
+
+-- Version 1 --------------------------------------------------------------------------------------
+
+history_by : (is : Bool) (text : Text) → nat_lt 1073741824 (length text) ≡ is → history_reading text ≡ (if is then BadLine 0 else history_of (cut_after 10 text))
+unfolding history_reading
+history_by is text same = rw same refl
+
+pub history_long : (text : Text) → 1073741824 < length text → history_reading text ≡ BadLine 0
+history_long text long = history_by true text (grind (arith, nat_tests))
+
+history_short : (text : Text) → length text ≤ 1073741824 → history_reading text ≡ history_of (cut_after 10 text)
+history_short text short = history_by false text (grind (arith, nat_tests))
+
+none_of_pieces : (pieces : List Text) (rest : Text) → pieces ≡ [] → history_of (record { pieces = pieces; rest = rest }) ≡ BadLine 1
+none_of_pieces pieces rest none = ap (λ (pieces : List Text). history_of (record { pieces = pieces; rest = rest })) none
+
+pub history_empty : (text : Text) → length text ≤ 1073741824 → (lines_from 1 text).lines ≡ [] → history_reading text ≡ BadLine 1
+history_empty text short none = history_short text short ∙ none_of_pieces (cut_after 10 text).pieces (cut_after 10 text).rest none
+
+wrong_first : (line : Text) (lines : List Text) (rest : Text) → is_text line (codes "history 1") ≡ false → history_of (record { pieces = line ∷ lines; rest = rest }) ≡ BadLine 1
+wrong_first line lines rest other = rw other refl
+
+pub history_wrong : (text : Text) (new : Lines) (n : ℕ) (line : Text) → length text ≤ 1073741824 → TakesLine (lines_from 1 text) new n line → is_text line (codes "history 1") ≡ false → history_reading text ≡ BadLine 1
+history_wrong text new n line short takes other = history_short text short ∙ (ap history_of (taken text new n line takes) ∙ wrong_first line new.lines new.rest other)
+
+right_first : (line : Text) (lines : List Text) (rest : Text) → is_text line (codes "history 1") ≡ true → history_of (record { pieces = line ∷ lines; rest = rest }) ≡ entries_from entry_line 2 lines rest
+right_first line lines rest is = rw is refl
+
+counted : (text : Text) (new : Lines) (n : ℕ) (line : Text) → TakesLine (lines_from 1 text) new n line → 2 ≡ new.number
+counted text new n line takes = sym takes.counted
+
+pub history_first : (text : Text) (new : Lines) (n : ℕ) (line : Text) → length text ≤ 1073741824 → TakesLine (lines_from 1 text) new n line → is_text line (codes "history 1") ≡ true → history_reading text ≡ entries_left entry_line new
+history_first text new n line short takes is =
+    history_short text short
+    ∙ (ap history_of (taken text new n line takes) ∙ (right_first line new.lines new.rest is ∙ ap (λ (n : ℕ). entries_from entry_line n new.lines new.rest) (counted text new n line takes)))
+
+front_lines : (text : Text) (new : Lines) (n : ℕ) (line : Text) (count : ℕ) → TakesLine (lines_from 1 text) new n line → first_lines (suc count) (cut_after 10 text) ≡ record { pieces = line ∷ take count new.lines; rest = [] }
+front_lines text new n line count takes = ap (first_lines (suc count)) (taken text new n line takes)
+
+pub begins_with_entry : (text : Text) (new : Lines) (n : ℕ) (line : Text) → length text ≤ 1073741824 → TakesLine (lines_from 1 text) new n line → is_text line (codes "history 1") ≡ true → HasEntry entry_line new → BeginsWithEntry text
+begins_with_entry text new n line short takes is has = record {
+  short = short;
+  count = suc has.count;
+  entries = has.entries;
+  reads =
+      ap history_of (front_lines text new n line has.count takes)
+      ∙ (right_first line (take has.count new.lines) [] is ∙ (ap (λ (n : ℕ). entries_from entry_line n (take has.count new.lines) []) (counted text new n line takes) ∙ has.reads));
+  some = has.some;
+}
+
+-- Version 2 --------------------------------------------------------------------------------------
+
+record_by : (is : Bool) (text : Text) → nat_lt 2147483648 (length text) ≡ is → recorded_reading text ≡ (if is then BadLine 0 else recorded_of (cut_after 10 text))
+unfolding recorded_reading
+record_by is text same = rw same refl
+
+pub record_long : (text : Text) → 2147483648 < length text → recorded_reading text ≡ BadLine 0
+record_long text long = record_by true text (grind (arith, nat_tests))
+
+record_short : (text : Text) → length text ≤ 2147483648 → recorded_reading text ≡ recorded_of (cut_after 10 text)
+record_short text short = record_by false text (grind (arith, nat_tests))
+
+no_header : (pieces : List Text) (rest : Text) → pieces ≡ [] → recorded_of (record { pieces = pieces; rest = rest }) ≡ BadLine 1
+no_header pieces rest none = ap (λ (pieces : List Text). recorded_of (record { pieces = pieces; rest = rest })) none
+
+pub record_empty : (text : Text) → length text ≤ 2147483648 → (lines_from 1 text).lines ≡ [] → recorded_reading text ≡ BadLine 1
+record_empty text short none = record_short text short ∙ no_header (cut_after 10 text).pieces (cut_after 10 text).rest none
+
+header_line : (line : Text) (lines : List Text) (rest : Text) (config : Option Config) → header_of (words line) ≡ config → recorded_of (record { pieces = line ∷ lines; rest = rest }) ≡ recorded_by config lines rest
+header_line line lines rest config is = ap (λ (config : Option Config). recorded_by config lines rest) is
+
+record_lines : (text : Text) (new : Lines) (n : ℕ) (line : Text) (config : Option Config) → length text ≤ 2147483648 → TakesLine (lines_from 1 text) new n line → header_of (words line) ≡ config
+    → recorded_reading text ≡ recorded_by config new.lines new.rest
+record_lines text new n line config short takes is =
+    record_short text short ∙ (ap recorded_of (taken text new n line takes) ∙ header_line line new.lines new.rest config is)
+
+pub record_wrong : (text : Text) (new : Lines) (n : ℕ) (line : Text) → length text ≤ 2147483648 → TakesLine (lines_from 1 text) new n line → header_of (words line) ≡ None → recorded_reading text ≡ BadLine 1
+record_wrong text new n line short takes is = record_lines text new n line None short takes is
+
+-- what the entries after a first line make of a history
+abbrev pub with_header : Config → Reading (List Measured) → Reading Recorded
+with_header config = reading_map (λ entries. record { config = config; entries = entries })
+
+pub record_first : (text : Text) (new : Lines) (n : ℕ) (line : Text) (config : Config) → length text ≤ 2147483648 → TakesLine (lines_from 1 text) new n line → header_of (words line) ≡ Some config
+    → recorded_reading text ≡ with_header config (entries_left measured_line new)
+record_first text new n line config short takes is =
+    record_lines text new n line (Some config) short takes is ∙ ap (λ (n : ℕ). with_header config (entries_from measured_line n new.lines new.rest)) (counted text new n line takes)
+
+pub begins_with_measured : (text : Text) (new : Lines) (n : ℕ) (line : Text) (config : Config) → length text ≤ 2147483648 → TakesLine (lines_from 1 text) new n line → header_of (words line) ≡ Some config → HasEntry measured_line new
+    → BeginsWithMeasured text
+begins_with_measured text new n line config short takes is has = record {
+  short = short;
+  count = suc has.count;
+  recorded = record { config = config; entries = has.entries };
+  reads =
+      ap recorded_of (front_lines text new n line has.count takes)
+      ∙ (header_line line (take has.count new.lines) [] (Some config) is
+      ∙ (ap (λ (n : ℕ). with_header config (entries_from measured_line n (take has.count new.lines) [])) (counted text new n line takes) ∙ ap (with_header config) has.reads));
+  some = has.some;
+}
+
+pub record_refused : (text : Text) (new : Lines) (n : ℕ) (line : Text) (config : Config) (error : TextError) → length text ≤ 2147483648 → TakesLine (lines_from 1 text) new n line → header_of (words line) ≡ Some config
+    → Refuses (entries_left measured_line new) error → Refuses (recorded_reading text) error
+record_refused text new n line config (Line bad) short takes is refused = record_first text new n line config short takes is ∙ ap (with_header config) refused
+record_refused text new n line config NoMemory short takes is refused = tt
