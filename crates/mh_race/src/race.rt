@@ -1,5 +1,5 @@
 //! Races over the events of a script.
-ghost use Rattle.std.specs.Prelude.{◌≡◌, ◌<◌, ◌≤◌, ◌×◌, ◌+◌, ◌++◌, ℕ, All, IfOk, None, Some, map, vec_len};
+ghost use Rattle.std.specs.Prelude.{◌≡◌, ◌<◌, ◌≤◌, ◌+◌, ◌++◌, ℕ, All, IfOk, None, Some, map, vec_len};
 ghost use Rattle.std.specs.Vec.{vec_capacity};
 ghost use Rattle.mh_lock.specs.Seats.{LockSeatView};
 ghost use Rattle.mh_model.specs.History.{IsLegal};

@@ -4,6 +4,7 @@ ghost use Rattle.std.specs.Prelude.{◌≡◌};
 use crate::twice::Twice;
 use mh_lock::entries::{Entries, Work};
 use mh_model::command::Event;
+use mh_model::config::Config;
 use mh_model::history::Entry;
 use mh_model::memory::NoMemory;
 use mh_scan::scan::Scanner;
@@ -12,14 +13,22 @@ use mh_state::machine::Stop;
 use mh_state::state::State;
 use std::alloc::Global;
 
-/// The state that the seats call, which shows itself as its history.
+/// The state that the seats call, which shows itself as its history. No call changes its configuration.
 #[derive(Drop)]
 pub struct Shared {
     pub(crate) state: State,
 }
 
 impl Entries<Entry> for Shared {
+    type Origin = Config;
+
     ghost entries = { λ shared. shared.state.history };
+
+    ghost origin = { λ shared. shared.state.machine.heap.config };
+
+    fn origin(&self) -> Config {
+        self.state.machine().config()
+    }
 }
 
 /// One event, done by a scanner of the calling thread.

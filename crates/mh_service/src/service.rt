@@ -1,5 +1,5 @@
 //! The service.
-ghost use Rattle.std.specs.Prelude.{◌≡◌, ◌≢◌, ◌<◌, ◌≤◌, ◌==◌, ◌×◌, [], ◌∷◌, ◌++◌, ℕ, All, IfOk, OnOk, IfErr, OnErr, count_by, slice_index_or, vec_len};
+ghost use Rattle.std.specs.Prelude.{◌≡◌, ◌≢◌, ◌<◌, ◌≤◌, ◌==◌, [], ◌∷◌, ◌++◌, ℕ, All, IfOk, OnOk, IfErr, OnErr, count_by, slice_index_or, vec_len};
 ghost use Rattle.mh_lock.specs.Seats.{LockSeatView};
 ghost use Rattle.mh_model.specs.History.{IsLegal, owner_of, owned_by};
 ghost use Rattle.mh_model.specs.declared.history.Entry.{Entry};
@@ -11,6 +11,7 @@ ghost use Rattle.mh_state.specs.Storing.{events_of};
 use crate::job::{Job, Shared};
 use crate::seat::Seat;
 use mh_lock::lock::Lock;
+use mh_lock::seat::LockSeat;
 use mh_model::command::Event;
 use mh_model::config::Config;
 use mh_model::history::Entry;
@@ -67,6 +68,18 @@ pub struct MissingSeat<'a, G> {
     pub seats: Vec<Seat>,
 }
 
+/// The seats of a lock, each before its first call, as seats of a service.
+fn seats_of(alloc: Global, inner: Vec<LockSeat<Shared, Entry>>) -> Result<Vec<Seat>, NoMemory>
+    requires { All (λ seat. seat.log ≡ []) inner.items }
+    ensures { IfOk result (λ seats. seats.items ≡ inner.items) }
+{
+    let mut seats = Vec::new(alloc);
+    for seat in inner {
+        seats.push(Seat::new(alloc, seat))?;
+    }
+    Ok(seats)
+}
+
 impl<'a, G: CrewGate> Service<'a, G> {
     /// A service over the machine of a configuration, and its seats: those of the sessions 0 to 7, and the desk.
     pub fn open(
@@ -82,10 +95,7 @@ impl<'a, G: CrewGate> Service<'a, G> {
     {
         let state = State::open(alloc, config)?;
         let (lock, inner) = Lock::open(alloc, Shared { state }, SEATS)?;
-        let mut seats = Vec::new(alloc);
-        for seat in inner {
-            seats.push(Seat::new(alloc, seat))?;
-        }
+        let seats = seats_of(alloc, inner)?;
         let service = Service {
             alloc,
             lock,
@@ -134,14 +144,14 @@ impl<'a, G: CrewGate> Service<'a, G> {
     pub fn close(self, seats: Vec<Seat>) -> Result<Closed, MissingSeat<'a, G>>
         requires { All (IsOf self) seats.items }
         ensures count { OnOk result (vec_len seats ≡ 9) }
-        ensures legal { IfOk result (λ closed. IsLegal self.config closed.history.items) }
-        ensures machine { IfOk result (λ closed. IsTheMachines self.config (events_of closed.history.items) (shown closed)) }
-        ensures promise { IfOk result (λ closed. IsPromised self.config (events_of closed.history.items) (shown closed)) }
+        ensures legal { IfOk result (λ closed. IsLegal self.entry.config closed.history.items) }
+        ensures machine { IfOk result (λ closed. IsTheMachines self.entry.config (events_of closed.history.items) (shown closed)) }
+        ensures promise { IfOk result (λ closed. IsPromised self.entry.config (events_of closed.history.items) (shown closed)) }
         ensures logs { IfOk result (λ closed. All (λ seat. seat.log ≡ owned_by (λ entry. owner_of entry.event) seat.number closed.history.items) seats.items) }
         ensures numbers { OnOk result ((number : ℕ) → number < 9 → count_by (λ seat. seat.number == number) seats.items ≡ 1) }
         ensures merged { IfOk result (λ closed. AreMerged seats.items closed.history.items) }
         ensures missing { IfErr result (λ back. vec_len seats ≢ 9) }
-        ensures service { IfErr result (λ back. back.service ≡ self) }
+        ensures service { IfErr result (λ back. back.service ≡ self.entry) }
         ensures seats { IfErr result (λ back. back.seats ≡ seats) }
     {
         logs_merge_to_the_history();
