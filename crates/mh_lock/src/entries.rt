@@ -14,7 +14,7 @@ impl Owned for Entry {
     ghost owner = { λ entry. owner_of entry.event };
 }
 
-/// A value that shows itself as its list of entries, and an origin.
+/// A value that shows itself as its list of entries and an origin.
 pub trait Entries<E> {
     /// What of the value no call changes.
     type Origin: Copy;
@@ -27,7 +27,8 @@ pub trait Entries<E> {
         ensures { result ≡ origin self.now };
 }
 
-/// What one call does with the value: it adds an entry and replies, or leaves the entries as they are and refuses.
+/// What one call does with the value: it adds an entry and replies, or leaves the entries as they are and refuses. The origin
+/// stays.
 pub trait Work<T: Entries<E>, E> {
     type Reply;
 

@@ -7,7 +7,6 @@ use lib.ListN.{get_elem?}
 use Rattle.std.proofs.lemmas.Bool.Decides.{nat_tests}
 use Rattle.std.proofs.lemmas.List.{length-replicate, get_or-set_other}
 use Rattle.atomic_table.specs.Table.{State}
-use Rattle.mh_seat_laws.specs.declared.seat_view.Found.{Found}
 use Rattle.mh_seat_laws.specs.declared.seat_view.SeatView.{SeatView}
 use Rattle.mh_model.specs.History.{LockState, owned_by, AreLogs, IsKeptBy}
 use Rattle.mh_seat_laws.specs.Weights.{weigh_below, total}
