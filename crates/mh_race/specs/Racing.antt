@@ -1,5 +1,5 @@
 -- What each seat of a race has done, and what a race leaves of the events of its script.
-use Rattle.std.specs.Prelude.{◌≡◌, ℕ, List, [], ◌++◌, None, map}
+use Rattle.std.specs.Prelude.{◌≡◌, ℕ, List, [], ◌++◌, Option, None}
 use Rattle.mh_model.specs.declared.command.Event.{Event}
 use Rattle.mh_model.specs.History.{owner_of, owned_by}
 use Rattle.mh_lock.specs.Seats.{LockSeatView}
@@ -7,16 +7,23 @@ use Rattle.mh_model.specs.declared.history.Entry.{Entry}
 use Rattle.mh_race.specs.declared.racer.Racer.{Racer}
 use Rattle.mh_service.specs.Services.{ServiceView, IsOf}
 use Rattle.mh_state.specs.Storing.{events_of}
+use Rattle.mh_state.specs.declared.machine.Stop.{Stop}
 
 -- a seat of this service, before its first call
-abbrev pub IsFresh : ServiceView → Racer → Type 0
-IsFresh service racer = IsOf service racer.seat × (racer.seat.log ≡ []) × (racer.stop ≡ None)
+abbrev pub IsNew : ServiceView → LockSeatView Entry → Type 0
+IsNew service seat = IsOf service seat × (seat.log ≡ [])
 
--- The seat has made its first calls of the events in their order, and where none was refused all of them
-pub record HasRun (events : List Event) (racer : Racer) : Type 0 where
+abbrev pub IsFresh : ServiceView → Racer → Type 0
+IsFresh service racer = IsNew service racer.seat × (racer.stop ≡ None)
+
+-- The seat has made its first calls of some events in their order, and all of them where none was refused
+pub record HasRun (events : List Event) (refused : Option Stop) (seat : LockSeatView Entry) : Type 0 where
   pub left : List Event
-  pub made : events_of racer.seat.log ++ left ≡ owned_by owner_of racer.seat.number events
-  pub all : racer.stop ≡ None → left ≡ []
+  pub made : events_of seat.log ++ left ≡ owned_by owner_of seat.number events
+  pub all : refused ≡ None → left ≡ []
+
+abbrev pub HasRunIn : ServiceView → List Event → Racer → Type 0
+HasRunIn service events racer = IsOf service racer.seat × HasRun events racer.stop racer.seat
 
 -- Each seat's calls are those that it has among the events, in their order, and no others
 abbrev pub MakesTheCalls : List Event → List Event → Type 0

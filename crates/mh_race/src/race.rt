@@ -1,11 +1,10 @@
 //! Races over the events of a script.
 ghost use Rattle.std.specs.Prelude.{◌≡◌, ◌<◌, ◌≤◌, ◌+◌, ◌++◌, ℕ, All, IfOk, None, Some, map, vec_len};
 ghost use Rattle.std.specs.Vec.{vec_capacity};
-ghost use Rattle.mh_lock.specs.Seats.{LockSeatView};
 ghost use Rattle.mh_model.specs.History.{IsLegal};
 ghost use Rattle.mh_model.specs.Limits.{most_entries};
-ghost use Rattle.mh_race.specs.Racing.{IsFresh, HasRun, MakesTheCalls, BeginsTheCalls};
-ghost use Rattle.mh_service.specs.Services.{IsOf};
+ghost use Rattle.mh_race.specs.Racing.{IsNew, IsFresh, HasRun, HasRunIn, MakesTheCalls, BeginsTheCalls};
+ghost use Rattle.mh_service.specs.Services.{ServiceView, IsOf};
 ghost use Rattle.mh_state.specs.Storing.{events_of};
 ghost use Rattle.mh_state.specs.declared.machine.Stop.{Stop};
 
@@ -15,6 +14,7 @@ use mh_model::config::Config;
 use mh_model::history::Entry;
 use mh_model::memory::NoMemory;
 use mh_scan::crew_scan::CrewGate;
+use mh_seat_laws::lock::events_have_one_owner;
 use mh_service::seat::{DESK, Seat};
 use mh_service::service::Service;
 use mh_state::machine::{MOST_EVENTS, Stop};
@@ -31,16 +31,15 @@ pub struct Raced {
     pub stop: Option<Stop>,
 }
 
-/// The seats of a race: those that have a thread of their own, and the others, which have no calls to make.
+/// The seats of a race: those that get a thread of their own, and the others, which have no calls to make.
+#[derive(Drop)]
 struct Racers {
     busy: Vec<Racer>,
     idle: Vec<Racer>,
 }
 
 /// How many sessions below 8 have events, which are numbered from 0.
-fn sessions(events: &[Event]) -> u64
-    ensures { result ≤ 8 }
-{
+fn sessions(events: &[Event]) -> u64 {
     let mut count = 0;
     for event in events {
         if let Event::Session(who, _) = event {
@@ -55,59 +54,48 @@ fn sessions(events: &[Event]) -> u64
 
 /// The sessions that have events and the desk get a thread each.
 fn racers_of(alloc: Global, seats: Vec<Seat>, events: &[Event]) -> Result<Racers, NoMemory>
+    ensures fresh { IfOk result (λ racers. (service : ServiceView) → All (IsNew service) seats.items → All (IsFresh service) racers.busy.items × All (IsFresh service) racers.idle.items) }
+    ensures count { IfOk result (λ racers. vec_len racers.busy + vec_len racers.idle ≡ vec_len seats) }
 {
     let sessions = sessions(events);
-    let mut racers = Racers {
-        busy: Vec::new(alloc),
-        idle: Vec::new(alloc),
-    };
+    let mut busy = Vec::new(alloc);
+    let mut idle = Vec::new(alloc);
     for seat in seats {
         let number = seat.number();
         let racer = Racer::new(seat);
         if number < sessions || number == DESK {
-            racers.busy.push(racer)?;
+            busy.push(racer)?;
         } else {
-            racers.idle.push(racer)?;
+            idle.push(racer)?;
         }
     }
-    Ok(racers)
+    Ok(Racers { busy, idle })
 }
 
-/// Each in a thread of its own. Where one can't be started, its calls are made on another.
-fn run_busy<R: Threads + Wait + Sync, G: CrewGate + Sync>(
+/// Each racer in a thread of its own, or all on the calling thread, where there is one thread. The calls of a racer whose
+/// thread can't be started are made on another.
+fn run_all<R: Threads + Wait + Sync, G: CrewGate + Sync>(
     rt: &R,
     service: &Service<'_, G>,
-    racers: &mut [Racer],
+    racers: &mut Vec<Racer>,
     events: &[Event],
+    threads: usize,
 )
-    requires { All (IsFresh service.now) racers.old }
-    ensures own { All (λ racer. IsOf service.now racer.seat) racers.new }
-    ensures run { All (HasRun events.now) racers.new }
+    requires threads { 0 < threads }
+    requires fresh { All (IsFresh service.now) racers.old.items }
+    ensures run { All (HasRunIn service.now events.now) racers.new.items }
+    ensures count { vec_len racers.new ≡ vec_len racers.old }
 {
     let one = |_index: usize, racer: &mut Racer|
         requires { IsFresh service.now racer.now }
+        ensures { HasRunIn service.entry.now events.entry.now racer.exit.now }
     { racer.run(rt, service, events) };
-    thread::for_each_mut(rt, racers, 9, &one);
+    thread::for_each_mut(rt, racers.as_mut_slice(), threads, &one);
 }
 
-fn run_idle<R: Threads + Wait, G: CrewGate>(
-    rt: &R,
-    service: &Service<'_, G>,
-    racers: &mut [Racer],
-    events: &[Event],
-)
-    requires { All (IsFresh service.now) racers.old }
-    ensures own { All (λ racer. IsOf service.now racer.seat) racers.new }
-    ensures run { All (HasRun events.now) racers.new }
-{
-    for racer in racers {
-        racer.run(rt, service, events);
-    }
-}
-
-/// The seats that come back, for which there is room, after those that are there, with the refusal that tells most of the
-/// race: want of memory before a full history.
-fn seats_of(racers: Vec<Racer>, seats: &mut Vec<Seat>, stop: Option<Stop>) -> Option<Stop>
+/// Moves the seats of racers behind those that are there, for which there is room, and gives the refusal that tells most:
+/// want of memory before a full history.
+fn take_seats(racers: Vec<Racer>, seats: &mut Vec<Seat>, stop: Option<Stop>) -> Option<Stop>
     requires room { vec_len seats.old + vec_len racers ≤ vec_capacity seats.old }
     ensures seats { seats.new.items ≡ seats.old.items ++ map (λ racer. racer.seat) racers.items }
     ensures room { vec_capacity seats.new ≡ vec_capacity seats.old }
@@ -122,6 +110,40 @@ fn seats_of(racers: Vec<Racer>, seats: &mut Vec<Seat>, stop: Option<Stop>) -> Op
         seats.push_reserved(seat);
     }
     most
+}
+
+/// Makes the calls of all seats, and gives them back, with the refusal that tells most, where some call was refused.
+fn run_seats<R: Threads + Wait + Sync, G: CrewGate + Sync>(
+    rt: &R,
+    alloc: Global,
+    service: &Service<'_, G>,
+    seats: Vec<Seat>,
+    events: &[Event],
+) -> Result<(Vec<Seat>, Option<Stop>), NoMemory>
+    requires { All (IsNew service.now) seats.items }
+    ensures run { IfOk result (λ run. All (λ seat. IsOf service.now seat × HasRun events.now run.1 seat) run.0.items) }
+    ensures count { IfOk result (λ run. vec_len run.0 ≡ vec_len seats) }
+{
+    let mut back = Vec::with_capacity(alloc, seats.len())?;
+    let Racers { mut busy, mut idle } = racers_of(alloc, seats, events)?;
+    run_all(rt, service, &mut busy, events, 9);
+    run_all(rt, service, &mut idle, events, 1);
+    let stop = take_seats(busy, &mut back, None);
+    let stop = take_seats(idle, &mut back, stop);
+    Ok((back, stop))
+}
+
+/// A call is refused for a full history only where the history is full, which no contract of the call tells.
+#[tactic(auto, unfolding(mh_model::specs::Limits::most_entries))]
+fn stop_of(stop: Option<Stop>, entries: u64) -> Option<Stop>
+    ensures none { result ≡ None → stop ≡ None }
+    ensures full { result ≡ Some Stop.HistoryFull → entries ≡ most_entries }
+{
+    match stop {
+        Some(Stop::HistoryFull) if entries == MOST_EVENTS => stop,
+        Some(_) => Some(Stop::NoMemory),
+        None => None,
+    }
 }
 
 /// Lets the sessions of a script race: each session below 8 with events, and the desk, makes its own calls in a thread of
@@ -141,29 +163,14 @@ pub fn race<R: Threads + Wait + Sync, G: CrewGate + Sync>(
     ensures all { IfOk result (λ raced. raced.stop ≡ None → MakesTheCalls events.now (events_of raced.history.items)) }
     ensures full { IfOk result (λ raced. raced.stop ≡ Some Stop.HistoryFull → vec_len raced.history ≡ most_entries) }
 {
+    events_have_one_owner();
     let (service, seats) = Service::open(alloc, config, workers, gate)?;
-    let mut back = Vec::with_capacity(alloc, 9)?;
-    let Racers { mut busy, mut idle } = racers_of(alloc, seats, events)?;
-    run_busy(rt, &service, busy.as_mut_slice(), events);
-    run_idle(rt, &service, idle.as_mut_slice(), events);
-    let stop = seats_of(busy, &mut back, None);
-    let stop = seats_of(idle, &mut back, stop);
-    match service.close(back) {
+    let (seats, stop) = run_seats(rt, alloc, &service, seats, events)?;
+    match service.close(seats) {
         Ok(closed) => Ok(Raced {
             stop: stop_of(stop, closed.history.len() as u64),
             history: closed.history,
         }),
         Err(_) => unreachable!(),
-    }
-}
-
-/// A call is refused for a full history only where the history is full, which no contract of the call tells.
-fn stop_of(stop: Option<Stop>, entries: u64) -> Option<Stop>
-    ensures none { result ≡ None → stop ≡ None }
-    ensures full { result ≡ Some Stop.HistoryFull → entries ≡ most_entries }
-{
-    match stop {
-        Some(Stop::HistoryFull) if entries != MOST_EVENTS => Some(Stop::NoMemory),
-        stop => stop,
     }
 }

@@ -1,7 +1,6 @@
 //! What the thread of one seat does.
 ghost use Rattle.std.specs.Prelude.{◌≡◌, None};
-ghost use Rattle.mh_service.specs.Services.{IsOf};
-ghost use Rattle.mh_race.specs.Racing.{IsFresh, HasRun};
+ghost use Rattle.mh_race.specs.Racing.{IsFresh, HasRunIn};
 
 use mh_model::command::Event;
 use mh_scan::crew_scan::CrewGate;
@@ -33,8 +32,7 @@ impl Racer {
         events: &[Event],
     )
         requires { IsFresh service.now self.old }
-        ensures own { IsOf service.now self.new.seat }
-        ensures run { HasRun events.now self.new }
+        ensures { HasRunIn service.now events.now self.new }
     {
         let mut has_begun = false;
         for event in events {
