@@ -44,14 +44,15 @@ module _ {X E : Type 0} (seat_of : X → LockSeatView E) where
   logs_of-stand logs (seat ∷ seats) stand (suc k) other below = logs_of-stand logs seats stand.1 k other (omega arith)
 
   -- what the end of a lock tells
-  pub record Tells (owner : E → ℕ) (lock : LockView) (seats : List X) (history : List E) : Type 0 where
+  pub record Tells {O : Type 0} (owner : E → ℕ) (lock : LockView O) (seats : List X) (history : List E) (origin : O) : Type 0 where
     pub numbers : (number : ℕ) → number < lock.seats → count_by (λ seat. (seat_of seat).number == number) seats ≡ 1
     pub logs : All (λ seat. (seat_of seat).log ≡ owned_by owner (seat_of seat).number history) seats
     pub owned : AllOwned owner lock.seats history
     pub kept : IsKeptAtHome owner lock (map seat_of seats) history
+    pub same_origin : origin ≡ lock.origin
 
-  module _ {T : Type 0} (owner : E → ℕ) (entries : T → List E) (lock : LockView) (seats : List X) (table : State T (SeatView E)) (id : ℕ) (view : SeatView E)
-      (seen : Seen (IsLocked owner entries lock.seats) id view table) (logs : view.logs ≡ logs_of seats) (all : length seats ≡ lock.seats) where
+  module _ {T O : Type 0} (owner : E → ℕ) (entries : T → List E) (origin : T → O) (lock : LockView O) (seats : List X) (table : State T (SeatView E O)) (id : ℕ) (view : SeatView E O)
+      (seen : Seen (IsLocked owner entries origin (lock.seats, lock.origin)) id view table) (logs : view.logs ≡ logs_of seats) (all : length seats ≡ lock.seats) where
     whole : length view.logs ≡ lock.seats
     whole = ap length logs ∙ (logs_of-length seats ∙ all)
 
@@ -59,11 +60,11 @@ module _ {X E : Type 0} (seat_of : X → LockSeatView E) where
     ones = seen.0.numbers (λ _. 1) ∙ ones-below lock.seats
 
     -- no other seat has a log
-    no_holder : HasHolder owner entries lock.seats table → view.found ≡ None → ⊥
+    no_holder : HasHolder owner entries origin (lock.seats, lock.origin) table → view.found ≡ None → ⊥
     no_holder out free =
         let apart : id ≢ out.holder = λ same.
         let is_view : out.view ≡ view = some-injective out.view view (sym out.holder_view ∙ (ap (get_elem? table.views) (sym same) ∙ seen.1)) in
-        let found = out.found in let also = ap (λ (v : SeatView E). v.found) is_view in absurd cc in
+        let found = out.found in let also = ap (λ (v : SeatView E O). v.found) is_view in absurd cc in
         omega (
           arith,
           two_parts-of_total (λ v. weigh_numbers (λ _. 1) v.logs) table.views id out.holder view out.view apart seen.1 out.holder_view,
@@ -76,14 +77,14 @@ module _ {X E : Type 0} (seat_of : X → LockSeatView E) where
 
     weighed : (h : ℕ → ℕ) → weigh_numbers h view.logs ≡ weigh_below h lock.seats
     weighed h =
-        let rest : List (SeatView E) = set table.views id (seat_view [] None) in
+        let rest : List (SeatView E O) = set table.views id (seat_view [] None) in
         let none : total (λ v. weigh_numbers (λ _. 1) v.logs) rest ≡ 0
         = omega (arith, total-set (λ v. weigh_numbers (λ _. 1) v.logs) table.views id view (seat_view [] None) seen.1, ones, whole, ones-weigh_length view.logs) in
         omega (arith, total-set (λ v. weigh_numbers h v.logs) table.views id view (seat_view [] None) seen.1, views-none h rest none, seen.0.numbers h)
 
-    kept-at_home : (home : HasHome owner entries lock.seats table) → IsKeptAtHome owner lock (map seat_of seats) (entries home.value)
+    kept-at_home : (home : HasHome owner entries origin (lock.seats, lock.origin) table) → IsKeptAtHome owner lock (map seat_of seats) (entries home.value)
     kept-at_home home =
-        let shown = shown_lock owner entries lock.seats table seen.0 in
+        let shown = shown_lock owner entries origin (lock.seats, lock.origin) table seen.0 in
         let state : LockState E = shown.0 in
         let shows : Shows entries lock.seats table state = shown.2 in
         let word : state.word ≡ 0 = shows.word ∙ home.word in record {
@@ -94,16 +95,17 @@ module _ {X E : Type 0} (seat_of : X → LockSeatView E) where
           logs = logs_of-stand state.logs seats (subst (StandIn state.logs) logs (shows.logs id view seen.1));
         }
 
-    closed-home : (home : HasHome owner entries lock.seats table) → Tells owner lock seats (entries home.value)
+    closed-home : (home : HasHome owner entries origin (lock.seats, lock.origin) table) → Tells owner lock seats (entries home.value) (origin home.value)
     closed-home home = record {
       numbers = λ number below. sym (logs_of-count number seats) ∙ (ap (weigh_numbers (is number)) (sym logs) ∙ (weighed (is number) ∙ one-below number lock.seats below));
       logs = logs_of-fit owner (entries home.value) seats (subst (Fits owner (entries home.value)) logs (home.fits id view seen.1));
       owned = home.owned_all;
       kept = kept-at_home home;
+      same_origin = home.same_origin;
     }
 
-    pub closed-tells : view.found ≡ None → (value : T) → ((other : T) → get_elem? table.homes 0 ≡ some (some other) → other ≡ value) → Tells owner lock seats (entries value)
+    pub closed-tells : view.found ≡ None → (value : T) → ((other : T) → get_elem? table.homes 0 ≡ some (some other) → other ≡ value) → Tells owner lock seats (entries value) (origin value)
     closed-tells free value same = ⊎_elim
-        (λ home. subst (λ (v : T). Tells owner lock seats (entries v)) (same home.value home.at_home) (closed-home home))
+        (λ home. subst (λ (v : T). Tells owner lock seats (entries v) (origin v)) (same home.value home.at_home) (closed-home home))
         (λ out. absurd (no_holder out free))
         seen.0.place

@@ -5,21 +5,22 @@ use native.Mathlib.Decide.{ℕ_discrete}
 use Rattle.std.proofs.lemmas.List.{get_or_push}
 use Rattle.std.proofs.Math.ListN.{get_or-append}
 use Rattle.atomic_table.specs.Table.{Me}
+use Rattle.mh_seat_laws.specs.declared.seat_view.Found.{Found}
 use Rattle.mh_seat_laws.specs.declared.seat_view.SeatView.{SeatView}
-use Rattle.mh_lock.specs.Steps.{seat_view, empty_logs, alone, holding, number_in, log_in, Grows}
+use Rattle.mh_lock.specs.Steps.{seat_view, empty_logs, alone, holding, Grows, CanGive}
 
 -- New seats --------------------------------------------------------------------------------------
 
 -- a seat that stands for several without an entry stands for one fewer after a split
-pub rest-of_split : {T E : Type 0} (first count rest next : ℕ) (before after : Me T (SeatView E)) → before ≡ (seat_view (empty_logs first (suc count)) None, []) → after ≡ (seat_view (drop 1 before.0.logs) before.0.found, before.1)
+pub rest-of_split : {T E O : Type 0} (first count rest next : ℕ) (before after : Me T (SeatView E O)) → before ≡ (seat_view (empty_logs first (suc count)) None, []) → after ≡ (seat_view (drop 1 before.0.logs) before.0.found, before.1)
     → count ≡ rest → suc first ≡ next → after ≡ (seat_view (empty_logs next rest) None, [])
-rest-of_split {T} {E} first count rest next before after is cut same more =
-    cut ∙ (ap (λ (me : Me T (SeatView E)). (seat_view (drop 1 me.0.logs) me.0.found, me.1)) is ∙ λ i. (seat_view (empty_logs (more i) (same i)) None, []))
+rest-of_split {T} {E} {O} first count rest next before after is cut same more =
+    cut ∙ (ap (λ (me : Me T (SeatView E O)). (seat_view (drop 1 me.0.logs) me.0.found, me.1)) is ∙ λ i. (seat_view (empty_logs (more i) (same i)) None, []))
 
 -- and the new seat stands for the first of them
-pub first-of_split : {T E : Type 0} (first count : ℕ) (before after : Me T (SeatView E)) → before ≡ (seat_view (empty_logs first (suc count)) None, []) → after ≡ (seat_view (take 1 before.0.logs) None, [])
+pub first-of_split : {T E O : Type 0} (first count : ℕ) (before after : Me T (SeatView E O)) → before ≡ (seat_view (empty_logs first (suc count)) None, []) → after ≡ (seat_view (take 1 before.0.logs) None, [])
     → after ≡ alone first []
-first-of_split {T} {E} first count before after is cut = cut ∙ ap (λ (me : Me T (SeatView E)). (seat_view (take 1 me.0.logs) None, [])) is
+first-of_split {T} {E} {O} first count before after is cut = cut ∙ ap (λ (me : Me T (SeatView E O)). (seat_view (take 1 me.0.logs) None, [])) is
 
 -- what holds at each place of a list holds with one value more
 pub each-push : {X : Type 0} (P : ℕ → X → Type 0) (xs : List X) (x : X) (n m : ℕ) → length xs ≡ n → m ≡ n + 1 → ((j : ℕ) (d : X) → j < n → P j (get_or xs j d)) → P n x
@@ -31,7 +32,7 @@ each-push P xs x n m many more all last j d below = dite (ℕ_discrete j n)
 -- Calls ------------------------------------------------------------------------------------------
 
 -- the value has changed with its seat, by what one call may add
-pub held-grown : {T E : Type 0} (owner : E → ℕ) (entries : T → List E) (me : Me T (SeatView E)) (number : ℕ) (log history : List E) (value : T) → me ≡ holding number log history value → Grows owner number history (entries value)
-    → (found : List E) × (now : T) × (me ≡ holding (number_in me) (log_in me) found now) × Grows owner (number_in me) found (entries now)
-held-grown {T} {E} owner entries me number log history value is grows =
-    subst (λ (m : Me T (SeatView E)). (found : List E) × (now : T) × (m ≡ holding (number_in m) (log_in m) found now) × Grows owner (number_in m) found (entries now)) (sym is) (history, value, refl, grows)
+pub can_give-grown : {T E O : Type 0} (owner : E → ℕ) (entries : T → List E) (origin : T → O) (me : Me T (SeatView E O)) (number : ℕ) (log : List E) (found : Found E O) (value : T) → me ≡ holding number log found value
+    → Grows owner number found.history (entries value) → origin value ≡ found.origin → CanGive owner entries origin me
+can_give-grown {T} {E} {O} owner entries origin me number log found value is grows same =
+    subst (CanGive owner entries origin) (sym is) (record { found = found; value = value; holds = refl; entries_grow = grows; same_origin = same })

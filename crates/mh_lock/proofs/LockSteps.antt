@@ -10,9 +10,10 @@ use Rattle.atomic_table.specs.Table.{State, step, keeps, takes, gives, opening, 
 use Rattle.atomic_table.proofs.Lists.{at_set, at_snoc, set_again, set_here, set_else, at_longer}
 use Rattle.mh_model.specs.History.{owned_by}
 use Rattle.mh_seat_laws.specs.Lock.{Logs, weigh_numbers, Fits, AllFit, AllOwned, HasHome, HasHolder, IsLocked}
+use Rattle.mh_seat_laws.specs.declared.seat_view.Found.{Found}
 use Rattle.mh_seat_laws.specs.declared.seat_view.SeatView.{SeatView}
 use Rattle.mh_seat_laws.proofs.TotalLemmas.{total-set, total-append_one}
-use Rattle.mh_lock.specs.Steps.{seat_view, empty_logs, all_seats, alone, holding, Grows, Takes, Gives}
+use Rattle.mh_lock.specs.Steps.{seat_view, empty_logs, all_seats, alone, holding, found_of, Grows, Takes, Gives}
 use Rattle.mh_lock.proofs.SeatNumbers.{part-of_total, two_parts-of_total, is, is-same, none-above, at_most-one, weigh-append, weigh-cut, weigh-all}
 
 set-there : {A : Type 0} (l : List A) (i : ℕ) (v w : A) → get_elem? l i ≡ some v → get_elem? (set l i w) i ≡ some w
@@ -53,18 +54,21 @@ module _ {E : Type 0} (owner : E → ℕ) where
   answer-grows seat before after (Ok r) entry ok err mine = inr (entry r, mine r, ok)
   answer-grows seat before after (Err s) entry ok err mine = inl err
 
-module _ {T E : Type 0} (owner : E → ℕ) (entries : T → List E) (seats : ℕ) where
-  abbrev Kept : State T (SeatView E) → Type 0
-  Kept = IsLocked owner entries seats
+module _ {T E O : Type 0} (owner : E → ℕ) (entries : T → List E) (origin : T → O) (about : ℕ × O) where
+  abbrev seats : ℕ
+  seats = about.0
+
+  abbrev Kept : State T (SeatView E O) → Type 0
+  Kept = IsLocked owner entries origin about
 
   -- Taking the value -----------------------------------------------------------------------------
 
   -- the seat takes the value that is at home
-  taken : (table : State T (SeatView E)) → Kept table → (id number : ℕ) (log : List E) → get_elem? table.views id ≡ some (seat_view ((number, log) ∷ []) None) → (home : HasHome owner entries seats table)
-      → Kept (stepped table 0 1 id [] (seat_view ((number, log) ∷ []) (Some (entries home.value))) (takes 0 home.value))
+  taken : (table : State T (SeatView E O)) → Kept table → (id number : ℕ) (log : List E) → get_elem? table.views id ≡ some (seat_view ((number, log) ∷ []) None) → (home : HasHome owner entries origin about table)
+      → Kept (stepped table 0 1 id [] (seat_view ((number, log) ∷ []) (Some (found_of entries origin home.value))) (takes 0 home.value))
   taken table rule id number log there home =
-      let before : SeatView E = seat_view ((number, log) ∷ []) None in
-      let after : SeatView E = seat_view ((number, log) ∷ []) (Some (entries home.value)) in record {
+      let before : SeatView E O = seat_view ((number, log) ∷ []) None in
+      let after : SeatView E O = seat_view ((number, log) ∷ []) (Some (found_of entries origin home.value)) in record {
         words = length-set table.words 0 1 ∙ rule.words;
         slots = length-set table.homes 0 none ∙ rule.slots;
         numbers = λ h. omega (arith, total-set (λ view. weigh_numbers h view.logs) table.views id before after there, rule.numbers h);
@@ -74,10 +78,10 @@ module _ {T E : Type 0} (owner : E → ℕ) (entries : T → List E) (seats : �
           holder = id;
           view = after;
           holder_view = set-there table.views id before after there;
-          found = refl;
+          found = ap (λ (o : O). Some (record { history = entries home.value; origin = o })) home.same_origin;
           some_log = omega arith;
           fits = λ other view is_there. ⊎_elim
-              (λ t. subst (λ (v : SeatView E). Fits owner (entries home.value) v.logs) t.1 (home.fits id before there))
+              (λ t. subst (λ (v : SeatView E O). Fits owner (entries home.value) v.logs) t.1 (home.fits id before there))
               (λ t. home.fits other view t.1)
               (at_set table.views id other after view is_there);
           owned_all = home.owned_all;
@@ -86,23 +90,23 @@ module _ {T E : Type 0} (owner : E → ℕ) (entries : T → List E) (seats : �
       }
 
   -- nothing changes
-  left : (table : State T (SeatView E)) → Kept table → (id : ℕ) (view : SeatView E) → get_elem? table.views id ≡ some view → (word : ℕ) → word ≡ get_or table.words 0 0
+  left : (table : State T (SeatView E O)) → Kept table → (id : ℕ) (view : SeatView E O) → get_elem? table.views id ≡ some view → (word : ℕ) → word ≡ get_or table.words 0 0
       → Kept (stepped table 0 word id [] view keeps)
   left table rule id view there word same =
-      subst (λ (z : List ℕ × List (SeatView E)). Kept record { words = z.0; homes = table.homes; views = z.1 })
+      subst (λ (z : List ℕ × List (SeatView E O)). Kept record { words = z.0; homes = table.homes; views = z.1 })
       (λ i. (sym (set-first table.words word rule.words same) i, sym (set_again table.views id view there) i)) rule
 
   pub take-allowed : (slots id number : ℕ) (log : List E)
-      → Allows Kept slots id (alone number log) 0 (λ word. either (eqb word 0) 1 word) (Takes owner entries (step slots 0 0 1 none) (alone number log))
+      → Allows Kept slots id (alone number log) 0 (λ word. either (eqb word 0) 1 word) (Takes owner entries origin (step slots 0 0 1 none) (alone number log))
   take-allowed slots id number log table rule _ there _ =
       let word : ℕ = get_or table.words 0 0 in
       ⊎_elim
       (λ home. let hit : eqb word 0 ≡ true = eq-eqb word 0 home.word in (
-        seat_view ((number, log) ∷ []) (Some (entries home.value)),
+        seat_view ((number, log) ∷ []) (Some (found_of entries origin home.value)),
         takes 0 home.value,
         home.at_home,
         subst
-            (λ (b : Bool). Kept (stepped table 0 (either b 1 word) id [] (seat_view ((number, log) ∷ []) (Some (entries home.value))) (takes 0 home.value)))
+            (λ (b : Bool). Kept (stepped table 0 (either b 1 word) id [] (seat_view ((number, log) ∷ []) (Some (found_of entries origin home.value))) (takes 0 home.value)))
             (sym hit)
             (taken table rule id number log there home),
         ((λ _. (home.value, refl, (home.fits id (seat_view ((number, log) ∷ []) None) there).0)), λ missed. absurd (missed home.word)),
@@ -122,17 +126,19 @@ module _ {T E : Type 0} (owner : E → ℕ) (entries : T → List E) (seats : �
   -- Giving it back -------------------------------------------------------------------------------
 
   -- the seat that has the value gives it back
-  given : (table : State T (SeatView E)) → Kept table → (id number : ℕ) (log history : List E) (value : T) → get_elem? table.views id ≡ some (seat_view ((number, log) ∷ []) (Some history))
-      → Grows owner number history (entries value) → HasHolder owner entries seats table
+  given : (table : State T (SeatView E O)) → Kept table → (id number : ℕ) (log : List E) (found : Found E O) (value : T) → get_elem? table.views id ≡ some (seat_view ((number, log) ∷ []) (Some found))
+      → Grows owner number found.history (entries value) → origin value ≡ found.origin → HasHolder owner entries origin about table
       → Kept (stepped table 0 0 id ((0, value) ∷ []) (seat_view ((number, owned_by owner number (entries value)) ∷ []) None) gives)
-  given table rule id number log history value there grows out =
-      let before : SeatView E = seat_view ((number, log) ∷ []) (Some history) in
-      let after : SeatView E = seat_view ((number, owned_by owner number (entries value)) ∷ []) None in
+  given table rule id number log found value there grows same_origin out =
+      let before : SeatView E O = seat_view ((number, log) ∷ []) (Some found) in
+      let after : SeatView E O = seat_view ((number, owned_by owner number (entries value)) ∷ []) None in
       let mine : is number number ≡ 1 = is-same number number refl in
       let here : id ≡ out.holder = dite (ℕ_discrete id out.holder) (λ e. e) (λ apart. let none_found = out.others id before there apart in absurd cc) in
       let same_view : out.view ≡ before = some-injective out.view before (sym out.holder_view ∙ (ap (get_elem? table.views) (sym here) ∙ there)) in
-      let same : out.history ≡ history = let a = out.found in let b = ap (λ (view : SeatView E). view.found) same_view in cc in
-      let more : Grows owner number out.history (entries value) = subst (λ h. Grows owner number h (entries value)) (sym same) grows in
+      let same : Some (record { history = out.history; origin = about.1 }) ≡ Some found = sym out.found ∙ ap (λ (view : SeatView E O). view.found) same_view in
+      let same_history : out.history ≡ found.history = cc in
+      let same_start : about.1 ≡ found.origin = cc in
+      let more : Grows owner number out.history (entries value) = subst (λ h. Grows owner number h (entries value)) (sym same_history) grows in
       let low : number < seats = grind (arith, none-above number seats, part-of_total (λ view. weigh_numbers (is number) view.logs) table.views id before there, mine, rule.numbers (is number)) in record {
         words = length-set table.words 0 0 ∙ rule.words;
         slots = length-set table.homes 0 (some value) ∙ rule.slots;
@@ -141,28 +147,29 @@ module _ {T E : Type 0} (owner : E → ℕ) (entries : T → List E) (seats : �
           word = get_or-set_same table.words 0 0 0 (omega (arith, rule.words));
           value = value;
           at_home = set_here table.homes 0 (some value) (omega (arith, rule.slots));
+          same_origin = same_origin ∙ sym same_start;
           fits = λ other view is_there. ⊎_elim
-              (λ t. subst (λ (v : SeatView E). Fits owner (entries value) v.logs) t.1 (refl, tt))
+              (λ t. subst (λ (v : SeatView E O). Fits owner (entries value) v.logs) t.1 (refl, tt))
               (λ t. let two = two_parts-of_total (λ v. weigh_numbers (is number) v.logs) table.views id other before view (λ i. t.0 (sym i)) there t.1 in
               fits-other owner number out.history (entries value) view.logs (omega (arith, mine, rule.numbers (is number), at_most-one number seats)) more (out.fits other view t.1))
               (at_set table.views id other after view is_there);
           owned_all = all_owned-grows owner number seats out.history (entries value) low more out.owned_all;
           nobody = λ other view is_there. ⊎_elim
-              (λ t. ap (λ (v : SeatView E). v.found) (sym t.1))
+              (λ t. ap (λ (v : SeatView E O). v.found) (sym t.1))
               (λ t. out.others other view t.1 (λ i. t.0 (i ∙ sym here)))
               (at_set table.views id other after view is_there);
         };
       }
 
-  pub give-allowed : (slots id number : ℕ) (log history : List E) (value : T) → Grows owner number history (entries value)
-      → Allows Kept slots id (holding number log history value) 0 (λ _. 0) (λ _. Gives owner entries (step slots 0 0 0 none) (holding number log history value) 0)
-  give-allowed slots id number log history value grows table rule _ there _ = ⊎_elim
-      (λ home. let none_found = home.nobody id (seat_view ((number, log) ∷ []) (Some history)) there in absurd cc)
+  pub give-allowed : (slots id number : ℕ) (log : List E) (found : Found E O) (value : T) → Grows owner number found.history (entries value) → origin value ≡ found.origin
+      → Allows Kept slots id (holding number log found value) 0 (λ _. 0) (λ _. Gives owner entries origin (step slots 0 0 0 none) (holding number log found value) 0)
+  give-allowed slots id number log found value grows same_origin table rule _ there _ = ⊎_elim
+      (λ home. let none_found = home.nobody id (seat_view ((number, log) ∷ []) (Some found)) there in absurd cc)
       (λ out. (
         seat_view ((number, owned_by owner number (entries value)) ∷ []) None,
         gives,
         tt,
-        given table rule id number log history value there grows out,
+        given table rule id number log found value there grows same_origin out,
         refl,
       ))
       rule.place
@@ -173,12 +180,12 @@ module _ {T E : Type 0} (owner : E → ℕ) (entries : T → List E) (seats : �
   fits-empty history k zero empty = tt
   fits-empty history k (suc n) empty = (sym (ap (owned_by owner k) empty), fits-empty history (suc k) n empty)
 
-  only : (P : SeatView E → Type 0) → P (all_seats seats) → (id : ℕ) (view : SeatView E) → get_elem? (all_seats seats ∷ []) id ≡ some view → P view
-  only P p zero view there = subst P (some-injective (all_seats seats) view there) p
+  only : (P : SeatView E O → Type 0) → P (all_seats about) → (id : ℕ) (view : SeatView E O) → get_elem? (all_seats about ∷ []) id ≡ some view → P view
+  only P p zero view there = subst P (some-injective (all_seats about) view there) p
   only P p (suc id) view there = absurd (some-ne-none view (sym there))
 
-  pub opening-locked : (value : T) → entries value ≡ [] → Kept (opening (0 ∷ []) (value ∷ []) (all_seats seats))
-  opening-locked value empty = record {
+  pub opening-locked : (value : T) → entries value ≡ [] → origin value ≡ about.1 → Kept (opening (0 ∷ []) (value ∷ []) (all_seats about))
+  opening-locked value empty same_origin = record {
     words = refl;
     slots = refl;
     numbers = λ h. omega (arith, weigh-all E h seats);
@@ -186,6 +193,7 @@ module _ {T E : Type 0} (owner : E → ℕ) (entries : T → List E) (seats : �
       word = refl;
       value = value;
       at_home = refl;
+      same_origin = same_origin;
       fits = λ id view there. only (λ v. Fits owner (entries value) v.logs) (fits-empty (entries value) 0 seats empty) id view there;
       owned_all = subst (AllOwned owner seats) (sym empty) (All-nil (λ e. owner e < seats));
       nobody = λ id view there. only (λ v. v.found ≡ None) refl id view there;
@@ -195,10 +203,10 @@ module _ {T E : Type 0} (owner : E → ℕ) (entries : T → List E) (seats : �
   -- Splits and joins of seats without the value --------------------------------------------------
 
   -- such a seat isn't the one that has it
-  apart-holder : (table : State T (SeatView E)) (out : HasHolder owner entries seats table) (id : ℕ) (view : SeatView E) → get_elem? table.views id ≡ some view → view.found ≡ None → out.holder ≢ id
+  apart-holder : (table : State T (SeatView E O)) (out : HasHolder owner entries origin about table) (id : ℕ) (view : SeatView E O) → get_elem? table.views id ≡ some view → view.found ≡ None → out.holder ≢ id
   apart-holder table out id view there free same =
       let is_view : out.view ≡ view = some-injective out.view view (sym out.holder_view ∙ (ap (get_elem? table.views) same ∙ there)) in
-      let found = out.found in let also = ap (λ (v : SeatView E). v.found) is_view in absurd cc
+      let found = out.found in let also = ap (λ (v : SeatView E O). v.found) is_view in absurd cc
 
   fits-rest : (history : List E) (logs : Logs E) → Fits owner history logs → Fits owner history (drop 1 logs)
   fits-rest history [] fits = tt
@@ -208,18 +216,18 @@ module _ {T E : Type 0} (owner : E → ℕ) (entries : T → List E) (seats : �
   fits-first history [] fits = tt
   fits-first history (l ∷ ls) fits = (fits.0, tt)
 
-  pub split-kept : (id : ℕ) (view : SeatView E) → view.found ≡ None → Splits Kept id view (seat_view (drop 1 view.logs) view.found) (seat_view (take 1 view.logs) None)
+  pub split-kept : (id : ℕ) (view : SeatView E O) → view.found ≡ None → Splits Kept id view (seat_view (drop 1 view.logs) view.found) (seat_view (take 1 view.logs) None)
   split-kept id view free table rule there =
-      let rest : SeatView E = seat_view (drop 1 view.logs) view.found in
-      let new : SeatView E = seat_view (take 1 view.logs) None in
-      let cut : List (SeatView E) = set table.views id rest in
+      let rest : SeatView E O = seat_view (drop 1 view.logs) view.found in
+      let new : SeatView E O = seat_view (take 1 view.logs) None in
+      let cut : List (SeatView E O) = set table.views id rest in
       let fits : (history : List E) → AllFit owner history table.views → AllFit owner history (cut ++ new ∷ []) = λ history all other seen is_there. ⊎_elim
-      (λ old. ⊎_elim (λ t. subst (λ (v : SeatView E). Fits owner history v.logs) t.1 (fits-rest history view.logs (all id view there))) (λ t. all other seen t.1) (at_set table.views id other rest seen old))
-      (λ added. subst (λ (v : SeatView E). Fits owner history v.logs) added (fits-first history view.logs (all id view there)))
+      (λ old. ⊎_elim (λ t. subst (λ (v : SeatView E O). Fits owner history v.logs) t.1 (fits-rest history view.logs (all id view there))) (λ t. all other seen t.1) (at_set table.views id other rest seen old))
+      (λ added. subst (λ (v : SeatView E O). Fits owner history v.logs) added (fits-first history view.logs (all id view there)))
       (at_snoc cut new seen other is_there) in
-      let without : (other : ℕ) (seen : SeatView E) → get_elem? (cut ++ new ∷ []) other ≡ some seen → (get_elem? table.views other ≡ some seen → seen.found ≡ None) → seen.found ≡ None = λ other seen is_there before. ⊎_elim
-      (λ old. ⊎_elim (λ t. ap (λ (v : SeatView E). v.found) (sym t.1) ∙ free) (λ t. before t.1) (at_set table.views id other rest seen old))
-      (λ added. ap (λ (v : SeatView E). v.found) (sym added))
+      let without : (other : ℕ) (seen : SeatView E O) → get_elem? (cut ++ new ∷ []) other ≡ some seen → (get_elem? table.views other ≡ some seen → seen.found ≡ None) → seen.found ≡ None = λ other seen is_there before. ⊎_elim
+      (λ old. ⊎_elim (λ t. ap (λ (v : SeatView E O). v.found) (sym t.1) ∙ free) (λ t. before t.1) (at_set table.views id other rest seen old))
+      (λ added. ap (λ (v : SeatView E O). v.found) (sym added))
       (at_snoc cut new seen other is_there) in record {
         words = rule.words;
         slots = rule.slots;
@@ -229,6 +237,7 @@ module _ {T E : Type 0} (owner : E → ℕ) (entries : T → List E) (seats : �
               word = home.word;
               value = home.value;
               at_home = home.at_home;
+              same_origin = home.same_origin;
               fits = fits (entries home.value) home.fits;
               owned_all = home.owned_all;
               nobody = λ other seen is_there. without other seen is_there (home.nobody other seen);
@@ -252,23 +261,23 @@ module _ {T E : Type 0} (owner : E → ℕ) (entries : T → List E) (seats : �
   fits-append history [] ms a b = b
   fits-append history (l ∷ ls) ms a b = (a.0, fits-append history ls ms a.1 b)
 
-  pub join-kept : (id : ℕ) (view : SeatView E) (other : ℕ) (before : SeatView E) → view.found ≡ None → before.found ≡ None
+  pub join-kept : (id : ℕ) (view : SeatView E O) (other : ℕ) (before : SeatView E O) → view.found ≡ None → before.found ≡ None
       → Joins Kept id view other before (seat_view (before.logs ++ view.logs) view.found) (seat_view [] None)
   join-kept id view other before free before_free table rule there apart joined =
-      let both : SeatView E = seat_view (before.logs ++ view.logs) view.found in
-      let spent : SeatView E = seat_view [] None in
-      let views : List (SeatView E) = set table.views id both in
+      let both : SeatView E O = seat_view (before.logs ++ view.logs) view.found in
+      let spent : SeatView E O = seat_view [] None in
+      let views : List (SeatView E O) = set table.views id both in
       let was : get_elem? table.views other ≡ some before = ⊎_elim (λ t. absurd (apart t.0)) (λ t. t.1) (at_set table.views id other both before joined) in
       let fits : (history : List E) → AllFit owner history table.views → AllFit owner history (set views other spent) = λ history all seat seen is_there. ⊎_elim
-      (λ t. subst (λ (v : SeatView E). Fits owner history v.logs) t.1 tt)
+      (λ t. subst (λ (v : SeatView E O). Fits owner history v.logs) t.1 tt)
       (λ t. ⊎_elim
-      (λ k. subst (λ (v : SeatView E). Fits owner history v.logs) k.1 (fits-append history before.logs view.logs (all other before was) (all id view there)))
+      (λ k. subst (λ (v : SeatView E O). Fits owner history v.logs) k.1 (fits-append history before.logs view.logs (all other before was) (all id view there)))
       (λ k. all seat seen k.1)
       (at_set table.views id seat both seen t.1))
       (at_set views other seat spent seen is_there) in
-      let without : (seat : ℕ) (seen : SeatView E) → get_elem? (set views other spent) seat ≡ some seen → (get_elem? table.views seat ≡ some seen → seen.found ≡ None) → seen.found ≡ None = λ seat seen is_there old. ⊎_elim
-      (λ t. ap (λ (v : SeatView E). v.found) (sym t.1))
-      (λ t. ⊎_elim (λ k. ap (λ (v : SeatView E). v.found) (sym k.1) ∙ free) (λ k. old k.1) (at_set table.views id seat both seen t.1))
+      let without : (seat : ℕ) (seen : SeatView E O) → get_elem? (set views other spent) seat ≡ some seen → (get_elem? table.views seat ≡ some seen → seen.found ≡ None) → seen.found ≡ None = λ seat seen is_there old. ⊎_elim
+      (λ t. ap (λ (v : SeatView E O). v.found) (sym t.1))
+      (λ t. ⊎_elim (λ k. ap (λ (v : SeatView E O). v.found) (sym k.1) ∙ free) (λ k. old k.1) (at_set table.views id seat both seen t.1))
       (at_set views other seat spent seen is_there) in record {
         words = rule.words;
         slots = rule.slots;
@@ -284,6 +293,7 @@ module _ {T E : Type 0} (owner : E → ℕ) (entries : T → List E) (seats : �
               word = home.word;
               value = home.value;
               at_home = home.at_home;
+              same_origin = home.same_origin;
               fits = fits (entries home.value) home.fits;
               owned_all = home.owned_all;
               nobody = λ seat seen is_there. without seat seen is_there (home.nobody seat seen);

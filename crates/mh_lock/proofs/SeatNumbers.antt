@@ -70,6 +70,6 @@ module _ {E : Type 0} where
   weigh-none h (l ∷ ls) none = absurd (omega arith)
 
   -- views that weigh nothing have no number
-  pub views-none : (h : ℕ → ℕ) (views : List (SeatView E)) → total (λ view. weigh_numbers (λ _. 1) view.logs) views ≡ 0 → total (λ view. weigh_numbers h view.logs) views ≡ 0
-  views-none h [] none = refl
-  views-none h (view ∷ views) none = omega (arith, views-none h views (omega arith), weigh-none h view.logs (omega arith))
+  pub views-none : {O : Type 0} (h : ℕ → ℕ) (views : List (SeatView E O)) → total (λ view. weigh_numbers (λ _. 1) view.logs) views ≡ 0 → total (λ view. weigh_numbers h view.logs) views ≡ 0
+  views-none {O} h [] none = refl
+  views-none {O} h (view ∷ views) none = omega (arith, views-none h views (omega arith), weigh-none h view.logs (omega arith))

@@ -3,55 +3,73 @@ use Rattle.std.specs.Prelude.{◌≡◌, ◌≢◌, ℕ, zero, suc, ◌⊎◌, L
 use Rattle.atomic_table.specs.Table.{Me, Step}
 use Rattle.mh_model.specs.History.{owned_by}
 use Rattle.mh_seat_laws.specs.Lock.{Logs, first}
+use Rattle.mh_seat_laws.specs.declared.seat_view.Found.{Found}
 use Rattle.mh_seat_laws.specs.declared.seat_view.SeatView.{SeatView}
 
-module _ {E : Type 0} where
-  abbrev pub seat_view : Logs E → Option (List E) → SeatView E
+-- so many logs without an entry, numbered from k on
+abbrev pub empty_logs : {E : Type 0} → ℕ → ℕ → Logs E
+empty_logs k zero = []
+empty_logs k (suc n) = (k, []) ∷ empty_logs (suc k) n
+
+module _ {E O : Type 0} where
+  abbrev pub seat_view : Logs E → Option (Found E O) → SeatView E O
   seat_view logs found = record { logs = logs; found = found }
 
-  -- so many logs without an entry, numbered from k on
-  abbrev pub empty_logs : ℕ → ℕ → Logs E
-  empty_logs k zero = []
-  empty_logs k (suc n) = (k, []) ∷ empty_logs (suc k) n
-
   -- what the first seat knows, which stands for all
-  abbrev pub all_seats : ℕ → SeatView E
-  all_seats seats = seat_view (empty_logs 0 seats) None
+  abbrev pub all_seats : ℕ × O → SeatView E O
+  all_seats about = seat_view (empty_logs 0 about.0) None
 
-module _ {T E : Type 0} where
+module _ {T E O : Type 0} where
   -- the number and the log of a seat that stands for itself alone
-  abbrev pub number_in : Me T (SeatView E) → ℕ
+  abbrev pub number_in : Me T (SeatView E O) → ℕ
   number_in me = (first me.0.logs).0
 
-  abbrev pub log_in : Me T (SeatView E) → List E
+  abbrev pub log_in : Me T (SeatView E O) → List E
   log_in me = (first me.0.logs).1
 
   -- such a seat, without the value
-  abbrev pub alone : ℕ → List E → Me T (SeatView E)
+  abbrev pub alone : ℕ → List E → Me T (SeatView E O)
   alone number log = (seat_view ((number, log) ∷ []) None, [])
 
-  -- and with the value, by the history that it found
-  abbrev pub holding : ℕ → List E → List E → T → Me T (SeatView E)
-  holding number log history value = (seat_view ((number, log) ∷ []) (Some history), (0, value) ∷ [])
+  -- and with the value, by what it found
+  abbrev pub holding : ℕ → List E → Found E O → T → Me T (SeatView E O)
+  holding number log found value = (seat_view ((number, log) ∷ []) (Some found), (0, value) ∷ [])
 
 -- a history stays, or has one entry more, which a seat owns
 abbrev pub Grows : {E : Type 0} → (E → ℕ) → ℕ → List E → List E → Type 0
 Grows {E} owner seat before after = (after ≡ before) ⊎ ((entry : E) × (owner entry ≡ seat) × (after ≡ before ++ entry ∷ []))
 
-module _ {T E : Type 0} (owner : E → ℕ) (entries : T → List E) where
-  -- A seat has the value, whose entries it found, and its log is what it owns of these
-  abbrev pub HasTaken : Me T (SeatView E) → Me T (SeatView E) → Type 0
-  HasTaken before after = (value : T) × (after ≡ holding (number_in before) (log_in before) (entries value) value) × (log_in before ≡ owned_by owner (number_in before) (entries value))
+-- the entries of the value that a seat has
+abbrev pub held : {T E : Type 0} → (T → List E) → List (ℕ × T) → List E
+held entries [] = []
+held entries (slot ∷ slots) = entries slot.1
+
+-- and its origin
+abbrev pub held_origin : {T O : Type 0} → (T → O) → List (ℕ × T) → Option O
+held_origin origin [] = None
+held_origin origin (slot ∷ slots) = Some (origin slot.1)
+
+-- what a seat that takes the value finds of it
+abbrev pub found_of : {T E O : Type 0} → (T → List E) → (T → O) → T → Found E O
+found_of entries origin value = record { history = entries value; origin = origin value }
+
+module _ {T E O : Type 0} (owner : E → ℕ) (entries : T → List E) (origin : T → O) where
+  -- A seat has the value, whose entries and origin it found, and its log is what it owns of the entries
+  abbrev pub HasTaken : Me T (SeatView E O) → Me T (SeatView E O) → Type 0
+  HasTaken before after = (value : T) × (after ≡ holding (number_in before) (log_in before) (found_of entries origin value) value) × (log_in before ≡ owned_by owner (number_in before) (entries value))
 
   -- A try to take the value: where 0 was found the seat has it, and else nothing has changed
-  abbrev pub Takes : Step T → Me T (SeatView E) → ℕ → Me T (SeatView E) → Type 0
+  abbrev pub Takes : Step T → Me T (SeatView E O) → ℕ → Me T (SeatView E O) → Type 0
   Takes step before found after = (found ≡ 0 → HasTaken before after) × (found ≢ 0 → after ≡ before)
 
-  -- the entries of the value that a seat has
-  abbrev pub held : List (ℕ × T) → List E
-  held [] = []
-  held (slot ∷ slots) = entries slot.1
+  -- A seat has the value with the origin that it found, and with the entries that it found, or one more, which it owns
+  pub record CanGive (seat : Me T (SeatView E O)) : Type 0 where
+    pub found : Found E O
+    pub value : T
+    pub holds : seat ≡ holding (number_in seat) (log_in seat) found value
+    pub entries_grow : Grows owner (number_in seat) found.history (entries value)
+    pub same_origin : origin value ≡ found.origin
 
   -- The value is given back, and the log is what the seat owns of it
-  abbrev pub Gives : Step T → Me T (SeatView E) → ℕ → Me T (SeatView E) → Type 0
-  Gives step before found after = after ≡ alone (number_in before) (owned_by owner (number_in before) (held before.1))
+  abbrev pub Gives : Step T → Me T (SeatView E O) → ℕ → Me T (SeatView E O) → Type 0
+  Gives step before found after = after ≡ alone (number_in before) (owned_by owner (number_in before) (held entries before.1))

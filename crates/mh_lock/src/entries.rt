@@ -1,17 +1,34 @@
 //! What a value in a lock shows of itself, and what a call does with it.
 ghost use Rattle.std.specs.Prelude.{◌≡◌, [], ◌∷◌, ◌++◌, ℕ, List, IfOk, OnErr};
 
+use mh_model::history::Entry;
+
 /// An entry, which one seat owns.
 pub trait Owned {
     ghost owner: { Self → ℕ };
 }
 
-/// A value that shows itself as its list of entries.
-pub trait Entries<E> {
-    ghost entries: { Self → List E };
+impl Owned for Entry {
+    ghost use Rattle.mh_model.specs.History.{owner_of};
+
+    ghost owner = { λ entry. owner_of entry.event };
 }
 
-/// What one call does with the value: it adds an entry and replies, or leaves the entries as they are and refuses.
+/// A value that shows itself as its list of entries and an origin.
+pub trait Entries<E> {
+    /// What of the value no call changes.
+    type Origin: Copy;
+
+    ghost entries: { Self → List E };
+
+    ghost origin: { Self → Self.Origin };
+
+    fn origin(&self) -> Self::Origin
+        ensures { result ≡ origin self.now };
+}
+
+/// What one call does with the value: it adds an entry and replies, or leaves the entries as they are and refuses. The origin
+/// stays.
 pub trait Work<T: Entries<E>, E> {
     type Reply;
 
@@ -22,5 +39,6 @@ pub trait Work<T: Entries<E>, E> {
 
     fn run(self, value: &mut T) -> Result<Self::Reply, Self::Refusal>
         ensures ok { IfOk result (λ reply. T.entries value.new ≡ T.entries value.old ++ entry self reply ∷ []) }
-        ensures err { OnErr result (T.entries value.new ≡ T.entries value.old) };
+        ensures err { OnErr result (T.entries value.new ≡ T.entries value.old) }
+        ensures origin { T.origin value.new ≡ T.origin value.old };
 }

@@ -2,7 +2,7 @@
 ghost use Rattle.std.specs.Prelude.{◌≡◌, ◌≢◌, ◌+◌, ◌<◌, ◌==◌, [], ◌∷◌, ◌++◌, ℕ, List, true, false, All, IfOk, IfErr, OnErr, count_by, map, slice_index_or, vec_len};
 ghost use Rattle.mh_model.specs.History.{owned_by};
 ghost use Rattle.mh_lock.specs.Seats.{LockSeatView, IsOf, new_seat, IsKeptAtHome};
-ghost use Rattle.mh_lock.specs.Steps.{alone, holding, log_in, number_in, held, HasTaken, Grows};
+ghost use Rattle.mh_lock.specs.Steps.{alone, log_in, number_in, held, held_origin, HasTaken, CanGive};
 
 use crate::entries::{Entries, Owned, Work};
 use crate::seat::{HasSeat, LockSeat};
@@ -19,40 +19,41 @@ use std::thread;
 /// How often a call tries to take the value before it sleeps.
 const TRIES: u64 = 100;
 
-/// The rule of the lock, about the number of its seats.
+/// The rule of the lock, about the number of its seats and the origin of its value.
 struct LockRule<T, E> {
     marker: PhantomData<(T, E)>,
 }
 
-impl<T: Entries<E>, E: Owned> TableRule<T, SeatView<E>, u64> for LockRule<T, E> {
+impl<T: Entries<E>, E: Owned> TableRule<T, SeatView<E, T::Origin>, (u64, T::Origin)>
+    for LockRule<T, E> {
     ghost use Rattle.mh_seat_laws.specs.Lock.{IsLocked};
     ghost use Rattle.mh_lock.specs.Steps.{all_seats};
 
-    ghost holds = { IsLocked E.owner T.entries };
+    ghost holds = { IsLocked E.owner T.entries T.origin };
 
     ghost first = { all_seats };
 }
 
 struct Take;
 
-impl<T: Entries<E>, E: Owned> Play<T, SeatView<E>> for Take {
+impl<T: Entries<E>, E: Owned> Play<T, SeatView<E, T::Origin>> for Take {
     ghost use Rattle.mh_lock.specs.Steps.{Takes};
 
-    ghost then = { Takes E.owner T.entries };
+    ghost then = { Takes E.owner T.entries T.origin };
 }
 
 struct Give;
 
-impl<T: Entries<E>, E: Owned> Play<T, SeatView<E>> for Give {
+impl<T: Entries<E>, E: Owned> Play<T, SeatView<E, T::Origin>> for Give {
     ghost use Rattle.mh_lock.specs.Steps.{Gives};
 
-    ghost then = { Gives E.owner T.entries };
+    ghost then = { Gives E.owner T.entries T.origin };
 }
 
 /// The first log goes to the new seat.
 struct TakeFirst;
 
-impl<E> Split<SeatView<E>> for TakeFirst {
+impl<E, O> Split<SeatView<E, O>> for TakeFirst {
     ghost use Rattle.std.specs.Prelude.{take, drop, None};
     ghost use Rattle.mh_lock.specs.Steps.{seat_view};
 
@@ -64,7 +65,7 @@ impl<E> Split<SeatView<E>> for TakeFirst {
 /// The logs of the seat that is taken in stand before the others.
 struct TakeIn;
 
-impl<E> Join<SeatView<E>> for TakeIn {
+impl<E, O> Join<SeatView<E, O>> for TakeIn {
     ghost use Rattle.std.specs.Prelude.{[], ◌++◌, None};
     ghost use Rattle.mh_lock.specs.Steps.{seat_view};
 
@@ -76,7 +77,7 @@ impl<E> Join<SeatView<E>> for TakeIn {
 /// A value that one seat at a time works on.
 #[derive(Drop)]
 pub struct Lock<T: Entries<E> + Drop, E: Owned> {
-    table: Table<T, SeatView<E>, u64, LockRule<T, E>, Global>,
+    table: Table<T, SeatView<E, T::Origin>, (u64, T::Origin), LockRule<T, E>, Global>,
     seats: u64,
     // How many threads sleep until the value is back, or are about to.
     sleepers: AtomicU64,
@@ -85,13 +86,13 @@ pub struct Lock<T: Entries<E> + Drop, E: Owned> {
 impl<T: Entries<E> + Drop, E: Owned> Model for Lock<T, E> {
     ghost use Rattle.mh_lock.specs.Seats.{LockView};
 
-    ghost Value = { LockView };
+    ghost Value = { LockView T.Origin };
 
     ghost use Rattle.std.specs.Prelude.{◌≡◌, ◌<◌};
 
-    ghost view = { λ lock. record { table = lock.table.shared.table_id; seats = lock.seats } };
+    ghost view = { λ lock. record { table = lock.table.shared.table_id; seats = lock.seats; origin = lock.table.shared.key.1 } };
 
-    ghost invariant = { λ lock. (0 < lock.seats) × (lock.table.shared.table_id.words ≡ 1) × (lock.table.shared.table_id.slots ≡ 1) × (lock.table.shared.key ≡ lock.seats) };
+    ghost invariant = { λ lock. (0 < lock.seats) × (lock.table.shared.table_id.words ≡ 1) × (lock.table.shared.table_id.slots ≡ 1) × (lock.table.shared.key.0 ≡ lock.seats) };
 }
 
 impl<T: Entries<E> + Drop, E: Owned> Lock<T, E> {
@@ -104,34 +105,36 @@ impl<T: Entries<E> + Drop, E: Owned> Lock<T, E> {
         requires some { 0 < seats }
         requires fresh { T.entries value ≡ [] }
         ensures lock { IfOk result (λ made. made.0.seats ≡ seats) }
+        ensures origin { IfOk result (λ made. made.0.origin ≡ T.origin value) }
         ensures count { IfOk result (λ made. vec_len made.1 ≡ seats) }
         ensures each { IfOk result (λ made. (number : ℕ) (other : LockSeatView E) → number < seats → slice_index_or made.1.items number other ≡ new_seat made.0 number) }
     {
+        let about = (seats, value.origin());
         let mut slots = Vec::new(alloc);
         slots.push(value)?;
-        let Ok((table, mut rest)) = Table::new(alloc, &[0], slots, &seats) else {
+        let Ok((table, mut rest)) = Table::new(alloc, &[0], slots, &about) else {
             return Err(NoMemory);
         };
-        let mut all = Vec::new(alloc);
-        for number in 0..seats - 1 {
-            let first = table.shared.split_seat::<TakeFirst>(&mut rest);
-            all.push(LockSeat::new(first, number))?;
-        }
-        all.push(LockSeat::new(rest, seats - 1))?;
         let lock = Lock {
             table,
             seats,
             sleepers: AtomicU64::new(0),
         };
+        let mut all = Vec::new(alloc);
+        for number in 0..seats - 1 {
+            let first = lock.table.shared.split_seat::<TakeFirst>(&mut rest);
+            all.push(LockSeat::new(first, number))?;
+        }
+        all.push(LockSeat::new(rest, seats - 1))?;
         Ok((lock, all))
     }
 
     // Whether one of a few tries took the value.
-    fn try_to_take(&self, seat: &mut Seat<T, SeatView<E>>) -> bool
+    fn try_to_take(&self, seat: &mut Seat<T, SeatView<E, T::Origin>>) -> bool
         requires own { seat.old.table_id ≡ self.now.table }
         requires alone { seat.old.me ≡ alone (number_in seat.old.me) (log_in seat.old.me) }
         ensures own { (seat.new.table_id ≡ seat.old.table_id) × (seat.new.id ≡ seat.old.id) }
-        ensures taken { result ≡ true → HasTaken E.owner T.entries seat.old.me seat.new.me }
+        ensures taken { result ≡ true → HasTaken E.owner T.entries T.origin seat.old.me seat.new.me }
         ensures same { result ≡ false → seat.new.me ≡ seat.old.me }
     {
         for _ in 0..TRIES {
@@ -159,11 +162,11 @@ impl<T: Entries<E> + Drop, E: Owned> Lock<T, E> {
     }
 
     // Waits until the value is at home, and takes it.
-    fn take<R: Wait>(&self, rt: &R, seat: &mut Seat<T, SeatView<E>>)
+    fn take<R: Wait>(&self, rt: &R, seat: &mut Seat<T, SeatView<E, T::Origin>>)
         requires own { seat.old.table_id ≡ self.now.table }
         requires alone { seat.old.me ≡ alone (number_in seat.old.me) (log_in seat.old.me) }
         ensures own { (seat.new.table_id ≡ seat.old.table_id) × (seat.new.id ≡ seat.old.id) }
-        ensures taken { HasTaken E.owner T.entries seat.old.me seat.new.me }
+        ensures taken { HasTaken E.owner T.entries T.origin seat.old.me seat.new.me }
     {
         for _ in rt.forever() {
             if self.try_to_take(seat) {
@@ -177,25 +180,26 @@ impl<T: Entries<E> + Drop, E: Owned> Lock<T, E> {
     // Runs the work on the value that the seat has.
     fn run_on<W: Work<T, E>>(
         &self,
-        seat: &mut Seat<T, SeatView<E>>,
+        seat: &mut Seat<T, SeatView<E, T::Origin>>,
         work: W,
     ) -> Result<W::Reply, W::Refusal>
         requires own { seat.old.table_id ≡ self.now.table }
         requires held { (value : T) × (seat.old.me.1 ≡ (0, value) ∷ []) }
         ensures own { (seat.new.table_id ≡ seat.old.table_id) × (seat.new.id ≡ seat.old.id) × (seat.new.me.0 ≡ seat.old.me.0) }
         ensures held { (value : T) × (seat.new.me.1 ≡ (0, value) ∷ []) }
-        ensures ok { IfOk result (λ reply. held E.owner T.entries seat.new.me.1 ≡ held E.owner T.entries seat.old.me.1 ++ W.entry work reply ∷ []) }
-        ensures err { OnErr result (held E.owner T.entries seat.new.me.1 ≡ held E.owner T.entries seat.old.me.1) }
+        ensures ok { IfOk result (λ reply. held T.entries seat.new.me.1 ≡ held T.entries seat.old.me.1 ++ W.entry work reply ∷ []) }
+        ensures err { OnErr result (held T.entries seat.new.me.1 ≡ held T.entries seat.old.me.1) }
+        ensures origin { held_origin T.origin seat.new.me.1 ≡ held_origin T.origin seat.old.me.1 }
     {
         work.run(seat.slot_mut(&self.table.shared, 0))
     }
 
-    // Gives the value back, which has the entries that the seat found, or one more, which the seat owns.
-    fn give(&self, seat: &mut Seat<T, SeatView<E>>)
+    // Gives the value back, with its origin and the entries that the seat found, or one more, which the seat owns.
+    fn give(&self, seat: &mut Seat<T, SeatView<E, T::Origin>>)
         requires own { seat.old.table_id ≡ self.now.table }
-        requires holding { (history : List E) × (value : T) × (seat.old.me ≡ holding (number_in seat.old.me) (log_in seat.old.me) history value) × Grows E.owner (number_in seat.old.me) history (T.entries value) }
+        requires holding { CanGive E.owner T.entries T.origin seat.old.me }
         ensures own { (seat.new.table_id ≡ seat.old.table_id) × (seat.new.id ≡ seat.old.id) }
-        ensures given { seat.new.me ≡ alone (number_in seat.old.me) (owned_by E.owner (number_in seat.old.me) (held E.owner T.entries seat.old.me.1)) }
+        ensures given { seat.new.me ≡ alone (number_in seat.old.me) (owned_by E.owner (number_in seat.old.me) (held T.entries seat.old.me.1)) }
     {
         self.table.shared.store::<Give>(seat, 0, 0);
         self.wake();
@@ -228,6 +232,7 @@ impl<T: Entries<E> + Drop, E: Owned> Lock<T, E> {
         ensures logs { IfOk result (λ value. All (λ seat. (S.seat_of seat).log ≡ owned_by E.owner (S.seat_of seat).number (T.entries value)) seats.items) }
         ensures owned { IfOk result (λ value. All (λ entry. E.owner entry < self.seats) (T.entries value)) }
         ensures kept { IfOk result (λ value. IsKeptAtHome E.owner self (map S.seat_of seats.items) (T.entries value)) }
+        ensures origin { IfOk result (λ value. T.origin value ≡ self.origin) }
         ensures err { IfErr result (λ back. (vec_len seats ≢ self.seats) × (back.0 ≡ self) × (back.1 ≡ seats)) }
     {
         if seats.len() as u64 != self.seats {
@@ -244,6 +249,7 @@ impl<T: Entries<E> + Drop, E: Owned> Lock<T, E> {
         ensures logs { All (λ seat. (S.seat_of seat).log ≡ owned_by E.owner (S.seat_of seat).number (T.entries result)) seats.items }
         ensures owned { All (λ entry. E.owner entry < self.seats) (T.entries result) }
         ensures kept { IsKeptAtHome E.owner self (map S.seat_of seats.items) (T.entries result) }
+        ensures origin { T.origin result ≡ self.origin }
     {
         let Lock {
             table,

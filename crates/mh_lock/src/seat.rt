@@ -2,18 +2,19 @@
 ghost use Rattle.std.specs.Prelude.{◌≡◌, []};
 ghost use Rattle.mh_lock.specs.Steps.{alone};
 
+use crate::entries::Entries;
 use atomic_table::Seat;
 use mh_seat_laws::SeatView;
 use std::marker::Model;
 
 /// The right to call a lock, and the log of these calls, which proofs alone see. One thread at a time can use it.
 #[derive(Drop)]
-pub struct LockSeat<T, E> {
-    pub(crate) seat: Seat<T, SeatView<E>>,
+pub struct LockSeat<T: Entries<E>, E> {
+    pub(crate) seat: Seat<T, SeatView<E, T::Origin>>,
     number: u64,
 }
 
-impl<T, E> Model for LockSeat<T, E> {
+impl<T: Entries<E>, E> Model for LockSeat<T, E> {
     ghost use Rattle.mh_lock.specs.Seats.{LockSeatView};
 
     ghost Value = { LockSeatView E };
@@ -26,8 +27,8 @@ impl<T, E> Model for LockSeat<T, E> {
     ghost invariant = { λ seat. seat.seat.me ≡ alone seat.number (log_in seat.seat.me) };
 }
 
-impl<T, E> LockSeat<T, E> {
-    pub(crate) fn new(seat: Seat<T, SeatView<E>>, number: u64) -> LockSeat<T, E>
+impl<T: Entries<E>, E> LockSeat<T, E> {
+    pub(crate) fn new(seat: Seat<T, SeatView<E, T::Origin>>, number: u64) -> LockSeat<T, E>
         requires { seat.me ≡ alone number [] }
         ensures { result ≡ record { table = seat.table_id; number = number; log = [] } }
     {
@@ -41,7 +42,7 @@ impl<T, E> LockSeat<T, E> {
         self.number
     }
 
-    pub(crate) fn into_seat(self) -> Seat<T, SeatView<E>>
+    pub(crate) fn into_seat(self) -> Seat<T, SeatView<E, T::Origin>>
         ensures { (result.table_id ≡ self.table) × (result.me ≡ alone self.number self.log) }
     {
         let LockSeat { seat, number: _ } = self;
@@ -50,7 +51,7 @@ impl<T, E> LockSeat<T, E> {
 }
 
 /// What a seat of a lock lies in, so that a lock can be closed with it.
-pub trait HasSeat<T, E>: Drop {
+pub trait HasSeat<T: Entries<E>, E>: Drop {
     ghost use Rattle.mh_lock.specs.Seats.{LockSeatView};
 
     ghost seat_of: { Self → LockSeatView E };
@@ -59,7 +60,7 @@ pub trait HasSeat<T, E>: Drop {
         ensures { result ≡ seat_of self };
 }
 
-impl<T, E> HasSeat<T, E> for LockSeat<T, E> {
+impl<T: Entries<E>, E> HasSeat<T, E> for LockSeat<T, E> {
     ghost seat_of = { λ seat. seat };
 
     fn into_lock_seat(self) -> LockSeat<T, E> {

@@ -1,11 +1,11 @@
-ghost use Rattle.std.specs.Prelude.{◌≡◌, ◌<◌, All, IfOk, length, vec_len};
+ghost use Rattle.std.specs.Prelude.{◌≡◌, ◌<◌, [], All, IsTrue, IfOk, length, vec_len};
 ghost use Rattle.mh_lock.specs.Seats.{IsOf};
 
 use crate::entries::{Entries, Owned, Work};
 use crate::lock::Lock;
 use crate::seat::LockSeat;
 use mh_model::memory::NoMemory;
-use std::alloc::AllocError;
+use std::alloc::{AllocError, Global};
 use std::sync::Wait;
 use std::test::Fail;
 use std::thread;
@@ -24,11 +24,32 @@ impl Owned for Mark {
     ghost owner = { λ mark. mark.by };
 }
 
+/// A list of marks with a name.
 #[derive(Drop)]
-struct Marks(Vec<Mark>);
+struct Marks {
+    name: u64,
+    list: Vec<Mark>,
+}
 
 impl Entries<Mark> for Marks {
-    ghost entries = { λ marks. marks.0.items };
+    type Origin = u64;
+
+    ghost entries = { λ marks. marks.list.items };
+
+    ghost origin = { λ marks. marks.name };
+
+    fn origin(&self) -> u64 {
+        self.name
+    }
+}
+
+fn no_marks(alloc: Global) -> Marks
+    ensures { (result.name ≡ 41) × (result.list.items ≡ []) }
+{
+    Marks {
+        name: 41,
+        list: Vec::new(alloc),
+    }
 }
 
 /// Adds a mark, and replies how many there were before.
@@ -43,16 +64,79 @@ impl Work<Marks, Mark> for Add {
     ghost entry = { λ add _. add.0 };
 
     fn run(self, value: &mut Marks) -> Result<usize, AllocError> {
-        let before = value.0.len();
-        value.0.push(self.0)?;
+        let before = value.list.len();
+        value.list.push(self.0)?;
         Ok(before)
     }
+}
+
+#[derive(Clone, Copy, PartialEq, Eq, Debug)]
+enum NotAdded {
+    NotFirst,
+    NoMemory,
+}
+
+/// Adds a mark where there is none.
+#[derive(Clone, Copy)]
+struct AddFirst(Mark);
+
+impl Work<Marks, Mark> for AddFirst {
+    type Reply = ();
+
+    type Refusal = NotAdded;
+
+    ghost entry = { λ add _. add.0 };
+
+    fn run(self, value: &mut Marks) -> Result<(), NotAdded> {
+        if !value.list.is_empty() {
+            return Err(NotAdded::NotFirst);
+        }
+        match value.list.push(self.0) {
+            Ok(()) => Ok(()),
+            Err(_) => Err(NotAdded::NoMemory),
+        }
+    }
+}
+
+/// Whether a mark is refused since it isn't the first. The log is then what it was.
+fn is_refused<R: Wait>(
+    rt: &R,
+    lock: &Lock<Marks, Mark>,
+    seat: &mut LockSeat<Marks, Mark>,
+    mark: Mark,
+) -> bool
+    requires own { IsOf lock.now seat.old }
+    requires owned { mark.by ≡ seat.old.number }
+    ensures own { IsOf lock.now seat.new × (seat.new.number ≡ seat.old.number) }
+    ensures log { IsTrue result → seat.new.log ≡ seat.old.log }
+{
+    match lock.call(rt, seat, AddFirst(mark)) {
+        Ok(()) => false,
+        Err(refusal) => refusal == NotAdded::NotFirst,
+    }
+}
+
+#[test]
+fn a_refused_call_leaves_the_entries(rt: HostRuntime) -> Result<(), Fail> {
+    let alloc = rt.alloc();
+    let (lock, mut seats) = Lock::<Marks, Mark>::open(alloc, no_marks(alloc), 1)?;
+    let mut seat = seats.pop().ok_or("no seat")?;
+    let mark = Mark { by: 0, count: 7 };
+    assert!(rt; !is_refused(&rt, &lock, &mut seat, mark));
+    assert!(rt; is_refused(&rt, &lock, &mut seat, Mark { by: 0, count: 8 }));
+    seats.push(seat)?;
+    let Ok(marks) = lock.close(seats) else {
+        panic!(rt; "not closed")
+    };
+    assert_eq!(rt; marks.list.as_slice(), [mark].as_slice());
+    assert_eq!(rt; marks.origin(), 41);
+    Ok(())
 }
 
 #[test]
 fn a_lock_closes_with_all_its_seats(rt: HostRuntime) -> Result<(), Fail> {
     let alloc = rt.alloc();
-    let (lock, mut seats) = Lock::<Marks, Mark>::open(alloc, Marks(Vec::new(alloc)), 3)?;
+    let (lock, mut seats) = Lock::<Marks, Mark>::open(alloc, no_marks(alloc), 3)?;
     let mut last = seats.pop().ok_or("no seat")?;
     let mark = Mark { by: 2, count: 7 };
     assert_eq!(rt; last.number(), 2);
@@ -65,7 +149,7 @@ fn a_lock_closes_with_all_its_seats(rt: HostRuntime) -> Result<(), Fail> {
     let Ok(marks) = lock.close(seats) else {
         panic!(rt; "not closed")
     };
-    assert_eq!(rt; marks.0.as_slice(), [mark].as_slice());
+    assert_eq!(rt; marks.list.as_slice(), [mark].as_slice());
     Ok(())
 }
 
@@ -97,7 +181,7 @@ fn call_by_threads<R: Threads + Wait + Sync>(
 /// Whether the marks of a seat are those of its calls, in order.
 fn are_in_order(marks: &Marks, by: u64) -> bool {
     let mut counts = 0..CALLS;
-    for mark in &marks.0 {
+    for mark in &marks.list {
         if mark.by == by && counts.next() != Some(mark.count) {
             return false;
         }
@@ -108,12 +192,12 @@ fn are_in_order(marks: &Marks, by: u64) -> bool {
 #[test]
 fn two_threads_call_at_once(rt: HostRuntime) -> Result<(), Fail> {
     let alloc = rt.alloc();
-    let (lock, mut seats) = Lock::<Marks, Mark>::open(alloc, Marks(Vec::new(alloc)), 2)?;
+    let (lock, mut seats) = Lock::<Marks, Mark>::open(alloc, no_marks(alloc), 2)?;
     call_by_threads(&rt, &lock, &mut seats);
     let Ok(marks) = lock.close(seats) else {
         panic!(rt; "not closed")
     };
-    assert_eq!(rt; marks.0.len(), 1_000);
+    assert_eq!(rt; marks.list.len(), 1_000);
     assert!(rt; are_in_order(&marks, 0));
     assert!(rt; are_in_order(&marks, 1));
     Ok(())

@@ -2,4 +2,5 @@ pub mod ClaimDraws
 pub mod EndedSeats
 pub mod KeptLocks
 pub mod LockCalls
+pub mod LockedTables
 pub mod Merges

@@ -34,8 +34,8 @@ FinishedClaimIsDrawnOnce = (bound : ℕ) (claim : ClaimState) → IsDrawn bound 
 -- The lock ---------------------------------------------------------------------------------------
 
 -- A table that keeps the rule of the lock shows a lock that keeps the lock's rule
-abbrev pub LockIsKept : Type 0 → Type 0 → Type 0
-LockIsKept T E = (owner : E → ℕ) (entries : T → List E) (seats : ℕ) (table : State T (SeatView E)) → IsLocked owner entries seats table → (lock : LockState E) × IsKeptBy owner lock × Shows entries seats table lock
+abbrev pub LockIsKept : Type 0 → Type 0 → Type 0 → Type 0
+LockIsKept T E O = (owner : E → ℕ) (entries : T → List E) (origin : T → O) (about : ℕ × O) (table : State T (SeatView E O)) → IsLocked owner entries origin about table → (lock : LockState E) × IsKeptBy owner lock × Shows entries about.0 table lock
 
 -- The lock's rule is kept by a seat's try to take the value
 abbrev pub TakeKeepsTheLock : Type 0

@@ -5,6 +5,7 @@ use lib.ListN.{get_elem?}
 use Rattle.atomic_table.specs.Table.{State}
 use Rattle.mh_model.specs.History.{LockState, owned_by}
 use Rattle.mh_seat_laws.specs.Weights.{weigh_below, total}
+use Rattle.mh_seat_laws.specs.declared.seat_view.Found.{Found}
 use Rattle.mh_seat_laws.specs.declared.seat_view.SeatView.{SeatView}
 
 -- the number and the log of each seat
@@ -32,49 +33,50 @@ module _ {E : Type 0} (owner : E → ℕ) where
   Fits history [] = Unit {0}
   Fits history (l ∷ ls) = (l.1 ≡ owned_by owner l.0 history) × Fits history ls
 
-  abbrev pub AllFit : List E → List (SeatView E) → Type 0
-  AllFit history views = (id : ℕ) (view : SeatView E) → get_elem? views id ≡ some view → Fits history view.logs
+  abbrev pub AllFit : {O : Type 0} → List E → List (SeatView E O) → Type 0
+  AllFit {O} history views = (id : ℕ) (view : SeatView E O) → get_elem? views id ≡ some view → Fits history view.logs
 
   -- each entry belongs to one of the seats
   abbrev pub AllOwned : ℕ → List E → Type 0
   AllOwned seats history = All (λ e. owner e < seats) history
 
-  module _ {T : Type 0} (entries : T → List E) where
-    -- with 0 the value is at home, and no seat has it
-    pub record HasHome (seats : ℕ) (table : State T (SeatView E)) : Type 0 where
+  module _ {T O : Type 0} (entries : T → List E) (origin : T → O) where
+    -- with 0 the value is at home with its origin, and no seat has it
+    pub record HasHome (about : ℕ × O) (table : State T (SeatView E O)) : Type 0 where
       pub word : slice_index table.words 0 ≡ 0
       pub value : T
       pub at_home : get_elem? table.homes 0 ≡ some (some value)
+      pub same_origin : origin value ≡ about.1
       pub fits : AllFit (entries value) table.views
-      pub owned_all : AllOwned seats (entries value)
-      pub nobody : (id : ℕ) (view : SeatView E) → get_elem? table.views id ≡ some view → view.found ≡ None
+      pub owned_all : AllOwned about.0 (entries value)
+      pub nobody : (id : ℕ) (view : SeatView E O) → get_elem? table.views id ≡ some view → view.found ≡ None
 
-    -- with 1 one seat alone has it, and knows the history that it found
-    pub record HasHolder (seats : ℕ) (table : State T (SeatView E)) : Type 0 where
+    -- with 1 one seat alone has it, and knows the history and the origin that it found
+    pub record HasHolder (about : ℕ × O) (table : State T (SeatView E O)) : Type 0 where
       pub word : slice_index table.words 0 ≡ 1
       pub history : List E
       pub holder : ℕ
-      pub view : SeatView E
+      pub view : SeatView E O
       pub holder_view : get_elem? table.views holder ≡ some view
-      pub found : view.found ≡ Some history
+      pub found : view.found ≡ Some (record { history = history; origin = about.1 })
       pub some_log : 0 < length view.logs
       pub fits : AllFit history table.views
-      pub owned_all : AllOwned seats history
-      pub others : (id : ℕ) (view : SeatView E) → get_elem? table.views id ≡ some view → id ≢ holder → view.found ≡ None
+      pub owned_all : AllOwned about.0 history
+      pub others : (id : ℕ) (view : SeatView E O) → get_elem? table.views id ≡ some view → id ≢ holder → view.found ≡ None
 
-    -- The rule: the value is at home or one seat has it, each log is what its seat owns of the history, which has no other
-    -- entries, and there is one log for each number below `seats`.
-    -- That is said by weights: whatever the numbers weigh, those of all logs weigh what those below `seats` weigh
-    pub record IsLocked (seats : ℕ) (table : State T (SeatView E)) : Type 0 where
+    -- The rule, about how many seats there are and the origin: the value is at home or one seat has it, each log is what
+    -- its seat owns of the history, which has no other entries, and there is one log for each seat's number.
+    -- That is said by weights: whatever the numbers weigh, those of all logs weigh what those of the seats weigh
+    pub record IsLocked (about : ℕ × O) (table : State T (SeatView E O)) : Type 0 where
       pub words : length table.words ≡ 1
       pub slots : length table.homes ≡ 1
-      pub numbers : (h : ℕ → ℕ) → total (λ view. weigh_numbers h view.logs) table.views ≡ weigh_below h seats
-      pub place : HasHome seats table ⊎ HasHolder seats table
+      pub numbers : (h : ℕ → ℕ) → total (λ view. weigh_numbers h view.logs) table.views ≡ weigh_below h about.0
+      pub place : HasHome about table ⊎ HasHolder about table
 
--- A lock of the book is what a table shows: the same word, each log at its seat's number, what a holder found as taken at its number, and the entries of a value at home
-pub record Shows {T E : Type 0} (entries : T → List E) (seats : ℕ) (table : State T (SeatView E)) (lock : LockState E) : Type 0 where
+-- A lock of the book is what a table shows: the same word, each log at its seat's number, the history that a holder found as taken at its number, and the entries of a value at home
+pub record Shows {T E O : Type 0} (entries : T → List E) (seats : ℕ) (table : State T (SeatView E O)) (lock : LockState E) : Type 0 where
   pub word : lock.word ≡ slice_index table.words 0
   pub many : length lock.logs ≡ seats
-  pub logs : (id : ℕ) (view : SeatView E) → get_elem? table.views id ≡ some view → StandIn lock.logs view.logs
-  pub taken : (id : ℕ) (view : SeatView E) (history : List E) → get_elem? table.views id ≡ some view → view.found ≡ Some history → get_or lock.taken (first view.logs).0 None ≡ Some history
+  pub logs : (id : ℕ) (view : SeatView E O) → get_elem? table.views id ≡ some view → StandIn lock.logs view.logs
+  pub taken : (id : ℕ) (view : SeatView E O) (found : Found E O) → get_elem? table.views id ≡ some view → view.found ≡ Some found → get_or lock.taken (first view.logs).0 None ≡ Some found.history
   pub home : (value : T) → lock.word ≡ 0 → get_elem? table.homes 0 ≡ some (some value) → lock.home ≡ Some (entries value)

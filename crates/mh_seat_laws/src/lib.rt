@@ -6,4 +6,4 @@ pub mod claim_word;
 pub mod lock;
 mod seat_view;
 
-pub use seat_view::SeatView;
+pub use seat_view::{Found, SeatView};

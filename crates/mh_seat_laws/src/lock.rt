@@ -2,8 +2,8 @@
 ghost use Rattle.mh_seat_laws.specs.Laws.{EventsHaveOneOwner, GiveKeepsTheLock, LockIsKept, LogsMergeToTheHistory, TakeKeepsTheLock};
 
 /// A table that keeps the rule of the lock shows a lock that keeps the book's rule.
-pub fn lock_is_kept<T, E>()
-    ensures { LockIsKept T E }
+pub fn lock_is_kept<T, E, O>()
+    ensures { LockIsKept T E O }
 {}
 
 /// A try to take the value keeps the lock's rule.

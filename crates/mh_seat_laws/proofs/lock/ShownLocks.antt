@@ -73,11 +73,14 @@ module _ {E : Type 0} (owner : E → ℕ) where
   stand h logs are [] fits = tt
   stand h logs are (l ∷ ls) fits = (are l.0 ∙ sym fits.0, stand h logs are ls fits.1)
 
-  module _ {T : Type 0} (entries : T → List E) (seats : ℕ) where
+  module _ {T O : Type 0} (entries : T → List E) (origin : T → O) (about : ℕ × O) where
     abbrev pub St : Type 0
-    St = State T (SeatView E)
+    St = State T (SeatView E O)
 
-    at_home : (s : St) → IsLocked owner entries seats s → HasHome owner entries seats s → (lock : LockState E) × IsKeptBy owner lock × Shows entries seats s lock
+    abbrev seats : ℕ
+    seats = about.0
+
+    at_home : (s : St) → IsLocked owner entries origin about s → HasHome owner entries origin about s → (lock : LockState E) × IsKeptBy owner lock × Shows entries seats s lock
     at_home s r home =
         let h : List E = entries home.value in
         let logs : List (List E) = dealt h 0 seats in
@@ -101,14 +104,14 @@ module _ {E : Type 0} (owner : E → ℕ) where
           },
         )
 
-    is_away : (s : St) → IsLocked owner entries seats s → HasHolder owner entries seats s → (lock : LockState E) × IsKeptBy owner lock × Shows entries seats s lock
+    is_away : (s : St) → IsLocked owner entries origin about s → HasHolder owner entries origin about s → (lock : LockState E) × IsKeptBy owner lock × Shows entries seats s lock
     is_away s r out =
         let h : List E = out.history in
         let logs : List (List E) = dealt h 0 seats in
         let are : AreLogs owner h logs = are_logs seats h out.owned_all in
         let k : ℕ = (first out.view.logs).0 in
         let all : List (Option (List E)) = replicate seats None in
-        let low : k < seats = dite (dec_lt k seats) (λ lt. lt) (λ no. absurd (omega (arith, none_above k seats (omega arith), first_weighs out.view.logs out.some_log, part (λ (v : SeatView E). weigh_numbers (is k) v.logs) s.views out.holder out.view out.holder_view, r.numbers (is k)))) in
+        let low : k < seats = dite (dec_lt k seats) (λ lt. lt) (λ no. absurd (omega (arith, none_above k seats (omega arith), first_weighs out.view.logs out.some_log, part (λ (v : SeatView E O). weigh_numbers (is k) v.logs) s.views out.holder out.view out.holder_view, r.numbers (is k)))) in
         let lock : LockState E = record { word = 1; home = None; logs = logs; taken = set all k (Some h) } in (
           lock,
           inr record {
@@ -127,12 +130,13 @@ module _ {E : Type 0} (owner : E → ℕ) where
             logs = λ id v e. stand h logs are v.logs (out.fits id v e);
             taken = λ id v g e f. dite (ℕ_discrete id out.holder)
                 (λ here. let same : out.view ≡ v = some-injective out.view v (sym out.holder_view ∙ (ap (get_elem? s.views) (sym here) ∙ e)) in
-                let is_h : Some h ≡ Some g = sym out.found ∙ (ap (λ (u : SeatView E). u.found) same ∙ f) in
-                ap (λ (u : SeatView E). get_or (set all k (Some h)) (first u.logs).0 None) (sym same) ∙ (get_or-set_same all k (Some h) None (omega (arith, length-replicate seats (no_one {E = E}), low)) ∙ is_h))
+                let is_g : Some (record { history = h; origin = about.1 }) ≡ Some g = sym out.found ∙ (ap (λ (u : SeatView E O). u.found) same ∙ f) in
+                let is_h : Some h ≡ Some g.history = cc in
+                ap (λ (u : SeatView E O). get_or (set all k (Some h)) (first u.logs).0 None) (sym same) ∙ (get_or-set_same all k (Some h) None (omega (arith, length-replicate seats (no_one {E = E}), low)) ∙ is_h))
                 (λ ne. let none_found = out.others id v e ne in absurd cc);
             home = λ x zero_is e. absurd (omega arith);
           },
         )
 
-    pub shown_lock : (s : St) → IsLocked owner entries seats s → (lock : LockState E) × IsKeptBy owner lock × Shows entries seats s lock
+    pub shown_lock : (s : St) → IsLocked owner entries origin about s → (lock : LockState E) × IsKeptBy owner lock × Shows entries seats s lock
     shown_lock s r = ⊎_elim (at_home s r) (is_away s r) r.place

@@ -1,24 +1,29 @@
-use Rattle.std.proofs.Common.{◌≡◌, ℕ, ap, sym, ◌∙◌, subst}
-use Rattle.mh_lock.specs.Steps.{number_in, log_in, held, holding, Grows}
+use Rattle.std.proofs.Common.{◌≡◌, ℕ, Some, ap, sym, ◌∙◌, subst}
+use Rattle.mh_seat_laws.specs.declared.seat_view.Found.{Found}
+use Rattle.mh_lock.specs.Steps.{number_in, log_in, held, held_origin, found_of, holding, Grows}
 use Rattle.mh_lock.proofs.LockSteps.{answer-grows}
-use Rattle.mh_lock.proofs.LockSeats.{held-grown}
+use Rattle.mh_lock.proofs.LockSeats.{can_give-grown}
 use Rattle.mh_lock.proofs.lock.Lock.call.Goals as goal
 
 pub give-requires-clause-holding : goal.give-requires-clause-holding
 give-requires-clause-holding g c =
     let owner = g.E.Owned.owner in
     let entries = g.T.Entries.entries in
+    let origin = g.T.Entries.origin in
     let first = c.seat.inside.seat.me in
     let number : ℕ = number_in first in
     let taken = c.take.ensures.taken in
     let run = c.run_on-answer in
     let value = run.ensures.held.0 in
+    let found : Found g.row.E.Denot g.row.T-Origin.Denot = found_of entries origin taken.0 in
     let mine : c.args.seat.now.number ≡ number = sym (ap (λ me. number_in me) c.seat.invariant ∙ ap (λ view. view.number) c.seat.view_is) in
-    let grows : Grows owner number (held owner entries c.take.new.seat.me.1) (held owner entries run.new.seat.me.1)
-    = answer-grows owner number (held owner entries c.take.new.seat.me.1) (held owner entries run.new.seat.me.1) run.result (g.W.Work.entry c.args.work) run.ensures.ok run.ensures.err (λ reply. c.requires.owned reply ∙ mine) in
-    let is : run.new.seat.me ≡ holding number (log_in first) (entries taken.0) value = λ i. ((run.ensures.own.2 ∙ ap (λ me. me.0) taken.1) i, run.ensures.held.1 i) in
-    held-grown owner entries run.new.seat.me number (log_in first) (entries taken.0) value is
+    let grows : Grows owner number (held entries c.take.new.seat.me.1) (held entries run.new.seat.me.1)
+    = answer-grows owner number (held entries c.take.new.seat.me.1) (held entries run.new.seat.me.1) run.result (g.W.Work.entry c.args.work) run.ensures.ok run.ensures.err (λ reply. c.requires.owned reply ∙ mine) in
+    let same : Some (origin value) ≡ Some found.origin = sym (ap (held_origin origin) run.ensures.held.1) ∙ (run.ensures.origin ∙ ap (λ me. held_origin origin me.1) taken.1) in
+    let is : run.new.seat.me ≡ holding number (log_in first) found value = λ i. ((run.ensures.own.2 ∙ ap (λ me. me.0) taken.1) i, run.ensures.held.1 i) in
+    can_give-grown owner entries origin run.new.seat.me number (log_in first) found value is
     (subst
     (λ before. Grows owner number before (entries value))
-    (ap (λ me. held owner entries me.1) taken.1)
-    (subst (Grows owner number (held owner entries c.take.new.seat.me.1)) (ap (held owner entries) run.ensures.held.1) grows))
+    (ap (λ me. held entries me.1) taken.1)
+    (subst (Grows owner number (held entries c.take.new.seat.me.1)) (ap (held entries) run.ensures.held.1) grows))
+    (let e : origin value ≡ found.origin = cc in e)

@@ -16,7 +16,7 @@ store-requires g c =
       c.requires.own ∙ sym (ap (λ view. view.table) c.self.view_is),
       omega (arith, c.self.invariant.1),
       subst
-          (λ (me : Me g.row.T.Denot (SeatView g.row.E.Denot)). Allows (IsLocked g.E.Owned.owner g.T.Entries.entries lock.table.shared.key) slots seat.id me 0 (λ _. 0) (λ _. Gives g.E.Owned.owner g.T.Entries.entries (step slots 0 0 0 none) me 0))
-          (sym has.2)
-          (give-allowed g.E.Owned.owner g.T.Entries.entries lock.table.shared.key slots seat.id (number_in seat.me) (log_in seat.me) has.0 has.1 has.3),
+          (λ (me : Me g.row.T.Denot (SeatView g.row.E.Denot g.row.T-Origin.Denot)). Allows (IsLocked g.E.Owned.owner g.T.Entries.entries g.T.Entries.origin lock.table.shared.key) slots seat.id me 0 (λ _. 0) (λ _. Gives g.E.Owned.owner g.T.Entries.entries g.T.Entries.origin (step slots 0 0 0 none) me 0))
+          (sym has.holds)
+          (give-allowed g.E.Owned.owner g.T.Entries.entries g.T.Entries.origin lock.table.shared.key slots seat.id (number_in seat.me) (log_in seat.me) has.found has.value has.entries_grow has.same_origin),
     )

@@ -1,4 +1,4 @@
-use Rattle.std.proofs.Common.{arith, ◌≡◌, ℕ, ◌∷◌, ◌++◌, [], Some, append-nil, ap, ◌∙◌, sym, subst}
+use Rattle.std.proofs.Common.{arith, ◌≡◌, ◌∷◌, ◌++◌, [], Some, append-nil, ap, ◌∙◌, sym, subst}
 use Rattle.std.proofs.lemmas.List.Elements.{All-pop}
 use Rattle.std.proofs.lemmas.List.{nil_from_length}
 use mathlib.Core.Option.{some-injective}
@@ -35,7 +35,7 @@ join_seat-requires g c =
       c.into_seat.ensures.0 ∙ (ap (λ (seat : LockSeatView g.row.E.Denot). seat.table) c.into_lock_seat-in-Some-pop.ensures ∙ (popped.1 ∙ sym (ap (λ view. view.table) c.self.view_is))),
       ap (λ me. me.1) c.into_seat.ensures.1,
       omega (arith, c.self.invariant.1),
-      join-kept g.E.Owned.owner g.T.Entries.entries c.self.inside.table.shared.key c.loop-before.all.id c.loop-before.all.me.0 c.into_seat.result.id c.into_seat.result.me.0 loop.free (ap (λ me. me.0.found) c.into_seat.ensures.1),
+      join-kept g.E.Owned.owner g.T.Entries.entries g.T.Entries.origin c.self.inside.table.shared.key c.loop-before.all.id c.loop-before.all.me.0 c.into_seat.result.id c.into_seat.result.me.0 loop.free (ap (λ me. me.0.found) c.into_seat.ensures.1),
     )
 
 pub loop-before-preserved : goal.loop-before-preserved
@@ -60,18 +60,21 @@ pub returns : goal.returns
 returns g c =
     let owner = g.E.Owned.owner in
     let entries = g.T.Entries.entries in
+    let origin = g.T.Entries.origin in
     let seat_of = g.S.HasSeat.seat_of in
     let all = c.loop-before.all in
     let none_left : c.loop-before.seats.items ≡ [] = nil_from_length c.loop-before.seats.items (omega (arith, c.loop-before.seats.ok, c.in_default-pop.ensures.cases.0)) in
     let logs : all.me.0.logs ≡ logs_of seat_of c.args.seats.items = ap (λ seats. logs_of seat_of seats ++ all.me.0.logs) (sym none_left) ∙ c.loop-before.invariant.logs in
     let last = c.close_with-closed.ensures.values.2 in
-    let seen : Seen (IsLocked owner entries c.args.self.seats) all.id all.me.0 last.0
-    = subst (λ (n : ℕ). Seen (IsLocked owner entries n) all.id all.me.0 last.0) (c.self.invariant.3 ∙ ap (λ view. view.seats) c.self.view_is) last.1 in
-    let tells : Tells seat_of owner c.args.self c.args.seats.items (entries c.take-value.result)
-    = closed-tells seat_of owner entries c.args.self c.args.seats.items last.0 all.id all.me.0 seen logs (omega (arith, c.args.seats.ok, c.requires.count)) c.loop-before.invariant.free c.take-value.result
+    let key : c.self.inside.table.shared.key ≡ (c.args.self.seats, c.args.self.origin) = λ i. ((c.self.invariant.3 ∙ ap (λ view. view.seats) c.self.view_is) i, ap (λ view. view.origin) c.self.view_is i) in
+    let seen : Seen (IsLocked owner entries origin (c.args.self.seats, c.args.self.origin)) all.id all.me.0 last.0
+    = subst (λ about. Seen (IsLocked owner entries origin about) all.id all.me.0 last.0) key last.1 in
+    let tells : Tells seat_of owner c.args.self c.args.seats.items (entries c.take-value.result) (origin c.take-value.result)
+    = closed-tells seat_of owner entries origin c.args.self c.args.seats.items last.0 all.id all.me.0 seen logs (omega (arith, c.args.seats.ok, c.requires.count)) c.loop-before.invariant.free c.take-value.result
     (λ other here. some-injective other c.take-value.result (sym (last.4 0 other here) ∙ c.take-value.ensures.value)) in record {
       numbers = tells.numbers;
       logs = tells.logs;
       owned = tells.owned;
       kept = tells.kept;
+      origin = tells.same_origin;
     }

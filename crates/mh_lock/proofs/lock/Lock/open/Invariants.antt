@@ -6,7 +6,7 @@ use Rattle.mh_lock.proofs.lock.Lock.open.Given as goal
 abbrev pub invariant-loop-number : goal.invariant-loop-number
 invariant-loop-number g l = record {
   left : (k : ℕ) × (suc (k + l.number) ≡ l.seats) × (l.rest.me ≡ (seat_view (empty_logs l.number (suc k)) None, []));
-  table : l.rest.table_id ≡ l.table.shared.table_id;
+  table : l.rest.table_id ≡ l.lock-inside.table.shared.table_id;
   count : vec_len l.all ≡ l.number;
-  each : (number : ℕ) (other : LockSeatView g.row.E.Denot) → number < l.number → get_or l.all.items number other ≡ new_seat (record { table = l.table.shared.table_id; seats = l.seats }) number;
+  each : (number : ℕ) (other : LockSeatView g.row.E.Denot) → number < l.number → get_or l.all.items number other ≡ new_seat (record { table = l.lock-inside.table.shared.table_id; seats = l.seats; origin = l.lock-inside.table.shared.key.1 }) number;
 }

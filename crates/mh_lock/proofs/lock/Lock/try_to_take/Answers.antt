@@ -17,7 +17,7 @@ compare_exchange-requires g c =
       c.loop.invariant.table ∙ (c.requires.own ∙ sym (ap (λ view. view.table) c.self.view_is)),
       omega (arith, c.self.invariant.1),
       subst
-          (λ (me : Me g.row.T.Denot (SeatView g.row.E.Denot)). Allows (IsLocked g.E.Owned.owner g.T.Entries.entries lock.table.shared.key) slots seat.id me 0 (λ word. either (eqb word 0) 1 word) (Takes g.E.Owned.owner g.T.Entries.entries (step slots 0 0 1 none) me))
+          (λ (me : Me g.row.T.Denot (SeatView g.row.E.Denot g.row.T-Origin.Denot)). Allows (IsLocked g.E.Owned.owner g.T.Entries.entries g.T.Entries.origin lock.table.shared.key) slots seat.id me 0 (λ word. either (eqb word 0) 1 word) (Takes g.E.Owned.owner g.T.Entries.entries g.T.Entries.origin (step slots 0 0 1 none) me))
           (sym (c.loop.invariant.me ∙ c.requires.alone))
-          (take-allowed g.E.Owned.owner g.T.Entries.entries lock.table.shared.key slots seat.id (number_in first) (log_in first)),
+          (take-allowed g.E.Owned.owner g.T.Entries.entries g.T.Entries.origin lock.table.shared.key slots seat.id (number_in first) (log_in first)),
     )
