@@ -21,8 +21,12 @@ use mh_text::text_error::TextError;
 use mh_text_laws::verdicts::{texts_are_audited, texts_are_checked};
 use std::alloc::Global;
 
-/// The verdict on the entries of a history.
-pub(crate) fn judged(alloc: Global, config: Config, entries: &[Entry]) -> Result<Verdict, NoMemory>
+/// The verdict on the entries of a history, which are replayed with one worker.
+pub(crate) fn verdict_on_entries(
+    alloc: Global,
+    config: Config,
+    entries: &[Entry],
+) -> Result<Verdict, NoMemory>
     ensures { IfOk result (IsJudged (IsLegal config) entries.now) }
 {
     match check(alloc, config, entries) {
@@ -33,18 +37,18 @@ pub(crate) fn judged(alloc: Global, config: Config, entries: &[Entry]) -> Result
 }
 
 /// The verdict on a text of version 1.
-fn checked(alloc: Global, config: Config, text: &[u8]) -> Result<Verdict, NoMemory>
+fn verdict_on_history(alloc: Global, config: Config, text: &[u8]) -> Result<Verdict, NoMemory>
     ensures { IfOk result (IsChecked config text.now) }
 {
     match parse_history(alloc, text) {
-        Ok(entries) => judged(alloc, config, entries.as_slice()),
+        Ok(entries) => verdict_on_entries(alloc, config, entries.as_slice()),
         Err(TextError::Line(line)) => Ok(Verdict::Refused(line)),
         Err(TextError::NoMemory) => Err(NoMemory),
     }
 }
 
 /// The verdict on a text of version 2.
-fn audited(alloc: Global, text: &[u8]) -> Result<Verdict, NoMemory>
+fn verdict_on_record(alloc: Global, text: &[u8]) -> Result<Verdict, NoMemory>
     ensures { IfOk result (IsAudited text.now) }
 {
     let record = match parse_record(alloc, text) {
@@ -72,7 +76,7 @@ pub fn check_script<S: Source, W: Sink>(
     requires sink_count { W.failures sink.old < 2 ^ 62 }
     ensures judged { IfOk result (Judges (IsChecked config) (S.rest source.old) (W.written sink.old) (W.written sink.new)) }
     ensures begun { OnErr result (BeginsToJudge (IsChecked config) (S.rest source.old) (W.written sink.old) (W.written sink.new)) }
-    ensures ends { result ≢ Err ScriptFault.HistoryFull }
+    ensures never_full { result ≢ Err ScriptFault.HistoryFull }
     ensures unread { IsErrOf result ScriptFault.Read → Keeps (W.written sink.old) (W.written sink.new) }
     ensures unjudged { IsErrOf result ScriptFault.NoMemory → Keeps (W.written sink.old) (W.written sink.new) }
     ensures taken { LeavesSource HISTORY_BYTES (S.rest source.old) (S.rest source.new) result }
@@ -80,7 +84,7 @@ pub fn check_script<S: Source, W: Sink>(
 {
     texts_are_checked();
     let text = read_whole(alloc, source, HISTORY_BYTES)?;
-    let verdict = checked(alloc, config, text.as_slice())?;
+    let verdict = verdict_on_history(alloc, config, text.as_slice())?;
     match write_verdict(verdict, sink) {
         Ok(()) => Ok(verdict),
         Err(DeviceFailed) => Err(ScriptFault::Write),
@@ -98,7 +102,7 @@ pub fn audit_script<S: Source, W: Sink>(
     requires sink_count { W.failures sink.old < 2 ^ 62 }
     ensures judged { IfOk result (Judges IsAudited (S.rest source.old) (W.written sink.old) (W.written sink.new)) }
     ensures begun { OnErr result (BeginsToJudge IsAudited (S.rest source.old) (W.written sink.old) (W.written sink.new)) }
-    ensures ends { result ≢ Err ScriptFault.HistoryFull }
+    ensures never_full { result ≢ Err ScriptFault.HistoryFull }
     ensures unread { IsErrOf result ScriptFault.Read → Keeps (W.written sink.old) (W.written sink.new) }
     ensures unjudged { IsErrOf result ScriptFault.NoMemory → Keeps (W.written sink.old) (W.written sink.new) }
     ensures taken { LeavesSource RECORD_BYTES (S.rest source.old) (S.rest source.new) result }
@@ -106,7 +110,7 @@ pub fn audit_script<S: Source, W: Sink>(
 {
     texts_are_audited();
     let text = read_whole(alloc, source, RECORD_BYTES)?;
-    let verdict = audited(alloc, text.as_slice())?;
+    let verdict = verdict_on_record(alloc, text.as_slice())?;
     match write_verdict(verdict, sink) {
         Ok(()) => Ok(verdict),
         Err(DeviceFailed) => Err(ScriptFault::Write),

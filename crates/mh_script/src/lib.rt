@@ -6,6 +6,8 @@ mod collector_tests;
 pub mod end;
 pub mod fault;
 pub mod judge;
+#[cfg(test)]
+mod judge_tests;
 pub mod line;
 pub mod migrate;
 pub mod order;
@@ -14,6 +16,9 @@ mod order_tests;
 pub mod program;
 #[cfg(test)]
 mod program_tests;
+pub mod race;
+#[cfg(test)]
+mod race_tests;
 mod record;
 pub mod replies;
 #[cfg(test)]

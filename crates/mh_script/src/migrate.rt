@@ -9,7 +9,7 @@ ghost use Rattle.mh_script.specs.Judged.{BeginsMigration, BeginsToMigrate, Migra
 ghost use Rattle.mh_script.specs.Texts.{Blames, BlamesSink, LeavesSource};
 
 use crate::fault::ScriptFault;
-use crate::judge::judged;
+use crate::judge::verdict_on_entries;
 use crate::record::write_record;
 use crate::texts::{read_whole, write_verdict};
 use mh_history::history::{HISTORY_BYTES, parse_history};
@@ -27,7 +27,7 @@ fn write_unmigrated<W: Sink>(verdict: Verdict, sink: &mut W) -> Result<Verdict, 
     requires { W.failures sink.old < 2 ^ 62 }
     ensures done { IfOk result (λ told. (told ≡ verdict) × Appends (W.written sink.old) (W.written sink.new) (line_text (verdict_text verdict))) }
     ensures begun { OnErr result (AppendsBeginning (W.written sink.old) (W.written sink.new) (line_text (verdict_text verdict))) }
-    ensures ends { result ≢ Err ScriptFault.HistoryFull }
+    ensures never_full { result ≢ Err ScriptFault.HistoryFull }
     ensures blames { BlamesSink (W.failures sink.old) (W.failures sink.new) result }
 {
     match write_verdict(verdict, sink) {
@@ -46,7 +46,7 @@ fn write_migrated<W: Sink>(
     requires { W.failures sink.old < 2 ^ 62 }
     ensures done { IfOk result (MigratesText config text.now (W.written sink.old) (W.written sink.new)) }
     ensures begun { OnErr result (BeginsMigration config text.now (W.written sink.old) (W.written sink.new)) }
-    ensures ends { result ≢ Err ScriptFault.HistoryFull }
+    ensures never_full { result ≢ Err ScriptFault.HistoryFull }
     ensures blames { BlamesSink (W.failures sink.old) (W.failures sink.new) result }
 {
     texts_are_migrated();
@@ -55,7 +55,7 @@ fn write_migrated<W: Sink>(
         Err(TextError::Line(line)) => return write_unmigrated(Verdict::Refused(line), sink),
         Err(TextError::NoMemory) => return Err(ScriptFault::NoMemory),
     };
-    match judged(alloc, config, entries.as_slice())? {
+    match verdict_on_entries(alloc, config, entries.as_slice())? {
         Verdict::Legal(count) => {
             write_record(alloc, config, entries.as_slice(), sink)?;
             Ok(Verdict::Legal(count))
@@ -76,7 +76,7 @@ pub fn migrate_script<S: Source, W: Sink>(
     requires sink_count { W.failures sink.old < 2 ^ 62 }
     ensures migrated { IfOk result (Migrates config (S.rest source.old) (W.written sink.old) (W.written sink.new)) }
     ensures begun { OnErr result (BeginsToMigrate config (S.rest source.old) (W.written sink.old) (W.written sink.new)) }
-    ensures ends { result ≢ Err ScriptFault.HistoryFull }
+    ensures never_full { result ≢ Err ScriptFault.HistoryFull }
     ensures unread { IsErrOf result ScriptFault.Read → Keeps (W.written sink.old) (W.written sink.new) }
     ensures taken { LeavesSource HISTORY_BYTES (S.rest source.old) (S.rest source.new) result }
     ensures blames { Blames (S.failures source.old) (S.failures source.new) (W.failures sink.old) (W.failures sink.new) result }

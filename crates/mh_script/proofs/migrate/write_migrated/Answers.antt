@@ -42,6 +42,6 @@ returns g c =
     record {
       done = IfOk-weaker _ _ _ (λ told h. migrates_told makes _ _ told h.0 h.1) c.write_unmigrated-in_default.ensures.done;
       begun = on_err_weaker _ (begins_migration makes _ _) c.write_unmigrated-in_default.ensures.begun;
-      ends = c.write_unmigrated-in_default.ensures.ends;
+      never_full = c.write_unmigrated-in_default.ensures.never_full;
       blames = c.write_unmigrated-in_default.ensures.blames;
     }
