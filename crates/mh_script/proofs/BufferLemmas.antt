@@ -4,7 +4,7 @@ use Rattle.std.proofs.KnownBytes.{Appends-trans}
 use Rattle.std.specs.Io.KnownBytes.{Appends}
 use Rattle.mh_model.specs.Bytes.{Text}
 use Rattle.mh_text.specs.Stream.{AppendsBeginning}
-use Rattle.mh_script.specs.Run.{Buffers}
+use Rattle.mh_script.specs.Texts.{Buffers}
 
 pub Buffers-more : (a b : Option Text) (buffer text line buffer' text' : Text) → Buffers a b buffer text → buffer' ≡ buffer ++ line → text' ≡ text ++ line → Buffers a b buffer' text'
 Buffers-more a b buffer text line buffer' text' held more is =

@@ -1,4 +1,9 @@
+pub mod AddedLines
 pub mod BufferLemmas
+pub mod FaultLemmas
+pub mod JudgedLemmas
 pub mod MachineLemmas
+pub mod MigratedLemmas
+pub mod RacedLemmas
 pub mod RunLemmas
 pub mod SourceLemmas

@@ -1,45 +1,96 @@
--- Events in a row, done by the machine.
-use Rattle.std.proofs.Common.{◌≡◌, ℕ, ◌+◌, ◌<◌, List, [], ◌∷◌, ◌++◌, length, take, drop, get_or, refl, ap, sym, ◌∙◌, take-append-drop}
+-- The lines of the events of a machine: of their replies, and of their record.
+use Rattle.std.proofs.Common.{◌≡◌, ◌∙◌, ℕ, ◌+◌, ◌<◌, List, [], ◌∷◌, ◌++◌, length, map, take, get_or, refl, ap, sym}
 use Rattle.std.proofs.lemmas.Grind.{flat_map-append}
-use Rattle.std.proofs.lemmas.List.{take_more}
+use Rattle.std.proofs.lemmas.List.{map-append, take_more}
 use Rattle.mh_model.specs.declared.command.Event.{Event}
-use Rattle.mh_model.specs.Bytes.{Text}
-use Rattle.mh_model.specs.Machine.{Machine, event_step, machine_after, machine_replies}
+use Rattle.mh_model.specs.declared.config.Config.{Config}
+use Rattle.mh_model.specs.declared.history.Entry.{Entry}
+use Rattle.mh_model.specs.declared.history.Measured.{Measured}
+use Rattle.mh_model.specs.Bytes.{Text, joined, line_text, lines_text}
+use Rattle.mh_model.specs.HistoryTexts.{header_words, measured_words, measured_step, machine_record, recorded_text, migrated}
+use Rattle.mh_model.specs.Machine.{Machine, first_machine, event_step, machine_after, machine_replies}
 use Rattle.mh_model.specs.Replies.{replies_text}
 use Rattle.mh_promise.proofs.RunsByEvents.{after_more, replies_more}
+use Rattle.mh_script.proofs.AddedLines.{AddsLines}
+
+-- one element more of a list
+pub take_item : {X : Type 0} (xs : List X) (i : ℕ) (x : X) → i < length xs → x ≡ get_or xs i x → take (i + 1) xs ≡ take i xs ++ x ∷ []
+take_item {X} xs i x below is = take_more xs i x below ∙ ap (λ (y : X). take i xs ++ y ∷ []) (sym is)
+
+pub take_event : (events : List Event) (i : ℕ) (d : Event) → i < length events → take (i + 1) events ≡ take i events ++ get_or events i d ∷ []
+take_event events i d below = take_more events i d below
+
+-- Replies ----------------------------------------------------------------------------------------
+
+abbrev pub machine_next : Machine → Event → Machine
+machine_next machine event = (event_step machine event).state
 
 -- the lines of the replies to events
-abbrev pub lines_of_events : Machine → List Event → Text
-lines_of_events machine events = replies_text (machine_replies machine events)
+abbrev pub replies_of_events : Machine → List Event → Text
+replies_of_events machine events = replies_text (machine_replies machine events)
 
 -- the line of the reply to one
-abbrev pub line_of_event : Machine → Event → Text
-line_of_event machine event = replies_text ((event_step machine event).reply ∷ [])
+abbrev pub reply_line : Machine → Event → Text
+reply_line machine event = replies_text ((event_step machine event).reply ∷ [])
 
 pub machine_after-none : (machine : Machine) → machine ≡ machine_after machine []
 unfolding machine_after
 machine_after-none machine = refl
 
-pub lines_of_events-none : (machine : Machine) → lines_of_events machine [] ≡ []
+pub replies_of_events-none : (machine : Machine) → [] ≡ replies_of_events machine []
 unfolding machine_replies
-lines_of_events-none machine = refl
+replies_of_events-none machine = refl
 
--- some events of a list, and those after them
-pub lines_of_events-split : (machine : Machine) (events : List Event) (i : ℕ) → lines_of_events machine (take i events) ++ lines_of_events (machine_after machine (take i events)) (drop i events) ≡ lines_of_events machine events
-lines_of_events-split machine events i =
-    sym (ap replies_text (replies_more.events machine (take i events) (drop i events)) ∙ flat_map-append _ (machine_replies machine (take i events)) (machine_replies (machine_after machine (take i events)) (drop i events)))
-    ∙ ap (lines_of_events machine) (take-append-drop i events)
+pub replies_add : (first : Machine) → AddsLines (machine_after first) (replies_of_events first) machine_next reply_line
+replies_add first = record {
+  state = after_more.event first;
+  text = λ events event. ap replies_text (replies_more.event first events event) ∙ flat_map-append _ (machine_replies first events) _;
+}
 
--- one event more, on a machine that the first i events lead to
-pub lines_of_events-more : (first machine : Machine) (events : List Event) (i : ℕ) (d : Event) → i < length events → machine ≡ machine_after first (take i events)
-    → lines_of_events first (take (i + 1) events) ≡ lines_of_events first (take i events) ++ line_of_event machine (get_or events i d)
-lines_of_events-more first machine events i d below is =
-    ap (lines_of_events first) (take_more events i d below)
-    ∙ (ap replies_text (replies_more.event first (take i events) (get_or events i d))
-    ∙ (flat_map-append _ (machine_replies first (take i events)) _ ∙ ap (λ m. lines_of_events first (take i events) ++ line_of_event m (get_or events i d)) (sym is)))
+-- Records ----------------------------------------------------------------------------------------
 
-pub machine_after-more : (first machine : Machine) (events : List Event) (i : ℕ) (d : Event) → i < length events → machine ≡ machine_after first (take i events)
-    → (event_step machine (get_or events i d)).state ≡ machine_after first (take (i + 1) events)
-machine_after-more first machine events i d below is =
-    ap (λ m. (event_step m (get_or events i d)).state) is
-    ∙ (sym (after_more.event first (take i events) (get_or events i d)) ∙ sym (ap (machine_after first) (take_more events i d below)))
+abbrev pub events_of : List Entry → List Event
+events_of entries = map (λ entry. entry.event) entries
+
+-- the machine after the events of a history
+abbrev pub machine_of : Config → List Entry → Machine
+machine_of config entries = machine_after (first_machine config) (events_of entries)
+
+abbrev pub entry_next : Machine → Entry → Machine
+entry_next machine entry = (event_step machine entry.event).state
+
+-- their record as a text
+abbrev pub record_of_entries : Config → List Entry → Text
+record_of_entries config entries = recorded_text (migrated config entries)
+
+abbrev measured_line : Measured → Text
+measured_line measured = joined (measured_words measured)
+
+-- the line of one of them
+abbrev pub entry_line : Machine → Entry → Text
+entry_line machine entry = lines_text (measured_line (measured_step machine entry.event (event_step machine entry.event)) ∷ [])
+
+machine_record-more : (machine : Machine) (before : List Event) (event : Event)
+    → machine_record machine (before ++ event ∷ []) ≡ machine_record machine before ++ measured_step (machine_after machine before) event (event_step (machine_after machine before) event) ∷ []
+unfolding machine_record machine_after
+machine_record-more machine [] event = refl
+machine_record-more machine (first ∷ before) event =
+    ap (λ (entries : List Measured). measured_step machine first (event_step machine first) ∷ entries) (machine_record-more (event_step machine first).state before event)
+
+pub record_of_entries-none : (config : Config) → line_text (joined (header_words config)) ++ [] ≡ record_of_entries config []
+unfolding machine_record
+record_of_entries-none config = refl
+
+pub records_add : (config : Config) → AddsLines (machine_of config) (record_of_entries config) entry_next entry_line
+records_add config = record {
+  state = λ entries entry. ap (machine_after (first_machine config)) (map-append _ entries (entry ∷ [])) ∙ after_more.event (first_machine config) (events_of entries) entry.event;
+  text = λ entries entry.
+      let measured = machine_record (first_machine config) (events_of entries) in
+      let event : Measured = measured_step (machine_of config entries) entry.event (event_step (machine_of config entries) entry.event) in
+      let more : machine_record (first_machine config) (events_of (entries ++ entry ∷ [])) ≡ measured ++ event ∷ [] =
+      ap (machine_record (first_machine config)) (map-append _ entries (entry ∷ [])) ∙ machine_record-more (first_machine config) (events_of entries) entry.event in
+      let header : Text = joined (header_words config) in
+      ap (λ (found : List Measured). lines_text (header ∷ map measured_line found)) more
+      ∙ (ap (λ (lines : List Text). lines_text (header ∷ lines)) (map-append measured_line measured (event ∷ []))
+      ∙ flat_map-append line_text (header ∷ map measured_line measured) (measured_line event ∷ []));
+}

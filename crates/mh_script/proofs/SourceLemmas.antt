@@ -1,43 +1,82 @@
--- What was read of a source tells how its whole script reads.
-use Rattle.std.proofs.Common.{◌≡◌, ℕ, List, ◌<◌, ◌≤◌, Bool, true, false, if◌then◌else◌, nat_lt, [], ◌++◌, length, Option, Some, None, refl, subst, ap, sym, ◌∙◌, append-nil, length-append, arith}
+-- What was read of a source tells how its whole text reads.
+use Rattle.std.proofs.Common.{◌≡◌, ℕ, List, ◌<◌, ◌≤◌, Bool, true, false, if◌then◌else◌, cond, nat_lt, [], ◌++◌, length, Option, Some, None, refl, subst, ap, sym, ◌∙◌, append-nil, length-append, arith}
 use Rattle.std.proofs.KnownBytes.{Appends-nil}
 use Rattle.std.proofs.lemmas.Bool.Decides.{nat_tests}
 use Rattle.std.specs.Io.KnownBytes.{Appends, Consumes, IsAtEnd}
 use Rattle.mh_model.specs.declared.command.Event.{Event}
-use Rattle.mh_model.specs.Bytes.{Text}
+use Rattle.mh_model.specs.Bytes.{Text, cut_after}
+use Rattle.mh_model.specs.HistoryTexts.{history_of, history_reading, recorded_of, recorded_reading}
 use Rattle.mh_model.specs.Limits.{most_entries}
 use Rattle.mh_model.specs.Output.{Ending, Done, HistoryFull, Refused, output, output_of, ending, ending_of}
 use Rattle.mh_model.specs.Script.{Reading, Meaning, Means, BadLine, reading}
 use Rattle.mh_model.proofs.ScriptLemmas.{reading-long}
 use Rattle.mh_text.specs.Stream.{AppendsBeginning}
-use Rattle.mh_script.specs.Run.{Outputs, IsScriptOf, WritesBeginning}
+use Rattle.mh_script.specs.Run.{Outputs, WritesBeginning}
+use Rattle.mh_script.specs.Texts.{IsTextOf}
+
+-- Texts ------------------------------------------------------------------------------------------
+
+-- A way to read a text, of which one that is too long is refused
+pub record IsBounded {R : Type 0} (read : Text → R) (most : ℕ) : Type 0 where
+  pub refused : R
+  pub long : (text : Text) → most < length text → read text ≡ refused
+
+pub script_bounded : IsBounded reading 67108864
+script_bounded = record { refused = BadLine 0; long = reading-long }
+
+pub history_bounded : IsBounded history_reading 1073741824
+unfolding history_reading
+history_bounded = record {
+  refused = BadLine 0;
+  long = λ text long.
+      let is : nat_lt 1073741824 (length text) ≡ true = grind (arith, nat_tests) in
+      ap (λ (b : Bool). cond b (BadLine 0) (history_of (cut_after 10 text))) is;
+}
+
+pub record_bounded : IsBounded recorded_reading 2147483648
+unfolding recorded_reading
+record_bounded = record {
+  refused = BadLine 0;
+  long = λ text long.
+      let is : nat_lt 2147483648 (length text) ≡ true = grind (arith, nat_tests) in
+      ap (λ (b : Bool). cond b (BadLine 0) (recorded_of (cut_after 10 text))) is;
+}
 
 -- bytes after a text change what it means only where it is not too long
-reading-append : (text rest : Text) → (length text ≤ 67108864 → rest ≡ []) → reading (text ++ rest) ≡ reading text
-reading-append text rest whole = go (nat_lt 67108864 (length text)) refl where
-  go : (b : Bool) → nat_lt 67108864 (length text) ≡ b → reading (text ++ rest) ≡ reading text
+read-append : {R : Type 0} (read : Text → R) (most : ℕ) → IsBounded read most → (text rest : Text) → (length text ≤ most → rest ≡ []) → read (text ++ rest) ≡ read text
+read-append {R} read most bounded text rest whole = go (nat_lt most (length text)) refl where
+  go : (b : Bool) → nat_lt most (length text) ≡ b → read (text ++ rest) ≡ read text
   go true is =
-      let long : 67108864 < length text = grind (arith, nat_tests) in
-      reading-long (text ++ rest) (omega (arith, length-append text rest)) ∙ sym (reading-long text long)
+      let long : most < length text = grind (arith, nat_tests) in
+      bounded.long (text ++ rest) (omega (arith, length-append text rest)) ∙ sym (bounded.long text long)
   go false is =
-      let short : length text ≤ 67108864 = grind (arith, nat_tests) in
-      ap reading (ap (λ r. text ++ r) (whole short) ∙ append-nil text)
+      let short : length text ≤ most = grind (arith, nat_tests) in
+      ap read (ap (λ (r : Text). text ++ r) (whole short) ∙ append-nil text)
 
--- the script of a source, which reads like the text that was read
-pub record Reads (known : Option Text) (text : Text) : Type 0 where
-  pub script : Text
-  pub is_script : IsScriptOf known script
-  pub same : reading script ≡ reading text
+-- the whole text of a source, which reads like the text that was read of it
+pub record Reads {R : Type 0} (read : Text → R) (known : Option Text) (text : Text) : Type 0 where
+  pub whole : Text
+  pub is_text : IsTextOf known whole
+  pub same : read whole ≡ read text
 
-pub Reads-consumed : (known rest : Option Text) (text : Text) → Consumes known rest text → (length text ≤ 67108864 → IsAtEnd rest) → Reads known text
-Reads-consumed None rest text consumed whole = record { script = text; is_script = tt; same = refl }
-Reads-consumed (Some bytes) None text consumed whole = absurd consumed
-Reads-consumed (Some bytes) (Some left) text consumed whole =
-    record { script = bytes; is_script = refl; same = ap reading consumed ∙ reading-append text left whole }
+reads-consumed : {R : Type 0} (read : Text → R) (most : ℕ) → IsBounded read most → (known rest : Option Text) (text : Text) → Consumes known rest text → (length text ≤ most → IsAtEnd rest)
+    → Reads read known text
+reads-consumed read most bounded None rest text consumed whole = record { whole = text; is_text = tt; same = refl }
+reads-consumed read most bounded (Some bytes) None text consumed whole = absurd consumed
+reads-consumed read most bounded (Some bytes) (Some left) text consumed whole =
+    record { whole = bytes; is_text = refl; same = ap read consumed ∙ read-append read most bounded text left whole }
 
 -- the same of a slice of what was read
-pub Reads-slice : (known rest : Option Text) (items text : Text) → text ≡ items → Consumes known rest items → (length items ≤ 67108864 → IsAtEnd rest) → Reads known text
-Reads-slice known rest items text same consumed whole = subst (Reads known) (sym same) (Reads-consumed known rest items consumed whole)
+pub reads_slice : {R : Type 0} (read : Text → R) (most : ℕ) → IsBounded read most → (known rest : Option Text) (items text : Text) → text ≡ items → Consumes known rest items
+    → (length items ≤ most → IsAtEnd rest) → Reads read known text
+reads_slice read most bounded known rest items text same consumed whole = subst (Reads read known) (sym same) (reads-consumed read most bounded known rest items consumed whole)
+
+-- a source has some text
+pub some_text : (known : Option Text) → (text : Text) × IsTextOf known text
+some_text None = ([], tt)
+some_text (Some bytes) = (bytes, refl)
+
+-- Runs -------------------------------------------------------------------------------------------
 
 output-reading : (text : Text) → output text ≡ output_of (reading text)
 unfolding output
@@ -57,17 +96,17 @@ ending-few meaning few =
     let is : nat_lt most_entries (length meaning.events) ≡ false = grind (arith, nat_tests) in
     ap (λ b. if b then HistoryFull else Done) is
 
-module _ {known : Option Text} {text : Text} (reads : Reads known text) where
-  output-reads : (r : Reading Meaning) → reading text ≡ r → output reads.script ≡ output_of r
-  output-reads r is = output-reading reads.script ∙ ap output_of (reads.same ∙ is)
+module _ {known : Option Text} {text : Text} (reads : Reads reading known text) where
+  output-reads : (r : Reading Meaning) → reading text ≡ r → output reads.whole ≡ output_of r
+  output-reads r is = output-reading reads.whole ∙ ap output_of (reads.same ∙ is)
 
   outputs-reads : (old new : Option Text) (r : Reading Meaning) (ended : Ending) → reading text ≡ r → Appends old new (output_of r) → ending_of r ≡ ended → Outputs known old new ended
   outputs-reads old new r ended is wrote ends =
       let P : Text → Type 0 = λ t. Appends old new t in
       record {
-        script = reads.script;
-        is_script = reads.is_script;
-        ends = ending-reading reads.script ∙ (ap ending_of (reads.same ∙ is) ∙ ends);
+        script = reads.whole;
+        is_script = reads.is_text;
+        ends = ending-reading reads.whole ∙ (ap ending_of (reads.same ∙ is) ∙ ends);
         wrote = subst P (sym (output-reads r is)) wrote;
       }
 
@@ -82,12 +121,11 @@ module _ {known : Option Text} {text : Text} (reads : Reads known text) where
 
   pub WritesBeginning-reads : (old new : Option Text) (r : Reading Meaning) → reading text ≡ r → AppendsBeginning old new (output_of r) → WritesBeginning known old new
   WritesBeginning-reads old new r is begun =
-      (reads.script, begun.0, begun.1, reads.is_script, begun.2 ∙ sym (output-reads r is), begun.3)
+      (reads.whole, begun.0, begun.1, reads.is_text, begun.2 ∙ sym (output-reads r is), begun.3)
 
 -- nothing is a beginning of any output
 pub WritesBeginning-nothing : (known a : Option Text) → WritesBeginning known a a
-WritesBeginning-nothing None a = ([], [], output [], tt, refl, Appends-nil a)
-WritesBeginning-nothing (Some bytes) a = (bytes, [], output bytes, refl, refl, Appends-nil a)
+WritesBeginning-nothing known a = let text = some_text known in (text.0, [], output text.0, text.1, refl, Appends-nil a)
 
 -- a text that was written whole is a beginning of itself
 pub beginning_of : (old new : Option Text) (text : Text) → Appends old new text → AppendsBeginning old new text

@@ -1,1 +1,4 @@
+pub mod Judged
+pub mod Raced
+pub mod Texts
 pub mod Run

@@ -5,6 +5,14 @@
 mod collector_tests;
 pub mod end;
 pub mod fault;
+pub mod judge;
+#[cfg(test)]
+mod judge_tests;
+pub mod migrate;
+pub mod race;
+#[cfg(test)]
+mod race_tests;
+mod record;
 pub mod replies;
 #[cfg(test)]
 mod row_tests;
@@ -13,3 +21,4 @@ pub mod run;
 mod run_tests;
 #[cfg(test)]
 mod test_devices;
+mod texts;

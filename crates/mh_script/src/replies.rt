@@ -1,35 +1,21 @@
-ghost use Rattle.std.specs.Prelude.{◌≡◌, ◌+◌, ◌<◌, ◌≤◌, ◌^◌, ◌++◌, [], ◌∷◌, suc, length, IfOk, OnOk, OnErr, IsErrOf};
+ghost use Rattle.std.specs.Prelude.{◌≡◌, ◌+◌, ◌<◌, ◌≤◌, ◌^◌, ◌++◌, [], ◌∷◌, suc, length, OnOk, OnErr, IsErrOf};
 ghost use Rattle.std.specs.String.{string_bytes};
 ghost use Rattle.std.specs.Io.KnownBytes.{Appends};
 ghost use Rattle.mh_model.specs.Limits.{most_entries};
 ghost use Rattle.mh_model.specs.Machine.{event_step, machine_after, machine_replies};
 ghost use Rattle.mh_model.specs.Replies.{replies_text};
 ghost use Rattle.mh_text.specs.Stream.{AppendsBeginning};
-ghost use Rattle.mh_script.specs.Run.{Buffers};
 
+use crate::fault::WriteError;
+use crate::texts::{flush, flush_full};
 use mh_model::command::Event;
 use mh_model::memory::NoMemory;
 use mh_scan::scan::Scanner;
 use mh_state::machine::{Machine, Stop};
-use mh_text::device::DeviceFailed;
 use mh_text::reply_text::ReplyText;
 use mh_text::sink::Sink;
-use mh_text::stream::write_text;
 use std::alloc::Global;
 use std::fmt::Write;
-use thiserror::Error;
-
-/// How many bytes of replies wait before they are written.
-const BUFFER: usize = 65_536;
-
-/// Why replies were not all written.
-#[derive(Clone, Copy, Debug, PartialEq, Eq, Error)]
-pub enum WriteError {
-    #[error("write failed")]
-    Device,
-    #[error("no memory")]
-    NoMemory,
-}
 
 /// Does an event, and adds the line of its reply to the text.
 fn answer<S: Scanner>(
@@ -53,38 +39,6 @@ fn answer<S: Scanner>(
     Ok(())
 }
 
-/// Writes the text that waits, and empties it.
-fn flush<W: Sink>(sink: &mut W, text: &mut String) -> Result<(), DeviceFailed>
-    requires { W.failures sink.old < 2 ^ 62 }
-    ensures done { OnOk result (Appends (W.written sink.old) (W.written sink.new) (string_bytes text.old)) }
-    ensures empty { OnOk result (string_bytes text.new ≡ []) }
-    ensures begun { OnErr result (AppendsBeginning (W.written sink.old) (W.written sink.new) (string_bytes text.old)) }
-    ensures no_failure { OnOk result (W.failures sink.new ≡ W.failures sink.old) }
-    ensures blamed { OnErr result (W.failures sink.old < W.failures sink.new) }
-{
-    match write_text(sink, text.as_bytes()) {
-        Ok(()) => {
-            text.clear();
-            Ok(())
-        }
-        Err(failed) => Err(failed),
-    }
-}
-
-/// Writes the text that waits where it has filled its buffer.
-fn flush_full<W: Sink>(sink: &mut W, text: &mut String) -> Result<(), DeviceFailed>
-    requires { W.failures sink.old < 2 ^ 62 }
-    ensures kept { OnOk result (Buffers (W.written sink.old) (W.written sink.new) (string_bytes text.new) (string_bytes text.old)) }
-    ensures begun { OnErr result (AppendsBeginning (W.written sink.old) (W.written sink.new) (string_bytes text.old)) }
-    ensures no_failure { OnOk result (W.failures sink.new ≡ W.failures sink.old) }
-    ensures blamed { OnErr result (W.failures sink.old < W.failures sink.new) }
-{
-    if text.len() < BUFFER {
-        return Ok(());
-    }
-    flush(sink, text)
-}
-
 /// Does the events in turn, and writes the lines of their replies.
 pub fn write_replies<S: Scanner, W: Sink>(
     alloc: Global,
@@ -105,15 +59,9 @@ pub fn write_replies<S: Scanner, W: Sink>(
 {
     let mut text = String::new(alloc);
     for event in events {
-        let Ok(()) = answer(machine, *event, scanner, &mut text) else {
-            return Err(WriteError::NoMemory);
-        };
-        let Ok(()) = flush_full(sink, &mut text) else {
-            return Err(WriteError::Device);
-        };
+        answer(machine, *event, scanner, &mut text)?;
+        flush_full(sink, &mut text)?;
     }
-    let Ok(()) = flush(sink, &mut text) else {
-        return Err(WriteError::Device);
-    };
+    flush(sink, &mut text)?;
     Ok(())
 }

@@ -1,20 +1,19 @@
 ghost use Rattle.std.specs.Prelude.{◌≡◌, ◌<◌, ◌≤◌, ◌^◌, length, take, IfOk, OnOk, OnErr, IsErrOf};
 ghost use Rattle.std.specs.Io.KnownBytes.{Appends, Keeps};
-ghost use Rattle.mh_model.specs.Bytes.{line_text};
 ghost use Rattle.mh_model.specs.Limits.{most_entries};
 ghost use Rattle.mh_model.specs.Output as model;
 ghost use Rattle.mh_model.specs.Output.{output_of};
-ghost use Rattle.mh_model.specs.Replies.{bad_line_text};
 ghost use Rattle.mh_model.specs.Script.{Means};
 ghost use Rattle.mh_text.specs.Stream.{AppendsBeginning};
-ghost use Rattle.mh_script.specs.Run.{EndsAs, Outputs, WritesBeginning, LeavesSource, Blames};
+ghost use Rattle.mh_script.specs.Run.{EndsAs, Outputs, WritesBeginning};
+ghost use Rattle.mh_script.specs.Texts.{LeavesSource, Blames};
 
 use crate::end::End;
-use crate::fault::ScriptFault;
-use crate::replies::{WriteError, write_replies};
-use arrayvec::ArrayString;
-use itoa::Buffer;
+use crate::fault::{ScriptFault, WriteError};
+use crate::replies::write_replies;
+use crate::texts::{read_whole, write_verdict};
 use mh_model::command::Event;
+use mh_model::history::Verdict;
 use mh_scan::crew_scan::{CrewGate, CrewScan};
 use mh_scan::scan::Scanner;
 use mh_state::machine::Machine;
@@ -22,16 +21,12 @@ use mh_text::device::DeviceFailed;
 use mh_text::script::{SCRIPT_BYTES, Script, parse};
 use mh_text::sink::Sink;
 use mh_text::source::Source;
-use mh_text::stream::{ReadError, read_text, write_text};
 use mh_text::text_error::TextError;
 use std::alloc::Global;
 use std::thread::Threads;
 
 /// The most events that are answered.
 const MOST_ENTRIES: usize = 1_000_000;
-
-/// The most bytes of the line that refuses a script.
-const REFUSAL_BYTES: usize = 64;
 
 /// The events that are answered.
 #[tactic(auto, using(crate::proofs::RunLemmas::take_min, crate::proofs::RunLemmas::front_is_few), unfolding(mh_model::specs::Limits::most_entries))]
@@ -56,33 +51,9 @@ fn write_answers<C: Scanner, W: Sink>(
     ensures blamed { IsErrOf result WriteError.Device → W.failures sink.old < W.failures sink.new }
     ensures not_blamed { IsErrOf result WriteError.NoMemory → W.failures sink.new ≡ W.failures sink.old }
 {
-    let Ok(mut machine) = Machine::open(alloc, script.config()) else {
-        return Err(WriteError::NoMemory);
-    };
+    let mut machine = Machine::open(alloc, script.config())?;
     let events = answered(script.events());
     write_replies(alloc, &mut machine, events, scanner, sink)
-}
-
-fn refusal_line(line: u64) -> ArrayString<REFUSAL_BYTES>
-    ensures { result.bytes ≡ line_text (bad_line_text line) }
-{
-    let mut text = ArrayString::new();
-    text.push_str("refused 10 line ");
-    text.push_str(Buffer::new().format(line));
-    text.push_str("\n");
-    text
-}
-
-/// Writes the line that names a script's least bad line.
-fn write_refusal<W: Sink>(line: u64, sink: &mut W) -> Result<(), DeviceFailed>
-    requires { W.failures sink.old < 2 ^ 62 }
-    ensures done { OnOk result (Appends (W.written sink.old) (W.written sink.new) (line_text (bad_line_text line))) }
-    ensures begun { OnErr result (AppendsBeginning (W.written sink.old) (W.written sink.new) (line_text (bad_line_text line))) }
-    ensures no_failure { OnOk result (W.failures sink.new ≡ W.failures sink.old) }
-    ensures blamed { OnErr result (W.failures sink.old < W.failures sink.new) }
-{
-    let text = refusal_line(line);
-    write_text(sink, text.as_str().as_bytes())
 }
 
 /// Reads a whole script, and then writes its output: a line for each reply, or the one line that names the least line that
@@ -103,14 +74,10 @@ pub fn run_script<R: Threads, S: Source, W: Sink, G: CrewGate>(
     ensures begun { OnErr result (WritesBeginning (S.rest source.old) (W.written sink.old) (W.written sink.new)) }
     ensures full { IsErrOf result ScriptFault.HistoryFull → Outputs (S.rest source.old) (W.written sink.old) (W.written sink.new) model.HistoryFull }
     ensures unread { IsErrOf result ScriptFault.Read → Keeps (W.written sink.old) (W.written sink.new) }
-    ensures taken { LeavesSource (S.rest source.old) (S.rest source.new) result }
+    ensures taken { LeavesSource SCRIPT_BYTES (S.rest source.old) (S.rest source.new) result }
     ensures blames { Blames (S.failures source.old) (S.failures source.new) (W.failures sink.old) (W.failures sink.new) result }
 {
-    let text = match read_text(alloc, source, SCRIPT_BYTES) {
-        Ok(text) => text,
-        Err(ReadError::Device) => return Err(ScriptFault::Read),
-        Err(ReadError::NoMemory) => return Err(ScriptFault::NoMemory),
-    };
+    let text = read_whole(alloc, source, SCRIPT_BYTES)?;
     let mut scanner = CrewScan::new(rt, alloc, workers, gate);
     match parse(alloc, text.as_slice()) {
         Ok(script) => match write_answers(alloc, &script, &mut scanner, sink) {
@@ -119,7 +86,7 @@ pub fn run_script<R: Threads, S: Source, W: Sink, G: CrewGate>(
             Err(WriteError::Device) => Err(ScriptFault::Write),
             Err(WriteError::NoMemory) => Err(ScriptFault::NoMemory),
         },
-        Err(TextError::Line(line)) => match write_refusal(line, sink) {
+        Err(TextError::Line(line)) => match write_verdict(Verdict::Refused(line), sink) {
             Ok(()) => Ok(End::Refused(line)),
             Err(DeviceFailed) => Err(ScriptFault::Write),
         },

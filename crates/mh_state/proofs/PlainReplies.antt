@@ -12,7 +12,7 @@ use Rattle.mh_model.specs.World.{own_slot, names_same, yes_or_no, shape_reply, s
 use Rattle.mh_model.specs.Mutator.{HeapState, root_at, shape_at, heap_sight, heap_effect, mutator_step}
 use Rattle.mh_model.specs.Machine.{Machine, quantum_run, control_step, event_step}
 use Rattle.mh_promise.proofs.AnsweredEvents.{session-reply}
-use Rattle.mh_state.specs.Storing.{IsPlain}
+use Rattle.mh_state.specs.Copies.{IsPlain}
 
 effect-plain : (heap : HeapState) (who : _) (command : Command) → IsPlain (heap_effect heap who command).reply
 unfolding heap_effect

@@ -10,7 +10,7 @@ use Rattle.mh_model.specs.Machine.{Machine, first_machine}
 use Rattle.mh_laws.proofs.bounds.CyclesInTime.{run-stays}
 use Rattle.mh_promise.specs.Replays.{EventsKeepTheReplay, IsReplay}
 use Rattle.mh_state.specs.Running.{Running, Does}
-use Rattle.mh_state.specs.Storing.{IsStored, events_of, replies_of, with_entry, KeepsItsPromise}
+use Rattle.mh_state.specs.Storing.{IsStored, events_of, replies_of, with_entry, IsTheReplay, KeepsItsPromise}
 
 -- the machine of a replay has its configuration
 pub config-replay : (config : Config) (events : List Event) (replies : List Reply) (machine : Machine) → IsReplay config events replies machine → machine.heap.config ≡ config
@@ -36,6 +36,15 @@ module _ (law : EventsKeepTheReplay) where
       (subst (λ es. IsReplay old.machine.heap.config es (replies_of (with_entry history event given)) new.machine) (sym (map-append (λ e. e.event) history (entry ∷ [])))
       (subst (λ rs. IsReplay old.machine.heap.config (events_of history ++ event ∷ []) rs new.machine) (sym (map-append (λ e. e.reply) history (entry ∷ []))) replay))
       (omega (arith, one, (is.legal).few, more)) (omega (arith, one, is.count, does.done))
+
+  -- it keeps the configuration
+  pub config-on : (old new : Running) (history : List Entry) (event : Event) (given : Reply) → IsStored old history → Does old event given new → new.machine.heap.config ≡ old.machine.heap.config
+  config-on old new history event given is does =
+      let replay = law.step old.machine.heap.config (events_of history) (replies_of history) old.machine new.machine event given is.replay does.step in
+      config-replay old.machine.heap.config (events_of history ++ event ∷ []) (replies_of history ++ given ∷ []) new.machine replay
+
+  pub replayed-stored : (running : Running) (history : List Entry) → IsStored running history → IsTheReplay (record { machine = running.machine; history = history })
+  replayed-stored running history is = law.machines running.machine.heap.config (events_of history) (replies_of history) running.machine is.replay
 
   pub promised-stored : (running : Running) (history : List Entry) → IsStored running history → KeepsItsPromise (record { machine = running.machine; history = history })
   promised-stored running history is = law.promise running.machine.heap.config (events_of history) (replies_of history) running.machine is.replay

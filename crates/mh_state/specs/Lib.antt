@@ -1,3 +1,4 @@
+pub mod Copies
 pub mod Engines
 pub mod Judging
 pub mod Running

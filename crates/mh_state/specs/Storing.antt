@@ -1,15 +1,13 @@
 -- The machine that is stored with the history of what it did.
-use Rattle.std.specs.Prelude.{◌≡◌, List, [], ◌∷◌, ◌++◌, Option, Some, None, length, map}
+use Rattle.std.specs.Prelude.{◌≡◌, List, [], ◌∷◌, ◌++◌, length, map}
 use Rattle.mh_model.specs.declared.command.Event.{Event}
 use Rattle.mh_model.specs.declared.config.Config.{Config}
-use Rattle.mh_model.specs.declared.dump.DumpItem.{DumpItem}
 use Rattle.mh_model.specs.declared.history.Entry.{Entry}
 use Rattle.mh_model.specs.declared.reply.Reply.{Reply}
-use Rattle.mh_model.specs.declared.reply.Reply.TheVariants as reply
 use Rattle.mh_model.specs.History.{IsLegal}
 use Rattle.mh_model.specs.Machine.{Machine, first_machine}
 use Rattle.mh_promise.specs.Replays.{IsReplay}
-use Rattle.mh_promise.specs.Runs.{outcome_of}
+use Rattle.mh_promise.specs.Runs.{outcome_of, IsTheMachines}
 use Rattle.mh_promise.specs.Promise.{IsPromised}
 use Rattle.mh_state.specs.Running.{Running}
 
@@ -38,16 +36,10 @@ pub record IsStored (running : Running) (history : List Entry) : Type 0 where
   pub legal : IsLegal running.machine.heap.config history
   pub count : length history ≡ running.done
 
+-- the machine is that after the events of its history, and the replies are the machine's
+abbrev pub IsTheReplay : Stored → Type 0
+IsTheReplay stored = IsTheMachines stored.machine.heap.config (events_of stored.history) (outcome_of stored.machine (replies_of stored.history))
+
 -- the replies of the history are the machine's and keep the promise
 abbrev pub KeepsItsPromise : Stored → Type 0
 KeepsItsPromise stored = IsPromised stored.machine.heap.config (events_of stored.history) (outcome_of stored.machine (replies_of stored.history))
-
--- a reply that is no dump
-abbrev pub IsPlain : Reply → Type 0
-IsPlain (reply.Dump items) = ⊥
-IsPlain _ = Unit {0}
-
--- the dump that a reply is, where it is one
-abbrev pub IsDumpOf : Reply → Option (List DumpItem) → Type 0
-IsDumpOf given None = IsPlain given
-IsDumpOf given (Some items) = given ≡ reply.Dump items

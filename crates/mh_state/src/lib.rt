@@ -1,6 +1,7 @@
 //! The machine that runs, the state with its history, whole runs, and the judging of histories.
 #![tactic(auto)]
 
+pub mod copies;
 mod engine;
 pub mod judge;
 #[cfg(test)]

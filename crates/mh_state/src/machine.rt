@@ -93,6 +93,12 @@ impl Machine {
         }
     }
 
+    pub fn config(&self) -> Config
+        ensures { result ≡ self.now.machine.heap.config }
+    {
+        self.config
+    }
+
     /// The heap, with the roots, the table and the collector.
     pub fn heap(&self) -> &PagedHeap
         ensures { result.now.kept ≡ self.now.machine.heap }

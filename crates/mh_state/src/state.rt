@@ -5,11 +5,13 @@ ghost use Rattle.mh_model.specs.History.{IsLegal};
 ghost use Rattle.mh_model.specs.Limits.{most_entries};
 ghost use Rattle.mh_model.specs.World.{says};
 ghost use Rattle.mh_model.specs.Machine.{event_step};
-ghost use Rattle.mh_state.specs.Storing.{first_stored, with_entry, KeepsItsPromise, IsPlain, IsDumpOf};
+ghost use Rattle.mh_state.specs.Copies.{IsDumpOf};
+ghost use Rattle.mh_state.specs.Storing.{first_stored, with_entry, IsTheReplay, KeepsItsPromise};
 ghost use Rattle.mh_state.specs.declared.machine.Stop.{Stop};
 
+use crate::copies::{copy_of, dump_for};
 use crate::machine::{MOST_EVENTS, Machine, Stop};
-use mh_model::command::{Control, Event};
+use mh_model::command::Event;
 use mh_model::config::Config;
 use mh_model::dump::Dump;
 use mh_model::history::Entry;
@@ -40,20 +42,6 @@ impl Model for State {
     ghost invariant = { λ s. IsStored s.machine s.history.items };
 }
 
-/// The dump that an event will be answered, where it asks for one.
-#[tactic(auto, unfolding(mh_model::specs::Machine::event_step, mh_model::specs::Machine::control_step))]
-fn dump_for(alloc: Global, machine: &Machine, event: Event) -> Result<Option<Dump>, NoMemory>
-    ensures { IfOk result (λ dump. IsDumpOf (event_step machine.now.machine event).reply dump) }
-{
-    match event {
-        Event::Session(_, _) => Ok(None),
-        Event::Control(control) => match control {
-            Control::Dump => Ok(Some(machine.heap().dump(alloc)?)),
-            _ => Ok(None),
-        },
-    }
-}
-
 /// Makes room for an entry, and the dump that its event will be answered, where it asks for one.
 fn prepare(
     alloc: Global,
@@ -67,68 +55,6 @@ fn prepare(
 {
     history.reserve(1)?;
     dump_for(alloc, machine, event)
-}
-
-/// An equal reply, which takes no memory.
-fn plain_copy(reply: &Reply) -> Reply
-    requires { IsPlain reply.now }
-    ensures { result ≡ reply.now }
-{
-    match reply {
-        Reply::Done => Reply::Done,
-        Reply::Number(number) => Reply::Number(*number),
-        Reply::Yes => Reply::Yes,
-        Reply::No => Reply::No,
-        Reply::Shape(shape) => Reply::Shape(*shape),
-        Reply::Refused(refusal) => Reply::Refused(*refusal),
-        Reply::Spent { units, phase } => Reply::Spent {
-            units: *units,
-            phase: *phase,
-        },
-        Reply::Stat {
-            free,
-            live,
-            old,
-            phase,
-            cycle,
-        } => Reply::Stat {
-            free: *free,
-            live: *live,
-            old: *old,
-            phase: *phase,
-            cycle: *cycle,
-        },
-        Reply::Dump(_) => unreachable!(),
-        Reply::Report {
-            mutator,
-            collector,
-            quanta,
-            greatest,
-            window,
-            least,
-            floor,
-        } => Reply::Report {
-            mutator: *mutator,
-            collector: *collector,
-            quanta: *quanta,
-            greatest: *greatest,
-            window: *window,
-            least: *least,
-            floor: *floor,
-        },
-        Reply::Left(quanta) => Reply::Left(*quanta),
-    }
-}
-
-/// An equal reply, of a dump by the dump that is given.
-fn copy_of(reply: &Reply, dump: Option<Dump>) -> Reply
-    requires { IsDumpOf reply.now dump }
-    ensures { result ≡ reply.now }
-{
-    match dump {
-        Some(dump) => Reply::Dump(dump),
-        None => plain_copy(reply),
-    }
 }
 
 impl State {
@@ -149,6 +75,7 @@ impl State {
     fn enter<S: Scanner>(&mut self, event: Event, scanner: &mut S) -> Result<Reply, Stop>
         ensures step { IfOk result (λ reply. event_step self.old.machine event ≡ says reply self.new.machine) }
         ensures entered { IfOk result (λ reply. self.new.history ≡ with_entry self.old.history event reply) }
+        ensures config { self.new.machine.heap.config ≡ self.old.machine.heap.config }
         ensures stopped { OnErr result (self.new ≡ self.old) }
         ensures full { IsErrOf result Stop.HistoryFull → length self.old.history ≡ most_entries }
         ensures ends { length self.old.history ≡ most_entries → IsErrOf result Stop.HistoryFull }
@@ -171,6 +98,7 @@ impl State {
     /// What the laws tell of this state. It does nothing when it runs.
     fn told(&self)
         ensures legal { IsLegal self.now.machine.heap.config self.now.history }
+        ensures replay { IsTheReplay self.now }
         ensures promise { KeepsItsPromise self.now }
     {
         events_keep_the_replay();
@@ -182,6 +110,7 @@ impl State {
     pub fn apply<S: Scanner>(&mut self, event: Event, scanner: &mut S) -> Result<Reply, Stop>
         ensures step { IfOk result (λ reply. event_step self.old.machine event ≡ says reply self.new.machine) }
         ensures entered { IfOk result (λ reply. self.new.history ≡ with_entry self.old.history event reply) }
+        ensures config { self.new.machine.heap.config ≡ self.old.machine.heap.config }
         ensures stopped { OnErr result (self.new ≡ self.old) }
         ensures full { IsErrOf result Stop.HistoryFull → length self.old.history ≡ most_entries }
         ensures ends { length self.old.history ≡ most_entries → IsErrOf result Stop.HistoryFull }
@@ -212,7 +141,11 @@ impl State {
         ensures history { result.0.items ≡ self.history }
         ensures heap { result.1.kept ≡ self.machine.heap }
         ensures trace { result.2.trace ≡ self.machine.trace }
+        ensures legal { IsLegal self.machine.heap.config self.history }
+        ensures replay { IsTheReplay self }
+        ensures promise { KeepsItsPromise self }
     {
+        self.told();
         let (heap, trace) = self.machine.into_parts();
         (self.history, heap, trace)
     }

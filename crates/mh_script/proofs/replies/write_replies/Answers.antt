@@ -1,36 +1,37 @@
 use Rattle.std.proofs.Common.{◌∙◌, refl, arith}
-use Rattle.mh_script.proofs.RunLemmas.{AppendsBeginning-fails, AppendsBeginning-runs, Appends-ends, Runs-first, Runs-machine, Runs-more, Runs-written}
+use Rattle.mh_script.proofs.AddedLines.{added_all, added_begins, added_fails, added_more, added_none, added_written, on_err, state_after}
+use Rattle.mh_script.proofs.MachineLemmas.{machine_after-none, replies_add, replies_of_events-none, take_event}
 use Rattle.mh_script.proofs.replies.write_replies.Goals as goal
 
-pub returns-in_default-clause-begun : goal.returns-in_default-clause-begun
-returns-in_default-clause-begun g c = AppendsBeginning-runs c.loop-event.invariant.run
+pub returns-in_err-answer-clause-begun : goal.returns-in_err-answer-clause-begun
+returns-in_err-answer-clause-begun g c = on_err _ (added_begins c.loop-event.invariant.added (replies_add _))
 
-pub returns-in_default-flush_full-clause-begun : goal.returns-in_default-flush_full-clause-begun
-returns-in_default-flush_full-clause-begun g c =
-    let run = Runs-more c.loop-event.invariant.run _ _ _ c.loop-event-test.true c.in-Ok.ensures.machine c.in-Ok.ensures.text in
-    AppendsBeginning-fails run _ c.in_default-flush_full.ensures.begun
+pub returns-in_err-flush_full-clause-begun : goal.returns-in_err-flush_full-clause-begun
+returns-in_err-flush_full-clause-begun g c =
+    let added = added_more c.loop-event.invariant.added (replies_add _) _ _ _ (take_event _ _ _ c.loop-event-test.true) c.in_ok-answer.ensures.machine c.in_ok-answer.ensures.text in
+    on_err _ (added_fails added (replies_add _) _ c.in_err-flush_full.ensures.begun)
 
-pub returns-in_default-flush-clause-begun : goal.returns-in_default-flush-clause-begun
-returns-in_default-flush-clause-begun g c = AppendsBeginning-fails c.loop-event.invariant.run _ c.in_default-flush.ensures.begun
+pub returns-in_err-flush-clause-begun : goal.returns-in_err-flush-clause-begun
+returns-in_err-flush-clause-begun g c = on_err _ (added_fails c.loop-event.invariant.added (replies_add _) _ c.in_err-flush.ensures.begun)
 
 pub returns-clause-done : goal.returns-clause-done
-returns-clause-done g c = Appends-ends c.loop-event.invariant.run _ c.loop-event-test.false c.in-Ok-flush.ensures.done
+returns-clause-done g c = added_all c.loop-event.invariant.added _ c.loop-event-test.false c.in_ok-flush.ensures.done
 
 pub returns-clause-machine : goal.returns-clause-machine
-returns-clause-machine g c = Runs-machine c.loop-event.invariant.run c.loop-event-test.false
+returns-clause-machine g c = state_after c.loop-event.invariant.added c.loop-event-test.false
 
 pub loop-event-init : goal.loop-event-init
 loop-event-init g c = record {
-  run = Runs-first _ _ _ _ c.new-text.ensures.bytes;
+  added = added_none _ _ _ _ _ _ (machine_after-none _) (c.new-text.ensures.bytes ∙ replies_of_events-none _);
   count = omega arith;
   failures = refl;
 }
 
 pub loop-event-preserved : goal.loop-event-preserved
 loop-event-preserved g c =
-    let run = Runs-more c.loop-event.invariant.run _ _ _ c.loop-event-test.true c.in-Ok.ensures.machine c.in-Ok.ensures.text in
+    let added = added_more c.loop-event.invariant.added (replies_add _) _ _ _ (take_event _ _ _ c.loop-event-test.true) c.in_ok-answer.ensures.machine c.in_ok-answer.ensures.text in
     record {
-      run = Runs-written run _ _ c.in-Ok-flush_full.ensures.kept;
-      count = omega (arith, c.in-Ok.ensures.count, c.loop-event.invariant.count);
-      failures = c.in-Ok-flush_full.ensures.no_failure ∙ c.loop-event.invariant.failures;
+      added = added_written added _ _ c.in_ok-flush_full.ensures.kept;
+      count = omega (arith, c.in_ok-answer.ensures.count, c.loop-event.invariant.count);
+      failures = c.in_ok-flush_full.ensures.no_failure ∙ c.loop-event.invariant.failures;
     }

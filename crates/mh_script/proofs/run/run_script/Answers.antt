@@ -1,48 +1,46 @@
 use Rattle.std.proofs.Common.{sym, ap, ◌∙◌}
 use Rattle.mh_model.specs.Script.{BadLine}
-use Rattle.mh_script.proofs.SourceLemmas.{Reads-slice, Refused-reads, Done-reads, HistoryFull-reads, WritesBeginning-nothing, WritesBeginning-reads, beginning_of, few_entries, many_entries}
+use Rattle.mh_script.proofs.AddedLines.{on_err}
+use Rattle.mh_script.proofs.SourceLemmas.{Refused-reads, Done-reads, HistoryFull-reads, WritesBeginning-nothing, WritesBeginning-reads, beginning_of, few_entries, many_entries, reads_slice, script_bounded}
 use Rattle.mh_script.proofs.run.run_script.Goals as goal
 
-pub returns-in-Err-Device-clause-begun : goal.returns-in-Err-Device-clause-begun
-returns-in-Err-Device-clause-begun g c = WritesBeginning-nothing _ _
-
-pub returns-in-Err-NoMemory-clause-begun : goal.returns-in-Err-NoMemory-clause-begun
-returns-in-Err-NoMemory-clause-begun g c = WritesBeginning-nothing _ _
+pub returns-in_err-text-clause-begun : goal.returns-in_err-text-clause-begun
+returns-in_err-text-clause-begun g c = on_err _ (WritesBeginning-nothing _ _)
 
 pub returns-in-Ok-write_answers-clause-begun : goal.returns-in-Ok-write_answers-clause-begun
 returns-in-Ok-write_answers-clause-begun g c =
-    let reads = Reads-slice _ _ _ _ c.as_slice.ensures.value c.in-Ok.ensures.read c.in-Ok.ensures.whole in
-    WritesBeginning-reads reads _ _ _ c.in-Ok-parse.ensures.script (beginning_of _ _ _ c.in-Ok-write_answers.ensures.done)
+    let reads = reads_slice _ _ script_bounded _ _ _ _ c.as_slice.ensures.value c.in_ok-text.ensures.read c.in_ok-text.ensures.whole in
+    WritesBeginning-reads reads _ _ _ c.in-Ok.ensures.script (beginning_of _ _ _ c.in-Ok-write_answers.ensures.done)
 
 pub returns-in-Ok-write_answers-clause-full : goal.returns-in-Ok-write_answers-clause-full
 returns-in-Ok-write_answers-clause-full g c = λ is.
-    let reads = Reads-slice _ _ _ _ c.as_slice.ensures.value c.in-Ok.ensures.read c.in-Ok.ensures.whole in
-    HistoryFull-reads reads _ _ _ c.in-Ok-parse.ensures.script c.in-Ok-write_answers.ensures.done (many_entries _ c.events.result.now c.events.ensures c.if-events-gt-MOST_ENTRIES.true)
+    let reads = reads_slice _ _ script_bounded _ _ _ _ c.as_slice.ensures.value c.in_ok-text.ensures.read c.in_ok-text.ensures.whole in
+    HistoryFull-reads reads _ _ _ c.in-Ok.ensures.script c.in-Ok-write_answers.ensures.done (many_entries _ c.events.result.now c.events.ensures c.if-events-gt-MOST_ENTRIES.true)
 
 pub returns-in-Ok-2-clause-ends : goal.returns-in-Ok-2-clause-ends
 returns-in-Ok-2-clause-ends g c =
-    let reads = Reads-slice _ _ _ _ c.as_slice.ensures.value c.in-Ok.ensures.read c.in-Ok.ensures.whole in
-    Done-reads reads _ _ _ c.in-Ok-parse.ensures.script c.in-Ok-2.ensures.done (few_entries _ c.events.result.now c.events.ensures c.if-events-gt-MOST_ENTRIES.false)
+    let reads = reads_slice _ _ script_bounded _ _ _ _ c.as_slice.ensures.value c.in_ok-text.ensures.read c.in_ok-text.ensures.whole in
+    Done-reads reads _ _ _ c.in-Ok.ensures.script c.in-Ok-2.ensures.done (few_entries _ c.events.result.now c.events.ensures c.if-events-gt-MOST_ENTRIES.false)
 
-pub returns-in-Err-Device-write_answers-clause-begun : goal.returns-in-Err-Device-write_answers-clause-begun
-returns-in-Err-Device-write_answers-clause-begun g c =
-    let reads = Reads-slice _ _ _ _ c.as_slice.ensures.value c.in-Ok.ensures.read c.in-Ok.ensures.whole in
-    WritesBeginning-reads reads _ _ _ c.in-Ok-parse.ensures.script c.in-Err-Device-write_answers.ensures.begun
+pub returns-in-Err-Device-clause-begun : goal.returns-in-Err-Device-clause-begun
+returns-in-Err-Device-clause-begun g c =
+    let reads = reads_slice _ _ script_bounded _ _ _ _ c.as_slice.ensures.value c.in_ok-text.ensures.read c.in_ok-text.ensures.whole in
+    WritesBeginning-reads reads _ _ _ c.in-Ok.ensures.script c.in-Err-Device.ensures.begun
 
-pub returns-in-Ok-parse-clause-begun : goal.returns-in-Ok-parse-clause-begun
-returns-in-Ok-parse-clause-begun g c =
-    let reads = Reads-slice _ _ _ _ c.as_slice.ensures.value c.in-Ok.ensures.read c.in-Ok.ensures.whole in
-    WritesBeginning-reads reads _ _ _ c.in-Ok-parse.ensures.script c.in-Err-NoMemory-write_answers.ensures.begun
+pub returns-in-Ok-clause-begun : goal.returns-in-Ok-clause-begun
+returns-in-Ok-clause-begun g c =
+    let reads = reads_slice _ _ script_bounded _ _ _ _ c.as_slice.ensures.value c.in_ok-text.ensures.read c.in_ok-text.ensures.whole in
+    WritesBeginning-reads reads _ _ _ c.in-Ok.ensures.script c.in-Err-NoMemory-write_answers.ensures.begun
 
-pub returns-in-Ok-write_refusal-clause-ends : goal.returns-in-Ok-write_refusal-clause-ends
-returns-in-Ok-write_refusal-clause-ends g c =
-    let reads = Reads-slice _ _ _ _ c.as_slice.ensures.value c.in-Ok.ensures.read c.in-Ok.ensures.whole in
+pub returns-in-Ok-write_verdict-clause-ends : goal.returns-in-Ok-write_verdict-clause-ends
+returns-in-Ok-write_verdict-clause-ends g c =
+    let reads = reads_slice _ _ script_bounded _ _ _ _ c.as_slice.ensures.value c.in_ok-text.ensures.read c.in_ok-text.ensures.whole in
     let bad = rw c.in-Err-Line.field-0-is at c.in-Err-Line.ensures.line in
-    Refused-reads reads _ _ _ (bad ∙ ap BadLine (sym c.in-Err-Line.line-is)) c.in-Ok-write_refusal.ensures.done
+    Refused-reads reads _ _ _ (bad ∙ ap BadLine (sym c.in-Err-Line.line-is)) c.in-Ok-write_verdict.ensures.done
 
 pub returns-in-Err-Line-clause-begun : goal.returns-in-Err-Line-clause-begun
 returns-in-Err-Line-clause-begun g c =
-    let reads = Reads-slice _ _ _ _ c.as_slice.ensures.value c.in-Ok.ensures.read c.in-Ok.ensures.whole in
+    let reads = reads_slice _ _ script_bounded _ _ _ _ c.as_slice.ensures.value c.in_ok-text.ensures.read c.in_ok-text.ensures.whole in
     let bad = rw c.in-Err-Line.field-0-is at c.in-Err-Line.ensures.line in
     WritesBeginning-reads reads _ _ _ (bad ∙ ap BadLine (sym c.in-Err-Line.line-is)) c.in-Err.ensures.begun
 

@@ -1,7 +1,7 @@
 use Rattle.std.proofs.Common.{◌≡◌, ◌≢◌, length, arith}
 use Rattle.mh_model.specs.Limits.{most_entries}
 use Rattle.mh_state.specs.Storing.{with_entry}
-use Rattle.mh_state.proofs.StoringLemmas.{stored-on}
+use Rattle.mh_state.proofs.StoringLemmas.{stored-on, config-on}
 use Rattle.mh_state.proofs.state.State.enter.Goals as goal
 
 pub invariant_of-self : goal.invariant_of-self
@@ -13,3 +13,6 @@ invariant_of-self-in-Ok g c =
     let more : length c.self.inside.history.items ≢ most_entries = omega (arith, c.self.inside.history.ok.0) in
     let entered : c.push_reserved.new.self.items ≡ with_entry c.self.inside.history.items c.args.event c.in_ok-reply-in-Ok.reply = cc in
     rw entered (stored-on c.events_keep_the_replay.ensures c.self.inside.machine c.step.new.self c.self.inside.history.items c.args.event c.in_ok-reply-in-Ok.reply c.self.invariant more c.in_ok-reply-in-Ok.ensures.step)
+
+pub returns-in_ok-reply-in-Ok-clause-config : goal.returns-in_ok-reply-in-Ok-clause-config
+returns-in_ok-reply-in-Ok-clause-config g c = rw (← c.self.view_is) (config-on c.events_keep_the_replay.ensures c.self.inside.machine c.step.new.self c.self.inside.history.items c.args.event c.in_ok-reply-in-Ok.reply c.self.invariant c.in_ok-reply-in-Ok.ensures.step)

@@ -1,5 +1,5 @@
 use Rattle.mh_state.proofs.PlainReplies.{session-plain, control-plain}
-use Rattle.mh_state.proofs.state.dump_for.Goals as goal
+use Rattle.mh_state.proofs.copies.dump_for.Goals as goal
 
 pub returns-in-Session : goal.returns-in-Session
 returns-in-Session c = rw c.in-Session.is (session-plain c.args.machine.now.machine c.in-Session.field-0 c.in-Session.field-1)

@@ -1,0 +1,3 @@
+pub mod NewRacers
+pub mod RacedCalls
+pub mod RunSeats

@@ -1,0 +1,5 @@
+//! Races: the sessions of a script and its desk call one service at once, each in a thread of its own.
+#![tactic(auto)]
+
+pub mod race;
+mod racer;

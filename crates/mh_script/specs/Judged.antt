@@ -1,0 +1,53 @@
+-- What calls that judge or migrate a history have written.
+use Rattle.std.specs.Prelude.{◌≡◌, ℕ, Option}
+use Rattle.std.specs.Io.KnownBytes.{Appends}
+use Rattle.mh_model.specs.declared.config.Config.{Config}
+use Rattle.mh_model.specs.declared.history.Verdict.{Verdict}
+use Rattle.mh_model.specs.declared.history.Verdict.TheVariants.{Legal}
+use Rattle.mh_model.specs.Bytes.{Text, line_text}
+use Rattle.mh_model.specs.HistoryTexts.{IsAudited, IsChecked, IsMigratedTo, history_reading, migration_text, verdict_text}
+use Rattle.mh_text.specs.Stream.{AppendsBeginning}
+use Rattle.mh_script.specs.Texts.{IsTextOf}
+
+-- Judged -----------------------------------------------------------------------------------------
+
+-- by a judgement, this is the verdict on the text of a source; its line was written, and nothing else
+pub record Judges (Judged : Text → Verdict → Type 0) (known old new : Option Text) (verdict : Verdict) : Type 0 where
+  pub text : Text
+  pub is_text : IsTextOf known text
+  pub judged : Judged text verdict
+  pub wrote : Appends old new (line_text (verdict_text verdict))
+
+-- a beginning of the line of the verdict on the text of a source was written
+pub record BeginsToJudge (Judged : Text → Verdict → Type 0) (known old new : Option Text) : Type 0 where
+  pub text : Text
+  pub is_text : IsTextOf known text
+  pub verdict : Verdict
+  pub judged : Judged text verdict
+  pub wrote : AppendsBeginning old new (line_text (verdict_text verdict))
+
+-- Migrated ---------------------------------------------------------------------------------------
+
+-- this is the verdict on a text, and what migration then makes of it was written, and nothing else
+pub record MigratesText (config : Config) (text : Text) (old new : Option Text) (verdict : Verdict) : Type 0 where
+  pub checked : IsChecked config text verdict
+  pub wrote : Appends old new (migration_text config verdict (history_reading text))
+
+-- a beginning of what migration makes of a text was written
+pub record BeginsMigration (config : Config) (text : Text) (old new : Option Text) : Type 0 where
+  pub whole : Text
+  pub migrated : IsMigratedTo config text whole
+  pub wrote : AppendsBeginning old new whole
+
+-- the text of a source was migrated; what is written of a legal history is a legal history too, of as many entries
+pub record Migrates (config : Config) (known old new : Option Text) (verdict : Verdict) : Type 0 where
+  pub text : Text
+  pub is_text : IsTextOf known text
+  pub migrated : MigratesText config text old new verdict
+  pub legal : (count : ℕ) → verdict ≡ Legal count → IsAudited (migration_text config verdict (history_reading text)) (Legal count)
+
+-- a beginning of what migration makes of the text of a source was written
+pub record BeginsToMigrate (config : Config) (known old new : Option Text) : Type 0 where
+  pub text : Text
+  pub is_text : IsTextOf known text
+  pub begun : BeginsMigration config text old new

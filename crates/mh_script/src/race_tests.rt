@@ -1,0 +1,126 @@
+use crate::end::End;
+use crate::fault::ScriptFault;
+use crate::judge::audit_script;
+use crate::race::race_script;
+use crate::test_devices::{ShortSink, ShortSource};
+use arrayvec::ArrayVec;
+use mh_blocks::blocks::Blocks;
+use mh_claims::gate::{Gate, Open};
+use mh_model::history::Verdict;
+use mh_model::memory::NoMemory;
+use mh_model::place::Place;
+use mh_scan::crew;
+use mh_scan::crew_scan::CrewGate;
+use mh_text::sink::StdSink;
+use mh_text::source::StdSource;
+use std::alloc::Global;
+use std::sync::atomic::AtomicU64;
+use std::sync::atomic::Ordering::SeqCst;
+use std::thread;
+use std::thread::Threads;
+
+const SHARED: &[u8] =
+    b"config 4 209 0 0\na new 0 0 1\na write 0 0 5\na post 0 0\nb take 0 0\nb shape 0\n";
+
+/// For how many turns a gate holds a session at most.
+const TURNS: u64 = 1_000_000;
+
+/// A gate that holds session 0 until session 1 began.
+#[derive(Drop)]
+struct Hold {
+    begun: AtomicU64,
+    turns: AtomicU64,
+}
+
+impl Gate for Hold {
+    fn piece(&self, _worker: usize, _piece: u64) {}
+
+    fn session(&self, who: u8) {
+        if who == 1 {
+            self.begun.store(1, SeqCst);
+        }
+        if who != 0 {
+            return;
+        }
+        for _ in 0..TURNS {
+            if self.begun.load(SeqCst) == 1 {
+                return;
+            }
+            self.turns.fetch_add(1, SeqCst);
+            thread::yield_now();
+        }
+    }
+}
+
+impl CrewGate for Hold {
+    fn scan_by_crew<R: Threads>(
+        &self,
+        rt: &R,
+        alloc: Global,
+        workers: usize,
+        blocks: &Blocks,
+        batch: &[Place],
+    ) -> Result<Vec<ArrayVec<Option<Place>, 60>>, NoMemory> {
+        crew::scan(rt, alloc, workers, self, blocks, batch)
+    }
+}
+
+/// The verdict on a history of version 2.
+fn verdict_on(alloc: Global, history: &[u8]) -> Result<Verdict, ScriptFault> {
+    let mut sink = StdSink::new(Vec::new(alloc));
+    audit_script(alloc, &mut StdSource::new(history), &mut sink)
+}
+
+#[test]
+fn two_sessions_make_a_legal_history(rt: HostRuntime) {
+    let alloc = rt.alloc();
+    for workers in [1, 2] {
+        let mut sink = StdSink::new(Vec::new(alloc));
+        let mut source = StdSource::new(SHARED);
+        let ended = race_script(&rt, alloc, &mut source, &mut sink, workers, &Open);
+        assert_eq!(rt; ended, Ok(End::Done));
+        let found = verdict_on(alloc, sink.writer.as_slice());
+        assert_eq!(rt; found, Ok(Verdict::Legal(5)));
+    }
+}
+
+#[test]
+fn two_sessions_run_at_once(rt: HostRuntime) {
+    let alloc = rt.alloc();
+    let gate = Hold {
+        begun: AtomicU64::new(0),
+        turns: AtomicU64::new(0),
+    };
+    let mut sink = StdSink::new(Vec::new(alloc));
+    let mut source = StdSource::new(SHARED);
+    let ended = race_script(&rt, alloc, &mut source, &mut sink, 1, &gate);
+    assert_eq!(rt; ended, Ok(End::Done));
+    assert!(rt; gate.turns.load(SeqCst) < TURNS);
+    let found = verdict_on(alloc, sink.writer.as_slice());
+    assert_eq!(rt; found, Ok(Verdict::Legal(5)));
+}
+
+#[test]
+fn a_refused_script_is_no_race(rt: HostRuntime) {
+    let alloc = rt.alloc();
+    let mut sink = StdSink::new(Vec::new(alloc));
+    let mut source = StdSource::new(b"config 4 209 0 0\na walk\n".as_slice());
+    let ended = race_script(&rt, alloc, &mut source, &mut sink, 1, &Open);
+    assert_eq!(rt; ended, Ok(End::Refused(2)));
+    assert_eq!(rt; sink.writer.as_slice(), b"refused 10 line 2\n".as_slice());
+}
+
+#[test]
+fn a_race_and_devices_that_fail(rt: HostRuntime) {
+    let alloc = rt.alloc();
+    let mut sink = StdSink::new(Vec::new(alloc));
+    let mut source = ShortSource::new(SHARED, 2);
+    let ended = race_script(&rt, alloc, &mut source, &mut sink, 1, &Open);
+    assert_eq!(rt; ended, Err(ScriptFault::Read));
+    assert!(rt; sink.writer.is_empty());
+    let mut sink = ShortSink::new(alloc, 20, 2);
+    let mut source = StdSource::new(SHARED);
+    let ended = race_script(&rt, alloc, &mut source, &mut sink, 1, &Open);
+    assert_eq!(rt; ended, Err(ScriptFault::Write));
+    assert_eq!(rt; sink.written.as_slice(), b"history 2 rules 2 4 ".as_slice());
+}

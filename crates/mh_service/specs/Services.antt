@@ -1,0 +1,40 @@
+-- Services and their seats as contracts see them, and what a service leaves.
+use Rattle.std.specs.Prelude.{◌≡◌, ℕ, List, [], All, get_or, length}
+use Rattle.atomic_table.specs.Seated.{TableId}
+use Rattle.mh_lock.specs.Seats.{LockSeatView}
+use Rattle.mh_model.specs.declared.command.Event.{Event}
+use Rattle.mh_model.specs.declared.config.Config.{Config}
+use Rattle.mh_model.specs.declared.history.Entry.{Entry}
+use Rattle.mh_model.specs.History.{owner_of}
+use Rattle.mh_promise.specs.Runs.{Outcome}
+use Rattle.mh_seat_laws.specs.Merges.{IsMerge}
+use Rattle.mh_service.specs.declared.service.Closed.{Closed}
+use Rattle.mh_state.specs.Storing.{replies_of}
+
+-- A service: the table of its lock, and its configuration
+pub record ServiceView : Type 0 where
+  pub table : TableId
+  pub config : Config
+
+-- a seat is one of this service
+abbrev pub IsOf : ServiceView → LockSeatView Entry → Type 0
+IsOf service seat = seat.table ≡ service.table
+
+-- the seat of this service that has a number, before its first call
+abbrev pub new_seat : ServiceView → ℕ → LockSeatView Entry
+new_seat service number = record { table = service.table; number = number; log = [] }
+
+-- an event is one of a seat's
+abbrev pub Owns : LockSeatView Entry → Event → Type 0
+Owns seat event = owner_of event ≡ seat.number
+
+-- what is promised of an outcome is promised of what a service leaves
+abbrev pub shown : Closed → Outcome
+shown closed = record { replies = replies_of closed.history.items; heap = closed.heap.kept; free = closed.free; trace = closed.trace.trace }
+
+-- A history is a merge of nine logs, of which each seat's stands at its number
+pub record AreMerged (seats : List (LockSeatView Entry)) (history : List Entry) : Type 0 where
+  pub logs : List (List Entry)
+  pub nine : length logs ≡ 9
+  pub each : All (λ seat. get_or logs seat.number [] ≡ seat.log) seats
+  pub merge : IsMerge logs history

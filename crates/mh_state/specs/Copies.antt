@@ -1,0 +1,15 @@
+-- Copies of replies, of which only that of a dump takes memory.
+use Rattle.std.specs.Prelude.{◌≡◌, List, Option, Some, None}
+use Rattle.mh_model.specs.declared.dump.DumpItem.{DumpItem}
+use Rattle.mh_model.specs.declared.reply.Reply.{Reply}
+use Rattle.mh_model.specs.declared.reply.Reply.TheVariants as reply
+
+-- a reply that is no dump
+abbrev pub IsPlain : Reply → Type 0
+IsPlain (reply.Dump items) = ⊥
+IsPlain _ = Unit {0}
+
+-- the dump that a reply is, where it is one
+abbrev pub IsDumpOf : Reply → Option (List DumpItem) → Type 0
+IsDumpOf given None = IsPlain given
+IsDumpOf given (Some items) = given ≡ reply.Dump items
