@@ -1,5 +1,5 @@
 -- What the history of a race has of each seat's calls.
-use Rattle.std.proofs.Common.{arith, ◌≡◌, ◌≤◌, ◌<◌, ◌==◌, ◌+◌, ◌⊎◌, inl, inr, ⊎_elim, ℕ, Bool, true, false, List, [], ◌∷◌, ◌++◌, Option, None, All, count_by, map, filter, refl, sym, ap, ◌∙◌, subst, cond}
+use Rattle.std.proofs.Common.{arith, ◌≡◌, ◌≤◌, ◌<◌, ◌==◌, ◌+◌, ⊎_elim, ℕ, Bool, true, false, List, [], ◌∷◌, ◌++◌, Option, None, All, count_by, refl, sym, ap, ◌∙◌, subst, cond}
 use Rattle.std.proofs.lemmas.Bool.{eqb-true}
 use Rattle.std.proofs.lemmas.Bool.Decides.{leb_tells}
 use Rattle.std.proofs.lemmas.List.Elements.{All-head, All-tail}
@@ -67,15 +67,17 @@ module _ (one_owner : (event : Event) → owner_of event ≤ 8) (events : List E
     all = made.0.all;
   })
 
+  below-nine : (number : ℕ) → number < 9 → HasCalls events (events_of history) refused number
+  below-nine number below =
+      let found = find Made (λ seat. seat.number == number) seats (λ k d lt. (run k d lt, logs k d lt)) (omega (arith, numbers number below)) in
+      of-seat number found.x found.holds (eqb-true found.x.number number found.passes)
+
+  above-eight : (number : ℕ) → 8 < number → HasCalls events (events_of history) refused number
+  above-eight number above = record {
+    left = [];
+    made = ap (λ es. es ++ []) (owned-none owner_of 8 number one_owner above (events_of history)) ∙ sym (owned-none owner_of 8 number one_owner above events);
+    all = λ none. refl;
+  }
+
   pub calls-at : (number : ℕ) → HasCalls events (events_of history) refused number
-  calls-at number = ⊎_elim (λ below. go (inl (omega (arith, below.1)))) (λ above. go (inr above.1)) (leb_tells number 8)
-    where
-      go : (number < 9) ⊎ (8 < number) → HasCalls events (events_of history) refused number
-      go (inl below) =
-          let found = find Made (λ seat. seat.number == number) seats (λ k d lt. (run k d lt, logs k d lt)) (omega (arith, numbers number below)) in
-          of-seat number found.x found.holds (eqb-true found.x.number number found.passes)
-      go (inr above) = record {
-        left = [];
-        made = ap (λ es. es ++ []) (owned-none owner_of 8 number one_owner above (events_of history)) ∙ sym (owned-none owner_of 8 number one_owner above events);
-        all = λ none. refl;
-      }
+  calls-at number = ⊎_elim (λ within. below-nine number (omega (arith, within.1))) (λ past. above-eight number past.1) (leb_tells number 8)

@@ -1,8 +1,8 @@
 -- What the seats of a race have run of its events.
-use Rattle.std.proofs.Common.{◌≡◌, ◌==◌, ℕ, List, ◌++◌, Option, Some, None, All, map, take, drop, length, sym, ap, ◌∙◌, subst, arith}
+use Rattle.std.proofs.Common.{◌≡◌, ◌==◌, ℕ, List, ◌++◌, Option, Some, None, All, map, take, drop, length, sym, ap, ◌∙◌, arith}
 use Rattle.std.proofs.Math.Seq.{take-append_seam}
 use Rattle.std.proofs.lemmas.List.{take-append-drop}
-use Rattle.std.proofs.lemmas.List.Elements.{All-append, All-map, filter-append}
+use Rattle.std.proofs.lemmas.List.Elements.{All-map, filter-append}
 use Rattle.std.proofs.lemmas.Option.{none-some}
 use Rattle.mh_lock.specs.Seats.{LockSeatView}
 use Rattle.mh_model.specs.declared.command.Event.{Event}

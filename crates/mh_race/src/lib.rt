@@ -3,3 +3,5 @@
 
 pub mod race;
 mod racer;
+#[cfg(test)]
+mod tests;

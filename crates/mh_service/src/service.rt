@@ -91,6 +91,7 @@ impl<'a, G: CrewGate> Service<'a, G> {
         requires { (0 < workers) × (workers ≤ 64) }
         ensures config { IfOk result (λ made. made.0.config ≡ config) }
         ensures count { IfOk result (λ made. vec_len made.1 ≡ 9) }
+        ensures own { IfOk result (λ made. All (IsOf made.0) made.1.items) }
         ensures each { IfOk result (λ made. (number : ℕ) (other : LockSeatView Entry) → number < 9 → slice_index_or made.1.items number other ≡ new_seat made.0 number) }
     {
         let state = State::open(alloc, config)?;

@@ -1,16 +1,19 @@
-ghost use Rattle.std.specs.Prelude.{◌≡◌};
+ghost use Rattle.std.specs.Prelude.{All, IfOk};
 ghost use Rattle.mh_service.specs.Services.{IsOf};
 
-use crate::seat::{DESK, Seat};
-use crate::service::Service;
+use crate::seat::Seat;
+use crate::service::{Closed, MissingSeat, Service};
 use mh_claims::gate::Open;
 use mh_model::command::{Command, Control, Event};
 use mh_model::config::Config;
 use mh_model::reply::Reply;
 use mh_state::machine::Stop;
+use std::alloc::{AllocError, Global};
 use std::sync::Wait;
 use std::test::Fail;
 use std::thread::Threads;
+
+static OPEN: Open = Open;
 
 const CLEAR: Event = Event::Session(0, Command::Clear { slot: 0 });
 
@@ -27,42 +30,54 @@ const DUMP: Event = Event::Control(Control::Dump);
 
 const LATE: Event = Event::Session(9, Command::End);
 
-/// The answer to a call of a seat, which is none where the seat doesn't own the event.
-fn call<R: Threads + Wait>(
+/// The answer to a call of the seat at an index, which is none where it doesn't own the event.
+fn call_at<R: Threads + Wait>(
     rt: &R,
     service: &Service<'_, Open>,
-    seat: &mut Seat,
+    seats: &mut [Seat],
+    index: usize,
     event: Event,
 ) -> Option<Result<Reply, Stop>>
-    requires { IsOf service.now seat.old }
-    ensures { IsOf service.now seat.new × (seat.new.number ≡ seat.old.number) }
+    requires { All (IsOf service.now) seats.old }
+    ensures { All (IsOf service.now) seats.new }
 {
-    if seat.owns(&event) {
-        Some(service.call(rt, seat, event))
-    } else {
-        None
+    if index >= seats.len() || !seats[index].owns(&event) {
+        return None;
     }
+    Some(service.call(rt, &mut seats[index], event))
+}
+
+/// A service of two workers over four pages, with its seats.
+fn opened(alloc: Global) -> Result<(Service<'static, Open>, Vec<Seat>), Fail>
+    ensures { IfOk result (λ made. All (IsOf made.0) made.1.items) }
+{
+    let config = Config::new(4, 209, 0, 0).ok_or("no configuration")?;
+    Ok(Service::open(alloc, config, 2, &OPEN)?)
+}
+
+/// Whether a service is closed with all its seats but the last, and then with all.
+fn closes_with_all_seats(
+    service: Service<'_, Open>,
+    mut seats: Vec<Seat>,
+) -> Result<Option<Closed>, AllocError>
+    requires { All (IsOf service) seats.items }
+{
+    let Some(last) = seats.pop() else {
+        return Ok(None);
+    };
+    let Err(MissingSeat { service, mut seats }) = service.close(seats) else {
+        return Ok(None);
+    };
+    seats.push(last)?;
+    Ok(service.close(seats).ok())
 }
 
 #[test]
 fn a_service_closes_with_all_its_seats(rt: HostRuntime) -> Result<(), Fail> {
-    let alloc = rt.alloc();
-    let config = Config::new(4, 209, 0, 0).ok_or("no configuration")?;
-    let (service, mut seats) = Service::open(alloc, config, 1, &Open)?;
-    let mut desk = seats.pop().ok_or("no seat")?;
-    assert_eq!(rt; desk.number(), DESK);
-    assert!(rt; call(&rt, &service, &mut desk, NEW).is_none());
-    assert!(rt; call(&rt, &service, &mut desk, LATE).is_some());
-    let Err(back) = service.close(seats) else {
-        panic!(rt; "closed with a seat missing")
-    };
-    let service = back.service;
-    let mut seats = back.seats;
-    assert_eq!(rt; seats.len(), 8);
-    seats.push(desk)?;
-    let Ok(closed) = service.close(seats) else {
-        panic!(rt; "not closed")
-    };
+    let (service, mut seats) = opened(rt.alloc())?;
+    assert!(rt; call_at(&rt, &service, &mut seats, 8, NEW).is_none());
+    assert!(rt; call_at(&rt, &service, &mut seats, 8, LATE).is_some());
+    let closed = closes_with_all_seats(service, seats)?.ok_or("not closed")?;
     assert_eq!(rt; closed.history.len(), 1);
     assert_eq!(rt; closed.free, 4);
     Ok(())
@@ -70,31 +85,26 @@ fn a_service_closes_with_all_its_seats(rt: HostRuntime) -> Result<(), Fail> {
 
 #[test]
 fn a_seat_has_its_calls_in_its_log(rt: HostRuntime) -> Result<(), Fail> {
-    let alloc = rt.alloc();
-    let config = Config::new(4, 209, 0, 0).ok_or("no configuration")?;
-    let (service, mut seats) = Service::open(alloc, config, 2, &Open)?;
-    let mut desk = seats.pop().ok_or("no seat")?;
-    let mut last = seats.pop().ok_or("no seat")?;
-    let made = call(&rt, &service, &mut last, NEW);
-    assert!(rt; matches!(made, Some(Ok(Reply::Done))));
-    assert_eq!(rt; last.log().len(), 1);
-    let _ = call(&rt, &service, &mut desk, DUMP);
-    let told = format!(in alloc; "{:?}", desk.log())?;
+    let (service, mut seats) = opened(rt.alloc())?;
+    let _ = call_at(&rt, &service, &mut seats, 7, NEW);
+    let _ = call_at(&rt, &service, &mut seats, 8, DUMP);
+    let desk = seats.pop().ok_or("no seat")?;
+    let told = format!(in rt.alloc(); "{} {:?}", desk.number(), desk.log())?;
     assert_eq!(rt;
         told.as_str(),
-        "[Entry { event: Control(Dump), reply: Dump(Dump { items: [\
+        "8 [Entry { event: Control(Dump), reply: Dump(Dump { items: [\
         Page { page: 0, class_size: 4, is_flagged: false }, Block { slot: 0, birth: 0, part: 0 }] }) }]"
     );
     Ok(())
 }
 
-/// Makes as many calls of a seat as a history has room for.
-fn fill<R: Threads + Wait>(rt: &R, service: &Service<'_, Open>, seat: &mut Seat) -> bool
-    requires { IsOf service.now seat.old }
-    ensures { IsOf service.now seat.new }
+/// Makes as many calls of the first seat as a history has room for.
+fn fill<R: Threads + Wait>(rt: &R, service: &Service<'_, Open>, seats: &mut [Seat]) -> bool
+    requires { All (IsOf service.now) seats.old }
+    ensures { All (IsOf service.now) seats.new }
 {
     for _ in 0..1_000_000 {
-        if !matches!(call(rt, service, seat, CLEAR), Some(Ok(Reply::Done))) {
+        if !matches!(call_at(rt, service, seats, 0, CLEAR), Some(Ok(Reply::Done))) {
             return false;
         }
     }
@@ -103,14 +113,11 @@ fn fill<R: Threads + Wait>(rt: &R, service: &Service<'_, Open>, seat: &mut Seat)
 
 #[test]
 fn a_full_history_stops_every_seat(rt: HostRuntime) -> Result<(), Fail> {
-    let config = Config::new(4, 209, 0, 0).ok_or("no configuration")?;
-    let (service, seats) = Service::open(rt.alloc(), config, 1, &Open)?;
-    let mut seats = seats.into_iter();
-    let mut first = seats.next().ok_or("no seat")?;
-    let mut desk = seats.last().ok_or("no seat")?;
-    assert!(rt; fill(&rt, &service, &mut first));
-    let answer = call(&rt, &service, &mut desk, DUMP);
+    let (service, mut seats) = opened(rt.alloc())?;
+    assert!(rt; fill(&rt, &service, &mut seats));
+    let answer = call_at(&rt, &service, &mut seats, 8, DUMP);
     assert!(rt; matches!(answer, Some(Err(Stop::HistoryFull))));
+    let desk = seats.pop().ok_or("no seat")?;
     assert_eq!(rt; desk.log().len(), 0);
     Ok(())
 }

@@ -1,7 +1,7 @@
-use Rattle.std.proofs.Common.{◌≡◌, ◌++◌, ap, ◌∙◌, sym, subst, append-nil}
+use Rattle.std.proofs.Common.{◌++◌, ap, ◌∙◌, sym, subst, append-nil}
 use Rattle.mh_model.specs.History.{IsLegal, owner_of, owned_by}
 use Rattle.mh_state.specs.Storing.{events_of}
-use Rattle.mh_race.proofs.RacedCalls.{HasCalls, calls-at}
+use Rattle.mh_race.proofs.RacedCalls.{calls-at}
 use Rattle.mh_race.proofs.race.race.Goals as goal
 
 pub returns-clause-legal : goal.returns-clause-legal

@@ -1,4 +1,4 @@
-use Rattle.std.proofs.Common.{◌≡◌, ◌++◌, None, All, map, vec_len, vec_capacity, length}
+use Rattle.std.proofs.Common.{◌≡◌, ◌++◌, None, All, map, vec_capacity}
 use Rattle.mh_race.proofs.race.take_seats.Given as goal
 
 abbrev pub invariant-loop-seat : goal.invariant-loop-seat
