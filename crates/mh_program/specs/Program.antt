@@ -11,8 +11,11 @@ use Rattle.mh_program.specs.declared.line.Order.{Order}
 use Rattle.mh_program.specs.declared.line.Order.TheVariants.{Run, Race, Check, Audit, Migrate}
 use Rattle.std.specs.declared.io.ErrorKind.{ErrorKind}
 use Rattle.mh_program.specs.Orders.{GivesOrder, IsFault, IsUnread}
+use Rattle.mh_model.specs.HistoryTexts.{IsAudited, IsChecked}
+use Rattle.mh_script.specs.Judged.{IsJudging, IsMigrating}
+use Rattle.mh_script.specs.Raced.{IsRaceRun}
 use Rattle.mh_script.specs.Run.{Device, IsRun}
-use Rattle.mh_program.specs.Status.{status_of, line_status_of}
+use Rattle.mh_program.specs.Status.{status_of, verdict_status_of, line_status_of}
 
 -- what words that are text give: an order, or a fault
 abbrev pub OrdersBy : List Text → Result Order LineFault → Type 0
@@ -62,11 +65,11 @@ pub record Declines (source source' sink sink' errors errors' : Device) (fault :
   pub told : TellsLine errors errors' fault
   pub exit : status ≡ line_status_of fault
 
--- What the program does on an order, or on words that give none; nothing is claimed yet of a race and of histories
+-- What the program does on an order, or on words that give none
 abbrev pub Serves : Result Order LineFault → (source source' sink sink' errors errors' : Device) → ℕ → Type 0
 Serves (Ok (Run workers)) source source' sink sink' errors errors' status = Obeys (IsRun source source' sink sink') status_of errors errors' status
-Serves (Ok (Race workers)) source source' sink sink' errors errors' status = Unit {0}
-Serves (Ok (Check config)) source source' sink sink' errors errors' status = Unit {0}
-Serves (Ok Audit) source source' sink sink' errors errors' status = Unit {0}
-Serves (Ok (Migrate config)) source source' sink sink' errors errors' status = Unit {0}
+Serves (Ok (Race workers)) source source' sink sink' errors errors' status = Obeys (IsRaceRun source source' sink sink') status_of errors errors' status
+Serves (Ok (Check config)) source source' sink sink' errors errors' status = Obeys (IsJudging (IsChecked config) 1073741824 source source' sink sink') verdict_status_of errors errors' status
+Serves (Ok Audit) source source' sink sink' errors errors' status = Obeys (IsJudging IsAudited 2147483648 source source' sink sink') verdict_status_of errors errors' status
+Serves (Ok (Migrate config)) source source' sink sink' errors errors' status = Obeys (IsMigrating config source source' sink sink') verdict_status_of errors errors' status
 Serves (Err fault) source source' sink sink' errors errors' status = Declines source source' sink sink' errors errors' fault status

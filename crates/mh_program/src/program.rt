@@ -5,17 +5,25 @@ ghost use Rattle.std.specs.Vec.Iter.{into_iter_items};
 ghost use Rattle.mh_model.specs.Bytes.{line_text};
 ghost use Rattle.mh_program.specs.declared.fault.LineFault.{LineFault};
 ghost use Rattle.mh_program.specs.declared.line.Order.{Order};
-ghost use Rattle.mh_program.specs.Orders.{HasFewWorkers};
+ghost use Rattle.mh_program.specs.Orders.{HasFewWorkers, HasFirstRules};
 ghost use Rattle.mh_program.specs.Program.{fault_text, Obeys, OrdersBy, Unreads, Serves, Tells, TellsLine, TellsRun};
-ghost use Rattle.mh_program.specs.Status.{status_of};
+ghost use Rattle.mh_program.specs.Status.{status_of, verdict_status_of};
+ghost use Rattle.mh_model.specs.declared.config.Rules.TheVariants.{First};
+ghost use Rattle.mh_model.specs.HistoryTexts.{IsAudited, IsChecked};
+ghost use Rattle.mh_script.specs.Judged.{IsJudging, IsMigrating};
+ghost use Rattle.mh_script.specs.Raced.{IsRaceRun};
 ghost use Rattle.mh_script.specs.Run.{device, IsRun};
 
 use crate::fault::LineFault;
 use crate::line::Order;
 use crate::order::line_order;
-use crate::status::{line_status, status};
+use crate::status::{line_status, status, verdict_status};
+use mh_model::config::Config;
 use mh_scan::crew_scan::CrewGate;
 use mh_script::fault::ScriptFault;
+use mh_script::judge::{audit_script, check_script};
+use mh_script::migrate::migrate_script;
+use mh_script::race::race_script;
 use mh_script::run::run_script;
 use mh_text::sink::Sink;
 use mh_text::source::Source;
@@ -23,6 +31,7 @@ use mh_text::stream::write_text;
 use std::alloc::Global;
 use std::env::Args;
 use std::io;
+use std::sync::Wait;
 use std::thread::Threads;
 
 /// The line that tells a fault of a run.
@@ -93,36 +102,95 @@ fn run<R: Threads, S: Source, W: Sink, E: Sink, G: CrewGate>(
     status(&ended)
 }
 
-fn race<E: Sink>(errors: &mut E) -> u8
-    requires { E.failures errors.old < 2 ^ 62 }
+/// Lets the sessions of a script race, and tells a fault of the race.
+fn race<R: Threads + Wait + Sync, S: Source, W: Sink, E: Sink, G: CrewGate + Sync>(
+    rt: &R,
+    alloc: Global,
+    workers: usize,
+    source: &mut S,
+    sink: &mut W,
+    errors: &mut E,
+    gate: &G,
+) -> u8
+    requires workers { (0 < workers) × (workers ≤ 64) }
+    requires source_count { S.failures source.old < 2 ^ 62 }
+    requires sink_count { W.failures sink.old < 2 ^ 62 }
+    requires errors_count { E.failures errors.old < 2 ^ 62 }
+    ensures { Obeys (IsRaceRun
+        (device (S.rest source.old) (S.failures source.old)) (device (S.rest source.new) (S.failures source.new))
+        (device (W.written sink.old) (W.failures sink.old)) (device (W.written sink.new) (W.failures sink.new))) status_of
+        (device (E.written errors.old) (E.failures errors.old)) (device (E.written errors.new) (E.failures errors.new)) result }
 {
-    tell(errors, b"metroheap: race is not served yet\n");
-    2
+    let ended = race_script(rt, alloc, source, sink, workers, gate);
+    tell_fault(errors, &ended);
+    status(&ended)
 }
 
-fn check<E: Sink>(errors: &mut E) -> u8
-    requires { E.failures errors.old < 2 ^ 62 }
+/// Checks a history, and tells a fault of that.
+fn check<S: Source, W: Sink, E: Sink>(
+    alloc: Global,
+    config: Config,
+    source: &mut S,
+    sink: &mut W,
+    errors: &mut E,
+) -> u8
+    requires source_count { S.failures source.old < 2 ^ 62 }
+    requires sink_count { W.failures sink.old < 2 ^ 62 }
+    requires errors_count { E.failures errors.old < 2 ^ 62 }
+    ensures { Obeys (IsJudging (IsChecked config) 1073741824
+        (device (S.rest source.old) (S.failures source.old)) (device (S.rest source.new) (S.failures source.new))
+        (device (W.written sink.old) (W.failures sink.old)) (device (W.written sink.new) (W.failures sink.new))) verdict_status_of
+        (device (E.written errors.old) (E.failures errors.old)) (device (E.written errors.new) (E.failures errors.new)) result }
 {
-    tell(errors, b"metroheap: check is not served yet\n");
-    2
+    let ended = check_script(alloc, config, source, sink);
+    tell_fault(errors, &ended);
+    verdict_status(&ended)
 }
 
-fn audit<E: Sink>(errors: &mut E) -> u8
-    requires { E.failures errors.old < 2 ^ 62 }
+/// Audits a history, and tells a fault of that.
+fn audit<S: Source, W: Sink, E: Sink>(
+    alloc: Global,
+    source: &mut S,
+    sink: &mut W,
+    errors: &mut E,
+) -> u8
+    requires source_count { S.failures source.old < 2 ^ 62 }
+    requires sink_count { W.failures sink.old < 2 ^ 62 }
+    requires errors_count { E.failures errors.old < 2 ^ 62 }
+    ensures { Obeys (IsJudging IsAudited 2147483648
+        (device (S.rest source.old) (S.failures source.old)) (device (S.rest source.new) (S.failures source.new))
+        (device (W.written sink.old) (W.failures sink.old)) (device (W.written sink.new) (W.failures sink.new))) verdict_status_of
+        (device (E.written errors.old) (E.failures errors.old)) (device (E.written errors.new) (E.failures errors.new)) result }
 {
-    tell(errors, b"metroheap: audit is not served yet\n");
-    2
+    let ended = audit_script(alloc, source, sink);
+    tell_fault(errors, &ended);
+    verdict_status(&ended)
 }
 
-fn migrate<E: Sink>(errors: &mut E) -> u8
-    requires { E.failures errors.old < 2 ^ 62 }
+/// Migrates a history, and tells a fault of that.
+fn migrate<S: Source, W: Sink, E: Sink>(
+    alloc: Global,
+    config: Config,
+    source: &mut S,
+    sink: &mut W,
+    errors: &mut E,
+) -> u8
+    requires first { config.rules ≡ First }
+    requires source_count { S.failures source.old < 2 ^ 62 }
+    requires sink_count { W.failures sink.old < 2 ^ 62 }
+    requires errors_count { E.failures errors.old < 2 ^ 62 }
+    ensures { Obeys (IsMigrating config
+        (device (S.rest source.old) (S.failures source.old)) (device (S.rest source.new) (S.failures source.new))
+        (device (W.written sink.old) (W.failures sink.old)) (device (W.written sink.new) (W.failures sink.new))) verdict_status_of
+        (device (E.written errors.old) (E.failures errors.old)) (device (E.written errors.new) (E.failures errors.new)) result }
 {
-    tell(errors, b"metroheap: migrate is not served yet\n");
-    2
+    let ended = migrate_script(alloc, config, source, sink);
+    tell_fault(errors, &ended);
+    verdict_status(&ended)
 }
 
 /// Does what the command line asks for, tells on `errors` what went wrong, and gives the exit status.
-pub fn serve<R: Threads, S: Source, W: Sink, E: Sink, G: CrewGate>(
+pub fn serve<R: Threads + Wait + Sync, S: Source, W: Sink, E: Sink, G: CrewGate + Sync>(
     rt: &R,
     alloc: Global,
     order: Result<Order, LineFault>,
@@ -132,6 +200,7 @@ pub fn serve<R: Threads, S: Source, W: Sink, E: Sink, G: CrewGate>(
     gate: &G,
 ) -> u8
     requires few { IfOk order HasFewWorkers }
+    requires rules { IfOk order HasFirstRules }
     requires source_count { S.failures source.old < 2 ^ 62 }
     requires sink_count { W.failures sink.old < 2 ^ 62 }
     requires errors_count { E.failures errors.old < 2 ^ 62 }
@@ -142,10 +211,10 @@ pub fn serve<R: Threads, S: Source, W: Sink, E: Sink, G: CrewGate>(
 {
     match order {
         Ok(Order::Run(workers)) => run(rt, alloc, workers, source, sink, errors, gate),
-        Ok(Order::Race(_)) => race(errors),
-        Ok(Order::Check(_)) => check(errors),
-        Ok(Order::Audit) => audit(errors),
-        Ok(Order::Migrate(_)) => migrate(errors),
+        Ok(Order::Race(workers)) => race(rt, alloc, workers, source, sink, errors, gate),
+        Ok(Order::Check(config)) => check(alloc, config, source, sink, errors),
+        Ok(Order::Audit) => audit(alloc, source, sink, errors),
+        Ok(Order::Migrate(config)) => migrate(alloc, config, source, sink, errors),
         Err(fault) => {
             tell_line(alloc, errors, &fault);
             line_status(&fault)
@@ -155,7 +224,7 @@ pub fn serve<R: Threads, S: Source, W: Sink, E: Sink, G: CrewGate>(
 
 /// The program: does what the words of the command line ask for, of which the first is its own name, tells on `errors` what
 /// went wrong, and gives the exit status.
-pub fn program<R: Threads, S: Source, W: Sink, E: Sink, G: CrewGate>(
+pub fn program<R: Threads + Wait + Sync, S: Source, W: Sink, E: Sink, G: CrewGate + Sync>(
     rt: &R,
     alloc: Global,
     words: io::Result<Args>,

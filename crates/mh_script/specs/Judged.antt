@@ -1,13 +1,16 @@
 -- What calls that judge or migrate a history have written.
-use Rattle.std.specs.Prelude.{◌≡◌, ℕ, Option}
-use Rattle.std.specs.Io.KnownBytes.{Appends}
+use Rattle.std.specs.Prelude.{◌≡◌, ◌≢◌, ℕ, Option, Result, Err, IfOk, OnErr, IsErrOf}
+use Rattle.std.specs.Io.KnownBytes.{Appends, Keeps}
 use Rattle.mh_model.specs.declared.config.Config.{Config}
 use Rattle.mh_model.specs.declared.history.Verdict.{Verdict}
 use Rattle.mh_model.specs.declared.history.Verdict.TheVariants.{Legal}
 use Rattle.mh_model.specs.Bytes.{Text, line_text}
 use Rattle.mh_model.specs.HistoryTexts.{IsAudited, IsChecked, IsMigratedTo, history_reading, migration_text, verdict_text}
 use Rattle.mh_text.specs.Stream.{AppendsBeginning}
-use Rattle.mh_script.specs.Texts.{IsTextOf}
+use Rattle.mh_script.specs.declared.fault.ScriptFault.{ScriptFault}
+use Rattle.mh_script.specs.declared.fault.ScriptFault.TheVariants.{Read, NoMemory, HistoryFull}
+use Rattle.mh_script.specs.Run.{Device}
+use Rattle.mh_script.specs.Texts.{Blames, IsTextOf, LeavesSource}
 
 -- Judged -----------------------------------------------------------------------------------------
 
@@ -51,3 +54,24 @@ pub record BeginsToMigrate (config : Config) (known old new : Option Text) : Typ
   pub text : Text
   pub is_text : IsTextOf known text
   pub begun : BeginsMigration config text old new
+
+-- Ended ------------------------------------------------------------------------------------------
+
+-- A history of a source was judged, of so many bytes at most, and how that ended
+pub record IsJudging (Judged : Text → Verdict → Type 0) (most : ℕ) (source source' sink sink' : Device) (ended : Result Verdict ScriptFault) : Type 0 where
+  pub judged : IfOk ended (Judges Judged source.bytes sink.bytes sink'.bytes)
+  pub begun : OnErr ended (BeginsToJudge Judged source.bytes sink.bytes sink'.bytes)
+  pub never_full : ended ≢ Err HistoryFull
+  pub unread : IsErrOf ended Read → Keeps sink.bytes sink'.bytes
+  pub unjudged : IsErrOf ended NoMemory → Keeps sink.bytes sink'.bytes
+  pub taken : LeavesSource most source.bytes source'.bytes ended
+  pub blames : Blames source.failures source'.failures sink.failures sink'.failures ended
+
+-- A history of a source was migrated, and how that ended
+pub record IsMigrating (config : Config) (source source' sink sink' : Device) (ended : Result Verdict ScriptFault) : Type 0 where
+  pub migrated : IfOk ended (Migrates config source.bytes sink.bytes sink'.bytes)
+  pub begun : OnErr ended (BeginsToMigrate config source.bytes sink.bytes sink'.bytes)
+  pub never_full : ended ≢ Err HistoryFull
+  pub unread : IsErrOf ended Read → Keeps sink.bytes sink'.bytes
+  pub taken : LeavesSource 1073741824 source.bytes source'.bytes ended
+  pub blames : Blames source.failures source'.failures sink.failures sink'.failures ended

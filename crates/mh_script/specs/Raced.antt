@@ -1,14 +1,17 @@
 -- What a race of a script has written.
-use Rattle.std.specs.Prelude.{◌≡◌, ℕ, Option}
-use Rattle.std.specs.Io.KnownBytes.{Appends}
+use Rattle.std.specs.Prelude.{◌≡◌, ℕ, Option, Result, IfOk, OnErr, IsErrOf}
+use Rattle.std.specs.Io.KnownBytes.{Appends, Keeps}
 use Rattle.mh_model.specs.Bytes.{Text, line_text}
-use Rattle.mh_model.specs.Races.{IsRaced, IsRaceBegun}
+use Rattle.mh_model.specs.Races.{IsRaced, IsRacedFull, IsRaceBegun}
 use Rattle.mh_model.specs.Replies.{bad_line_text}
 use Rattle.mh_model.specs.Script.{Meaning, Reading, BadLine, Means, reading}
 use Rattle.mh_text.specs.Stream.{AppendsBeginning}
 use Rattle.mh_script.specs.declared.end.End.{End}
 use Rattle.mh_script.specs.declared.end.End.TheVariants.{Done, Refused}
-use Rattle.mh_script.specs.Texts.{IsTextOf, Writes}
+use Rattle.mh_script.specs.declared.fault.ScriptFault.{ScriptFault}
+use Rattle.mh_script.specs.declared.fault.ScriptFault.TheVariants.{Read, HistoryFull}
+use Rattle.mh_script.specs.Run.{Device}
+use Rattle.mh_script.specs.Texts.{Blames, IsTextOf, LeavesSource, Writes}
 
 -- the text of a source means a script, and what a race of it leaves was written, and nothing else
 pub record Races (Raced : Meaning → Text → Type 0) (known old new : Option Text) : Type 0 where
@@ -40,3 +43,12 @@ pub record BeginsToRace (known old new : Option Text) : Type 0 where
   pub text : Text
   pub is_text : IsTextOf known text
   pub begun : BeginsRaceOf (reading text) old new
+
+-- A race of the script of a source into a sink, and how it ended
+pub record IsRaceRun (source source' sink sink' : Device) (ended : Result End ScriptFault) : Type 0 where
+  pub ends : IfOk ended (RaceEndsAs source.bytes sink.bytes sink'.bytes)
+  pub begun : OnErr ended (BeginsToRace source.bytes sink.bytes sink'.bytes)
+  pub full : IsErrOf ended HistoryFull → Races IsRacedFull source.bytes sink.bytes sink'.bytes
+  pub unread : IsErrOf ended Read → Keeps sink.bytes sink'.bytes
+  pub taken : LeavesSource 67108864 source.bytes source'.bytes ended
+  pub blames : Blames source.failures source'.failures sink.failures sink'.failures ended
