@@ -9,7 +9,7 @@ use Rattle.mh_model.specs.Forms.{within, numbered, are_below, u64}
 use Rattle.mh_model.specs.Replies.{placed_from, ascends, Ready, with_item, items_from}
 use Rattle.mh_history.specs.Dumps.{placed_made, placed_numbers}
 use Rattle.mh_history.specs.declared.dump.Placed.{Placed}
-use Rattle.mh_history.proofs.SaidLemmas.{numbered_other, number_small}
+use Rattle.mh_history.proofs.PartLemmas.{numbered_other, number_small}
 
 -- A slot and what stands after its mark ----------------------------------------------------------
 
