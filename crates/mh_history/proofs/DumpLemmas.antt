@@ -66,9 +66,6 @@ placed_no_second mark word slot place first second a b is pair x y z = placed_wo
 
 -- Whether words are a dump -----------------------------------------------------------------------
 
-ascending : Option ℕ → Option ℕ → List DumpItem → Option (List DumpItem)
-ascending page slot items = within (ascends page slot items) items
-
 -- the words that are left are items that may come after this page and this slot
 abbrev pub goes_on : Option ℕ → Option ℕ → List Text → Bool
 goes_on page slot words = is_some (option_and_then (λ items. within (ascends page slot items) (reply.Dump items)) (items_from Ready words))
