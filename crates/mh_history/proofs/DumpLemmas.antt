@@ -9,7 +9,7 @@ use Rattle.mh_model.specs.Forms.{within, numbered, are_below, u64}
 use Rattle.mh_model.specs.Replies.{placed_from, ascends, Ready, with_item, items_from}
 use Rattle.mh_history.specs.Dumps.{placed_made, placed_numbers}
 use Rattle.mh_history.specs.declared.dump.Placed.{Placed}
-use Rattle.mh_history.proofs.SaidLemmas.{numbered_other, number_small}
+use Rattle.mh_history.proofs.PartLemmas.{numbered_other, number_small}
 
 -- A slot and what stands after its mark ----------------------------------------------------------
 
@@ -65,9 +65,6 @@ pub placed_no_second : (mark : ℕ) (word slot place first second : Text) (a b :
 placed_no_second mark word slot place first second a b is pair x y z = placed_words mark word slot place first second is pair ∙ three_no_second slot first second a b x y z
 
 -- Whether words are a dump -----------------------------------------------------------------------
-
-ascending : Option ℕ → Option ℕ → List DumpItem → Option (List DumpItem)
-ascending page slot items = within (ascends page slot items) items
 
 -- the words that are left are items that may come after this page and this slot
 abbrev pub goes_on : Option ℕ → Option ℕ → List Text → Bool

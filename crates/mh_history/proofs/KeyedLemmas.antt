@@ -5,7 +5,7 @@ use Rattle.std.specs.Borrow.{Bor}
 use Rattle.mh_model.specs.Bytes.{Text, is_text}
 use Rattle.mh_model.specs.Replies.{values, stat_of}
 use Rattle.mh_text.specs.Names.{names_shown}
-use Rattle.mh_history.proofs.SaidLemmas.{shown_next, no_more}
+use Rattle.mh_history.proofs.PartLemmas.{shown_next, no_more}
 
 pub values_empty : (keys : List Text) → values keys [] ≡ None
 values_empty [] = refl

@@ -1,5 +1,5 @@
 pub mod EntryTextLemmas
-pub mod SaidLemmas
+pub mod PartLemmas
 pub mod KeyedLemmas
 pub mod DumpLemmas
 pub mod ReplyLemmas

@@ -4,7 +4,7 @@ ghost use Rattle.mh_model.specs.declared.dump.DumpItem.{DumpItem};
 ghost use Rattle.mh_model.specs.Replies.{placed_of, is_after, ascends, Ready, with_item, items_from, dump_of};
 ghost use Rattle.mh_history.specs.Dumps.{placed_numbers};
 
-use crate::said::{flag_of, tagged};
+use crate::parts::{flag_of, tagged};
 use mh_model::dump::{Dump, DumpItem};
 use mh_model::memory::NoMemory;
 use mh_model::reply::Reply;

@@ -1,7 +1,7 @@
 ghost use Rattle.std.specs.Prelude.{◌≡◌};
 ghost use Rattle.mh_model.specs.HistoryTexts.{session_of, event_of};
 
-use crate::said::tagged;
+use crate::parts::tagged;
 use mh_model::command::Event;
 use mh_model::history::Version;
 use mh_text::forms::{command_of, control_of};

@@ -2,7 +2,7 @@ ghost use Rattle.std.specs.Prelude.{◌≡◌, ◌<◌, ◌∷◌, [], length, c
 ghost use Rattle.mh_model.specs.Replies.{values, spent_of, stat_of, report_of};
 ghost use Rattle.mh_text.specs.Names.{names_shown};
 
-use crate::said::{optional_of, phase_of};
+use crate::parts::{optional_of, phase_of};
 use arrayvec::ArrayVec;
 use mh_model::cycle::Spent;
 use mh_model::reply::Reply;

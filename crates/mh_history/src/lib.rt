@@ -11,8 +11,8 @@ pub mod history;
 mod history_tests;
 mod keyed;
 mod lines;
+mod parts;
 pub mod record;
 #[cfg(test)]
 mod record_tests;
 mod reply;
-mod said;

@@ -4,7 +4,7 @@ ghost use Rattle.mh_model.specs.Replies.{reply_of};
 
 use crate::dump::dump_of;
 use crate::keyed::{report_of, spent_of, stat_of};
-use crate::said::{number_of, refusal_of, said, shape_of};
+use crate::parts::{number_of, refusal_of, shape_of, where_words};
 use mh_model::history::Version;
 use mh_model::memory::NoMemory;
 use mh_model::reply::Reply;
@@ -36,11 +36,11 @@ fn short_reply(version: Version, verb: &[u8], words: Words<'_>) -> Option<Reply>
     ensures { is_text verb.now (codes "dump") ≡ false → result ≡ reply_of version (verb.now ∷ words.entry) }
 {
     if is_word(verb, b"ok") {
-        said(words, &[], Reply::Done)
+        where_words(words, &[], Reply::Done)
     } else if is_word(verb, b"yes") {
-        said(words, &[], Reply::Yes)
+        where_words(words, &[], Reply::Yes)
     } else if is_word(verb, b"no") {
-        said(words, &[], Reply::No)
+        where_words(words, &[], Reply::No)
     } else if is_word(verb, b"number") {
         Some(Reply::Number(number_of(words)?))
     } else if is_word(verb, b"shape") {

@@ -12,7 +12,7 @@ use mh_text::pieces::Words;
 use mh_text::word::{is_word, number, numbers};
 
 /// Whether the words are these.
-#[tactic(auto, using(crate::proofs::SaidLemmas::shown_next))]
+#[tactic(auto, using(crate::proofs::PartLemmas::shown_next))]
 fn are_words(mut words: Words<'_>, texts: &[&str]) -> bool
     ensures { result ≡ are_texts words.entry (names_shown texts.now) }
 {
@@ -28,7 +28,7 @@ fn are_words(mut words: Words<'_>, texts: &[&str]) -> bool
 }
 
 /// A value where the words are these.
-pub fn said<T: Drop>(words: Words<'_>, texts: &[&str], value: T) -> Option<T>
+pub fn where_words<T: Drop>(words: Words<'_>, texts: &[&str], value: T) -> Option<T>
     ensures { result ≡ within (are_texts words.entry (names_shown texts.now)) value }
 {
     if are_words(words, texts) {
@@ -49,7 +49,7 @@ pub fn tagged(word: &[u8], tag: u8) -> Option<u64>
 }
 
 /// The number that the words are.
-#[tactic(auto, using(crate::proofs::SaidLemmas::no_number, crate::proofs::SaidLemmas::one_number, crate::proofs::SaidLemmas::not_one))]
+#[tactic(auto, using(crate::proofs::PartLemmas::no_number, crate::proofs::PartLemmas::one_number, crate::proofs::PartLemmas::not_one))]
 pub fn number_of(words: Words<'_>) -> Option<u64>
     ensures { result ≡ numbered (u64 ∷ []) (λ ns. at ns 0) words.entry }
 {
@@ -60,7 +60,7 @@ pub fn number_of(words: Words<'_>) -> Option<u64>
 }
 
 /// The shape that the words are, as two numbers of 32 bits.
-#[tactic(auto, using(crate::proofs::SaidLemmas::no_shape, crate::proofs::SaidLemmas::not_two, crate::proofs::SaidLemmas::shape_two, crate::proofs::SaidLemmas::shape_large))]
+#[tactic(auto, using(crate::proofs::PartLemmas::no_shape, crate::proofs::PartLemmas::not_two, crate::proofs::PartLemmas::shape_two, crate::proofs::PartLemmas::shape_large))]
 pub fn shape_of(words: Words<'_>) -> Option<Shape>
     ensures { result
         ≡ numbered (u32 ∷ u32 ∷ []) (λ ns. record { references = at ns 0; numbers = at ns 1 }) words.entry }
@@ -84,19 +84,19 @@ pub fn refusal_of(mut words: Words<'_>) -> Option<Refusal>
 {
     let number = words.next_word()?;
     if is_word(number, b"1") {
-        said(words, &["bad", "slot"], Refusal::BadSlot)
+        where_words(words, &["bad", "slot"], Refusal::BadSlot)
     } else if is_word(number, b"2") {
-        said(words, &["null"], Refusal::Null)
+        where_words(words, &["null"], Refusal::Null)
     } else if is_word(number, b"3") {
-        said(words, &["no", "field"], Refusal::NoField)
+        where_words(words, &["no", "field"], Refusal::NoField)
     } else if is_word(number, b"4") {
-        said(words, &["too", "large"], Refusal::TooLarge)
+        where_words(words, &["too", "large"], Refusal::TooLarge)
     } else if is_word(number, b"5") {
-        said(words, &["heap", "full"], Refusal::HeapFull)
+        where_words(words, &["heap", "full"], Refusal::HeapFull)
     } else if is_word(number, b"6") {
-        said(words, &["ended"], Refusal::Ended)
+        where_words(words, &["ended"], Refusal::Ended)
     } else if is_word(number, b"7") {
-        said(
+        where_words(
             words,
             &["too", "many", "sessions"],
             Refusal::TooManySessions,

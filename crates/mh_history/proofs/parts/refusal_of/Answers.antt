@@ -1,8 +1,8 @@
 use Rattle.std.proofs.Common.{sym, ◌∙◌}
-use Rattle.mh_history.proofs.SaidLemmas.{sessions_refused}
-use Rattle.mh_history.proofs.said.refusal_of.Goals as goal
+use Rattle.mh_history.proofs.PartLemmas.{sessions_refused}
+use Rattle.mh_history.proofs.parts.refusal_of.Goals as goal
 
 pub returns-then-is_word-7 : goal.returns-then-is_word-7
 returns-then-is_word-7 c =
     let is = sessions_refused c.in_ok-number.number.now c.next_word.new.self (sym c.is_word-else-is_word-6.ensures ∙ c.if-is_word-7.true) in
-    rw c.in_ok-number.ensures.next (c.said-then-is_word-7.ensures ∙ sym is)
+    rw c.in_ok-number.ensures.next (c.where_words-then-is_word-7.ensures ∙ sym is)

@@ -1,6 +1,6 @@
 use Rattle.std.proofs.Common.{sym, ◌∙◌}
-use Rattle.mh_history.proofs.SaidLemmas.{texts_ended, texts_wrong, texts_next}
-use Rattle.mh_history.proofs.said.are_words.Goals as goal
+use Rattle.mh_history.proofs.PartLemmas.{texts_ended, texts_wrong, texts_next}
+use Rattle.mh_history.proofs.parts.are_words.Goals as goal
 
 pub returns-in_default : goal.returns-in_default
 returns-in_default c = texts_ended _ _ _ _ c.loop-text.invariant c.loop-text-test.true c.in_default.ensures.end
