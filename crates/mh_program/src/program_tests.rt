@@ -7,6 +7,7 @@ use std::alloc::{AllocError, Global};
 use std::env::Args;
 use std::io;
 use std::process::Abort;
+use std::sync::Wait;
 use std::test::Fail;
 use std::thread::Threads;
 
@@ -19,7 +20,7 @@ fn words(alloc: Global, words: &[&str]) -> Result<Args, AllocError> {
 }
 
 /// What the program writes, tells and answers on a script.
-fn check<R: Threads + Abort>(
+fn check<R: Threads + Wait + Sync + Abort>(
     rt: &R,
     alloc: Global,
     line: io::Result<Args>,
@@ -48,6 +49,48 @@ fn runs_a_script(rt: HostRuntime) -> Result<(), Fail> {
         b"config\n",
         (b"refused 10 line 1\n", b"", 1),
     );
+    Ok(())
+}
+
+const OPTIONS: [&str; 4] = ["--pages=4", "--quantum=209", "--trigger=0", "--every=0"];
+
+/// A subcommand with the options of a configuration of 4 pages.
+fn configured(alloc: Global, subcommand: &str) -> Result<Args, AllocError> {
+    let [pages, quantum, trigger, every] = OPTIONS;
+    words(
+        alloc,
+        &["metroheap", subcommand, pages, quantum, trigger, every],
+    )
+}
+
+#[test]
+fn judges_a_history(rt: HostRuntime) -> Result<(), Fail> {
+    let legal = b"history 1\ns0 new 0 0 3601 = refused 4 too large\n";
+    let line = configured(rt.alloc(), "check")?;
+    check(&rt, rt.alloc(), Ok(line), legal, (b"legal 1\n", b"", 0));
+    let bad = b"history 1\ns0 clear 0 = number 5\n";
+    let line = configured(rt.alloc(), "check")?;
+    check(&rt, rt.alloc(), Ok(line), bad, (b"first bad 1\n", b"", 4));
+    Ok(())
+}
+
+#[test]
+fn migrates_a_history_that_is_audited(rt: HostRuntime) -> Result<(), Fail> {
+    let history = b"history 1\ns0 new 0 0 3601 = refused 4 too large\n";
+    let record = b"history 2 rules 1 4 209 0 0\ns0 new 0 0 3601 = refused 4 too large units 1 0\n";
+    let line = configured(rt.alloc(), "migrate")?;
+    check(&rt, rt.alloc(), Ok(line), history, (record, b"", 0));
+    let line = words(rt.alloc(), &["metroheap", "audit"])?;
+    check(&rt, rt.alloc(), Ok(line), record, (b"legal 1\n", b"", 0));
+    Ok(())
+}
+
+#[test]
+fn races_a_script(rt: HostRuntime) -> Result<(), Fail> {
+    let line = words(rt.alloc(), &["metroheap", "race", "--workers", "2"])?;
+    let script = b"config 4 209 0 0\na clear 0\n";
+    let record = b"history 2 rules 2 4 209 0 0\ns0 clear 0 = ok units 1 0\n";
+    check(&rt, rt.alloc(), Ok(line), script, (record, b"", 0));
     Ok(())
 }
 
