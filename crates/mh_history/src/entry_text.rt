@@ -1,11 +1,11 @@
 ghost use Rattle.std.specs.Prelude.{◌≡◌, Some};
 ghost use Rattle.mh_model.specs.Bytes.{joined};
 ghost use Rattle.mh_model.specs.Forms.{phrase_words, command_phrase, control_phrase};
-ghost use Rattle.mh_model.specs.HistoryTexts.{event_words, measured_words, header_words, verdict_text, rules_number};
+ghost use Rattle.mh_model.specs.HistoryTexts.{event_words, measured_words, header_words, rules_number};
 
 use mh_model::command::{Command, Control, Event};
 use mh_model::config::{Config, Rules};
-use mh_model::history::{Measured, Verdict};
+use mh_model::history::Measured;
 use mh_text::reply_text::ReplyText;
 use std::fmt;
 
@@ -55,22 +55,6 @@ fn rules_number(rules: Rules) -> u8
     match rules {
         Rules::First => 1,
         Rules::Second => 2,
-    }
-}
-
-/// The line of a verdict, without its end.
-#[derive(Clone, Copy)]
-pub struct VerdictText(pub Verdict);
-
-impl fmt::Display for VerdictText {
-    ghost output = { λ text. Some (verdict_text text.0) };
-
-    fn fmt<W: fmt::Write>(&self, f: &mut fmt::Formatter<W>) -> fmt::Result {
-        match self.0 {
-            Verdict::Refused(line) => write!(f, "refused 10 line {line}"),
-            Verdict::Legal(count) => write!(f, "legal {count}"),
-            Verdict::FirstBad(number) => write!(f, "first bad {number}"),
-        }
     }
 }
 

@@ -1,7 +1,6 @@
-use crate::entry_text::{HeaderText, MeasuredText, VerdictText};
+use crate::entry_text::{HeaderText, MeasuredText};
 use crate::record::{Record, parse_record};
 use mh_model::command::{Command, Event};
-use mh_model::history::Verdict;
 use mh_text::text_error::TextError;
 use std::alloc::{AllocError, Global};
 use std::fmt;
@@ -92,18 +91,5 @@ fn reads_and_writes_each_form(rt: HostRuntime) -> Result<(), Fail> {
         * report 8 = mutator 1 collector 2 quanta 3 greatest 4 window 8 least none floor 5 units 0 18446744073709551615\n";
     let record = parse_record(rt.alloc(), text.as_bytes())?;
     assert_eq!(rt; text_of(rt.alloc(), &record)?.as_str(), text);
-    Ok(())
-}
-
-#[test]
-fn writes_verdicts(rt: HostRuntime) -> Result<(), Fail> {
-    for (verdict, line) in [
-        (Verdict::Refused(7), "refused 10 line 7"),
-        (Verdict::Legal(3), "legal 3"),
-        (Verdict::FirstBad(2), "first bad 2"),
-    ] {
-        let text = format!(in rt.alloc(); "{}", VerdictText(verdict))?;
-        assert_eq!(rt; text.as_str(), line);
-    }
     Ok(())
 }

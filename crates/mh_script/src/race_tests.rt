@@ -85,6 +85,21 @@ fn two_sessions_make_a_legal_history(rt: HostRuntime) {
 }
 
 #[test]
+fn a_session_reads_what_it_wrote(rt: HostRuntime) {
+    let alloc = rt.alloc();
+    let script =
+        b"config 4 209 0 0\na new 0 0 1\na write 0 0 5\na post 0 0\nb take 0 0\nb shape 0\na read 0 0\n";
+    let mut sink = StdSink::new(Vec::new(alloc));
+    let mut source = StdSource::new(script.as_slice());
+    let ended = race_script(&rt, alloc, &mut source, &mut sink, 1, &Open);
+    assert_eq!(rt; ended, Ok(End::Done));
+    let history = sink.writer.as_slice();
+    let read = b"s0 read 0 0 = number 5 units 1 0\n";
+    assert!(rt; history.windows(read.len()).any(|line| line == read));
+    assert_eq!(rt; verdict_on(alloc, history), Ok(Verdict::Legal(6)));
+}
+
+#[test]
 fn two_sessions_run_at_once(rt: HostRuntime) {
     let alloc = rt.alloc();
     let gate = Hold {
