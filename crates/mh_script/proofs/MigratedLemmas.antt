@@ -9,7 +9,7 @@ use Rattle.mh_model.specs.declared.history.Verdict.{Verdict}
 use Rattle.mh_model.specs.declared.history.Verdict.TheVariants.{Refused, Legal, FirstBad}
 use Rattle.mh_model.specs.Bytes.{Text, line_text}
 use Rattle.mh_model.specs.History.{IsLegal}
-use Rattle.mh_model.specs.HistoryTexts.{IsChecked, IsJudged, IsMigratedTo, history_reading, migration_text, migrated, recorded_text, verdict_text}
+use Rattle.mh_model.specs.HistoryTexts.{IsChecked, IsJudged, history_reading, migration_text, migrated, recorded_text, verdict_text}
 use Rattle.mh_model.specs.Script.{Reading, BadLine, Means}
 use Rattle.mh_text.specs.Stream.{AppendsBeginning}
 use Rattle.mh_text_laws.specs.Migration.{MigratedTextsAreLegal, TextsAreMigrated}

@@ -1,5 +1,5 @@
 -- What a race leaves, and the whole text of a source of which its script was read.
-use Rattle.std.proofs.Common.{◌≡◌, ◌∙◌, ℕ, suc, ◌≤◌, List, [], ◌∷◌, ◌++◌, length, map, ap, refl, subst, sym, arith}
+use Rattle.std.proofs.Common.{◌≡◌, ◌∙◌, ℕ, suc, List, [], ◌∷◌, ◌++◌, length, map, ap, refl, subst, sym, arith}
 use Rattle.std.specs.Prelude.{Option}
 use Rattle.std.proofs.KnownBytes.{Appends-nil}
 use Rattle.std.proofs.lemmas.List.{length-map}
@@ -22,7 +22,7 @@ use Rattle.mh_script.specs.Raced.{BeginsRaceOf, BeginsToRace, Races, RefusesScri
 use Rattle.mh_script.specs.Texts.{Writes}
 use Rattle.mh_script.proofs.AddedLines.{AppendsBeginning-nothing}
 use Rattle.mh_script.proofs.MachineLemmas.{events_of}
-use Rattle.mh_script.proofs.SourceLemmas.{Reads, beginning_of, some_text}
+use Rattle.mh_script.proofs.SourceLemmas.{Reads, some_text}
 
 -- Records ----------------------------------------------------------------------------------------
 

@@ -1,6 +1,5 @@
 use Rattle.std.proofs.Common.{sym, ap, ◌∙◌}
 use Rattle.std.proofs.lemmas.Result.{IfOk-weaker, on_err_weaker}
-use Rattle.mh_model.specs.declared.history.Verdict.{Verdict}
 use Rattle.mh_model.specs.Script.{BadLine}
 use Rattle.mh_script.proofs.AddedLines.{on_err}
 use Rattle.mh_script.proofs.MigratedLemmas.{begins_migration, begins_migration_nothing, makes_line, makes_record, makes_refusal, migrates_text, migrates_told}
