@@ -94,7 +94,7 @@ fn a_session_reads_what_it_wrote(rt: HostRuntime) {
     let ended = race_script(&rt, alloc, &mut source, &mut sink, 1, &Open);
     assert_eq!(rt; ended, Ok(End::Done));
     let history = sink.writer.as_slice();
-    let read = b"s0 read 0 0 = number 5 units 1 0\n";
+    let read = b"s0 read 0 0 = number 5 units 1 0\n".as_slice();
     assert!(rt; history.windows(read.len()).any(|line| line == read));
     assert_eq!(rt; verdict_on(alloc, history), Ok(Verdict::Legal(6)));
 }
