@@ -1,6 +1,5 @@
 -- What the seats of a race have run of its events.
-use Rattle.std.proofs.Common.{◌≡◌, ◌==◌, ℕ, List, ◌++◌, Option, Some, None, All, map, take, drop, length, sym, ap, ◌∙◌, arith}
-use Rattle.std.proofs.Math.Seq.{take-append_seam}
+use Rattle.std.proofs.Common.{◌≡◌, ◌==◌, ℕ, List, ◌++◌, Option, Some, None, All, map, take, drop, sym, ap, ◌∙◌}
 use Rattle.std.proofs.lemmas.List.{take-append-drop}
 use Rattle.std.proofs.lemmas.List.Elements.{All-map, filter-append}
 use Rattle.std.proofs.lemmas.Option.{none-some}
@@ -21,10 +20,6 @@ refused-at seat events i stop made = record {
   made = ap (λ es. es ++ owned_by owner_of seat.number (drop i events)) made ∙ (sym (filter-append (λ e. owner_of e == seat.number) (take i events) (drop i events)) ∙ ap (owned_by owner_of seat.number) (take-append-drop i events));
   all = λ none. absurd (none-some stop (sym none));
 }
-
--- what a slice leaves of the `Vec` that lent it
-pub left_of : {X : Type 0} (new old : List X) (n : ℕ) → length new ≡ length old → n ≡ length old → take n (new ++ drop (length new) old) ≡ new
-left_of new old n same all = let is : n ≡ length new = omega arith in ap (λ m. take m (new ++ drop (length new) old)) is ∙ take-append_seam new (drop (length new) old)
 
 -- a seat that has run to a refusal of its own has run to one of the race
 over : (events : List Event) (own all : Option Stop) (seat : LockSeatView Entry) → (all ≡ None → own ≡ None) → HasRun events own seat → HasRun events all seat

@@ -1,4 +1,4 @@
-//! Runs over texts: scripts from their bytes to their replies.
+//! Runs over texts: scripts from their bytes to their replies, races, and histories that are judged and migrated.
 #![tactic(auto)]
 
 #[cfg(test)]

@@ -30,12 +30,6 @@ pub enum Stop {
     NoMemory,
 }
 
-impl From<NoMemory> for Stop {
-    fn from(_error: NoMemory) -> Stop {
-        Stop::NoMemory
-    }
-}
-
 /// The machine, which does events one by one, 1,000,000 at most.
 #[derive(Drop)]
 pub struct Machine {
