@@ -76,17 +76,25 @@ fn a_script_of_one_byte_more_is_refused(rt: HostRuntime) -> Result<(), Fail> {
 }
 
 #[test]
-fn a_long_script_is_refused_at_its_line(rt: HostRuntime) -> Result<(), Fail> {
+fn a_long_script_is_refused_at_its_last_line(rt: HostRuntime) -> Result<(), Fail> {
     for (text, line) in [
         ((SMALL, b'?', b"\n".as_slice()), 4),
         ((SMALL_WITH_COMMENT, b'x', b""), 4),
-        ((b"config 4 209 0 0\na read 0 ", b'9', b"\n"), 2),
-        ((b"config 4 209 0 0\na read 0 ", b'0', b"\n"), 2),
-        ((b"config 4 209 0 0\n", b'a', b" end\n"), 2),
-        ((b"config 4 209 0 0\na end", b' ', b"\n"), 2),
-        ((b"config ", b'4', b" 209 0 0\n"), 1),
         ((b"", b'\n', b""), 67_108_865),
         ((b"", b'\n', b"a"), 67_108_864),
+    ] {
+        expect_long(&rt, rt.alloc(), MOST, text, &refusal(rt.alloc(), line)?);
+    }
+    Ok(())
+}
+
+#[test]
+fn long_words_are_refused(rt: HostRuntime) -> Result<(), Fail> {
+    for (text, line) in [
+        ((b"config ".as_slice(), b'4', b" 209 0 0\n".as_slice()), 1),
+        ((b"config 4 209 0 0\na read 0 ", b'9', b"\n"), 2),
+        ((b"config 4 209 0 0\n", b'a', b" end\n"), 2),
+        ((b"config 4 209 0 0\na end", b' ', b"\n"), 2),
     ] {
         expect_long(&rt, rt.alloc(), MOST, text, &refusal(rt.alloc(), line)?);
     }
