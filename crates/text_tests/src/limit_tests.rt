@@ -1,0 +1,102 @@
+use crate::expected::{Answer, refusal};
+use crate::generated::Generated;
+use mh_claims::gate::Open;
+use mh_script::end::End;
+use mh_script::run::run_script;
+use mh_text::script::SCRIPT_BYTES;
+use mh_text::sink::StdSink;
+use std::alloc::Global;
+use std::process::Abort;
+use std::test::Fail;
+use std::thread::Threads;
+
+/// The most bytes that a script may have.
+const MOST: usize = 67_108_864;
+
+const SMALL: &[u8] = b"config 4 209 0 0\na new 0 0 0\n* stat\n";
+
+const SMALL_WITH_COMMENT: &[u8] = b"config 4 209 0 0\na new 0 0 0\n* stat\n#";
+
+const SMALL_OUTPUT: &[u8] = b"ok\nfree 3 live 1 old 0 phase idle cycle 0\n";
+
+/// A script of so many bytes, made of a first text, a byte many times and a last text, has this answer.
+fn expect_long<R: Threads + Abort>(
+    rt: &R,
+    alloc: Global,
+    bytes: usize,
+    text: (&[u8], u8, &[u8]),
+    wanted: &Answer,
+) {
+    let (first, byte, last) = text;
+    let times = bytes.saturating_sub(first.len()).saturating_sub(last.len());
+    let mut source = Generated::new(first, byte, times, last);
+    let mut sink = StdSink::new(Vec::new(alloc));
+    let ended = run_script(rt, alloc, &mut source, &mut sink, 1, &Open);
+    let end = match wanted.refused {
+        Some(line) => End::Refused(line),
+        None => End::Done,
+    };
+    assert_eq!(rt; ended, Ok(end));
+    assert_eq!(rt; sink.writer.as_slice(), wanted.output.as_slice());
+}
+
+/// What the small script prints.
+fn small_answer(alloc: Global) -> Result<Answer, Fail> {
+    Ok(Answer {
+        refused: None,
+        output: Vec::from_slice(alloc, SMALL_OUTPUT)?,
+    })
+}
+
+#[test]
+fn a_script_of_the_most_bytes_is_answered(rt: HostRuntime) -> Result<(), Fail> {
+    assert_eq!(rt; SCRIPT_BYTES, MOST);
+    for text in [
+        (SMALL_WITH_COMMENT, b'x', b"\n".as_slice()),
+        (SMALL, b'\n', b""),
+        (b"#", b'#', b"\nconfig 4 209 0 0\na new 0 0 0\n* stat\n"),
+        (b"", b'\n', SMALL),
+    ] {
+        expect_long(&rt, rt.alloc(), MOST, text, &small_answer(rt.alloc())?);
+    }
+    Ok(())
+}
+
+#[test]
+fn a_script_of_one_byte_more_is_refused(rt: HostRuntime) -> Result<(), Fail> {
+    for text in [
+        (SMALL_WITH_COMMENT, b'x', b"\n".as_slice()),
+        (SMALL, b'\n', b""),
+        (SMALL, b'?', b""),
+        (b"", 0, b""),
+    ] {
+        expect_long(&rt, rt.alloc(), MOST + 1, text, &refusal(rt.alloc(), 0)?);
+    }
+    Ok(())
+}
+
+#[test]
+fn a_long_script_is_refused_at_its_last_line(rt: HostRuntime) -> Result<(), Fail> {
+    for (text, line) in [
+        ((SMALL, b'?', b"\n".as_slice()), 4),
+        ((SMALL_WITH_COMMENT, b'x', b""), 4),
+        ((b"", b'\n', b""), 67_108_865),
+        ((b"", b'\n', b"a"), 67_108_864),
+    ] {
+        expect_long(&rt, rt.alloc(), MOST, text, &refusal(rt.alloc(), line)?);
+    }
+    Ok(())
+}
+
+#[test]
+fn long_words_are_refused(rt: HostRuntime) -> Result<(), Fail> {
+    for (text, line) in [
+        ((b"config ".as_slice(), b'4', b" 209 0 0\n".as_slice()), 1),
+        ((b"config 4 209 0 0\na read 0 ", b'9', b"\n"), 2),
+        ((b"config 4 209 0 0\n", b'a', b" end\n"), 2),
+        ((b"config 4 209 0 0\na end", b' ', b"\n"), 2),
+    ] {
+        expect_long(&rt, rt.alloc(), MOST, text, &refusal(rt.alloc(), line)?);
+    }
+    Ok(())
+}
