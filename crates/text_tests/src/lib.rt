@@ -24,6 +24,8 @@ mod generated;
 #[cfg(test)]
 mod history_cut_tests;
 #[cfg(test)]
+mod history_limit_tests;
+#[cfg(test)]
 mod history_number_tests;
 #[cfg(test)]
 mod limit_tests;

@@ -1,0 +1,18 @@
+//! What each part below the texts does when memory is refused to it.
+#![tactic(auto)]
+
+#[cfg(test)]
+mod crew_tests;
+#[cfg(test)]
+mod events;
+pub mod famine;
+#[cfg(test)]
+mod famine_tests;
+#[cfg(test)]
+mod run_tests;
+#[cfg(test)]
+mod service_tests;
+#[cfg(test)]
+mod state_tests;
+#[cfg(test)]
+mod states;

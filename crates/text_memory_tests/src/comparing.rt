@@ -1,0 +1,51 @@
+ghost use Rattle.std.specs.Prelude.{◌≡◌, None};
+
+use mh_text::device::DeviceFailed;
+use mh_text::sink::Sink;
+
+/// A sink that takes no memory: it keeps nothing, and tells whether what was written is a beginning of a text.
+#[derive(Drop)]
+pub struct Comparing<'a> {
+    text: &'a [u8],
+    written: usize,
+    differs: bool,
+}
+
+impl<'a> Comparing<'a> {
+    pub fn new(text: &'a [u8]) -> Comparing<'a> {
+        Comparing {
+            text,
+            written: 0,
+            differs: false,
+        }
+    }
+
+    /// How many bytes were written, where they are a beginning of the text.
+    pub fn begun(&self) -> Option<usize> {
+        if self.differs {
+            None
+        } else {
+            Some(self.written)
+        }
+    }
+
+    /// Whether the text was written.
+    pub fn is_whole(&self) -> bool {
+        self.begun() == Some(self.text.len())
+    }
+}
+
+impl Sink for Comparing<'_> {
+    ghost written = { λ sink. None };
+
+    ghost failures = { λ sink. 0 };
+
+    fn write(&mut self, bytes: &[u8]) -> Result<usize, DeviceFailed> {
+        let end = self.written.saturating_add(bytes.len());
+        if self.text.get(self.written..end) != Some(bytes) {
+            self.differs = true;
+        }
+        self.written = end;
+        Ok(bytes.len())
+    }
+}

@@ -1,0 +1,202 @@
+//! Scripts and histories, and what is right for them.
+use std::alloc::{AllocError, Global};
+use std::fmt::Write;
+
+/// Five objects of 64 words of which one is dropped, so that a collection moves another; two names, a dump and a report.
+pub const COLLECTED: &[u8] = b"# Five objects, of which one moves.
+config 4 209 0 0
+
+a new 0 1 59
+a new 1 1 59
+a new 2 1 59
+a new 3 1 59
+a new 4 1 59
+a put 0 0 4
+a clear 1
+* start
+* quantum
+* quantum
+* quantum
+a write 4 0 7
+* quantum
+* dump
+a get 5 0 0
+a same 4 5
+a read 5 0
+* start
+* quantum
+* quantum
+* stat
+b take 0 3
+b shape 0
+* left
+* report 1
+";
+
+pub const COLLECTED_OUTPUT: &[u8] = b"ok
+ok
+ok
+ok
+ok
+ok
+ok
+ok
+spent 208 phase roots
+spent 99 phase defrag
+spent 209 phase defrag
+ok
+spent 5 phase idle
+dump P0 C64 - 0=0.0 1=4.0 2=2.0 3=3.0 P1 C64 + 0>0.1
+ok
+yes
+number 7
+ok
+spent 208 phase roots
+spent 102 phase idle
+free 3 live 4 old 0 phase idle cycle 2
+ok
+refused 2 null
+left 0
+mutator 13 collector 831 quanta 6 greatest 209 window 1 least 0 floor none
+";
+
+/// A line that is outside the grammar after some that are not.
+pub const REFUSED: &[u8] = b"config 4 209 0 0\na new 0 1 1\n* dump\nb walk\n";
+
+pub const REFUSED_OUTPUT: &[u8] = b"refused 10 line 4\n";
+
+/// One session whose every command is followed by a whole cycle.
+pub const ALONE: &[u8] = b"config 4 1000 4 1
+a clear 0
+a new 0 0 0
+a shape 0
+a read 0 0
+a end
+a clear 0
+";
+
+pub const ALONE_HISTORY: &[u8] = b"history 2 rules 2 4 1000 4 1
+s0 clear 0 = ok units 1 296
+s0 new 0 0 0 = ok units 1 360
+s0 shape 0 = shape 0 0 units 1 360
+s0 read 0 0 = refused 3 no field units 1 360
+s0 end = ok units 1 359
+s0 clear 0 = refused 6 ended units 1 296
+";
+
+/// Three sessions and the desk.
+pub const SHARED: &[u8] = b"config 4 209 0 0
+a new 0 0 1
+a write 0 0 5
+a post 0 0
+b take 0 0
+b shape 0
+b new 1 2 0
+c new 0 1 1
+c put 0 0 0
+c end
+* start
+* quantum
+* dump
+* stat
+* report 7
+* left
+";
+
+/// How many events the script of three sessions and the desk has.
+pub const SHARED_EVENTS: u64 = 15;
+
+/// A collection, as a history of version 1.
+pub const HISTORY: &[u8] = b"history 1
+s0 new 0 0 0 = ok
+* start = ok
+* quantum = spent 353 phase sweep
+* quantum = spent 7 phase idle
+* dump = dump P0 C4 - 0=0.0
+s1 clear 16 = refused 1 bad slot
+* report 361 = mutator 2 collector 360 quanta 2 greatest 353 window 361 least 1 floor none
+";
+
+/// The same history as version 2.
+pub const RECORD: &[u8] = b"history 2 rules 1 4 353 0 0
+s0 new 0 0 0 = ok units 1 0
+* start = ok units 0 0
+* quantum = spent 353 phase sweep units 0 353
+* quantum = spent 7 phase idle units 0 7
+* dump = dump P0 C4 - 0=0.0 units 0 0
+s1 clear 16 = refused 1 bad slot units 1 0
+* report 361 = mutator 2 collector 360 quanta 2 greatest 353 window 361 least 1 floor none units 0 0
+";
+
+/// A history of which the third entry has a wrong reply.
+pub const BAD_HISTORY: &[u8] =
+    b"history 1\ns0 new 0 0 1 = ok\ns0 write 0 0 5 = ok\ns0 read 0 0 = number 6\ns0 end = ok\n";
+
+/// The same as version 2.
+pub const BAD_RECORD: &[u8] =
+    b"history 2 rules 2 4 353 0 0\ns0 new 0 0 1 = ok units 1 0\ns0 write 0 0 5 = ok units 1 0\ns0 read 0 0 = number 6 units 1 0\n";
+
+/// A text, and after it another, so many times.
+pub fn repeated(
+    alloc: Global,
+    first: &[u8],
+    more: &[u8],
+    count: usize,
+) -> Result<Vec<u8>, AllocError> {
+    let mut text = Vec::from_slice(alloc, first)?;
+    for _ in 0..count {
+        text.extend_from_slice(more)?;
+    }
+    Ok(text)
+}
+
+/// An object that refers to 60 others, so that a crew has pieces to share, and a cycle over them.
+pub fn wide(alloc: Global) -> Result<String, AllocError> {
+    let mut script = String::new(alloc);
+    writeln!(script, "config 8 400 0 0\na new 0 60 0")?;
+    for field in 0..60u32 {
+        writeln!(script, "a new 1 1 0\na put 0 {field} 1")?;
+    }
+    writeln!(script, "a clear 1\n* start\n* quantum\n* quantum\n* stat")?;
+    Ok(script)
+}
+
+pub fn wide_output(alloc: Global) -> Result<Vec<u8>, AllocError> {
+    let mut output = repeated(alloc, b"", b"ok\n", 123)?;
+    output.extend_from_slice(b"spent 399 phase mark\nspent 239 phase idle\n")?;
+    output.extend_from_slice(b"free 5 live 61 old 0 phase idle cycle 1\n")?;
+    Ok(output)
+}
+
+/// Replies for several buffers, and then a dump of 64 full pages.
+pub fn crowded(alloc: Global) -> Result<Vec<u8>, AllocError> {
+    let first = repeated(alloc, b"config 64 209 0 0\n", b"* stat\n", 1_800)?;
+    let mut script = repeated(alloc, first.as_slice(), b"a new 0 0 0\n", 4_096)?;
+    script.extend_from_slice(b"* dump\n")?;
+    Ok(script)
+}
+
+pub fn crowded_output(alloc: Global) -> Result<String, AllocError> {
+    let mut output = String::new(alloc);
+    for _ in 0..1_800 {
+        writeln!(output, "free 64 live 0 old 0 phase idle cycle 0")?;
+    }
+    add_oks(&mut output)?;
+    write!(output, "dump")?;
+    for place in 0..4_096u32 {
+        let slot = place % 64;
+        if slot == 0 {
+            write!(output, " P{} C4 -", place / 64)?;
+        }
+        write!(output, " {slot}={place}.0")?;
+    }
+    writeln!(output, "")?;
+    Ok(output)
+}
+
+fn add_oks(output: &mut String) -> Result<(), AllocError> {
+    for _ in 0..4_096 {
+        output.push_str("ok\n")?;
+    }
+    Ok(())
+}
