@@ -20,6 +20,15 @@ struct Stopped {
     most_replies: usize,
 }
 
+/// A run of events by so many workers.
+#[derive(Clone, Copy)]
+struct Case<'a> {
+    alloc: Global,
+    config: Config,
+    events: &'a [Event],
+    workers: usize,
+}
+
 /// The text of replies.
 fn text_of(alloc: Global, replies: &[Reply]) -> Result<String, Fail> {
     Ok(format!(in alloc; "{replies:?}")?)
@@ -71,7 +80,30 @@ fn run_of<R: Threads>(
     run(rt, alloc, config, events, workers, &Open)
 }
 
-/// Runs events with more and more memory until a run does not stop, which has to end as with memory at hand.
+/// Runs events with so many bytes left. Gives how many replies a run has that stopped; one that did not has to end as with
+/// memory at hand.
+fn replies_with<R: Threads>(
+    rt: &R,
+    famine: &mut Famine,
+    case: &Case<'_>,
+    wanted: &Outcome,
+    bytes: usize,
+) -> Result<Option<usize>, Fail>
+    requires { (0 < case.now.workers) × (case.now.workers ≤ 64) }
+{
+    famine.leave(bytes)?;
+    let answer = run_of(rt, case.alloc, case.config, case.events, case.workers);
+    famine.leave(PLENTY)?;
+    match answer {
+        Err(fault) => Ok(Some(count_of(case.alloc, &fault, wanted)?)),
+        Ok(outcome) => {
+            compare(case.alloc, &outcome, wanted)?;
+            Ok(None)
+        }
+    }
+}
+
+/// Runs events with more and more memory until a run does not stop.
 fn run_in_turn<R: Threads>(
     rt: &R,
     alloc: Global,
@@ -83,18 +115,18 @@ fn run_in_turn<R: Threads>(
 {
     let config = Config::first(8, 400, 0, 0).ok_or("no configuration")?;
     let wanted = run_of(rt, alloc, config, events, 1)?;
+    let case = Case {
+        alloc,
+        config,
+        events,
+        workers,
+    };
     let mut most_replies = 0;
     for runs in 0..MOST_STEPS {
-        famine.leave(STEP * runs)?;
-        let answer = run_of(rt, alloc, config, events, workers);
-        famine.leave(PLENTY)?;
-        match answer {
-            Err(fault) => most_replies = count_of(alloc, &fault, &wanted)?.max(most_replies),
-            Ok(outcome) => {
-                compare(alloc, &outcome, &wanted)?;
-                return Ok(Stopped { runs, most_replies });
-            }
-        }
+        let Some(count) = replies_with(rt, famine, &case, &wanted, STEP * runs)? else {
+            return Ok(Stopped { runs, most_replies });
+        };
+        most_replies = count.max(most_replies);
     }
     Err(Fail::from("refused with memory at hand"))
 }

@@ -204,6 +204,25 @@ fn wanted<R: Threads + Wait>(rt: &R, alloc: Global, parts: &[&[Event]]) -> Resul
     closed(alloc, service, seats)
 }
 
+/// Makes the last calls and closes the service, which has to leave what one leaves with memory after the calls of all parts.
+fn end<R: Threads + Wait>(
+    rt: &R,
+    alloc: Global,
+    service: Service<'_, Open>,
+    seats: Vec<Seat>,
+    parts: &[&[Event]; 3],
+) -> Result<(), Fail>
+    requires { All (IsOf service) seats.items }
+{
+    let mut seats = seats;
+    call_all(rt, &service, &mut seats, parts[2])?;
+    let found = closed(alloc, service, seats)?;
+    if found != wanted(rt, alloc, parts)? {
+        return Err(Fail::from("other answers than with memory"));
+    }
+    Ok(())
+}
+
 /// Lets each request of the call of a case be refused in turn, and gives how often it was.
 fn refuse_in_turn<R: Threads + Wait>(
     rt: &R,
@@ -214,11 +233,8 @@ fn refuse_in_turn<R: Threads + Wait>(
     let (service, mut seats) = opened(alloc)?;
     call_all(rt, &service, &mut seats, case.before)?;
     let refused = sweep(rt, alloc, famine, &service, &mut seats, case.event)?;
-    call_all(rt, &service, &mut seats, case.after)?;
-    let found = closed(alloc, service, seats)?;
-    if found != wanted(rt, alloc, &[case.before, &[case.event], case.after])? {
-        return Err(Fail::from("other answers than with memory"));
-    }
+    let parts = [case.before, &[case.event], case.after];
+    end(rt, alloc, service, seats, &parts)?;
     Ok(refused)
 }
 
@@ -238,11 +254,7 @@ fn refuse_once<R: Threads + Wait>(
     }
     let more = [DUMP, STAT, case.event];
     call_all(rt, &service, &mut seats, &more)?;
-    call_all(rt, &service, &mut seats, case.after)?;
-    let found = closed(alloc, service, seats)?;
-    if found != wanted(rt, alloc, &[case.before, &more, case.after])? {
-        return Err(Fail::from("other answers after a refusal"));
-    }
+    end(rt, alloc, service, seats, &[case.before, &more, case.after])?;
     Ok(true)
 }
 
