@@ -14,7 +14,7 @@ use mh_scan::crew;
 use mh_scan::crew_scan::{CrewGate, CrewScan};
 use mh_scan::scan::{OneScan, Scanner};
 use mh_state::state::State;
-use std::alloc::{AllocError, Global};
+use std::alloc::Global;
 use std::sync::OnceLock;
 use std::sync::atomic::AtomicU64;
 use std::sync::atomic::Ordering::SeqCst;
@@ -143,22 +143,6 @@ fn wanted_of(alloc: Global, cycle: &Cycle<'_>) -> Result<String, Fail> {
     told_after(alloc, &mut state)
 }
 
-/// Whether a crew of two runs the quanta of a cycle with so many bytes left.
-fn runs_with<R: Threads>(
-    rt: &R,
-    alloc: Global,
-    famine: &mut Famine,
-    state: &mut State,
-    gate: &Count,
-    quanta: &[(u64, Phase)],
-    bytes: usize,
-) -> Result<bool, AllocError> {
-    famine.leave(bytes)?;
-    let are_same = runs(state, &mut CrewScan::new(rt, alloc, 2, gate), quanta);
-    famine.leave(PLENTY)?;
-    Ok(are_same)
-}
-
 /// How many pieces a crew of two begins in a cycle for which so many bytes are left. The quanta and what is told after them
 /// have to be those that are wanted.
 fn pieces_with<R: Threads>(
@@ -173,7 +157,14 @@ fn pieces_with<R: Threads>(
         pieces: AtomicU64::new(0),
     };
     let mut state = after(alloc, cycle.config, cycle.events)?;
-    if !runs_with(rt, alloc, famine, &mut state, &gate, cycle.quanta, bytes)? {
+    famine.leave(bytes)?;
+    let are_same = runs(
+        &mut state,
+        &mut CrewScan::new(rt, alloc, 2, &gate),
+        cycle.quanta,
+    );
+    famine.leave(PLENTY)?;
+    if !are_same {
         return Err(Fail::from("other quanta"));
     }
     if told_after(alloc, &mut state)?.as_str() != wanted {
