@@ -1,7 +1,7 @@
 -- One word of a block written is one field of it changed.
 use Rattle.std.proofs.Common.{◌≡◌, ℕ, ◌+◌, ◌<◌, List, [], set, Option, Some, unwrap_or, ap, ◌∙◌, subst, arith}
 use Rattle.mh_model.specs.Pages.{Table, block_at}
-use Rattle.mh_model.specs.Table.{with_reference_at, with_number_at, with_stamp_at, with_forward_at}
+use Rattle.mh_model.specs.Table.{with_block_change, with_reference_at, with_number_at, with_stamp_at}
 use Rattle.mh_pages.specs.Words.{words_at, with_word}
 use Rattle.mh_blocks.specs.Words.{place_in, reference_words, block_of, blocks_of}
 use Rattle.mh_blocks.specs.Packed.{ArePacked}
@@ -14,7 +14,7 @@ with_word-stamp table place stamp packed =
     changed block_of table place (λ words. set words 2 stamp) (λ block. record block { stamp = stamp })
     (λ words is. stamp_written words stamp (omega (arith, (packed.blocks place words is).room)))
 
-pub with_word-forward : (table : Table (List ℕ)) (place word target : ℕ) → ArePacked table → place_in word ≡ Some target → blocks_of (with_word table place 3 word) ≡ with_forward_at (blocks_of table) place target
+pub with_word-forward : (table : Table (List ℕ)) (place word target : ℕ) → ArePacked table → place_in word ≡ Some target → blocks_of (with_word table place 3 word) ≡ with_block_change (blocks_of table) place (λ block. record block { forward = Some target })
 with_word-forward table place word target packed leads =
     changed block_of table place (λ words. set words 3 word) (λ block. record block { forward = Some target })
     (λ words is. forward_written words word (omega (arith, (packed.blocks place words is).room)) ∙ ap (λ forward. record (block_of words) { forward = forward }) leads)

@@ -2,9 +2,9 @@
 use Rattle.std.proofs.Common.{[], ap, arith, IsSome, None, Option, refl, replicate, Some, true, ℕ, ◌∷◌, ◌≡◌}
 use Rattle.mh_model.specs.declared.command.Command.TheVariants.{New}
 use Rattle.mh_model.specs.Paths.{Agrees}
-use Rattle.mh_model.specs.World.{births, first_world, number_of, Object, object_at, World, world_after}
+use Rattle.mh_model.specs.World.{births, first_world, number_of, Object, object_at, World}
 use Rattle.mh_laws.proofs.rows.Worked.{a, worked}
-use Rattle.mh_laws.proofs.rows.WorldLines.{four_pages}
+use Rattle.mh_laws.proofs.rows.WorldLines.{four_pages, world_after}
 
 -- a world with one object, which a slot names
 abbrev one_object : World

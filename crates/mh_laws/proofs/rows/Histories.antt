@@ -8,7 +8,7 @@ use Rattle.mh_model.specs.declared.reply.Reply.{Reply}
 use Rattle.mh_model.specs.declared.reply.Reply.TheVariants as reply
 use Rattle.mh_model.specs.declared.reply.Refusal.TheVariants.{Null}
 use Rattle.mh_model.specs.declared.config.Rules.TheVariants.{Second}
-use Rattle.mh_model.specs.History.{IsLegal, IsFirstBad, owner_of, owned_by}
+use Rattle.mh_model.specs.History.{IsLegal, IsFirstBadOf, owner_of, owned_by}
 use Rattle.mh_laws.proofs.rows.Worked.{worked, a, b}
 
 abbrev pub small : Config
@@ -37,7 +37,7 @@ unfolding worked told_of
 illegal legal = let bad : false ≡ true = ap told_of legal.replies in cc
 
 -- its last entry is the first bad one
-pub bad_at_last : IsFirstBad small (posted (reply.Refused Null)) 5
+pub bad_at_last : IsFirstBadOf (IsLegal small) (posted (reply.Refused Null)) 5
 unfolding worked
 bad_at_last = record { counted = lit≤ tt; within = lit≤ tt; before = record { few = lit≤ tt; replies = refl }; bad = illegal }
 

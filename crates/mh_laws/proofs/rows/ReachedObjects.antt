@@ -4,9 +4,9 @@ use Rattle.std.proofs.lemmas.Bool.Decides.{nat_tests}
 use Rattle.mh_model.specs.declared.command.Command.TheVariants.{Clear, New, Put}
 use Rattle.mh_model.specs.Paths.{IsPath, Reachable}
 use Rattle.mh_model.specs.Snapshot.{IsKept}
-use Rattle.mh_model.specs.World.{first_world, IsClosed, object_at, reference_of, World, world_after}
+use Rattle.mh_model.specs.World.{first_world, IsClosed, object_at, reference_of, World}
 use Rattle.mh_laws.proofs.rows.Worked.{a, worked}
-use Rattle.mh_laws.proofs.rows.WorldLines.{four_pages}
+use Rattle.mh_laws.proofs.rows.WorldLines.{four_pages, world_after}
 
 -- three objects: a slot names the first, which refers to the second, and the third is named no more
 abbrev three_objects : World

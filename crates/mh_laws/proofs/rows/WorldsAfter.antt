@@ -4,9 +4,9 @@ use Rattle.mh_model.specs.declared.command.Command.TheVariants.{Clear, New, Put,
 use Rattle.mh_model.specs.declared.reply.Refusal.TheVariants.{BadSlot, HeapFull}
 use Rattle.mh_model.specs.declared.reply.Reply.TheVariants as reply
 use Rattle.mh_model.specs.Snapshot.{world_beside}
-use Rattle.mh_model.specs.World.{births, first_world, world_after}
+use Rattle.mh_model.specs.World.{births, first_world}
 use Rattle.mh_laws.proofs.rows.Worked.{a, quantum_asked, start, stat, worked}
-use Rattle.mh_laws.proofs.rows.WorldLines.{four_pages}
+use Rattle.mh_laws.proofs.rows.WorldLines.{four_pages, world_after}
 
 -- each command takes its step, and no control does
 pub after_two_objects : (world_after (first_world four_pages) (a (New 0 1 1) ∷ stat ∷ a (New 1 0 1) ∷ a (Write 1 0 5) ∷ start ∷ a (Put 0 0 1) ∷ quantum_asked ∷ a (Clear 1) ∷ [])).objects
