@@ -34,8 +34,14 @@ abbrev pub AreTheWorlds : Config → List Event → List Reply → Type 0
 AreTheWorlds config events replies = (before : List Event) (who : ℕ) (command : Command) (given : Reply) → IsAnswered events replies before (event.Session who command) given → is_heap_full given ≡ false
     → given ≡ (world_step (world_beside (first_world config) before replies) who command).reply
 
--- The heap is full only where some part of the new object has no place, and at each new object that no other test refuses where one has none
+-- a command makes a new object
+abbrev pub IsNew : Command → Type 0
+IsNew (command.New slot references numbers) = Unit {0}
+IsNew _ = ⊥
+
+-- A full heap answers new objects alone, only where some part of the object has no place, and each that no other test refuses where one has none
 pub record FullIsNoPlace (config : Config) (events : List Event) (replies : List Reply) : Type 0 where
+  pub new : (before : List Event) (who : ℕ) (asked : Command) → IsAnswered events replies before (event.Session who asked) (reply.Refused HeapFull) → IsNew asked
   pub only : (before : List Event) (who slot references numbers : ℕ) → IsAnswered events replies before (event.Session who (command.New slot references numbers)) (reply.Refused HeapFull) → new_group (machine_at config before).heap references numbers ≡ None
   pub each : (before : List Event) (who slot references numbers : ℕ) (given : Reply) → IsAnswered events replies before (event.Session who (command.New slot references numbers)) given
       → refusal (record (heap_sight (machine_at config before).heap) { is_full = never_full }) who (command.New slot references numbers) ≡ None → new_group (machine_at config before).heap references numbers ≡ None → given ≡ reply.Refused HeapFull
@@ -114,7 +120,7 @@ pub record IsPromised (config : Config) (events : List Event) (outcome : Outcome
   pub answered : AreAnswered events outcome.replies
   -- replies are those of a heap that never collects or moves
   pub replies : AreTheWorlds config events outcome.replies
-  -- a full heap is answered just where there is no place
+  -- a full heap answers new objects alone, just where there is no place
   pub full : FullIsNoPlace config events outcome.replies
   -- what is refused changes nothing
   pub refused : RefusedChangesNothing config events outcome.replies

@@ -15,6 +15,7 @@ use Rattle.mh_laws.proofs.bounds.CyclesInTime.{run-stays}
 use Rattle.mh_promise.specs.Runs.{machine_at, moment_at}
 use Rattle.mh_promise.proofs.RunsByEvents.{after_more, replies-length}
 use Rattle.mh_promise.proofs.AnsweredEvents.{answered-is, beside-is, session-reply, told-left, half-heap, half-machine, run-quantum}
+use Rattle.mh_promise.proofs.FullHeaps.{new-alone}
 use Rattle.mh_promise.proofs.SpentUnits.{told-units}
 use Rattle.mh_promise.proofs.promise.runs_keep_their_promise.Goals as goal
 
@@ -28,6 +29,9 @@ returns c config events outcome is = record {
       let there = same ∙ ap (λ m. (event_step m (event.Session who command)).reply) (sym machine) in
       there ∙ c.replies_are_the_worlds.ensures config before who command (subst (λ r. is_heap_full r ≡ false) there full) ∙ ap (λ w. (world_step w who command).reply) world;
   full = record {
+    new = λ before who asked answered.
+        let same = answered-is config events outcome.replies before (event.Session who asked) (reply.Refused HeapFull) is.replies answered in
+        new-alone (machine_at config before).heap who asked (sym (same ∙ session-reply (machine_at config before) who asked));
     only = λ before who slot references numbers answered.
         let same = answered-is config events outcome.replies before (event.Session who (command.New slot references numbers)) (reply.Refused HeapFull) is.replies answered in
         c.full_heap_has_no_place.ensures (machine_at config before).heap who slot references numbers (sym (same ∙ session-reply (machine_at config before) who (command.New slot references numbers)));

@@ -1,0 +1,64 @@
+-- A full heap answers no command but a new object.
+use Rattle.std.proofs.Common.{◌≡◌, ℕ, if◌then◌else◌, Bool, true, false, Option, Some, None, List, [], ◌∷◌, get_or, nat_le, refl, sym, ap, ◌∙◌}
+use Rattle.std.proofs.lemmas.Bool.{false≢true}
+use Rattle.mh_model.specs.declared.command.Command.{Command}
+use Rattle.mh_model.specs.declared.command.Command.TheVariants as command
+use Rattle.mh_model.specs.declared.reply.Refusal.{Refusal}
+use Rattle.mh_model.specs.declared.reply.Refusal.TheVariants.{Ended, HeapFull, TooManySessions}
+use Rattle.mh_model.specs.declared.reply.Reply.TheVariants as reply
+use Rattle.mh_model.specs.declared.shape.Shape.{Shape}
+use Rattle.mh_model.specs.World.{Answer, own_slot, first_refusal, tests, names_same, yes_or_no, shape_reply, refusal, unless_refused}
+use Rattle.mh_model.specs.Mutator.{HeapState, root_at, shape_at, heap_sight, heap_effect, mutator_step}
+use Rattle.mh_model.specs.Snapshot.{is_heap_full}
+use Rattle.mh_promise.specs.Promise.{IsNew}
+
+-- no test is that of a full heap
+abbrev NoneIsFull : List (Bool × Refusal) → Type 0
+NoneIsFull [] = Unit {0}
+NoneIsFull (test ∷ tests) = (is_heap_full (reply.Refused test.1) ≡ false) × NoneIsFull tests
+
+first-other : (holds : Bool) (first : Refusal) (after : Option Refusal) → is_heap_full (reply.Refused first) ≡ false → ¬ (after ≡ Some HeapFull) → ¬ ((if holds then Some first else after) ≡ Some HeapFull)
+first-other true first after plain other e = let same : first ≡ HeapFull = cc in false≢true (sym plain ∙ ap (λ r. is_heap_full (reply.Refused r)) same)
+first-other false first after plain other e = other e
+
+none-full : (tests : List (Bool × Refusal)) → NoneIsFull tests → ¬ (first_refusal tests ≡ Some HeapFull)
+none-full [] none e = cc
+none-full (test ∷ tests) none e = first-other test.0 test.1 (first_refusal tests) none.0 (none-full tests none.1) e
+
+other-answer : (refused : Option Refusal) (heap : HeapState) (answer : Answer HeapState) → ¬ (refused ≡ Some HeapFull) → is_heap_full answer.reply ≡ false → ¬ ((unless_refused refused heap answer).reply ≡ reply.Refused HeapFull)
+other-answer None heap answer other plain e = false≢true (sym plain ∙ ap is_heap_full e)
+other-answer (Some refused) heap answer other plain e = let same : refused ≡ HeapFull = cc in other (ap Some same)
+
+same-plain : (same : Bool) → is_heap_full (yes_or_no same) ≡ false
+same-plain true = refl
+same-plain false = refl
+
+shape-plain : (shape : Option Shape) → is_heap_full (shape_reply shape) ≡ false
+shape-plain None = refl
+shape-plain (Some shape) = refl
+
+module _ (heap : HeapState) (who : ℕ) where
+  -- all tests of a command, in order
+  abbrev tests_of : Command → List (Bool × Refusal)
+  tests_of asked = (nat_le 8 who, TooManySessions) ∷ (get_or (heap_sight heap).ended who false, Ended) ∷ tests (heap_sight heap) who asked
+
+  -- a command whose tests and whose effect tell of no full heap
+  other-command : (asked : Command) → NoneIsFull (tests_of asked) → is_heap_full (heap_effect heap who asked).reply ≡ false → (mutator_step heap who asked).reply ≡ reply.Refused HeapFull → IsNew asked
+  unfolding mutator_step
+  other-command asked others plain e = absurd (other-answer (refusal (heap_sight heap) who asked) heap (heap_effect heap who asked) (none-full (tests_of asked) others) plain e)
+
+  -- what a full heap answers is a new object
+  pub new-alone : (asked : Command) → (mutator_step heap who asked).reply ≡ reply.Refused HeapFull → IsNew asked
+  unfolding heap_effect
+  new-alone (command.New slot references numbers) e = tt
+  new-alone (command.Get slot source field) e = other-command (command.Get slot source field) (refl, (refl, (refl, (refl, (refl, (refl, tt)))))) refl e
+  new-alone (command.Put slot field value) e = other-command (command.Put slot field value) (refl, (refl, (refl, (refl, (refl, (refl, tt)))))) refl e
+  new-alone (command.Copy slot source) e = other-command (command.Copy slot source) (refl, (refl, (refl, (refl, tt)))) refl e
+  new-alone (command.Clear slot) e = other-command (command.Clear slot) (refl, (refl, (refl, tt))) refl e
+  new-alone (command.Read slot index) e = other-command (command.Read slot index) (refl, (refl, (refl, (refl, (refl, tt))))) refl e
+  new-alone (command.Write slot index number) e = other-command (command.Write slot index number) (refl, (refl, (refl, (refl, (refl, tt))))) refl e
+  new-alone (command.Same left right) e = other-command (command.Same left right) (refl, (refl, (refl, (refl, tt)))) (same-plain (names_same (root_at heap (own_slot who left)) (root_at heap (own_slot who right)))) e
+  new-alone (command.Shape slot) e = other-command (command.Shape slot) (refl, (refl, (refl, (refl, tt)))) (shape-plain (shape_at heap (own_slot who slot))) e
+  new-alone (command.Post board slot) e = other-command (command.Post board slot) (refl, (refl, (refl, (refl, tt)))) refl e
+  new-alone (command.Take slot board) e = other-command (command.Take slot board) (refl, (refl, (refl, (refl, tt)))) refl e
+  new-alone command.End e = other-command command.End (refl, (refl, tt)) refl e
