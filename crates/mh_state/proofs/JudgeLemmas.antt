@@ -44,9 +44,9 @@ judged_push config event_of Fits Lawful rule xs x old new judged found =
     let events = map event_of xs in
     let fits = subst (λ (machine : Machine). Fits machine x) judged.machine found.1 in
     record {
-      machine = ap (λ (r : Running). r.machine) found.2 ∙ ap (λ (machine : Machine). (event_step machine (event_of x)).state) judged.machine
+      machine = found.2 ∙ ap (λ (machine : Machine). (event_step machine (event_of x)).state) judged.machine
           ∙ sym (after_more.event (first_machine config) events (event_of x)) ∙ ap (machine_at config) (sym (map-append event_of xs (x ∷ [])));
-      done = ap (λ (r : Running). r.done) found.2 ∙ ap suc judged.done ∙ sym (omega (arith, length_push xs x));
+      done = found.3 ∙ ap suc judged.done ∙ sym (omega (arith, length_push xs x));
       lawful = rule.more xs x judged.lawful (λ full. found.0 (judged.done ∙ full)) fits;
     }
 

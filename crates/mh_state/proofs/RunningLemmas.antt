@@ -31,9 +31,9 @@ module _ (law : RunsStayWithinTheirEvents) (config : Config) where
       (short-within (suc (length is.events)) (half_step (machine_after (first_machine config) is.events) event) (law.few (half_step (machine_after (first_machine config) is.events) event).heap.config) (omega (arith, more, is.count)) (law.after_commands config is.events event))
 
 -- the first machine runs
-pub first-running : (config : Config) (machine : Machine) → machine ≡ first_machine config → IsRunning config (record { machine = machine; done = 0 })
+pub first-running : (config : Config) (machine : Machine) (room : ℕ) → machine ≡ first_machine config → IsRunning config (record { machine = machine; done = 0; room = room })
 unfolding machine_after
-first-running config machine is = record { events = []; few = omega arith; count = refl; machine_is = is }
+first-running config machine room is = record { events = []; few = omega arith; count = refl; machine_is = is }
 
 -- a machine that runs keeps its configuration
 pub config-running : (config : Config) (running : Running) → IsRunning config running → config ≡ running.machine.heap.config

@@ -21,7 +21,7 @@ IsMeasured machine measured = measured ≡ measured_step machine measured.entry.
 
 -- What the try of an event tells by a rule of its entry: the event was done and its entry is right, or else it is one event too many or its entry is wrong
 abbrev pub IsTried : Type 0 → Running → Event → Running → Bool → Type 0
-IsTried Right old event new true = (old.done ≢ most_entries) × Right × (new ≡ record { machine = (event_step old.machine event).state; done = suc old.done })
+IsTried Right old event new true = (old.done ≢ most_entries) × Right × (new.machine ≡ (event_step old.machine event).state) × (new.done ≡ suc old.done)
 IsTried Right old event new false = (old.done ≡ most_entries) ⊎ ¬ Right
 
 -- A fault tells the first bad entry by a rule; want of memory tells nothing of the history

@@ -1,20 +1,23 @@
--- The machine that runs, with the number of events that it has done.
-use Rattle.std.specs.Prelude.{◌≡◌, ◌≤◌, ℕ, suc, List, length}
+-- The machine that runs, with the number of events that it has done and the room of its trace.
+use Rattle.std.specs.Prelude.{◌≡◌, ◌≤◌, ◌<◌, ℕ, suc, List, length}
+use Rattle.mh_model.specs.declared.command.Control.TheVariants as control
 use Rattle.mh_model.specs.declared.command.Event.{Event}
+use Rattle.mh_model.specs.declared.command.Event.TheVariants as event
 use Rattle.mh_model.specs.declared.config.Config.{Config}
 use Rattle.mh_model.specs.declared.reply.Reply.{Reply}
 use Rattle.mh_model.specs.Limits.{most_entries}
 use Rattle.mh_model.specs.World.{says}
 use Rattle.mh_model.specs.Machine.{Machine, first_machine, event_step, machine_after}
 
--- the machine, and how many events it has done
+-- the machine, how many events it has done, and how many segments its trace has room for without asking for memory
 pub record Running : Type 0 where
   pub machine : Machine
   pub done : ℕ
+  pub room : ℕ
 
 -- the first machine, which has done none
 abbrev pub first_running : Config → Running
-first_running config = record { machine = first_machine config; done = 0 }
+first_running config = record { machine = first_machine config; done = 0; room = 0 }
 
 -- an event was done: its reply and what it leaves are the machine's
 pub record Does (old : Running) (event : Event) (reply : Reply) (new : Running) : Type 0 where
@@ -27,3 +30,10 @@ pub record IsRunning (config : Config) (running : Running) : Type 0 where
   pub few : running.done ≤ most_entries
   pub count : length events ≡ running.done
   pub machine_is : running.machine ≡ machine_after (first_machine config) events
+
+-- An event may ask for memory: a dump for its items, and a command or a quantum for the trace, where that has no room for both their units
+abbrev pub MayAskForMemory : ℕ → Event → Type 0
+MayAskForMemory room (event.Session who command) = room < 2
+MayAskForMemory room (event.Control control.Quantum) = room < 2
+MayAskForMemory room (event.Control control.Dump) = Unit {0}
+MayAskForMemory room (event.Control _) = ⊥

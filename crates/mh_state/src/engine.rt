@@ -9,6 +9,7 @@ ghost use Rattle.mh_model.specs.Classes.{parts};
 ghost use Rattle.mh_model.specs.World.{says};
 ghost use Rattle.mh_model.specs.Machine.{first_machine, new_units, command_units, quantum_run, with_due_quantum, command_step, control_step, half_step, event_step};
 ghost use Rattle.mh_state.specs.Engines.{machine_of, IsShort};
+ghost use Rattle.mh_state.specs.Running.{MayAskForMemory};
 
 use mh_classes::parts::parts;
 use mh_heap::heap::Heap;
@@ -61,7 +62,8 @@ fn units_of(config: &Config, command: &Command, reply: &Reply) -> u64
 
 impl Engine {
     pub(crate) fn open(alloc: Global, config: Config) -> Result<Engine, NoMemory>
-        ensures { IfOk result (λ engine. machine_of engine ≡ first_machine config) }
+        ensures machine { IfOk result (λ engine. machine_of engine ≡ first_machine config) }
+        ensures room { IfOk result (λ engine. engine.trace.room ≡ 0) }
     {
         Ok(Engine {
             heap: PagedHeap::open(alloc, config)?,
@@ -88,21 +90,22 @@ impl Engine {
 
     /// Performs a command.
     #[tactic(auto, unfolding(mh_model::specs::Machine::command_step))]
-    fn command(&mut self, config: &Config, who: u8, command: &Command) -> Result<Reply, NoMemory>
+    fn command(&mut self, config: &Config, who: u8, command: &Command) -> Reply
         requires config { config.now ≡ self.old.heap.kept.config }
         requires room { 1 < self.old.trace.room }
         requires short { IsShort (machine_of self.old) }
         requires half { IsShort (half_step (machine_of self.old) (events.Session who command.now)) }
-        ensures step { IfOk result (λ reply. command_step (machine_of self.old) who command.now ≡ says reply (machine_of self.new)) }
+        ensures step { command_step (machine_of self.old) who command.now ≡ says result (machine_of self.new) }
         ensures config { self.new.heap.kept.config ≡ self.old.heap.kept.config }
         ensures room { 0 < self.new.trace.room }
-        ensures err { OnErr result (machine_of self.new ≡ machine_of self.old) }
     {
-        let reply = perform(&mut self.heap, who, command)?;
+        let Ok(reply) = perform(&mut self.heap, who, command) else {
+            unreachable!()
+        };
         let units = units_of(config, command, &reply);
         self.trace.mutator(units);
         self.units += units;
-        Ok(reply)
+        reply
     }
 
     /// Runs the quantum that is due, if one is.
@@ -128,13 +131,14 @@ impl Engine {
         scanner: &mut S,
     ) -> Result<Reply, NoMemory>
         requires config { config.now ≡ self.old.heap.kept.config }
-        requires room { 1 < self.old.trace.room }
         requires short { IsShort (machine_of self.old) }
         requires half { IsShort (half_step (machine_of self.old) (events.Session who command.now)) }
         ensures step { IfOk result (λ reply. event_step (machine_of self.old) (events.Session who command.now) ≡ says reply (machine_of self.new)) }
-        ensures err { OnErr result (machine_of self.new ≡ machine_of self.old) }
+        ensures err { OnErr result (self.new ≡ self.old) }
+        ensures memory { OnErr result (self.old.trace.room < 2) }
     {
-        let reply = self.command(config, who, command)?;
+        self.trace.room()?;
+        let reply = self.command(config, who, command);
         self.run_due(config, scanner);
         Ok(reply)
     }
@@ -156,7 +160,7 @@ impl Engine {
         }
     }
 
-    /// Does a control. Only a dump asks for memory.
+    /// Does a control.
     #[tactic(auto, unfolding(mh_model::specs::Machine::control_step))]
     fn control<S: Scanner>(
         &mut self,
@@ -166,13 +170,16 @@ impl Engine {
         scanner: &mut S,
     ) -> Result<Reply, NoMemory>
         requires config { config.now ≡ self.old.heap.kept.config }
-        requires room { 0 < self.old.trace.room }
         requires short { IsShort (machine_of self.old) }
         ensures step { IfOk result (λ reply. control_step (machine_of self.old) control ≡ says reply (machine_of self.new)) }
-        ensures err { OnErr result (machine_of self.new ≡ machine_of self.old) }
+        ensures err { OnErr result (self.new ≡ self.old) }
+        ensures memory { OnErr result (MayAskForMemory self.old.trace.room (events.Control control)) }
     {
         let reply = match control {
-            Control::Quantum => self.quantum_by_hand(config, scanner),
+            Control::Quantum => {
+                self.trace.room()?;
+                self.quantum_by_hand(config, scanner)
+            }
             Control::Start => {
                 self.heap.start();
                 Reply::Done
@@ -198,9 +205,9 @@ impl Engine {
         requires short { IsShort (machine_of self.old) }
         requires half { IsShort (half_step (machine_of self.old) event) }
         ensures step { IfOk result (λ reply. event_step (machine_of self.old) event ≡ says reply (machine_of self.new)) }
-        ensures err { OnErr result (machine_of self.new ≡ machine_of self.old) }
+        ensures err { OnErr result (self.new ≡ self.old) }
+        ensures memory { OnErr result (MayAskForMemory self.old.trace.room event) }
     {
-        self.trace.room()?;
         match event {
             Event::Session(who, command) => self.session(config, who, &command, scanner),
             Event::Control(control) => self.control(alloc, config, control, scanner),

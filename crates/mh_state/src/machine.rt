@@ -1,7 +1,7 @@
 //! The machine that runs: the heap of pages, the units since the last quantum, and the trace.
-ghost use Rattle.std.specs.Prelude.{◌≡◌, IfOk, OnErr, IsErrOf};
+ghost use Rattle.std.specs.Prelude.{◌≡◌, ◌↔◌, IfOk, IsTrue, OnErr, IsErrOf};
 ghost use Rattle.mh_model.specs.Limits.{most_entries};
-ghost use Rattle.mh_state.specs.Running.{first_running, Does};
+ghost use Rattle.mh_state.specs.Running.{first_running, Does, MayAskForMemory};
 ghost use Rattle.mh_state.specs.declared.machine.Stop.{Stop};
 
 use crate::engine::Engine;
@@ -46,9 +46,9 @@ impl Model for Machine {
 
     ghost Value = { Running };
 
-    ghost view = { λ m. record { machine = machine_of m.engine; done = m.done } };
+    ghost view = { λ m. record { machine = machine_of m.engine; done = m.done; room = m.engine.trace.room } };
 
-    ghost invariant = { λ m. IsRunning m.config (record { machine = machine_of m.engine; done = m.done }) };
+    ghost invariant = { λ m. IsRunning m.config (record { machine = machine_of m.engine; done = m.done; room = m.engine.trace.room }) };
 }
 
 impl Machine {
@@ -65,13 +65,15 @@ impl Machine {
     }
 
     /// Does an event with the quantum that it makes due, and answers it. Memory is asked for before anything changes, and
-    /// only for a dump and for the trace; what the scanner asks for is its own, and a quantum never fails for it.
+    /// only for a dump and for the trace, which has room for an event where its room is 2; what the scanner asks for is its
+    /// own, and a quantum never fails for it.
     #[tactic(auto, unfolding(mh_model::specs::Limits::most_entries))]
     pub fn step<S: Scanner>(&mut self, event: Event, scanner: &mut S) -> Result<Reply, Stop>
         ensures step { IfOk result (λ reply. Does self.old event reply self.new) }
         ensures stopped { OnErr result (self.new ≡ self.old) }
         ensures full { IsErrOf result Stop.HistoryFull → self.old.done ≡ most_entries }
         ensures ends { self.old.done ≡ most_entries → IsErrOf result Stop.HistoryFull }
+        ensures memory { IsErrOf result Stop.NoMemory → MayAskForMemory self.old.room event }
     {
         runs_stay_within_their_events();
         machine_after_more();
@@ -85,6 +87,14 @@ impl Machine {
                 Ok(reply)
             }
         }
+    }
+
+    /// Whether it has done as many events as it may.
+    #[tactic(auto, unfolding(mh_model::specs::Limits::most_entries))]
+    pub fn is_full(&self) -> bool
+        ensures { IsTrue result ↔ (self.now.done ≡ most_entries) }
+    {
+        self.done == MOST_EVENTS
     }
 
     pub fn config(&self) -> Config

@@ -1,5 +1,5 @@
 //! Whole runs.
-ghost use Rattle.std.specs.Prelude.{◌≡◌, ◌<◌, ◌≤◌, IfOk, OnOk, IfErr, OnErr, IsErr, IsErrOf, length, vec_len};
+ghost use Rattle.std.specs.Prelude.{◌≡◌, ◌<◌, ◌≤◌, IfOk, OnOk, IfErr, OnErr, IsErrOf, length, vec_len};
 ghost use Rattle.mh_model.specs.Limits.{most_entries};
 ghost use Rattle.mh_promise.specs.Runs.{IsTheMachines, AreAnsweredSoFar};
 ghost use Rattle.mh_promise.specs.Replays.{IsReplay};
@@ -50,8 +50,11 @@ fn go_on<S: Scanner>(
     ensures machine { OnErr result (machine.new ≡ machine.old) }
     ensures replies { OnErr result (replies.new.items ≡ replies.old.items) }
     ensures full { IsErrOf result Stop.HistoryFull → machine.old.done ≡ most_entries }
-    ensures ends { machine.old.done ≡ most_entries → IsErr result }
+    ensures ends { machine.old.done ≡ most_entries → IsErrOf result Stop.HistoryFull }
 {
+    if machine.is_full() {
+        return Err(Stop::HistoryFull);
+    }
     if replies.reserve(1).is_err() {
         return Err(Stop::NoMemory);
     }
@@ -71,6 +74,8 @@ fn replay<S: Scanner>(
     ensures so_far { IfErr result (λ fault. AreAnsweredSoFar config events.now fault.replies.items) }
     ensures full { IfErr result (λ fault. fault.stop ≡ Stop.HistoryFull → vec_len fault.replies ≡ most_entries) }
     ensures more { IfErr result (λ fault. fault.stop ≡ Stop.HistoryFull → most_entries < length events.now) }
+    ensures stops { IfErr result (λ fault. vec_len fault.replies ≡ most_entries → fault.stop ≡ Stop.HistoryFull) }
+    ensures left { IfErr result (λ fault. 0 < vec_len fault.replies → vec_len fault.replies < length events.now) }
     ensures ends { OnOk result (length events.now ≤ most_entries) }
 {
     events_keep_the_replay();
@@ -91,7 +96,7 @@ fn replay<S: Scanner>(
 }
 
 /// Does all events, the cycles by as many workers at most as are asked for. A run that stops did the events before the one
-/// that it stopped at, and that one not at all.
+/// that it stopped at, and that one not at all; one for which no memory could be opened did none.
 pub fn run<R: Threads, G: CrewGate>(
     rt: &R,
     alloc: Global,
@@ -106,6 +111,8 @@ pub fn run<R: Threads, G: CrewGate>(
     ensures so_far { IfErr result (λ fault. IsPromisedSoFar config events.now fault.replies.items) }
     ensures full { IfErr result (λ fault. fault.stop ≡ Stop.HistoryFull → vec_len fault.replies ≡ most_entries) }
     ensures more { IfErr result (λ fault. fault.stop ≡ Stop.HistoryFull → most_entries < length events.now) }
+    ensures stops { IfErr result (λ fault. vec_len fault.replies ≡ most_entries → fault.stop ≡ Stop.HistoryFull) }
+    ensures left { IfErr result (λ fault. 0 < vec_len fault.replies → vec_len fault.replies < length events.now) }
     ensures ends { OnOk result (length events.now ≤ most_entries) }
 {
     runs_keep_their_promise();

@@ -115,6 +115,7 @@ impl State {
         ensures full { IsErrOf result Stop.HistoryFull → length self.old.history ≡ most_entries }
         ensures ends { length self.old.history ≡ most_entries → IsErrOf result Stop.HistoryFull }
         ensures legal { IsLegal self.new.machine.heap.config self.new.history }
+        ensures replay { IsTheReplay self.new }
         ensures promise { KeepsItsPromise self.new }
     {
         let outcome = self.enter(event, scanner);

@@ -6,7 +6,7 @@ use crate::state::State;
 use mh_claims::gate::Open;
 use mh_model::command::{Command, Control, Event};
 use mh_model::config::Config;
-use mh_model::reply::Reply;
+use mh_model::reply::{Refusal, Reply};
 use mh_scan::scan::OneScan;
 use std::alloc::{AllocError, Global};
 use std::test::Fail;
@@ -180,6 +180,36 @@ fn a_run_stops_after_its_most_events(rt: HostRuntime) -> Result<(), Fail> {
     Ok(())
 }
 
+#[test]
+fn the_largest_heap_is_full_after_16_384_blocks(rt: HostRuntime) -> Result<(), Fail> {
+    let config = Config::new(4_096, 209, 0, 0).ok_or("no configuration")?;
+    let events = vec![in rt.alloc(); new(0, 0, 60); 16_385]?;
+    let outcome = run(&rt, rt.alloc(), config, &events, 1, &Open)?;
+    let made = outcome
+        .replies
+        .iter()
+        .filter(|reply| matches!(reply, Reply::Done));
+    assert_eq!(rt; made.count(), 16_384);
+    let last = outcome.replies.as_slice().last();
+    assert!(rt; matches!(last, Some(Reply::Refused(Refusal::HeapFull))));
+    assert_eq!(rt; outcome.free, 0);
+    Ok(())
+}
+
+#[test]
+fn a_cycle_starts_at_the_trigger(rt: HostRuntime) -> Result<(), Fail> {
+    let page = new(0, 0, 60);
+    let events = [page, page, page, page, QUANTUM, page, QUANTUM];
+    let replies = run_by(&rt, rt.alloc(), Config::new(4, 353, 2, 0), &events)?;
+    let told = format!(in rt.alloc(); "{replies:?}")?;
+    assert_eq!(rt;
+        told.as_str(),
+        "[Done, Done, Done, Done, Spent { units: Spent(0), phase: Idle }, \
+        Done, Spent { units: Spent(303), phase: Idle }]"
+    );
+    Ok(())
+}
+
 /// An object with 60 others in its fields, a cycle, and a dump.
 fn wide(alloc: Global) -> Result<Vec<Event>, AllocError> {
     let mut events = Vec::new(alloc);
@@ -220,6 +250,9 @@ fn crews_run_alike(rt: HostRuntime) -> Result<(), Fail> {
     let alone = told_by(&rt, rt.alloc(), &events, 1)?;
     let crew = told_by(&rt, rt.alloc(), &events, 7)?;
     assert_eq!(rt; crew, alone);
+    let quanta =
+        "Spent { units: Spent(399), phase: Mark }, Spent { units: Spent(239), phase: Idle }";
+    assert!(rt; crew.contains(quanta));
     assert!(rt; crew.contains("birth: 60, part: 0"));
     Ok(())
 }
