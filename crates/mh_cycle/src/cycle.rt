@@ -5,6 +5,7 @@ ghost use Rattle.mh_model.specs.Mutator.{before_root, before_field};
 ghost use Rattle.mh_model.specs.Bound.{most_quanta};
 ghost use Rattle.mh_model.specs.Machine.{quanta_left};
 ghost use Rattle.mh_model.specs.Invariant.{IsSteady};
+ghost use Rattle.mh_laws.specs.Forwarders.{MakesItsForwarders};
 ghost use Rattle.mh_cycle.specs.State.{with_collector, first_state};
 ghost use Rattle.mh_cycle.specs.Snapshots.{ContinuesEach, StartsFromTheView, KeepsEach, KeepsEachBehind};
 
@@ -12,6 +13,7 @@ use mh_blocks::blocks::Blocks;
 use mh_grey::grey::Grey;
 use mh_laws::barriers::barriers_keep_the_snapshot;
 use mh_laws::fields::references_lead_on;
+use mh_laws::forwarders::quanta_make_their_forwarders;
 use mh_laws::snapshots::{
     collectors_stay_steady, cycles_start_from_the_view, heaps_stay_kept, quanta_keep_the_snapshot,
     shading_keeps_the_snapshot,
@@ -107,6 +109,13 @@ impl Cycle {
         self.number
     }
 
+    /// How many quanta the running cycle has had, with the one that started it, and 0 while none runs.
+    pub fn quanta_run(&self) -> u64
+        ensures { result ≡ self.now.collector.quanta }
+    {
+        self.quanta
+    }
+
     /// How many quanta the running cycle still has at most.
     pub fn quanta_left(&self) -> u64
         ensures { result ≡ quanta_left self.now.config self.now.collector }
@@ -139,10 +148,12 @@ impl Cycle {
         ensures steady { IsSteady self.new.collector }
         ensures keeps { ContinuesEach self.old.collector self.new.collector }
         ensures starts { StartsFromTheView self.old self.new.collector }
+        ensures forwarders { MakesItsForwarders self.old.config self.old.collector self.new.collector }
     {
         collectors_stay_steady();
         quanta_keep_the_snapshot();
         cycles_start_from_the_view();
+        quanta_make_their_forwarders();
         self.begin();
         let most = u64::from(self.config.quantum);
         let mut left = most;

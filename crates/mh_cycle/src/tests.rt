@@ -60,7 +60,7 @@ fn run<S: Scanner>(cycle: &mut Cycle, scanner: &mut S) -> Option<Spent>
     requires { IsSteady cycle.old.collector }
     ensures { IsSteady cycle.new.collector }
 {
-    if cycle.number >= 1 << 62 || cycle.quanta >= 1 << 62 {
+    if cycle.cycle_number() >= 1 << 62 || cycle.quanta_run() >= 1 << 62 {
         return None;
     }
     Some(cycle.quantum(scanner))
@@ -80,6 +80,7 @@ fn cycles_through_an_empty_table(rt: HostRuntime) -> Result<(), Fail> {
     cycle.start();
     assert_eq!(rt; run(&mut cycle, &mut scanner), Some(Spent(208)));
     assert_eq!(rt; state(&cycle), (Phase::Roots, 1, 911));
+    assert_eq!(rt; cycle.quanta_run(), 1);
     assert_eq!(rt; run(&mut cycle, &mut scanner), Some(Spent(88)));
     assert_eq!(rt; state(&cycle), (Phase::Idle, 1, 0));
     assert_eq!(rt; cycle.config(), config);

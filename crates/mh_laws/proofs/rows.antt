@@ -46,3 +46,4 @@ pub mod ChangedPages
 pub mod WorldsAfter
 pub mod ReachedObjects
 pub mod AgreeingViews
+pub mod NewForwarders

@@ -15,3 +15,4 @@ pub mod Following
 pub mod BesideTheWorld
 pub mod Barriers
 pub mod Fields
+pub mod Forwarders

@@ -10,6 +10,7 @@ pub mod commands;
 pub mod costs;
 pub mod fields;
 pub mod following;
+pub mod forwarders;
 pub mod grey_room;
 pub mod new_objects;
 pub mod placing;

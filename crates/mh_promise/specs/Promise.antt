@@ -21,6 +21,7 @@ use Rattle.mh_model.specs.Snapshot.{Moment, half_moment, has_quantum, is_heap_fu
 use Rattle.mh_model.specs.Trace.{least_mutator, floor}
 use Rattle.mh_laws.specs.BesideTheWorld.{IsFaithful, IsInCycle}
 use Rattle.mh_laws.specs.Bounds.{HasEnded, HasRun}
+use Rattle.mh_laws.specs.Forwarders.{AreOfItsCycle}
 use Rattle.mh_promise.specs.Runs.{Outcome, machine_at, moment_at, outcome_of, IsAnswered, IsTheMachines, AreAnsweredSoFar}
 
 -- Replies ----------------------------------------------------------------------------------------
@@ -72,6 +73,12 @@ pub record CyclesLeaveWhatIsKept (config : Config) (events : List Event) : Type 
       let moment = half_moment (moment_at config before) event in
       let after = (quantum moment.machine.heap.config moment.machine.heap.collector).collector in
       IsInCycle moment.machine.heap → is_idle after.phase ≡ true → IsFinished (snapshot_at moment) moment.machine.heap.next_birth after
+
+-- A quantum of the run that ends its cycle leaves only forwarders that the cycle made: as its defragmentation began, in that quantum or an earlier one, no forwarder was at their places
+abbrev pub CyclesMakeTheirForwarders : Config → List Event → Type 0
+CyclesMakeTheirForwarders config events = (before : List Event) (event : Event) (later : List Event) → events ≡ before ++ event ∷ later → has_quantum (machine_at config before) event ≡ true →
+    let after = (machine_at config (before ++ event ∷ [])).heap.collector in
+    IsInCycle (half_step (machine_at config before) event).heap → is_idle after.phase ≡ true → AreOfItsCycle config (before ++ event ∷ []) after
 
 -- Moments ----------------------------------------------------------------------------------------
 
@@ -128,6 +135,8 @@ pub record IsPromised (config : Config) (events : List Event) (outcome : Outcome
   pub limit : QuantaKeepTheirLimit config events outcome
   -- a cycle that ends leaves just what was reachable as it started, and what was born since
   pub cycles : CyclesLeaveWhatIsKept config events
+  -- and no forwarder that it didn't make itself
+  pub forwarders : CyclesMakeTheirForwarders config events
   -- at each moment the snapshot is kept, what sessions see is the world's, and no reference leads to a freed place
   pub moments : MomentsAreSafe config events
   -- a cycle that runs ends within its bound of quanta

@@ -57,6 +57,7 @@ returns c config events outcome is = record {
         subst (λ c. IsFinished (snapshot_at half) half.machine.heap.next_birth c) (sym after) (c.finished_cycles_are_exact.ensures config before event cycle (subst (λ c. is_idle c.phase ≡ true) after idle));
     any = λ before event later split. c.finished_cycles_are_exact.ensures config before event;
   };
+  forwarders = λ before event later split. c.finished_cycles_made_their_forwarders.ensures config before event;
   moments = record {
     each = λ before later split. record {
       faithful = c.moments_are_faithful.ensures.at_each config before;

@@ -28,3 +28,6 @@ returns-clause-keeps g c snapshot n runs keeps = rw (is-quantum g c).after (c.qu
 
 pub returns-clause-starts : goal.returns-clause-starts
 returns-clause-starts g c heap config collector idle due sound = rw (is-quantum g c).after (starts-from c.cycles_start_from_the_view.ensures c.args.self.now heap config collector idle due sound)
+
+pub returns-clause-forwarders : goal.returns-clause-forwarders
+returns-clause-forwarders g c = rw (is-quantum g c).after (c.quanta_make_their_forwarders.ensures c.args.self.now.config c.args.self.now.collector c.requires.steady)

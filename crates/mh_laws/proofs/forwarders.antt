@@ -1,0 +1,2 @@
+pub mod BegunWithin
+pub mod RunForwarders

@@ -1,0 +1,238 @@
+-- Where a defragmentation begins within a quantum no block is a forwarder, and each that its cycle leaves was made since.
+use Rattle.std.proofs.Common.{◌≡◌, ◌⊎◌, ℕ, zero, suc, ◌-◌, ◌==◌, nat_lt, ◌||◌, if◌then◌else◌, Bool, true, false, inl, inr, List, [], ◌∷◌, Option, Some, None, option_and_then, refl, sym, ap, ◌∙◌, subst}
+use Rattle.std.proofs.lemmas.Bool.{false≢true, cases_Bool}
+use Rattle.mh_model.specs.declared.config.Config.{Config}
+use Rattle.mh_model.specs.declared.cycle.Phase.{Phase}
+use Rattle.mh_model.specs.declared.cycle.Phase.TheVariants.{Idle, Roots, Mark, Sweep, Defrag}
+use Rattle.mh_model.specs.Pages.{block_at}
+use Rattle.mh_model.specs.Table.{Block, forward_at}
+use Rattle.mh_model.specs.Collector.{Collector, Move, Spending, with_phase, with_move, with_marking, marking_of, mark_step, roots_step, sweep_step, defrag_step, next_move, after_mark, is_past, cycle_end, phase_after, step_in, collector_step, step_cost, is_moving, is_idle, is_start_due, quantum_start, steps, quantum}
+use Rattle.mh_model.specs.Invariant.{in_trace, in_defrag, KeepsSnapshot, IsSteady}
+use Rattle.mh_laws.specs.Forwarders.{after_steps, BeginsToDefragment, IsMadeSince, MakesItsForwarders, QuantaMakeTheirForwarders}
+use Rattle.mh_laws.proofs.costs.Quanta.{steps-stop, steps-go}
+use Rattle.mh_laws.proofs.costs.QuantumStarts.{begins}
+use Rattle.mh_laws.proofs.sweeping.SweepSteps.{snapshot-sweep_step}
+use Rattle.mh_laws.proofs.snapshots.CycleSteps.{continues-collector_step}
+use Rattle.mh_laws.proofs.snapshots.SteadyStates.{collectors-steady}
+
+-- Steps ------------------------------------------------------------------------------------------
+
+trace-after_mark : (c : Collector) (grey : List ℕ) → in_trace (after_mark c grey).phase ≡ true
+trace-after_mark c [] = refl
+trace-after_mark c (place ∷ grey) = refl
+
+-- from marking and the sweep a step leads to defragmentation alone, and from the sweep
+trace-step : (c : Collector) → in_trace c.phase ≡ true → in_trace (collector_step c).phase ≡ false → (c.phase ≡ Sweep) × ((collector_step c).phase ≡ Defrag)
+unfolding collector_step
+trace-step c trace ended = go c.phase refl trace ended
+  where
+    after_roots : (b : Bool) → in_trace (if b then after_mark (roots_step c) (roots_step c).grey else roots_step c).phase ≡ true
+    after_roots true = trace-after_mark (roots_step c) (roots_step c).grey
+    after_roots false = refl
+
+    after_sweep : (b : Bool) → c.phase ≡ Sweep → in_trace (if b then with_phase (sweep_step c) Defrag 0 else sweep_step c).phase ≡ false → (if b then with_phase (sweep_step c) Defrag 0 else sweep_step c).phase ≡ Defrag
+    after_sweep true is e = refl
+    after_sweep false is e = absurd (false≢true (sym e ∙ ap in_trace is))
+
+    go : (phase : Phase) → c.phase ≡ phase → in_trace phase ≡ true → in_trace (phase_after phase (step_in phase c)).phase ≡ false → (c.phase ≡ Sweep) × ((phase_after phase (step_in phase c)).phase ≡ Defrag)
+    go Idle is t e = absurd (false≢true t)
+    go Roots is t e = absurd (false≢true (sym e ∙ after_roots ((roots_step c).cursor == 144)))
+    go Mark is t e = let m : Collector = with_marking c (mark_step (marking_of c)) in absurd (false≢true (sym e ∙ trace-after_mark m m.grey))
+    go Sweep is t e = (is, after_sweep (is_past (sweep_step c).table (sweep_step c).cursor) is e)
+    go Defrag is t e = absurd (false≢true t)
+
+cycle-after_mark : (c : Collector) (grey : List ℕ) → (after_mark c grey).cycle ≡ c.cycle
+cycle-after_mark c [] = refl
+cycle-after_mark c (place ∷ grey) = refl
+
+cycle-with_move : (c : Collector) (move : Option Move) → (with_move c move).cycle ≡ c.cycle
+cycle-with_move c None = refl
+cycle-with_move c (Some move) = refl
+
+-- a step leaves the cycle's number
+cycle-collector_step : (c : Collector) → (collector_step c).cycle ≡ c.cycle
+unfolding collector_step
+cycle-collector_step c = go c.phase
+  where
+    after_roots : (b : Bool) → (if b then after_mark (roots_step c) (roots_step c).grey else roots_step c).cycle ≡ c.cycle
+    after_roots true = cycle-after_mark (roots_step c) (roots_step c).grey
+    after_roots false = refl
+
+    after_sweep : (b : Bool) → (if b then with_phase (sweep_step c) Defrag 0 else sweep_step c).cycle ≡ c.cycle
+    after_sweep true = refl
+    after_sweep false = refl
+
+    after_defrag : (b : Bool) → (if b then cycle_end (defrag_step c) else defrag_step c).cycle ≡ c.cycle
+    after_defrag true = cycle-with_move c (next_move c.table c.cursor)
+    after_defrag false = cycle-with_move c (next_move c.table c.cursor)
+
+    go : (phase : Phase) → (phase_after phase (step_in phase c)).cycle ≡ c.cycle
+    go Idle = refl
+    go Roots = after_roots ((roots_step c).cursor == 144)
+    go Mark = let m : Collector = with_marking c (mark_step (marking_of c)) in cycle-after_mark m m.grey
+    go Sweep = after_sweep (is_past (sweep_step c).table (sweep_step c).cursor)
+    go Defrag = after_defrag (is_past (defrag_step c).table (defrag_step c).cursor)
+
+-- after the last step of the sweep no block is a forwarder: all that is left was marked, and so no forwarder
+none-forwarded : (c : Collector) → IsSteady c → c.phase ≡ Sweep → (collector_step c).phase ≡ Defrag → (place : ℕ) → forward_at (collector_step c).table place ≡ None
+unfolding collector_step
+none-forwarded c (snapshot, n, h) sweeps defrags place = by_block (block_at swept.table place) refl
+  where
+    swept : Collector
+    swept = sweep_step c
+
+    kept : KeepsSnapshot snapshot n (collector_step c)
+    kept = (continues-collector_step snapshot n c (ap is_idle sweeps) h).keeps
+
+    kept_swept : KeepsSnapshot snapshot n swept
+    kept_swept = snapshot-sweep_step snapshot n c sweeps h
+
+    -- the phase that follows leaves the table
+    same : (collector_step c).table ≡ swept.table
+    same = ap (λ phase. (phase_after phase (step_in phase c)).table) sweeps ∙ by_end (is_past swept.table swept.cursor)
+      where
+        by_end : (b : Bool) → (if b then with_phase swept Defrag 0 else swept).table ≡ swept.table
+        by_end true = refl
+        by_end false = refl
+
+    original : (block : Block) → block_at swept.table place ≡ Some block → block.forward ≡ None
+    original block at =
+        let stamp = kept.sound.marked (ap in_defrag defrags) place block (ap (λ t. block_at t place) same ∙ at) in
+        kept_swept.sound.original (ap in_trace sweeps) place block at (stamp ∙ cycle-collector_step c)
+
+    by_block : (content : Option Block) → block_at swept.table place ≡ content → forward_at (collector_step c).table place ≡ None
+    by_block None at = ap (λ t. forward_at t place) same ∙ ap (option_and_then (λ (b : Block). b.forward)) at
+    by_block (Some block) at = ap (λ t. forward_at t place) same ∙ ap (option_and_then (λ (b : Block). b.forward)) at ∙ original block at
+
+-- Some steps -------------------------------------------------------------------------------------
+
+-- steps after the first are those of the collector after it
+steps-next : (count left : ℕ) (moved : Bool) (c : Collector) → (is_idle c.phase || nat_lt left (step_cost c moved)) ≡ false
+    → (steps (suc count) left moved c).collector ≡ (steps count (left - step_cost c moved) (moved || is_moving c) (collector_step c)).collector
+steps-next count left moved c goes = ap (λ (s : Spending). s.collector) (steps-go count left moved c goes)
+
+steps-none : (count left : ℕ) (moved : Bool) (c : Collector) → (is_idle c.phase || nat_lt left (step_cost c moved)) ≡ true → (steps (suc count) left moved c).collector ≡ c
+steps-none count left moved c stops = ap (λ (s : Spending). s.collector) (steps-stop count left moved c stops)
+
+steps-zero : (left : ℕ) (moved : Bool) (c : Collector) → (steps 0 left moved c).collector ≡ c
+unfolding steps
+steps-zero left moved c = refl
+
+pub steps-cycle : (count left : ℕ) (moved : Bool) (c : Collector) → (steps count left moved c).collector.cycle ≡ c.cycle
+steps-cycle zero left moved c = ap (λ k. k.cycle) (steps-zero left moved c)
+steps-cycle (suc count) left moved c = elim (cases_Bool (is_idle c.phase || nat_lt left (step_cost c moved))) [
+  | inl stops ↦ ap (λ (k : Collector). k.cycle) (steps-none count left moved c stops)
+  | inr goes ↦ ap (λ (k : Collector). k.cycle) (steps-next count left moved c goes) ∙ steps-cycle count (left - step_cost c moved) (moved || is_moving c) (collector_step c) ∙ cycle-collector_step c
+]
+
+steps-steady : (count left : ℕ) (moved : Bool) (c : Collector) → IsSteady c → IsSteady (steps count left moved c).collector
+steps-steady zero left moved c steady = subst IsSteady (sym (steps-zero left moved c)) steady
+steps-steady (suc count) left moved c steady = elim (cases_Bool (is_idle c.phase || nat_lt left (step_cost c moved))) [
+  | inl stops ↦ subst IsSteady (sym (steps-none count left moved c stops)) steady
+  | inr goes ↦ subst IsSteady (sym (steps-next count left moved c goes)) (steps-steady count (left - step_cost c moved) (moved || is_moving c) (collector_step c) (collectors-steady.steps c steady))
+]
+
+-- one step more is a step, or none
+steps-more : (count left : ℕ) (moved : Bool) (c : Collector)
+    → ((steps (suc count) left moved c).collector ≡ (steps count left moved c).collector) ⊎ ((steps (suc count) left moved c).collector ≡ collector_step (steps count left moved c).collector)
+steps-more zero left moved c = elim (cases_Bool (is_idle c.phase || nat_lt left (step_cost c moved))) [
+  | inl stops ↦ inl (steps-none 0 left moved c stops ∙ sym (steps-zero left moved c))
+  | inr goes ↦ inr (steps-next 0 left moved c goes ∙ steps-zero (left - step_cost c moved) (moved || is_moving c) (collector_step c) ∙ ap collector_step (sym (steps-zero left moved c)))
+]
+steps-more (suc count) left moved c = elim (cases_Bool (is_idle c.phase || nat_lt left (step_cost c moved))) [
+  | inl stops ↦ inl (steps-none (suc count) left moved c stops ∙ sym (steps-none count left moved c stops))
+  | inr goes ↦ elim (steps-more count (left - step_cost c moved) (moved || is_moving c) (collector_step c)) [
+    | inl none ↦ inl (steps-next (suc count) left moved c goes ∙ none ∙ sym (steps-next count left moved c goes))
+    | inr one ↦ inr (steps-next (suc count) left moved c goes ∙ one ∙ ap collector_step (sym (steps-next count left moved c goes)))
+  ]
+]
+
+-- after so many steps the sweep goes on, and after one more defragmentation has begun
+record Begun (left : ℕ) (moved : Bool) (c : Collector) : Type 0 where
+  pub count : ℕ
+  pub sweeps : (steps count left moved c).collector.phase ≡ Sweep
+  pub defragments : (steps (suc count) left moved c).collector.phase ≡ Defrag
+
+-- steps that lead from marking or the sweep to defragmentation or the cycle's end go through its beginning
+steps-begin : (count left : ℕ) (moved : Bool) (c : Collector) → in_trace c.phase ≡ true → in_trace (steps count left moved c).collector.phase ≡ false → Begun left moved c
+steps-begin zero left moved c trace ended = absurd (false≢true (sym ended ∙ ap (λ k. in_trace k.phase) (steps-zero left moved c) ∙ trace))
+steps-begin (suc count) left moved c trace ended = elim (cases_Bool (is_idle c.phase || nat_lt left (step_cost c moved))) [
+  | inl stops ↦ absurd (false≢true (sym ended ∙ ap (λ (k : Collector). in_trace k.phase) (steps-none count left moved c stops) ∙ trace))
+  | inr goes ↦ elim (cases_Bool (in_trace (collector_step c).phase)) [
+    | inl still ↦
+        let begun = steps-begin count (left - step_cost c moved) (moved || is_moving c) (collector_step c) still (ap (λ (k : Collector). in_trace k.phase) (sym (steps-next count left moved c goes)) ∙ ended) in
+        record {
+          count = suc begun.count;
+          sweeps = ap (λ (k : Collector). k.phase) (steps-next begun.count left moved c goes) ∙ begun.sweeps;
+          defragments = ap (λ (k : Collector). k.phase) (steps-next (suc begun.count) left moved c goes) ∙ begun.defragments;
+        }
+    | inr passed ↦
+        let (sweeps, defrags) = trace-step c trace passed in
+        record {
+          count = 0;
+          sweeps = ap (λ (k : Collector). k.phase) (steps-zero left moved c) ∙ sweeps;
+          defragments = ap (λ (k : Collector). k.phase) (steps-next 0 left moved c goes ∙ steps-zero (left - step_cost c moved) (moved || is_moving c) (collector_step c)) ∙ defrags;
+        }
+  ]
+]
+
+-- Quanta -----------------------------------------------------------------------------------------
+
+defrag_is : (phase : Phase) → is_idle phase ≡ false → in_trace phase ≡ false → phase ≡ Defrag
+defrag_is Idle runs ended = absurd (false≢true (sym runs))
+defrag_is Roots runs ended = absurd (false≢true (sym ended))
+defrag_is Mark runs ended = absurd (false≢true (sym ended))
+defrag_is Sweep runs ended = absurd (false≢true (sym ended))
+defrag_is Defrag runs ended = refl
+
+module _ (config : Config) (c : Collector) (steady : IsSteady c) where
+  abbrev start : Collector
+  start = quantum_start config c
+
+  abbrev end : Collector
+  end = (steps config.quantum config.quantum false start).collector
+
+  -- where a defragmentation begins no block is a forwarder
+  begins-clean : (begun : Collector) → BeginsToDefragment config c begun → (place : ℕ) → forward_at begun.table place ≡ None
+  begins-clean begun b place = elim (steps-more b.count config.quantum false start) [
+    | inl none ↦ absurd (false≢true (sym (ap in_trace b.defragments) ∙ ap (λ (k : Collector). in_trace k.phase) (sym b.is ∙ none) ∙ ap in_trace b.sweeps))
+    | inr one ↦
+        let now : Collector = after_steps config c b.count in
+        let is : collector_step now ≡ begun = sym one ∙ b.is in
+        let here : IsSteady now = steps-steady b.count config.quantum false start (collectors-steady.starts config c steady) in
+        subst (λ (k : Collector). forward_at k.table place ≡ None) is (none-forwarded now here b.sweeps (ap (λ (k : Collector). k.phase) is ∙ b.defragments) place)
+  ]
+
+  -- a quantum that is entered in marking or the sweep, or starts a cycle
+  begins-within : in_trace start.phase ≡ true → in_trace end.phase ≡ false → (begun : Collector) × BeginsToDefragment config c begun × IsMadeSince begun end
+  begins-within trace ended =
+      let b = steps-begin config.quantum config.quantum false start trace ended in
+      let begun : Collector = after_steps config c (suc b.count) in
+      let here : BeginsToDefragment config c begun = record { count = b.count; sweeps = b.sweeps; is = refl; defragments = b.defragments } in (
+        begun,
+        here,
+        record {
+          cycle = steps-cycle (suc b.count) config.quantum false start ∙ sym (steps-cycle config.quantum config.quantum false start);
+          forwarders = λ place target e. begins-clean begun here place;
+        },
+      )
+
+  made : MakesItsForwarders config c end
+  made = record { begins = begins-clean; reaches = reaches }
+    where
+      reaches : in_trace end.phase ≡ false → (is_idle c.phase ≡ false) ⊎ (is_start_due config c ≡ true) → ((c.phase ≡ Defrag) × (c.cycle ≡ end.cycle)) ⊎ ((begun : Collector) × BeginsToDefragment config c begun × IsMadeSince begun end)
+      reaches ended within = elim (begins config c).case [
+        | inl starts ↦ inr (begins-within (ap (λ (k : Collector). in_trace k.phase) starts.2) ended)
+        | inr other ↦ elim other [
+          | inl counted ↦ elim (cases_Bool (in_trace c.phase)) [
+            | inl trace ↦ inr (begins-within (ap (λ (k : Collector). in_trace k.phase) counted.1 ∙ trace) ended)
+            | inr passed ↦ inl (defrag_is c.phase counted.0 passed, sym (steps-cycle config.quantum config.quantum false start ∙ ap (λ (k : Collector). k.cycle) counted.1))
+          ]
+          | inr rests ↦ elim within [ inl runs ↦ absurd (false≢true (sym runs ∙ ap is_idle rests.1)) | inr due ↦ absurd (false≢true (sym rests.0 ∙ due)) ]
+        ]
+      ]
+
+-- Each quantum
+pub quanta-made : QuantaMakeTheirForwarders
+unfolding quantum
+quanta-made config c steady = made config c steady
