@@ -12,8 +12,8 @@ use Rattle.mh_seat_laws.proofs.TotalLemmas.{total-set, total-append_one}
 use Rattle.mh_seat_laws.proofs.claim_word.ShownClaims.{both_run, claim_of-drawn}
 use Rattle.mh_seat_laws.proofs.claim_word.DrawRule.{below-has_ended, only_last_past-append, with_draw-kept}
 use Rattle.mh_seat_laws.proofs.claim_word.DrawnNumbers.{counts, count-cons, itself, drawn-below, word-near_bound}
-use Rattle.mh_claims.specs.Seats.{next_of}
-use Rattle.mh_claims.specs.Steps.{alone, Draws}
+use Rattle.mh_claims.specs.Seats.{next_of, IsDrawnByRule}
+use Rattle.mh_claims.specs.Steps.{alone, answer_found, Draws}
 
 -- The lists of all seats ------------------------------------------------------------------------
 
@@ -63,6 +63,24 @@ module _ (about : ℕ × ℕ) (table : State (Unit {0}) Lists) (rule : IsClaimed
       let place = alone-stands table.views id list there in
       drawn-below about.0 (claim_of table) (claim_of-drawn about table rule) place.seat number (subst (λ (l : List ℕ). 1 ≤ counts number l) (sym place.here) drawn)
 
+  -- it is one by the draw rule
+  draw-by_rule : has_ended about.0 list ≡ false → IsDrawnByRule about.0 about.1 list (list ++ get_or table.words 0 0 ∷ []) (answer_found about.0 (get_or table.words 0 0))
+  draw-by_rule going =
+      let claim : ClaimState = claim_of table in
+      let place = alone-stands table.views id list there in
+      let kept = claim_of-drawn about table rule in
+      let many : length claim.drawn ≡ about.1 = length-all_of table.views ∙ rule.seats in record {
+        state = claim;
+        seat = place.seat;
+        many = many;
+        inside = omega (arith, place.inside, many);
+        kept = kept;
+        drawn = place.here;
+        answered = refl;
+        kept_after = with_draw-kept about.0 claim place.seat place.inside (ap (has_ended about.0) place.here ∙ going) kept;
+        drawn_after = get_or-set_same claim.drawn place.seat (get_or claim.drawn place.seat [] ++ claim.word ∷ []) [] place.inside ∙ ap (λ l. l ++ claim.word ∷ []) place.here;
+      }
+
 next-below : (word : ℕ) (list : List ℕ) → ((number : ℕ) → 1 ≤ counts number list → number < word) → next_of list ≤ word
 next-below word [] below = omega arith
 next-below word (number ∷ []) below = omega (arith, below number (omega (arith, count-cons (λ other. other == number) number [], itself number)))
@@ -79,7 +97,7 @@ weigh-append h [] ys = omega arith
 weigh-append h (x ∷ xs) ys = omega (arith, weigh-append h xs ys)
 
 pub draw-allowed : (about : ℕ × ℕ) (slots id : ℕ) (list : List ℕ) → has_ended about.0 list ≡ false
-    → Allows (IsClaimed about) slots id (alone list) 0 (λ word. (word + 1) % 2 ^ 64) (Draws (step slots 0 1 0 none) (alone list))
+    → Allows (IsClaimed about) slots id (alone list) 0 (λ word. (word + 1) % 2 ^ 64) (Draws about (step slots 0 1 0 none) (alone list))
 draw-allowed about slots id list going table rule _ there _ =
     let word : ℕ = get_or table.words 0 0 in
     let more : List ℕ = list ++ word ∷ [] in
@@ -98,7 +116,11 @@ draw-allowed about slots id list going table rule _ there _ =
             (λ t. rule.run_out other view t.1)
             (at_set table.views id other (more ∷ []) view is);
       },
-      (refl, next-below word list (list-below about table rule id list there)),
+      record {
+        appended = refl;
+        rising = next-below word list (list-below about table rule id list there);
+        rule = draw-by_rule about table rule id list there going;
+      },
     )
 
 -- The start, a split and a join ------------------------------------------------------------------

@@ -1,7 +1,7 @@
 -- Claims and a seat as contracts see them.
-use Rattle.std.specs.Prelude.{◌≡◌, ℕ, suc, Bool, false, List, [], ◌∷◌}
+use Rattle.std.specs.Prelude.{◌≡◌, ℕ, suc, ◌<◌, Bool, false, Option, List, [], ◌∷◌, length, get_or}
 use Rattle.atomic_table.specs.Seated.{TableId}
-use Rattle.mh_model.specs.History.{has_ended}
+use Rattle.mh_model.specs.History.{ClaimState, with_draw, draw_answer, has_ended, IsDrawn}
 
 -- Claims: the table of the word, the bound below which numbers are given out, and how many seats draw them
 pub record ClaimsView : Type 0 where
@@ -34,3 +34,15 @@ abbrev pub next_of : List ℕ → ℕ
 next_of [] = 0
 next_of (number ∷ []) = suc number
 next_of (number ∷ next ∷ numbers) = next_of (next ∷ numbers)
+
+-- A draw by the draw rule: in some state of the claim word, in which all seats' lists keep the rule and one is what a seat drew before, the answer is the draw's, and the state after that draw keeps the rule and has what the seat drew by then
+pub record IsDrawnByRule (bound seats : ℕ) (before after : List ℕ) (answer : Option ℕ) : Type 0 where
+  pub state : ClaimState
+  pub seat : ℕ
+  pub many : length state.drawn ≡ seats
+  pub inside : seat < seats
+  pub kept : IsDrawn bound state
+  pub drawn : get_or state.drawn seat [] ≡ before
+  pub answered : answer ≡ draw_answer bound state
+  pub kept_after : IsDrawn bound (with_draw state seat)
+  pub drawn_after : get_or (with_draw state seat).drawn seat [] ≡ after

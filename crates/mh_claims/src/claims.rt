@@ -1,14 +1,14 @@
 //! The claim word and its seats.
 ghost use Rattle.std.specs.Prelude.{◌≡◌, ◌+◌, ◌^◌, ◌<◌, ◌≤◌, [], ◌∷◌, ◌++◌, ℕ, true, false, is_none, map, vec_len, All, IfOk, IfSome, MatchOption};
-ghost use Rattle.mh_model.specs.History.{times_drawn};
-ghost use Rattle.mh_claims.specs.Seats.{IsOf, IsNew, seat_ended, next_of};
-ghost use Rattle.mh_claims.specs.Steps.{alone};
+ghost use Rattle.mh_model.specs.History.{has_ended, times_drawn};
+ghost use Rattle.mh_claims.specs.Seats.{IsOf, IsNew, IsDrawnByRule, seat_ended, next_of};
+ghost use Rattle.mh_claims.specs.Steps.{alone, first_list, HasDrawn};
 
 use atomic_table::{Join, Play, Seat, Split, Table, TableRule};
 use mh_model::memory::NoMemory;
 use std::alloc::Global;
 use std::collections::LinkedList;
-use std::marker::Model;
+use std::marker::{Brand, Model, PhantomData};
 
 /// What a seat of the table knows: the list of each seat that it stands for. No value of it is made.
 type Lists = LinkedList<LinkedList<u64>>;
@@ -25,12 +25,23 @@ impl TableRule<(), Lists, (u64, u64)> for ClaimRule {
     ghost first = { λ about. replicate about.1 [] };
 }
 
-struct Draw;
+/// What claims are about, which proofs alone name: their bound and the number of their seats.
+trait About {
+    ghost about: { ℕ × ℕ };
+}
 
-impl Play<(), Lists> for Draw {
+impl About for Brand {
+    ghost about = { (0, 0) };
+}
+
+struct Draw<A> {
+    marker: PhantomData<A>,
+}
+
+impl<A: About> Play<(), Lists> for Draw<A> {
     ghost use Rattle.mh_claims.specs.Steps.{Draws};
 
-    ghost then = { Draws };
+    ghost then = { Draws A.about };
 }
 
 /// The first list goes to the new seat.
@@ -152,6 +163,18 @@ impl Claims {
         Ok((claims, all))
     }
 
+    // The number in the word, which becomes the last of the seat's.
+    fn take_number<A: About>(&self, seat: &mut Seat<(), Lists>) -> u64
+        requires about { A.about ≡ (self.now.bound, self.now.seats) }
+        requires own { seat.old.table_id ≡ self.now.table }
+        requires alone { seat.old.me ≡ alone (first_list seat.old.me) }
+        requires going { has_ended self.now.bound (first_list seat.old.me) ≡ false }
+        ensures own { seat.new.table_id ≡ seat.old.table_id }
+        ensures drawn { HasDrawn (self.now.bound, self.now.seats) seat.old.me result seat.new.me }
+    {
+        self.table.shared.fetch_add::<Draw<A>>(seat, 0, 1)
+    }
+
     /// The next number, where it is below the bound. A draw is one atomic step, asks for no memory and never waits.
     pub fn draw(&self, seat: &mut DrawSeat) -> Option<u64>
         requires own { IsOf self.now seat.old }
@@ -159,9 +182,10 @@ impl Claims {
         ensures own { IsOf self.now seat.new }
         ensures drawn { MatchOption result ((number : ℕ) × (self.now.bound ≤ number) × (seat.new.drawn ≡ seat.old.drawn ++ number ∷ [])) (λ number. (number < self.now.bound) × (seat.new.drawn ≡ seat.old.drawn ++ number ∷ [])) }
         ensures ended { seat_ended seat.new ≡ is_none result }
+        ensures rule { IsDrawnByRule self.now.bound self.now.seats seat.old.drawn seat.new.drawn result }
         ensures rising { IfSome result (λ number. (next_of seat.old.drawn ≤ number) × (next_of seat.new.drawn ≡ number + 1)) }
     {
-        let found = self.table.shared.fetch_add::<Draw>(&mut seat.seat, 0, 1);
+        let found = self.take_number::<Brand>(&mut seat.seat);
         if found < self.bound {
             return Some(found);
         }

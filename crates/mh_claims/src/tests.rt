@@ -1,5 +1,4 @@
 use crate::claims::{Claims, DrawSeat};
-use crate::gate::{Gate, Open};
 use mh_model::memory::NoMemory;
 use std::test::Fail;
 
@@ -47,10 +46,4 @@ fn no_number_is_below_0(rt: HostRuntime) -> Result<(), Fail> {
     seats.push(seat)?;
     claims.finish(seats);
     Ok(())
-}
-
-#[test]
-fn the_open_gate_holds_nobody(_rt: HostRuntime) {
-    Open.piece(63, 1_000);
-    Open.session(7);
 }
