@@ -1,58 +1,80 @@
-ghost use Rattle.std.specs.Prelude.{◌≡◌, [], position};
+ghost use Rattle.std.specs.Prelude.{◌≡◌, ◌≤◌, [], length, IfOk, OnOk, OnErr};
 ghost use Rattle.mh_model.specs.Bytes.{is_text};
 ghost use Rattle.mh_model.specs.Script.{session_number, with_name};
+ghost use Rattle.mh_text.specs.Names.{names_shown};
 
 use crate::word::is_word;
-use arrayvec::ArrayVec;
+use indexmap::IndexSet;
+use mh_model::memory::NoMemory;
+use std::alloc::Global;
 use std::marker::Model;
 
 /// How many names are told apart.
 const NAMES: usize = 8;
 
-/// The first names of sessions that a script has, eight at most.
+/// The first names of sessions that a script has, eight at most, and the name that was looked up last.
 #[derive(Drop)]
 pub struct Names<'a> {
-    seen: ArrayVec<&'a [u8], NAMES>,
+    seen: IndexSet<&'a [u8]>,
+    last: Option<(&'a [u8], u8)>,
 }
 
 impl<'a> Model for Names<'a> {
-    ghost use Rattle.std.specs.Prelude.{List, ℕ};
-    ghost use Rattle.mh_text.specs.Names.{names_shown};
+    ghost use Rattle.std.specs.Prelude.{List, ℕ, ◌≤◌, length};
+    ghost use Rattle.mh_text.specs.Names.{names_shown, IsNumbered};
 
     ghost Value = { List (List ℕ) };
 
-    ghost view = { λ names. names_shown names.seen.items };
+    ghost view = { λ names. names_shown names.seen.keys };
+
+    ghost invariant = { λ names. (length names.seen.keys ≤ 8) × IsNumbered (names_shown names.seen.keys) names.last };
 }
 
 impl<'a> Names<'a> {
-    pub fn new() -> Names<'a>
+    pub fn new(alloc: Global) -> Names<'a>
         ensures { result ≡ [] }
     {
         Names {
-            seen: ArrayVec::new(),
+            seen: IndexSet::new(alloc),
+            last: None,
         }
     }
 
     /// The number of the session with this name, which is seen from now on: names past the eighth share number 8.
-    pub fn number(&mut self, name: &'a [u8]) -> u8
-        ensures number { result ≡ session_number self.old name.now }
-        ensures seen { self.new ≡ with_name self.old name.now }
+    pub fn number(&mut self, name: &'a [u8]) -> Result<u8, NoMemory>
+        ensures number { IfOk result (λ number. number ≡ session_number self.old name.now) }
+        ensures seen { OnOk result (self.new ≡ with_name self.old name.now) }
+        ensures unchanged { OnErr result (self.new ≡ self.old) }
     {
-        match place_of(self.seen.as_slice(), name) {
-            Some(place) => place as u8,
-            None if self.seen.is_full() => NAMES as u8,
-            None => {
-                let number = self.seen.len() as u8;
-                self.seen.push(name);
-                number
-            }
+        if let Some((last, number)) = self.last
+            && is_word(last, name)
+        {
+            return Ok(number);
         }
+        let number = number_in(&mut self.seen, name)?;
+        self.last = Some((name, number));
+        Ok(number)
     }
 }
 
-/// The place of the first such name.
-fn place_of(names: &[&[u8]], name: &[u8]) -> Option<usize>
-    ensures { result ≡ position (λ seen. is_text seen.now name.now) names.now }
+/// The place of a name among those seen, where it is put if it is new and there is room.
+fn number_in<'a>(seen: &mut IndexSet<&'a [u8]>, name: &'a [u8]) -> Result<u8, NoMemory>
+    requires { length seen.old.keys ≤ 8 }
+    ensures number { IfOk result (λ number. number ≡ session_number (names_shown seen.old.keys) name.now) }
+    ensures seen { OnOk result (names_shown seen.new.keys ≡ with_name (names_shown seen.old.keys) name.now) }
+    ensures few { length seen.new.keys ≤ 8 }
+    ensures unchanged { OnErr result (seen.new.keys ≡ seen.old.keys) }
 {
-    names.iter().position(|seen| is_word(seen, name))
+    if let Some(place) = seen.get_index_of(name) {
+        return Ok(place as u8);
+    }
+    let number = seen.len();
+    if number >= NAMES {
+        return Ok(NAMES as u8);
+    }
+    if number == 0 {
+        seen.reserve(NAMES)?;
+    }
+    seen.insert(name)?;
+    Ok(number as u8)
 }

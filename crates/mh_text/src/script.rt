@@ -45,8 +45,8 @@ impl Script {
     }
 }
 
-/// Reads a script, up to its first bad line. It takes memory for events alone, so a text that is refused before its
-/// first event is never answered with want of memory.
+/// Reads a script, up to its first bad line. It takes memory for events and their sessions' names alone, so a text that is
+/// refused before its first event is never answered with want of memory.
 #[tactic(auto, using(crate::proofs::ScriptLemmas::reading_long, crate::proofs::ScriptLemmas::reading_left, crate::proofs::ScriptLemmas::begins_with_event))]
 pub fn parse(alloc: Global, text: &[u8]) -> Result<Script, TextError>
     ensures script { IfOk result (λ script. reading text.now ≡ Means script) }
@@ -83,12 +83,12 @@ fn events_from(alloc: Global, mut lines: Lines<'_>) -> Result<Vec<Event>, TextEr
     ensures memory { IsErrOf result TextError.NoMemory → HasEvent lines.entry }
 {
     let mut events = Vec::new(alloc);
-    let mut names = Names::new();
+    let mut names = Names::new(alloc);
     while let Some((number, line)) = lines.next_line() {
         match line_of(line) {
             Line::Blank => {}
             Line::Calls(name, command) => {
-                let who = names.number(name);
+                let who = names.number(name)?;
                 events.push(Event::Session(who, command))?;
             }
             Line::Asks(control) => events.push(Event::Control(control))?,

@@ -7,9 +7,13 @@ use Rattle.mh_text.proofs.script.events_from.Goals as goal
 pub loop-number-preserved-in-Blank : goal.loop-number-preserved-in-Blank
 loop-number-preserved-in-Blank c = walks_blank _ _ _ _ _ _ _ c.loop-number.invariant c.in-Some.ensures.next (sym c.in-Blank.ensures)
 
-pub loop-number-preserved-in-Continue-1 : goal.loop-number-preserved-in-Continue-1
-loop-number-preserved-in-Continue-1 c =
-    walks_called _ _ _ _ _ _ _ _ _ _ _ _ c.loop-number.invariant c.in-Some.ensures.next (sym c.in-Calls.ensures) c.number-who.ensures.number c.number-who.ensures.seen c.in_ok-push-in-Calls.ensures.items
+pub loop-number-preserved-in-Continue-branch-2 : goal.loop-number-preserved-in-Continue-branch-2
+loop-number-preserved-in-Continue-branch-2 c =
+    walks_called _ _ _ _ _ _ _ _ _ _ _ _ c.loop-number.invariant c.in-Some.ensures.next (sym c.in-Calls.ensures) c.in_ok-who-in-Calls.ensures.number c.in_ok-who-in-Calls.ensures.seen c.in_ok-push-in-Calls.ensures.items
+
+pub returns-in_err-who-in-Calls-clause-memory : goal.returns-in_err-who-in-Calls-clause-memory
+returns-in_err-who-in-Calls-clause-memory c =
+    λ _. walks_event _ _ _ _ _ (walks_calls _ _ _ _ _ _ _ _ _ c.loop-number.invariant c.in-Some.ensures.next (sym c.in-Calls.ensures))
 
 pub returns-in_err-push-in-Calls-clause-memory : goal.returns-in_err-push-in-Calls-clause-memory
 returns-in_err-push-in-Calls-clause-memory c =
@@ -36,4 +40,4 @@ pub returns-else-is_empty-clause-line : goal.returns-else-is_empty-clause-line
 returns-else-is_empty-clause-line c =
     let same = c.in_default.ensures.same in
     let some : c.loop-number.lines.rest ≡ [] → ⊥ = λ none. false≢true (c.if-is_empty.ensures.1 (ap (λ (l : Lines). l.rest) same ∙ none, ap (λ (l : Lines). l.lines) same ∙ c.in_default.ensures.end)) in
-    rw (c.number.ensures, same) (walks_rest _ _ _ _ c.loop-number.invariant c.in_default.ensures.end some)
+    rw (c.number-else-is_empty.ensures, same) (walks_rest _ _ _ _ c.loop-number.invariant c.in_default.ensures.end some)

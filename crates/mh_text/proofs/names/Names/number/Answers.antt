@@ -1,34 +1,17 @@
-use Rattle.std.proofs.Common.{◌≡◌, ◌<◌, ◌≤◌, ◌==◌, true, false, length, sym, ◌∙◌, arith}
-use Rattle.std.proofs.lemmas.Bool.Decides.{nat_tests}
-use Rattle.mh_text.proofs.NameLemmas.{place_found, place_missing, known_name, added_name}
+use Rattle.std.proofs.Common.{sym, subst}
+use Rattle.mh_text.specs.Names.{names_shown, IsNumbered}
+use Rattle.mh_text.proofs.NameLemmas.{numbered_name, again}
 use Rattle.mh_text.proofs.names.Names.number.Goals as goal
 
-pub returns-in-Some-clause-number : goal.returns-in-Some-clause-number
-returns-in-Some-clause-number c =
-    let found = rw c.as_slice.ensures.value at (sym c.in-Some.ensures) in
-    rw (← c.self.view_is) (sym (place_found c.self.inside.seen.items c.args.name.now c.in-Some.place found))
+pub returns-clause-number : goal.returns-clause-number
+returns-clause-number c =
+    let last = subst (IsNumbered (names_shown c.self.inside.seen.keys)) c.in-Some.is c.self.invariant.1 in
+    rw (← c.self.view_is) (again _ c.in-Some.last _ _ last (sym c.if-is_word.ensures)).0
 
-pub returns-in-Some-clause-seen : goal.returns-in-Some-clause-seen
-returns-in-Some-clause-seen c =
-    let found = rw c.as_slice.ensures.value at (sym c.in-Some.ensures) in
-    rw (← c.self.view_is) (sym (known_name c.self.inside.seen.items c.args.name.now c.in-Some.place found))
+pub returns-clause-seen : goal.returns-clause-seen
+returns-clause-seen c =
+    let last = subst (IsNumbered (names_shown c.self.inside.seen.keys)) c.in-Some.is c.self.invariant.1 in
+    rw (← c.self.view_is) (again _ c.in-Some.last _ _ last (sym c.if-is_word.ensures)).1
 
-pub returns-in-None-clause-number : goal.returns-in-None-clause-number
-returns-in-None-clause-number c =
-    let missing = rw c.as_slice.ensures.value at (sym c.in-None.ensures) in
-    let test : (length c.self.inside.seen.items == 8) ≡ true = sym c.if-is_full.ensures.value in
-    let full : 8 ≡ length c.self.inside.seen.items = grind (arith, nat_tests) in
-    rw (← c.self.view_is) (full ∙ sym (place_missing c.self.inside.seen.items c.args.name.now missing))
-
-pub returns-in-None-2-clause-number : goal.returns-in-None-2-clause-number
-returns-in-None-2-clause-number c =
-    let missing = rw c.as_slice.ensures.value at (sym c.in-None-2.ensures) in
-    rw (← c.self.view_is) (c.len-number.ensures.value ∙ sym (place_missing c.self.inside.seen.items c.args.name.now missing))
-
-pub returns-in-None-2-clause-seen : goal.returns-in-None-2-clause-seen
-returns-in-None-2-clause-seen c =
-    let missing = rw c.as_slice.ensures.value at (sym c.in-None-2.ensures) in
-    let test : (length c.self.inside.seen.items == 8) ≡ false = sym c.if-is_full.ensures.value in
-    let most : length c.self.inside.seen.items ≤ 8 = c.if-is_full.ensures.fits in
-    let room : length c.self.inside.seen.items < 8 = grind (arith, nat_tests) in
-    rw (← c.self.view_is, c.push.ensures.items) (sym (added_name c.self.inside.seen.items _ (place_missing c.self.inside.seen.items c.args.name.now missing) room))
+pub invariant_of-self-2 : goal.invariant_of-self-2
+invariant_of-self-2 c = (c.in_ok-number.ensures.few, numbered_name _ _ c.args.name _ c.in_ok-number.ensures.number c.in_ok-number.ensures.seen)
