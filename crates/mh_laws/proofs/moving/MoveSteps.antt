@@ -330,7 +330,7 @@ finished-cycle_end snapshot n c defrags h = record {
   whole = λ birth kept.
       let (x, y, plain, is, first, each) = h.cycle.whole (ap is_idle defrags) birth kept in
       (x, y, plain_then x y plain, is, first, λ i below. let (r, z, plain', is', part) = each i below in (r, z, plain_then r z plain', is', part));
-  forwarders = λ x y e. h.sound.marked (ap in_defrag defrags) x y e;
+  stamped = λ x y e. h.sound.marked (ap in_defrag defrags) x y e;
 }
   where
     plain_then : (x : ℕ) (y : Block) → IsPlainAt c x y → IsPlainAt (cycle_end c) x y

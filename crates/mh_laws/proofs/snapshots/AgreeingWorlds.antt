@@ -74,7 +74,7 @@ module _ (view world : World) (agrees : Agrees view world) where
   finished-agreeing n c h = record {
     only = λ q x e live. kept-world n x.birth (h.only q x e live);
     whole = λ birth kept. h.whole birth (kept-view n birth kept);
-    forwarders = h.forwarders;
+    stamped = h.stamped;
   }
 
 -- A quantum that starts a cycle keeps any world that agrees with the view at its entry
