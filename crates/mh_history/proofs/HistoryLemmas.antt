@@ -7,14 +7,14 @@ use Rattle.mh_model.specs.declared.history.Entry.{Entry}
 use Rattle.mh_model.specs.declared.history.Measured.{Measured}
 use Rattle.mh_model.specs.declared.history.Version.TheVariants.{One}
 use Rattle.mh_model.specs.Bytes.{Text, cut_after, words, is_text}
-use Rattle.mh_model.specs.Script.{Reading, BadLine, Means, reading_map}
+use Rattle.mh_model.specs.Script.{Reading, BadLine, reading_map}
 use Rattle.mh_model.specs.HistoryTexts.{Recorded, entry_of, measured_of, header_of, entries_from, history_of, history_reading, recorded_by, recorded_of, recorded_reading}
 use Rattle.mh_text.specs.Pieces.{Lines, TakesLine, lines_from}
 use Rattle.mh_text.specs.Reading.{first_lines}
 use Rattle.mh_text.specs.TextErrors.{Refuses}
 use Rattle.mh_text.specs.declared.text_error.TextError.{TextError}
 use Rattle.mh_text.specs.declared.text_error.TextError.TheVariants.{Line, NoMemory}
-use Rattle.mh_history.specs.Beginnings.{entries_left, first_of, HasEntry, BeginsWithEntry, BeginsWithMeasured}
+use Rattle.mh_history.specs.Beginnings.{entries_left, HasEntry, BeginsWithEntry, BeginsWithMeasured}
 
 abbrev pub entry_line : Text → Option Entry
 entry_line line = entry_of One (words line)
@@ -133,11 +133,3 @@ pub record_refused : (text : Text) (new : Lines) (n : ℕ) (line : Text) (config
     → Refuses (entries_left measured_line new) error → Refuses (recorded_reading text) error
 record_refused text new n line config (Line bad) short takes is refused = record_first text new n line config short takes is ∙ ap (with_header config) refused
 record_refused text new n line config NoMemory short takes is refused = tt
-
--- the first entries are kept, and the configuration
-pub with_first : (most : ℕ) (config : Config) (entries : Reading (List Measured)) (kept : List Measured) → reading_map (take most) entries ≡ Means kept
-    → reading_map (first_of most) (with_header config entries) ≡ Means (record { config = config; entries = kept })
-with_first most config (BadLine line) kept is = cc
-with_first most config (Means entries) kept is =
-    let same : take most entries ≡ kept = cc in
-    ap (λ (entries : List Measured). Means (record { config = config; entries = entries })) same

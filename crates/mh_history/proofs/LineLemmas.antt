@@ -1,6 +1,6 @@
 -- Lines that are entries, one after another.
-use Rattle.std.proofs.Common.{◌≡◌, ℕ, suc, ◌<◌, ◌≤◌, Option, Some, None, IsSome, List, [], ◌∷◌, ◌++◌, length, take, ap, sym, refl, ◌∙◌, append_assoc, arith}
-use Rattle.std.proofs.lemmas.List.{append-nil, length-append, length-take, take_all, take-append-le}
+use Rattle.std.proofs.Common.{◌≡◌, ℕ, suc, ◌<◌, Option, Some, None, IsSome, List, [], ◌∷◌, ◌++◌, length, take, ap, sym, refl, ◌∙◌, append_assoc, arith}
+use Rattle.std.proofs.lemmas.List.{append-nil, length-append}
 use Rattle.mh_model.specs.Bytes.{Text}
 use Rattle.mh_model.specs.Script.{Reading, BadLine, Means, reading_map, at_end}
 use Rattle.mh_model.specs.HistoryTexts.{entries_from}
@@ -65,46 +65,6 @@ bad_rest n (byte ∷ rest) some = refl
 pub walked_rest : {X : Type 0} (read : Text → Option X) (old mid : Lines) (entries : List X) → Walked read old mid entries → mid.lines ≡ [] → (mid.rest ≡ [] → ⊥) → entries_left read old ≡ BadLine mid.number
 walked_rest {X} read old mid entries done no_lines some =
     walked_whole read old mid entries done ∙ rw no_lines (ap (with_entries entries) (bad_rest {X = X} mid.number mid.rest some))
-
--- Kept entries -----------------------------------------------------------------------------------
-
--- of the entries of lines that were read the first are kept
-pub record KeepsFirst {X : Type 0} (read : Text → Option X) (old new : Lines) (most : ℕ) (kept : List X) : Type 0 where
-  pub entries : List X
-  pub walked : Walked read old new entries
-  pub first : kept ≡ take most entries
-
-pub keeps_none : {X : Type 0} (read : Text → Option X) (old : Lines) (most : ℕ) → KeepsFirst read old old most []
-keeps_none read old most = record { entries = []; walked = walked_start read old; first = sym (take_all most [] (omega arith)) }
-
-module _ {X : Type 0} {read : Text → Option X} {old mid new : Lines} {most : ℕ} {kept : List X} {n : ℕ} {line : Text} (keeps : KeepsFirst read old mid most kept) where
-  after_entry : (entry : X) → TakesLine mid new n line → read line ≡ Some entry → Walked read old new (keeps.entries ++ entry ∷ [])
-  after_entry entry takes is = walked_more read old mid new keeps.entries _ n line entry keeps.walked takes is refl
-
-  pub keeps_more : (entry : X) (longer : List X) → TakesLine mid new n line → read line ≡ Some entry → length kept < most → longer ≡ kept ++ entry ∷ [] → KeepsFirst read old new most longer
-  keeps_more entry longer takes is room pushed =
-      let short : length keeps.entries < most = omega (arith, ap (λ (entries : List X). length entries) keeps.first, length-take most keeps.entries, room) in
-      let all : kept ≡ keeps.entries = keeps.first ∙ take_all most keeps.entries (omega arith) in
-      let few : length (keeps.entries ++ entry ∷ []) ≤ most = omega (arith, length-append keeps.entries (entry ∷ []), short) in
-      record {
-        entries = keeps.entries ++ entry ∷ [];
-        walked = after_entry entry takes is;
-        first = pushed ∙ (ap (λ (entries : List X). entries ++ entry ∷ []) all ∙ sym (take_all most (keeps.entries ++ entry ∷ []) few));
-      }
-
-  pub keeps_same : (entry : X) → TakesLine mid new n line → read line ≡ Some entry → most ≤ length kept → KeepsFirst read old new most kept
-  keeps_same entry takes is full =
-      let long : most ≤ length keeps.entries = omega (arith, ap (λ (entries : List X). length entries) keeps.first, length-take most keeps.entries, full) in
-      record {
-        entries = keeps.entries ++ entry ∷ [];
-        walked = after_entry entry takes is;
-        first = keeps.first ∙ sym (take-append-le most keeps.entries (entry ∷ []) long);
-      }
-
-pub keeps_end : {X : Type 0} (read : Text → Option X) (old mid : Lines) (most : ℕ) (kept : List X) → KeepsFirst read old mid most kept → mid.lines ≡ [] → mid.rest ≡ []
-    → reading_map (take most) (entries_left read old) ≡ Means kept
-keeps_end {X} read old mid most kept keeps no_lines no_rest =
-    ap (reading_map (take most)) (walked_end read old mid keeps.entries keeps.walked no_lines no_rest) ∙ ap (λ (entries : List X). Means entries) (sym keeps.first)
 
 -- Memory -----------------------------------------------------------------------------------------
 

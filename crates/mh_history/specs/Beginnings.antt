@@ -33,7 +33,3 @@ pub record BeginsWithMeasured (text : Text) : Type 0 where
   pub recorded : Recorded
   pub reads : recorded_of (first_lines count (cut_after 10 text)) ≡ Means recorded
   pub some : 0 < length recorded.entries
-
--- a history with its first entries alone, so many at most
-abbrev pub first_of : ℕ → Recorded → Recorded
-first_of most recorded = record { config = recorded.config; entries = take most recorded.entries }

@@ -1,6 +1,6 @@
-ghost use Rattle.std.specs.Prelude.{◌≡◌, IfOk, IfErr, IsErrOf, take};
+ghost use Rattle.std.specs.Prelude.{◌≡◌, IfOk, IfErr, IsErrOf};
 ghost use Rattle.mh_model.specs.HistoryTexts.{history_reading};
-ghost use Rattle.mh_model.specs.Script.{Means, reading_map};
+ghost use Rattle.mh_model.specs.Script.{Means};
 ghost use Rattle.mh_text.specs.TextErrors.{Refuses};
 ghost use Rattle.mh_history.specs.Beginnings.{BeginsWithEntry};
 
@@ -14,11 +14,11 @@ use std::alloc::Global;
 /// The most bytes that a history of version 1 has.
 pub const HISTORY_BYTES: usize = 1_073_741_824;
 
-/// Reads a history of version 1, up to its first bad line, and keeps its first `most` entries. It takes memory for entries
-/// alone, so a text that is refused before its first entry is never answered with want of memory.
+/// Reads a history of version 1, up to its first bad line. It takes memory for entries alone, so a text that is refused before
+/// its first entry is never answered with want of memory.
 #[tactic(auto, using(crate::proofs::HistoryLemmas::history_long, crate::proofs::HistoryLemmas::history_empty, crate::proofs::HistoryLemmas::history_wrong, crate::proofs::HistoryLemmas::history_first, crate::proofs::HistoryLemmas::begins_with_entry))]
-pub fn parse_history(alloc: Global, text: &[u8], most: usize) -> Result<Vec<Entry>, TextError>
-    ensures entries { IfOk result (λ entries. reading_map (take most) (history_reading text.now) ≡ Means entries.items) }
+pub fn parse_history(alloc: Global, text: &[u8]) -> Result<Vec<Entry>, TextError>
+    ensures entries { IfOk result (λ entries. history_reading text.now ≡ Means entries.items) }
     ensures line { IfErr result (Refuses (history_reading text.now)) }
     ensures memory { IsErrOf result TextError.NoMemory → BeginsWithEntry text.now }
 {
@@ -32,5 +32,5 @@ pub fn parse_history(alloc: Global, text: &[u8], most: usize) -> Result<Vec<Entr
     if !is_word(line, b"history 1") {
         return Err(TextError::Line(1));
     }
-    entries_from(alloc, lines, most)
+    entries_from(alloc, lines)
 }

@@ -14,7 +14,7 @@ fn history_of(alloc: Global, lines: &[u8]) -> Result<Vec<u8>, AllocError> {
 
 /// How many entries a text has, or why it was refused.
 fn entries_in(alloc: Global, text: &[u8]) -> Result<usize, TextError> {
-    Ok(parse_history(alloc, text, usize::MAX)?.len())
+    Ok(parse_history(alloc, text)?.len())
 }
 
 #[test]
@@ -75,7 +75,7 @@ fn counts_entries(rt: HostRuntime) -> Result<(), Fail> {
 
 /// The item with this number of the dump that the first entry's reply is.
 fn item_of(alloc: Global, text: &[u8], number: usize) -> Result<Option<DumpItem>, TextError> {
-    let entries = parse_history(alloc, text, usize::MAX)?;
+    let entries = parse_history(alloc, text)?;
     match entries.first() {
         Some(entry) => match &entry.reply {
             Reply::Dump(dump) => Ok(dump.items().get(number).copied()),

@@ -1,8 +1,8 @@
-ghost use Rattle.std.specs.Prelude.{◌≡◌, ℕ, List, Option, IfOk, IfErr, OnErr, IsErrOf, IsSome, take};
+ghost use Rattle.std.specs.Prelude.{◌≡◌, ℕ, List, Option, IfOk, IfErr, OnErr, IsErrOf, IsSome};
 ghost use Rattle.mh_model.specs.Bytes.{words};
 ghost use Rattle.mh_model.specs.declared.history.Version.TheVariants.{One};
 ghost use Rattle.mh_model.specs.HistoryTexts.{entry_of, measured_of};
-ghost use Rattle.mh_model.specs.Script.{Means, reading_map};
+ghost use Rattle.mh_model.specs.Script.{Means};
 ghost use Rattle.mh_text.specs.TextErrors.{Refuses};
 ghost use Rattle.mh_history.specs.Beginnings.{entries_left, HasEntry};
 
@@ -40,21 +40,19 @@ impl FromLine for Measured {
     }
 }
 
-/// Reads the lines that are left, up to the first bad one, and keeps the first `most` entries.
+/// Reads the lines that are left, up to the first bad one.
 pub fn entries_from<E: FromLine + Drop>(
     alloc: Global,
     mut lines: Lines<'_>,
-    most: usize,
 ) -> Result<Vec<E>, TextError>
-    ensures entries { IfOk result (λ entries. reading_map (take most) (entries_left E.of_line lines.entry) ≡ Means entries.items) }
+    ensures entries { IfOk result (λ entries. entries_left E.of_line lines.entry ≡ Means entries.items) }
     ensures line { IfErr result (Refuses (entries_left E.of_line lines.entry)) }
     ensures memory { IsErrOf result TextError.NoMemory → HasEntry E.of_line lines.entry }
 {
     let mut entries = Vec::new(alloc);
     while let Some((number, line)) = lines.next_line() {
         match E::from_line(alloc, line)? {
-            Some(entry) if entries.len() < most => entries.push(entry)?,
-            Some(_) => {}
+            Some(entry) => entries.push(entry)?,
             None => return Err(TextError::Line(number)),
         }
     }

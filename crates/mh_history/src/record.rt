@@ -1,8 +1,8 @@
 ghost use Rattle.std.specs.Prelude.{◌≡◌, IfOk, IfErr, IsErrOf};
 ghost use Rattle.mh_model.specs.HistoryTexts.{recorded_reading};
-ghost use Rattle.mh_model.specs.Script.{Means, reading_map};
+ghost use Rattle.mh_model.specs.Script.{Means};
 ghost use Rattle.mh_text.specs.TextErrors.{Refuses};
-ghost use Rattle.mh_history.specs.Beginnings.{BeginsWithMeasured, first_of};
+ghost use Rattle.mh_history.specs.Beginnings.{BeginsWithMeasured};
 
 use crate::header::header_of;
 use crate::lines::entries_from;
@@ -38,7 +38,7 @@ impl Record {
         self.config
     }
 
-    /// One entry for each line after the first that was kept, in the order of the lines.
+    /// One entry for each line after the first, in the order of the lines.
     pub fn entries(&self) -> &[Measured]
         ensures { result.now ≡ self.now.entries }
     {
@@ -53,11 +53,11 @@ impl Record {
     }
 }
 
-/// Reads a history of version 2, up to its first bad line, and keeps its first `most` entries. It takes memory for entries
-/// alone, so a text that is refused before its first entry is never answered with want of memory.
+/// Reads a history of version 2, up to its first bad line. It takes memory for entries alone, so a text that is refused before
+/// its first entry is never answered with want of memory.
 #[tactic(auto, using(crate::proofs::HistoryLemmas::record_long, crate::proofs::HistoryLemmas::record_empty, crate::proofs::HistoryLemmas::record_wrong, crate::proofs::HistoryLemmas::record_first, crate::proofs::HistoryLemmas::begins_with_measured))]
-pub fn parse_record(alloc: Global, text: &[u8], most: usize) -> Result<Record, TextError>
-    ensures record { IfOk result (λ read. reading_map (first_of most) (recorded_reading text.now) ≡ Means read) }
+pub fn parse_record(alloc: Global, text: &[u8]) -> Result<Record, TextError>
+    ensures record { IfOk result (λ read. recorded_reading text.now ≡ Means read) }
     ensures line { IfErr result (Refuses (recorded_reading text.now)) }
     ensures memory { IsErrOf result TextError.NoMemory → BeginsWithMeasured text.now }
 {
@@ -71,6 +71,6 @@ pub fn parse_record(alloc: Global, text: &[u8], most: usize) -> Result<Record, T
     let Some(config) = header_of(Words::new(line)) else {
         return Err(TextError::Line(1));
     };
-    let entries = entries_from(alloc, lines, most)?;
+    let entries = entries_from(alloc, lines)?;
     Ok(Record { config, entries })
 }

@@ -8,7 +8,7 @@ use std::test::Fail;
 
 /// How many entries a text has, or why it was refused.
 fn entries_in(alloc: Global, text: &[u8]) -> Result<usize, TextError> {
-    Ok(parse_record(alloc, text, usize::MAX)?.entries().len())
+    Ok(parse_record(alloc, text)?.entries().len())
 }
 
 #[test]
@@ -55,7 +55,7 @@ fn reads_and_writes_a_text(rt: HostRuntime) -> Result<(), Fail> {
         s0 new 0 0 0 = ok units 1 0\n\
         * start = ok units 0 0\n\
         * quantum = spent 353 phase sweep units 0 353\n";
-    let record = parse_record(rt.alloc(), text.as_bytes(), usize::MAX)?;
+    let record = parse_record(rt.alloc(), text.as_bytes())?;
     assert_eq!(rt; text_of(rt.alloc(), &record)?.as_str(), text);
     assert_eq!(rt; (record.config().pages, record.config().quantum), (4, 353));
     let entries = record.into_entries();
@@ -89,7 +89,7 @@ fn reads_and_writes_each_form(rt: HostRuntime) -> Result<(), Fail> {
         * dump = dump P0 C5 + 0=51.2 3>7.12 P2 C5 - units 0 0\n\
         * left = left 0 units 0 0\n\
         * report 8 = mutator 1 collector 2 quanta 3 greatest 4 window 8 least none floor 5 units 0 18446744073709551615\n";
-    let record = parse_record(rt.alloc(), text.as_bytes(), usize::MAX)?;
+    let record = parse_record(rt.alloc(), text.as_bytes())?;
     assert_eq!(rt; text_of(rt.alloc(), &record)?.as_str(), text);
     Ok(())
 }

@@ -2,9 +2,7 @@ pub mod AddedLines
 pub mod BufferLemmas
 pub mod FaultLemmas
 pub mod JudgedLemmas
-pub mod KeptLemmas
 pub mod MachineLemmas
-pub mod MemoryLemmas
 pub mod MigratedLemmas
 pub mod RacedLemmas
 pub mod RunLemmas

@@ -1,29 +1,16 @@
 -- What calls that judge or migrate a history have written.
-use Rattle.std.specs.Prelude.{◌≡◌, ◌≢◌, ◌⊎◌, ℕ, List, Option, Result, Err, IfOk, OnErr, IsErrOf}
+use Rattle.std.specs.Prelude.{◌≡◌, ◌≢◌, ℕ, Option, Result, Err, IfOk, OnErr, IsErrOf}
 use Rattle.std.specs.Io.KnownBytes.{Appends, Keeps}
 use Rattle.mh_model.specs.declared.config.Config.{Config}
 use Rattle.mh_model.specs.declared.history.Verdict.{Verdict}
 use Rattle.mh_model.specs.declared.history.Verdict.TheVariants.{Legal}
 use Rattle.mh_model.specs.Bytes.{Text, line_text}
-use Rattle.mh_model.specs.declared.history.Entry.{Entry}
-use Rattle.mh_model.specs.HistoryTexts.{Recorded, IsAudited, IsChecked, IsMigratedTo, history_reading, recorded_reading, migration_text, verdict_text}
-use Rattle.mh_model.specs.Script.{Means}
-use Rattle.mh_history.specs.Beginnings.{BeginsWithEntry, BeginsWithMeasured}
+use Rattle.mh_model.specs.HistoryTexts.{IsAudited, IsChecked, IsMigratedTo, history_reading, migration_text, verdict_text}
 use Rattle.mh_text.specs.Stream.{AppendsBeginning}
 use Rattle.mh_script.specs.declared.fault.ScriptFault.{ScriptFault}
 use Rattle.mh_script.specs.declared.fault.ScriptFault.TheVariants.{Read, NoMemory, HistoryFull}
 use Rattle.mh_script.specs.Run.{Device}
 use Rattle.mh_script.specs.Texts.{Blames, IsTextOf, LeavesSource}
-
--- Memory -----------------------------------------------------------------------------------------
-
--- a text for which memory is taken once it was read: it begins with an entry, or is a history of none
-abbrev pub HistoryTakesMemory : Text → Type 0
-HistoryTakesMemory text = BeginsWithEntry text ⊎ ((entries : List Entry) × (history_reading text ≡ Means entries))
-
--- the same of version 2
-abbrev pub RecordTakesMemory : Text → Type 0
-RecordTakesMemory text = BeginsWithMeasured text ⊎ ((recorded : Recorded) × (recorded_reading text ≡ Means recorded))
 
 -- Judged -----------------------------------------------------------------------------------------
 

@@ -4,7 +4,7 @@ use Rattle.std.specs.Io.KnownBytes.{Appends, Consumes, IsAtEnd}
 use Rattle.mh_model.specs.Bytes.{Text}
 use Rattle.mh_state.specs.declared.machine.Stop.{Stop}
 use Rattle.mh_state.specs.declared.machine.Stop.TheVariants as stop
-use Rattle.mh_text.specs.Stream.{ConsumesBeginning, ConsumesSome}
+use Rattle.mh_text.specs.Stream.{ConsumesBeginning}
 use Rattle.mh_script.specs.declared.fault.ScriptFault.{ScriptFault}
 use Rattle.mh_script.specs.declared.fault.ScriptFault.TheVariants.{Read, Write, NoMemory, HistoryFull}
 use Rattle.mh_script.specs.declared.fault.WriteError.{WriteError}
@@ -22,10 +22,10 @@ IsTextOf known text = IfSome known (λ bytes. bytes ≡ text)
 abbrev pub ReadsText : ℕ → Option Text → Option Text → Type 0
 ReadsText most old new = (text : Text) × Consumes old new text × (length text ≤ most → IsAtEnd new)
 
--- the source is read as far as its text goes, unless it failed or memory was wanting, which it is only for bytes that were read
+-- the source is read as far as its text goes, unless it failed or memory was wanting
 abbrev pub LeavesSource : {X : Type 0} → ℕ → Option Text → Option Text → Result X ScriptFault → Type 0
 LeavesSource most old new (Err Read) = ConsumesBeginning old new
-LeavesSource most old new (Err NoMemory) = ConsumesSome old new
+LeavesSource most old new (Err NoMemory) = ConsumesBeginning old new
 LeavesSource most old new _ = ReadsText most old new
 
 -- by their counts of failures a device failed only where it is blamed

@@ -2,8 +2,8 @@
 ghost use Rattle.std.specs.Prelude.{◌≡◌, ◌≢◌, ◌<◌, ◌^◌, IfOk, OnErr, IsErrOf};
 ghost use Rattle.std.specs.Io.KnownBytes.{Keeps};
 ghost use Rattle.mh_model.specs.History.{IsLegal};
-ghost use Rattle.mh_model.specs.HistoryTexts.{IsAudited, IsChecked, IsJudged, IsLegalRecord};
-ghost use Rattle.mh_script.specs.Judged.{BeginsToJudge, HistoryTakesMemory, Judges, RecordTakesMemory};
+ghost use Rattle.mh_model.specs.HistoryTexts.{IsAudited, IsChecked, IsJudged};
+ghost use Rattle.mh_script.specs.Judged.{BeginsToJudge, Judges};
 ghost use Rattle.mh_script.specs.Texts.{Blames, LeavesSource};
 
 use crate::fault::ScriptFault;
@@ -11,7 +11,7 @@ use crate::texts::{read_whole, write_verdict};
 use mh_history::history::{HISTORY_BYTES, parse_history};
 use mh_history::record::{RECORD_BYTES, parse_record};
 use mh_model::config::Config;
-use mh_model::history::{Entry, Measured, Verdict};
+use mh_model::history::{Entry, Verdict};
 use mh_model::memory::NoMemory;
 use mh_state::judge::{CheckFault, audit, check};
 use mh_text::device::DeviceFailed;
@@ -20,9 +20,6 @@ use mh_text::source::Source;
 use mh_text::text_error::TextError;
 use mh_text_laws::verdicts::{texts_are_audited, texts_are_checked};
 use std::alloc::Global;
-
-/// The most entries that are kept of a history: of a later one nothing can change the verdict but that its line is bad.
-pub(crate) const KEPT_ENTRIES: usize = 1_000_001;
 
 /// The verdict on the entries of a history, which are replayed with one worker.
 pub(crate) fn verdict_on_entries(
@@ -39,46 +36,31 @@ pub(crate) fn verdict_on_entries(
     }
 }
 
-/// The verdict on the entries of a record.
-fn verdict_on_measured(
-    alloc: Global,
-    config: Config,
-    entries: &[Measured],
-) -> Result<Verdict, NoMemory>
-    ensures { IfOk result (IsJudged (IsLegalRecord config) entries.now) }
+/// The verdict on a text of version 1.
+fn verdict_on_history(alloc: Global, config: Config, text: &[u8]) -> Result<Verdict, NoMemory>
+    ensures { IfOk result (IsChecked config text.now) }
 {
-    match audit(alloc, config, entries) {
-        Ok(()) => Ok(Verdict::Legal(entries.len() as u64)),
-        Err(CheckFault::FirstBad(number)) => Ok(Verdict::FirstBad(number)),
-        Err(CheckFault::NoMemory) => Err(NoMemory),
-    }
-}
-
-/// The verdict on a text of version 1, whose events are replayed with one worker under a configuration.
-pub fn verdict_on_history(
-    alloc: Global,
-    config: Config,
-    text: &[u8],
-) -> Result<Verdict, NoMemory>
-    ensures verdict { IfOk result (IsChecked config text.now) }
-    ensures memory { OnErr result (HistoryTakesMemory text.now) }
-{
-    match parse_history(alloc, text, KEPT_ENTRIES) {
+    match parse_history(alloc, text) {
         Ok(entries) => verdict_on_entries(alloc, config, entries.as_slice()),
         Err(TextError::Line(line)) => Ok(Verdict::Refused(line)),
         Err(TextError::NoMemory) => Err(NoMemory),
     }
 }
 
-/// The verdict on a text of version 2, whose events are replayed with one worker under its own configuration.
-pub fn verdict_on_record(alloc: Global, text: &[u8]) -> Result<Verdict, NoMemory>
-    ensures verdict { IfOk result (IsAudited text.now) }
-    ensures memory { OnErr result (RecordTakesMemory text.now) }
+/// The verdict on a text of version 2.
+fn verdict_on_record(alloc: Global, text: &[u8]) -> Result<Verdict, NoMemory>
+    ensures { IfOk result (IsAudited text.now) }
 {
-    match parse_record(alloc, text, KEPT_ENTRIES) {
-        Ok(record) => verdict_on_measured(alloc, record.config(), record.entries()),
-        Err(TextError::Line(line)) => Ok(Verdict::Refused(line)),
-        Err(TextError::NoMemory) => Err(NoMemory),
+    let record = match parse_record(alloc, text) {
+        Ok(record) => record,
+        Err(TextError::Line(line)) => return Ok(Verdict::Refused(line)),
+        Err(TextError::NoMemory) => return Err(NoMemory),
+    };
+    let entries = record.entries();
+    match audit(alloc, record.config(), entries) {
+        Ok(()) => Ok(Verdict::Legal(entries.len() as u64)),
+        Err(CheckFault::FirstBad(number)) => Ok(Verdict::FirstBad(number)),
+        Err(CheckFault::NoMemory) => Err(NoMemory),
     }
 }
 

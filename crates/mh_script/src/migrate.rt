@@ -5,11 +5,11 @@ ghost use Rattle.mh_model.specs.declared.config.Rules.TheVariants.{First};
 ghost use Rattle.mh_model.specs.Bytes.{line_text};
 ghost use Rattle.mh_model.specs.HistoryTexts.{verdict_text};
 ghost use Rattle.mh_text.specs.Stream.{AppendsBeginning};
-ghost use Rattle.mh_script.specs.Judged.{BeginsMigration, BeginsToMigrate, HistoryTakesMemory, Migrates, MigratesText};
+ghost use Rattle.mh_script.specs.Judged.{BeginsMigration, BeginsToMigrate, Migrates, MigratesText};
 ghost use Rattle.mh_script.specs.Texts.{Blames, BlamesSink, LeavesSource};
 
 use crate::fault::ScriptFault;
-use crate::judge::{KEPT_ENTRIES, verdict_on_entries};
+use crate::judge::verdict_on_entries;
 use crate::record::write_record;
 use crate::texts::{read_whole, write_verdict};
 use mh_history::history::{HISTORY_BYTES, parse_history};
@@ -28,7 +28,6 @@ fn write_unmigrated<W: Sink>(verdict: Verdict, sink: &mut W) -> Result<Verdict, 
     ensures done { IfOk result (λ told. (told ≡ verdict) × Appends (W.written sink.old) (W.written sink.new) (line_text (verdict_text verdict))) }
     ensures begun { OnErr result (AppendsBeginning (W.written sink.old) (W.written sink.new) (line_text (verdict_text verdict))) }
     ensures never_full { result ≢ Err ScriptFault.HistoryFull }
-    ensures memory { result ≢ Err ScriptFault.NoMemory }
     ensures blames { BlamesSink (W.failures sink.old) (W.failures sink.new) result }
 {
     match write_verdict(verdict, sink) {
@@ -38,7 +37,7 @@ fn write_unmigrated<W: Sink>(verdict: Verdict, sink: &mut W) -> Result<Verdict, 
 }
 
 /// Writes what migration makes of a text.
-pub fn write_migrated<W: Sink>(
+fn write_migrated<W: Sink>(
     alloc: Global,
     config: Config,
     text: &[u8],
@@ -47,12 +46,11 @@ pub fn write_migrated<W: Sink>(
     requires { W.failures sink.old < 2 ^ 62 }
     ensures done { IfOk result (MigratesText config text.now (W.written sink.old) (W.written sink.new)) }
     ensures begun { OnErr result (BeginsMigration config text.now (W.written sink.old) (W.written sink.new)) }
-    ensures memory { IsErrOf result ScriptFault.NoMemory → HistoryTakesMemory text.now }
     ensures never_full { result ≢ Err ScriptFault.HistoryFull }
     ensures blames { BlamesSink (W.failures sink.old) (W.failures sink.new) result }
 {
     texts_are_migrated();
-    let entries = match parse_history(alloc, text, KEPT_ENTRIES) {
+    let entries = match parse_history(alloc, text) {
         Ok(entries) => entries,
         Err(TextError::Line(line)) => return write_unmigrated(Verdict::Refused(line), sink),
         Err(TextError::NoMemory) => return Err(ScriptFault::NoMemory),

@@ -224,9 +224,13 @@ fn numbers_names_as_they_are_seen(rt: HostRuntime) -> Result<(), Fail> {
 
 #[test]
 fn reads_the_longest_text(rt: HostRuntime) -> Result<(), Fail> {
-    let mut text = script_of(rt.alloc(), b"x\n")?;
+    let mut text = script_of(rt.alloc(), b"#")?;
     text.resize(SCRIPT_BYTES, b'#')?;
     assert_eq!(rt; refusal(rt.alloc(), &text), Some(TextError::Line(2)));
+    text.pop();
+    text.push(b'\n')?;
+    let script: Script = parse(rt.alloc(), &text)?;
+    assert!(rt; script.events().is_empty());
     text.push(b'\n')?;
     assert_eq!(rt; refusal(rt.alloc(), &text), Some(TextError::Line(0)));
     Ok(())

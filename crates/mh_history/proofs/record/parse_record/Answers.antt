@@ -1,9 +1,7 @@
 use Rattle.std.proofs.Common.{◌≡◌, Err, ap, sym, refl, ◌∙◌}
 use Rattle.std.specs.Prelude.{IsErrOf}
 use Rattle.std.proofs.lemmas.Result.{err_from_is_err_and}
-use Rattle.mh_model.specs.Script.{reading_map}
-use Rattle.mh_history.specs.Beginnings.{first_of}
-use Rattle.mh_history.proofs.HistoryLemmas.{with_first, record_first, record_refused, begins_with_measured}
+use Rattle.mh_history.proofs.HistoryLemmas.{with_header, record_first, record_refused, begins_with_measured}
 use Rattle.mh_history.proofs.record.parse_record.Goals as goal
 
 -- an error in a result of another type
@@ -14,7 +12,7 @@ pub returns-clause-record : goal.returns-clause-record
 returns-clause-record c =
     let first = rw c.new-lines.ensures at c.in-Some.ensures.next in
     let header = rw c.new.ensures at (sym c.in-Some-header_of.ensures) in
-    ap (reading_map (first_of c.args.most)) (record_first _ _ _ _ _ c.if-text-gt-RECORD_BYTES.false first header) ∙ with_first _ _ _ _ c.in_ok-entries.ensures.entries
+    record_first _ _ _ _ _ c.if-text-gt-RECORD_BYTES.false first header ∙ ap (with_header c.in-Some-header_of.config) c.in_ok-entries.ensures.entries
 
 pub returns-in_err-entries-clause-line : goal.returns-in_err-entries-clause-line
 returns-in_err-entries-clause-line c =
