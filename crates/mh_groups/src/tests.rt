@@ -56,7 +56,7 @@ fn has_child(blocks: &Blocks, place: Place, index: usize) -> bool
     }
 }
 
-/// Whether the object at a place, which has no middle spines, leads to this field.
+/// Whether the object at a place leads to this field.
 fn is_findable(blocks: &Blocks, place: Place, field: usize) -> bool
     ensures { IsTrue result → IsFindable blocks.now place field }
 {
@@ -65,7 +65,16 @@ fn is_findable(blocks: &Blocks, place: Place, field: usize) -> bool
     }
     let header = blocks.header(place);
     let fields = header.references as usize + header.numbers as usize;
-    fields <= 3_600 && has_child(blocks, place, field / 60 % 60)
+    if fields <= 3_600 {
+        return has_child(blocks, place, field / 60 % 60);
+    }
+    if !has_child(blocks, place, field / 3_600) {
+        return false;
+    }
+    match blocks.load_ref(place, field / 3_600) {
+        None => false,
+        Some(spine) => has_child(blocks, spine, field / 60 % 60),
+    }
 }
 
 /// Moves the block at a place to another of its page.
@@ -151,5 +160,26 @@ fn finds_fields_that_moved(rt: HostRuntime) -> Result<(), Fail> {
     assert!(rt; blocks.is_taken(Place(64)));
     assert!(rt; blocks.reference_count(Place(64)) > 6);
     assert_eq!(rt; blocks.reference(Place(64), 6), None);
+    Ok(())
+}
+
+/// The first part has page 0. Of its middle spines that of 60 arraylets has page 1, with three of these, and that of one
+/// page 2. The last arraylet has a reference, field 3,600, and nine numbers.
+#[test]
+fn finds_fields_behind_middle_spines(rt: HostRuntime) -> Result<(), Fail> {
+    let mut blocks = Blocks::open(rt.alloc(), 20)?;
+    let mut room = PartPlaces::open(rt.alloc())?;
+    let parts = parts(Rules::Second, 3_601, 9).ok_or("too large")?;
+    let object = make_group(&mut blocks, &mut room, &parts, Birth(0), 1).map_err(|_| "no place")?;
+    write_reference(&rt, &mut blocks, object, 3_600, object);
+    write_number(&rt, &mut blocks, object, 3_609, 7);
+    assert_eq!(rt; moved(&rt, &mut blocks, Place(128))?, Place(129));
+    assert_eq!(rt; reference_in(&rt, &blocks, object, 3_600), Some(object));
+    assert_eq!(rt; number_in(&rt, &blocks, object, 3_609), 7);
+    assert_eq!(rt; number_in(&rt, &blocks, object, 3_601), 0);
+    assert_eq!(rt; reference_in(&rt, &blocks, object, 3_599), None);
+    assert_eq!(rt; reference_in(&rt, &blocks, object, 0), None);
+    assert!(rt; is_findable(&blocks, object, 3_609));
+    assert_eq!(rt; position(&blocks, object, 3_609).index, 9);
     Ok(())
 }
