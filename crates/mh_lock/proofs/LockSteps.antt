@@ -8,12 +8,13 @@ use prog.Atomic.{either}
 use Rattle.std.proofs.lemmas.List.Elements.{filter-append, All-nil, All-push}
 use Rattle.atomic_table.specs.Table.{State, step, keeps, takes, gives, opening, stepped, Allows, Splits, Joins}
 use Rattle.atomic_table.proofs.Lists.{at_set, at_snoc, set_again, set_here, set_else, at_longer}
-use Rattle.mh_model.specs.History.{owned_by}
-use Rattle.mh_seat_laws.specs.Lock.{Logs, weigh_numbers, Fits, AllFit, AllOwned, HasHome, HasHolder, IsLocked}
+use Rattle.mh_model.specs.History.{LockState, owned_by, IsAtHome, IsOut}
+use Rattle.mh_seat_laws.specs.Lock.{Logs, weigh_numbers, Fits, AllFit, AllOwned, HasHome, HasHolder, IsLocked, Shows}
 use Rattle.mh_seat_laws.specs.declared.seat_view.Found.{Found}
 use Rattle.mh_seat_laws.specs.declared.seat_view.SeatView.{SeatView}
+use Rattle.mh_seat_laws.proofs.lock.ShownLocks.{shown_lock}
 use Rattle.mh_seat_laws.proofs.TotalLemmas.{total-set, total-append_one}
-use Rattle.mh_lock.specs.Steps.{seat_view, empty_logs, all_seats, alone, holding, found_of, Grows, Takes, Gives}
+use Rattle.mh_lock.specs.Steps.{seat_view, empty_logs, all_seats, alone, holding, found_of, Grows, WasAtHome, Takes, Gives}
 use Rattle.mh_lock.proofs.SeatNumbers.{part-of_total, two_parts-of_total, is, is-same, none-above, at_most-one, weigh-append, weigh-cut, weigh-all}
 
 set-there : {A : Type 0} (l : List A) (i : ℕ) (v w : A) → get_elem? l i ≡ some v → get_elem? (set l i w) i ≡ some w
@@ -89,6 +90,24 @@ module _ {T E O : Type 0} (owner : E → ℕ) (entries : T → List E) (origin :
         };
       }
 
+  -- the lock of the book that the table shows then
+  was_at_home : (table : State T (SeatView E O)) → Kept table → (id number : ℕ) (log : List E) → get_elem? table.views id ≡ some (seat_view ((number, log) ∷ []) None) → (home : HasHome owner entries origin about table)
+      → WasAtHome owner seats number log (entries home.value)
+  was_at_home table rule id number log there home =
+      let view : SeatView E O = seat_view ((number, log) ∷ []) None in
+      let shown = shown_lock owner entries origin about table rule in
+      let state : LockState E = shown.0 in
+      let shows : Shows entries seats table state = shown.2 in
+      let word : state.word ≡ 0 = shows.word ∙ home.word in
+      let mine : is number number ≡ 1 = is-same number number refl in record {
+        state = state;
+        kept = ⊎_elim (λ (at_home : IsAtHome owner state). at_home) (λ (out : IsOut owner state). let one = out.word in absurd (omega arith)) shown.1;
+        home = shows.home home.value word home.at_home;
+        many = shows.many;
+        inside = grind (arith, none-above number seats, part-of_total (λ view. weigh_numbers (is number) view.logs) table.views id view there, mine, rule.numbers (is number));
+        there = (shows.logs id view there).0;
+      }
+
   -- nothing changes
   left : (table : State T (SeatView E O)) → Kept table → (id : ℕ) (view : SeatView E O) → get_elem? table.views id ≡ some view → (word : ℕ) → word ≡ get_or table.words 0 0
       → Kept (stepped table 0 word id [] view keeps)
@@ -97,7 +116,7 @@ module _ {T E O : Type 0} (owner : E → ℕ) (entries : T → List E) (origin :
       (λ i. (sym (set-first table.words word rule.words same) i, sym (set_again table.views id view there) i)) rule
 
   pub take-allowed : (slots id number : ℕ) (log : List E)
-      → Allows Kept slots id (alone number log) 0 (λ word. either (eqb word 0) 1 word) (Takes owner entries origin (step slots 0 0 1 none) (alone number log))
+      → Allows Kept slots id (alone number log) 0 (λ word. either (eqb word 0) 1 word) (Takes owner entries origin (Some about) (step slots 0 0 1 none) (alone number log))
   take-allowed slots id number log table rule _ there _ =
       let word : ℕ = get_or table.words 0 0 in
       ⊎_elim
@@ -109,7 +128,16 @@ module _ {T E O : Type 0} (owner : E → ℕ) (entries : T → List E) (origin :
             (λ (b : Bool). Kept (stepped table 0 (either b 1 word) id [] (seat_view ((number, log) ∷ []) (Some (found_of entries origin home.value))) (takes 0 home.value)))
             (sym hit)
             (taken table rule id number log there home),
-        ((λ _. (home.value, refl, (home.fits id (seat_view ((number, log) ∷ []) None) there).0)), λ missed. absurd (missed home.word)),
+        (
+          (λ _. (
+            home.value,
+            refl,
+            (home.fits id (seat_view ((number, log) ∷ []) None) there).0,
+            home.same_origin,
+            was_at_home table rule id number log there home,
+          )),
+          λ missed. absurd (missed home.word),
+        ),
       ))
       (λ out. let missed : eqb word 0 ≡ false = ne_eqb word 0 (λ zero_found. let one = out.word in absurd (omega arith)) in (
         seat_view ((number, log) ∷ []) None,

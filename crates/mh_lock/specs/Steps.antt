@@ -1,7 +1,7 @@
 -- What the steps at the word of the lock tell the seat that takes them.
-use Rattle.std.specs.Prelude.{◌≡◌, ◌≢◌, ℕ, zero, suc, ◌⊎◌, List, [], ◌∷◌, ◌++◌, Option, Some, None}
+use Rattle.std.specs.Prelude.{◌≡◌, ◌≢◌, ℕ, zero, suc, ◌<◌, ◌⊎◌, List, [], ◌∷◌, ◌++◌, Option, Some, None, IfSome, get_or, length}
 use Rattle.atomic_table.specs.Table.{Me, Step}
-use Rattle.mh_model.specs.History.{owned_by}
+use Rattle.mh_model.specs.History.{LockState, owned_by, IsAtHome}
 use Rattle.mh_seat_laws.specs.Lock.{Logs, first}
 use Rattle.mh_seat_laws.specs.declared.seat_view.Found.{Found}
 use Rattle.mh_seat_laws.specs.declared.seat_view.SeatView.{SeatView}
@@ -53,14 +53,28 @@ held_origin origin (slot ∷ slots) = Some (origin slot.1)
 abbrev pub found_of : {T E O : Type 0} → (T → List E) → (T → O) → T → Found E O
 found_of entries origin value = record { history = entries value; origin = origin value }
 
+-- a history was at home in a lock of the book with so many logs, among which a seat's stands at its number
+pub record WasAtHome {E : Type 0} (owner : E → ℕ) (seats number : ℕ) (log history : List E) : Type 0 where
+  pub state : LockState E
+  pub kept : IsAtHome owner state
+  pub home : state.home ≡ Some history
+  pub many : length state.logs ≡ seats
+  pub inside : number < seats
+  pub there : get_or state.logs number [] ≡ log
+
 module _ {T E O : Type 0} (owner : E → ℕ) (entries : T → List E) (origin : T → O) where
-  -- A seat has the value, whose entries and origin it found, and its log is what it owns of the entries
-  abbrev pub HasTaken : Me T (SeatView E O) → Me T (SeatView E O) → Type 0
-  HasTaken before after = (value : T) × (after ≡ holding (number_in before) (log_in before) (found_of entries origin value) value) × (log_in before ≡ owned_by owner (number_in before) (entries value))
+  -- A seat of a lock with so many seats and an origin has the value that was at home, whose entries it found, and its log is what it owns of them
+  abbrev pub HasTaken : ℕ × O → Me T (SeatView E O) → Me T (SeatView E O) → Type 0
+  HasTaken about before after =
+      (value : T)
+      × (after ≡ holding (number_in before) (log_in before) (found_of entries origin value) value)
+      × (log_in before ≡ owned_by owner (number_in before) (entries value))
+      × (origin value ≡ about.1)
+      × WasAtHome owner about.0 (number_in before) (log_in before) (entries value)
 
   -- A try to take the value: where 0 was found the seat has it, and else nothing has changed
-  abbrev pub Takes : Step T → Me T (SeatView E O) → ℕ → Me T (SeatView E O) → Type 0
-  Takes step before found after = (found ≡ 0 → HasTaken before after) × (found ≢ 0 → after ≡ before)
+  abbrev pub Takes : Option (ℕ × O) → Step T → Me T (SeatView E O) → ℕ → Me T (SeatView E O) → Type 0
+  Takes about step before found after = (found ≡ 0 → IfSome about (λ key. HasTaken key before after)) × (found ≢ 0 → after ≡ before)
 
   -- A seat has the value with the origin that it found, and with the entries that it found, or one more, which it owns
   pub record CanGive (seat : Me T (SeatView E O)) : Type 0 where

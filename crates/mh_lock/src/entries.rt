@@ -1,5 +1,5 @@
 //! What a value in a lock shows of itself, and what a call does with it.
-ghost use Rattle.std.specs.Prelude.{◌≡◌, [], ◌∷◌, ◌++◌, ℕ, List, IfOk, OnErr};
+ghost use Rattle.std.specs.Prelude.{◌≡◌, [], ◌∷◌, ◌++◌, ℕ, List, Result, IfOk, OnErr};
 
 use mh_model::history::Entry;
 
@@ -37,7 +37,11 @@ pub trait Work<T: Entries<E>, E> {
     // The entry that a reply belongs to.
     ghost entry: { Self → Self.Reply → E };
 
+    // What it does: the value before it, its answer, and the value after it.
+    ghost does: { Self → T → Result Self.Reply Self.Refusal → T → Type 0 };
+
     fn run(self, value: &mut T) -> Result<Self::Reply, Self::Refusal>
+        ensures does { does self value.old result value.new }
         ensures ok { IfOk result (λ reply. T.entries value.new ≡ T.entries value.old ++ entry self reply ∷ []) }
         ensures err { OnErr result (T.entries value.new ≡ T.entries value.old) }
         ensures origin { T.origin value.new ≡ T.origin value.old };

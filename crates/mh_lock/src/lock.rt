@@ -1,7 +1,7 @@
 //! The lock.
-ghost use Rattle.std.specs.Prelude.{◌≡◌, ◌≢◌, ◌+◌, ◌<◌, ◌==◌, [], ◌∷◌, ◌++◌, ℕ, List, true, false, All, IfOk, IfErr, OnErr, count_by, map, slice_index_or, vec_len};
+ghost use Rattle.std.specs.Prelude.{◌≡◌, ◌≢◌, ◌+◌, ◌<◌, ◌==◌, [], ◌∷◌, ◌++◌, ℕ, List, Option, None, true, false, All, IfOk, IfErr, OnErr, count_by, map, slice_index_or, vec_len};
 ghost use Rattle.mh_model.specs.History.{owned_by};
-ghost use Rattle.mh_lock.specs.Seats.{LockSeatView, IsOf, new_seat, IsKeptAtHome};
+ghost use Rattle.mh_lock.specs.Seats.{LockSeatView, IsOf, new_seat, IsKeptAtHome, IsDoneUnderLock, entry_of};
 ghost use Rattle.mh_lock.specs.Steps.{alone, log_in, number_in, held, held_origin, HasTaken, CanGive};
 
 use crate::entries::{Entries, Owned, Work};
@@ -10,7 +10,7 @@ use atomic_table::{Join, Play, Seat, Split, Table, TableRule};
 use mh_model::memory::NoMemory;
 use mh_seat_laws::SeatView;
 use std::alloc::Global;
-use std::marker::{Model, PhantomData};
+use std::marker::{Brand, Model, PhantomData};
 use std::sync::Wait;
 use std::sync::atomic::AtomicU64;
 use std::sync::atomic::Ordering::SeqCst;
@@ -34,12 +34,23 @@ impl<T: Entries<E>, E: Owned> TableRule<T, SeatView<E, T::Origin>, (u64, T::Orig
     ghost first = { all_seats };
 }
 
-struct Take;
+/// What a lock is about, which proofs alone name: the number of its seats and the origin of its value.
+trait About<O> {
+    ghost about: { Option (ℕ × O) };
+}
 
-impl<T: Entries<E>, E: Owned> Play<T, SeatView<E, T::Origin>> for Take {
+impl<O> About<O> for Brand {
+    ghost about = { None };
+}
+
+struct Take<A> {
+    marker: PhantomData<A>,
+}
+
+impl<T: Entries<E>, E: Owned, A: About<T::Origin>> Play<T, SeatView<E, T::Origin>> for Take<A> {
     ghost use Rattle.mh_lock.specs.Steps.{Takes};
 
-    ghost then = { Takes E.owner T.entries T.origin };
+    ghost then = { Takes E.owner T.entries T.origin A.about };
 }
 
 struct Give;
@@ -130,15 +141,16 @@ impl<T: Entries<E> + Drop, E: Owned> Lock<T, E> {
     }
 
     // Whether one of a few tries took the value.
-    fn try_to_take(&self, seat: &mut Seat<T, SeatView<E, T::Origin>>) -> bool
+    fn try_to_take<A: About<T::Origin>>(&self, seat: &mut Seat<T, SeatView<E, T::Origin>>) -> bool
+        requires about { A.about ≡ Some (self.now.seats, self.now.origin) }
         requires own { seat.old.table_id ≡ self.now.table }
         requires alone { seat.old.me ≡ alone (number_in seat.old.me) (log_in seat.old.me) }
         ensures own { (seat.new.table_id ≡ seat.old.table_id) × (seat.new.id ≡ seat.old.id) }
-        ensures taken { result ≡ true → HasTaken E.owner T.entries T.origin seat.old.me seat.new.me }
+        ensures taken { result ≡ true → HasTaken E.owner T.entries T.origin (self.now.seats, self.now.origin) seat.old.me seat.new.me }
         ensures same { result ≡ false → seat.new.me ≡ seat.old.me }
     {
         for _ in 0..TRIES {
-            if self.table.shared.compare_exchange::<Take>(seat, 0, 0, 1) == 0 {
+            if self.table.shared.compare_exchange::<Take<A>>(seat, 0, 0, 1) == 0 {
                 return true;
             }
             thread::yield_now();
@@ -162,14 +174,15 @@ impl<T: Entries<E> + Drop, E: Owned> Lock<T, E> {
     }
 
     // Waits until the value is at home, and takes it.
-    fn take<R: Wait>(&self, rt: &R, seat: &mut Seat<T, SeatView<E, T::Origin>>)
+    fn take<A: About<T::Origin>, R: Wait>(&self, rt: &R, seat: &mut Seat<T, SeatView<E, T::Origin>>)
+        requires about { A.about ≡ Some (self.now.seats, self.now.origin) }
         requires own { seat.old.table_id ≡ self.now.table }
         requires alone { seat.old.me ≡ alone (number_in seat.old.me) (log_in seat.old.me) }
         ensures own { (seat.new.table_id ≡ seat.old.table_id) × (seat.new.id ≡ seat.old.id) }
-        ensures taken { HasTaken E.owner T.entries T.origin seat.old.me seat.new.me }
+        ensures taken { HasTaken E.owner T.entries T.origin (self.now.seats, self.now.origin) seat.old.me seat.new.me }
     {
         for _ in rt.forever() {
-            if self.try_to_take(seat) {
+            if self.try_to_take::<A>(seat) {
                 return;
             }
             self.sleep(rt);
@@ -187,6 +200,7 @@ impl<T: Entries<E> + Drop, E: Owned> Lock<T, E> {
         requires held { (value : T) × (seat.old.me.1 ≡ (0, value) ∷ []) }
         ensures own { (seat.new.table_id ≡ seat.old.table_id) × (seat.new.id ≡ seat.old.id) × (seat.new.me.0 ≡ seat.old.me.0) }
         ensures held { (value : T) × (seat.new.me.1 ≡ (0, value) ∷ []) }
+        ensures does { (found : T) × (left : T) × (seat.old.me.1 ≡ (0, found) ∷ []) × (seat.new.me.1 ≡ (0, left) ∷ []) × W.does work found result left }
         ensures ok { IfOk result (λ reply. held T.entries seat.new.me.1 ≡ held T.entries seat.old.me.1 ++ W.entry work reply ∷ []) }
         ensures err { OnErr result (held T.entries seat.new.me.1 ≡ held T.entries seat.old.me.1) }
         ensures origin { held_origin T.origin seat.new.me.1 ≡ held_origin T.origin seat.old.me.1 }
@@ -215,10 +229,11 @@ impl<T: Entries<E> + Drop, E: Owned> Lock<T, E> {
         requires own { IsOf self.now seat.old }
         requires owned { (reply : W.Reply) → E.owner (W.entry work reply) ≡ seat.old.number }
         ensures own { IsOf self.now seat.new × (seat.new.number ≡ seat.old.number) }
+        ensures alone { IsDoneUnderLock E.owner T.entries T.origin (λ found left. W.does work found result left) self.now seat.old seat.new (entry_of (W.entry work) result) }
         ensures ok { IfOk result (λ reply. seat.new.log ≡ seat.old.log ++ W.entry work reply ∷ []) }
         ensures err { OnErr result (seat.new.log ≡ seat.old.log) }
     {
-        self.take(rt, &mut seat.seat);
+        self.take::<Brand, R>(rt, &mut seat.seat);
         let answer = self.run_on(&mut seat.seat, work);
         self.give(&mut seat.seat);
         answer

@@ -63,6 +63,8 @@ impl Work<Marks, Mark> for Add {
 
     ghost entry = { λ add _. add.0 };
 
+    ghost does = { λ _ before _ after. after.name ≡ before.name };
+
     fn run(self, value: &mut Marks) -> Result<usize, AllocError> {
         let before = value.list.len();
         value.list.push(self.0)?;
@@ -86,6 +88,8 @@ impl Work<Marks, Mark> for AddFirst {
     type Refusal = NotAdded;
 
     ghost entry = { λ add _. add.0 };
+
+    ghost does = { λ _ before _ after. after.name ≡ before.name };
 
     fn run(self, value: &mut Marks) -> Result<(), NotAdded> {
         if !value.list.is_empty() {

@@ -133,7 +133,8 @@ fn run_seats<R: Threads + Wait + Sync, G: CrewGate + Sync>(
     Ok((back, stop))
 }
 
-/// A call is refused for a full history only where the history is full, which no contract of the call tells.
+/// A call that is refused for a full history has found it full. No contract tells that the history left at the end is no
+/// shorter, so that is looked at here.
 #[tactic(auto, unfolding(mh_model::specs::Limits::most_entries))]
 fn stop_of(stop: Option<Stop>, entries: u64) -> Option<Stop>
     ensures none { result ≡ None → stop ≡ None }

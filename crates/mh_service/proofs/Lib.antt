@@ -1,1 +1,2 @@
 pub mod ClosedServices
+pub mod SharedStates

@@ -1,11 +1,11 @@
 //! The service.
-ghost use Rattle.std.specs.Prelude.{◌≡◌, ◌≢◌, ◌<◌, ◌≤◌, ◌==◌, [], ◌∷◌, ◌++◌, ℕ, All, IfOk, OnOk, IfErr, OnErr, count_by, slice_index_or, vec_len};
+ghost use Rattle.std.specs.Prelude.{◌≡◌, ◌≢◌, ◌<◌, ◌≤◌, ◌==◌, ◌⊎◌, [], ◌∷◌, ◌++◌, ℕ, All, IfOk, OnOk, IfErr, OnErr, IsErrOf, count_by, slice_index_or, vec_len};
 ghost use Rattle.mh_lock.specs.Seats.{LockSeatView};
 ghost use Rattle.mh_model.specs.History.{IsLegal, owner_of, owned_by};
 ghost use Rattle.mh_model.specs.declared.history.Entry.{Entry};
 ghost use Rattle.mh_promise.specs.Runs.{IsTheMachines};
 ghost use Rattle.mh_promise.specs.Promise.{IsPromised};
-ghost use Rattle.mh_service.specs.Services.{IsOf, new_seat, Owns, AreMerged, shown};
+ghost use Rattle.mh_service.specs.Services.{IsOf, new_seat, Owns, IsServed, AreMerged, shown};
 ghost use Rattle.mh_state.specs.Storing.{events_of};
 
 use crate::job::{Job, Shared};
@@ -22,7 +22,6 @@ use mh_report::trace::Trace;
 use mh_scan::crew_scan::{CrewGate, CrewScan};
 use mh_seat_laws::lock::logs_merge_to_the_history;
 use mh_state::machine::Stop;
-use mh_state::state::State;
 use std::alloc::Global;
 use std::marker::Model;
 use std::sync::Wait;
@@ -94,8 +93,8 @@ impl<'a, G: CrewGate> Service<'a, G> {
         ensures own { IfOk result (λ made. All (IsOf made.0) made.1.items) }
         ensures each { IfOk result (λ made. (number : ℕ) (other : LockSeatView Entry) → number < 9 → slice_index_or made.1.items number other ≡ new_seat made.0 number) }
     {
-        let state = State::open(alloc, config)?;
-        let (lock, inner) = Lock::open(alloc, Shared { state }, SEATS)?;
+        let shared = Shared::open(alloc, config)?;
+        let (lock, inner) = Lock::open(alloc, shared, SEATS)?;
         let seats = seats_of(alloc, inner)?;
         let service = Service {
             alloc,
@@ -118,6 +117,9 @@ impl<'a, G: CrewGate> Service<'a, G> {
         requires own { IsOf self.now seat.old }
         requires owned { Owns seat.old event }
         ensures own { IsOf self.now seat.new × (seat.new.number ≡ seat.old.number) }
+
+        // Where the seat's log gets no memory, the lock is not taken.
+        ensures served { IsServed self.now seat.old seat.new event result ⊎ IsErrOf result Stop.NoMemory × (seat.new ≡ seat.old) }
         ensures ok { IfOk result (λ reply. seat.new.log ≡ seat.old.log ++ record { event = event; reply = reply } ∷ []) }
         ensures err { OnErr result (seat.new.log ≡ seat.old.log) }
     {
@@ -163,7 +165,8 @@ impl<'a, G: CrewGate> Service<'a, G> {
             gate,
         } = self;
         match lock.close(seats) {
-            Ok(Shared { state }) => {
+            Ok(shared) => {
+                let state = shared.into_state();
                 let free = state.machine().heap().free_pages();
                 let (history, heap, trace) = state.into_parts();
                 Ok(Closed {

@@ -1,0 +1,35 @@
+-- The stored state under the lock of a service, and what an event does to it.
+use Rattle.std.specs.Prelude.{◌≡◌, length}
+use Rattle.mh_model.specs.declared.command.Event.{Event}
+use Rattle.mh_model.specs.declared.config.Config.{Config}
+use Rattle.mh_model.specs.declared.reply.Reply.{Reply}
+use Rattle.mh_model.specs.History.{IsLegal}
+use Rattle.mh_model.specs.Limits.{most_entries}
+use Rattle.mh_model.specs.Machine.{event_step}
+use Rattle.mh_model.specs.World.{says}
+use Rattle.mh_promise.specs.Replays.{IsReplay}
+use Rattle.mh_state.specs.Storing.{Stored, events_of, replies_of, with_entry, IsTheReplay, KeepsItsPromise}
+use Rattle.mh_state.specs.declared.machine.Stop.{Stop}
+use Rattle.mh_state.specs.declared.machine.Stop.TheVariants as stop
+
+-- the machine is that of its history, which is legal
+pub record IsReplayed (stored : Stored) : Type 0 where
+  pub replay : IsReplay stored.machine.heap.config (events_of stored.history) (replies_of stored.history) stored.machine
+  pub legal : IsLegal stored.machine.heap.config stored.history
+
+-- A stored state is the replay of its history under a configuration, and that history is legal and keeps the promise
+pub record IsReplayOf (config : Config) (stored : Stored) : Type 0 where
+  pub config_is : stored.machine.heap.config ≡ config
+  pub legal : IsLegal config stored.history
+  pub replay : IsTheReplay stored
+  pub promise : KeepsItsPromise stored
+
+-- An event was done: the machine took its step, and the event is entered with the reply of that step
+pub record IsDone (event : Event) (found : Stored) (given : Reply) (left : Stored) : Type 0 where
+  pub step : event_step found.machine event ≡ says given left.machine
+  pub entered : left.history ≡ with_entry found.history event given
+
+-- An event was refused: the state is unchanged, and its history is full where that is the reason
+pub record IsRefused (found : Stored) (reason : Stop) (left : Stored) : Type 0 where
+  pub unchanged : left ≡ found
+  pub full : reason ≡ stop.HistoryFull → length found.history ≡ most_entries
