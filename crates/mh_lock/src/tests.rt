@@ -11,8 +11,23 @@ use std::test::Fail;
 use std::thread;
 use std::thread::Threads;
 
-/// How many calls each seat makes.
-const CALLS: u64 = 500;
+/// How many calls each seat makes, and for how many turns each holds the value.
+#[derive(Clone, Copy)]
+struct Calls {
+    count: u64,
+    turns: u64,
+}
+
+const QUICK: Calls = Calls {
+    count: 500,
+    turns: 0,
+};
+
+/// A thread that waits for such a call falls asleep.
+const SLOW: Calls = Calls {
+    count: 8,
+    turns: 100_000,
+};
 
 #[derive(Clone, Copy, PartialEq, Eq, Debug)]
 struct Mark {
@@ -52,22 +67,28 @@ fn no_marks(alloc: Global) -> Marks
     }
 }
 
-/// Adds a mark, and replies how many there were before.
+/// Adds a mark after some turns of other threads, and replies how many there were before.
 #[derive(Clone, Copy)]
-struct Add(Mark);
+struct Add {
+    mark: Mark,
+    turns: u64,
+}
 
 impl Work<Marks, Mark> for Add {
     type Reply = usize;
 
     type Refusal = AllocError;
 
-    ghost entry = { λ add _. add.0 };
+    ghost entry = { λ add _. add.mark };
 
     ghost does = { λ _ before _ after. after.name ≡ before.name };
 
     fn run(self, value: &mut Marks) -> Result<usize, AllocError> {
+        for _ in 0..self.turns {
+            thread::yield_now();
+        }
         let before = value.list.len();
-        value.list.push(self.0)?;
+        value.list.push(self.mark)?;
         Ok(before)
     }
 }
@@ -144,7 +165,7 @@ fn a_lock_closes_with_all_its_seats(rt: HostRuntime) -> Result<(), Fail> {
     let mut last = seats.pop().ok_or("no seat")?;
     let mark = Mark { by: 2, count: 7 };
     assert_eq!(rt; last.number(), 2);
-    assert_eq!(rt; lock.call(&rt, &mut last, Add(mark)), Ok(0));
+    assert_eq!(rt; lock.call(&rt, &mut last, Add { mark, turns: 0 }), Ok(0));
     let Err((lock, mut seats)) = lock.close(seats) else {
         panic!(rt; "closed with a seat missing")
     };
@@ -157,13 +178,22 @@ fn a_lock_closes_with_all_its_seats(rt: HostRuntime) -> Result<(), Fail> {
     Ok(())
 }
 
-fn call_often<R: Wait>(rt: &R, lock: &Lock<Marks, Mark>, seat: &mut LockSeat<Marks, Mark>)
+fn call_often<R: Wait>(
+    rt: &R,
+    lock: &Lock<Marks, Mark>,
+    seat: &mut LockSeat<Marks, Mark>,
+    calls: Calls,
+)
     requires { IsOf lock.now seat.old }
     ensures { IsOf lock.now seat.new }
 {
-    for count in 0..CALLS {
-        let by = seat.number();
-        let _ = lock.call(rt, seat, Add(Mark { by, count }));
+    for count in 0..calls.count {
+        let mark = Mark {
+            by: seat.number(),
+            count,
+        };
+        let turns = calls.turns;
+        let _ = lock.call(rt, seat, Add { mark, turns });
     }
 }
 
@@ -172,19 +202,20 @@ fn call_by_threads<R: Threads + Wait + Sync>(
     rt: &R,
     lock: &Lock<Marks, Mark>,
     seats: &mut [LockSeat<Marks, Mark>],
+    calls: Calls,
 )
     requires { All (IsOf lock.now) seats.old }
     ensures { All (IsOf lock.now) seats.new }
 {
     let one = |_index: usize, seat: &mut LockSeat<Marks, Mark>|
         requires { IsOf lock.now seat.now }
-    { call_often(rt, lock, seat) };
-    thread::for_each_mut(rt, seats, 2, &one);
+    { call_often(rt, lock, seat, calls) };
+    thread::for_each_mut(rt, seats, 3, &one);
 }
 
 /// Whether the marks of a seat are those of its calls, in order.
-fn are_in_order(marks: &Marks, by: u64) -> bool {
-    let mut counts = 0..CALLS;
+fn are_in_order(marks: &Marks, by: u64, calls: Calls) -> bool {
+    let mut counts = 0..calls.count;
     for mark in &marks.list {
         if mark.by == by && counts.next() != Some(mark.count) {
             return false;
@@ -197,12 +228,28 @@ fn are_in_order(marks: &Marks, by: u64) -> bool {
 fn two_threads_call_at_once(rt: HostRuntime) -> Result<(), Fail> {
     let alloc = rt.alloc();
     let (lock, mut seats) = Lock::<Marks, Mark>::open(alloc, no_marks(alloc), 2)?;
-    call_by_threads(&rt, &lock, &mut seats);
+    call_by_threads(&rt, &lock, &mut seats, QUICK);
     let Ok(marks) = lock.close(seats) else {
         panic!(rt; "not closed")
     };
     assert_eq!(rt; marks.list.len(), 1_000);
-    assert!(rt; are_in_order(&marks, 0));
-    assert!(rt; are_in_order(&marks, 1));
+    assert!(rt; are_in_order(&marks, 0, QUICK));
+    assert!(rt; are_in_order(&marks, 1, QUICK));
+    Ok(())
+}
+
+/// Two of three threads sleep while the third calls, and each wake has to go on to the next.
+#[test]
+fn each_thread_that_sleeps_is_woken(rt: HostRuntime) -> Result<(), Fail> {
+    let alloc = rt.alloc();
+    let (lock, mut seats) = Lock::<Marks, Mark>::open(alloc, no_marks(alloc), 3)?;
+    call_by_threads(&rt, &lock, &mut seats, SLOW);
+    let Ok(marks) = lock.close(seats) else {
+        panic!(rt; "not closed")
+    };
+    assert_eq!(rt; marks.list.len(), 24);
+    for by in 0..3 {
+        assert!(rt; are_in_order(&marks, by, SLOW));
+    }
     Ok(())
 }
