@@ -46,8 +46,7 @@ fn write_race<R: Threads + Wait + Sync, W: Sink, G: CrewGate + Sync>(
 }
 
 /// Reads a whole script, lets its sessions race, and after all have ended writes the history that they made as version 2; or
-/// the one line that names the least line that is outside the grammar. Where a race stopped for want of memory, its history
-/// so far is written before that is told. At most `workers` threads scan at a time.
+/// the one line that names the least line that is outside the grammar. At most `workers` threads scan at a time.
 pub fn race_script<R: Threads + Wait + Sync, S: Source, W: Sink, G: CrewGate + Sync>(
     rt: &R,
     alloc: Global,
