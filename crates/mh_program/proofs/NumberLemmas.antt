@@ -1,7 +1,7 @@
 -- The numbers of the options, as they are read and held.
-use Rattle.std.proofs.Common.{◌≡◌, ◌∙◌, ◌<◌, ◌≤◌, ◌&&◌, ◌⊎◌, ℕ, Bool, true, false, List, [], ◌∷◌, Option, Some, None, refl, sym, ap, subst, inl, inr, arith, codes}
+use Rattle.std.proofs.Common.{◌≡◌, ◌∙◌, ◌≤◌, ℕ, Bool, true, false, List, [], ◌∷◌, Option, Some, None, refl, sym, ap, inl, inr, arith, codes}
 use Rattle.std.specs.Prelude.{IsSomeAnd}
-use Rattle.std.proofs.lemmas.Bool.{false≢true, ltb-true, leb-true, lt-ltb}
+use Rattle.std.proofs.lemmas.Bool.{ltb-true, leb-true, lt-ltb}
 use Rattle.std.specs.Char.{digit_value, is_digit}
 use Rattle.std.specs.List.{list_all}
 use Rattle.std.specs.Str.Parse.{AllDigits}
@@ -14,7 +14,6 @@ use Rattle.mh_model.specs.declared.config.Config.{Config}
 use Rattle.mh_model.specs.declared.config.Rules.TheVariants.{First}
 use Rattle.mh_program.specs.Line.{HoldsNumber, IsHeld, IsNumber, ReadsNumber, number_in}
 use Rattle.mh_program.specs.Orders.{MakesConfig}
-use Rattle.mh_program.specs.declared.options.NotNumber.{NotNumber}
 use Rattle.mh_program.specs.declared.options.OptionNumber.{OptionNumber}
 
 -- Digits -----------------------------------------------------------------------------------------

@@ -1,3 +1,5 @@
+ghost use Rattle.std.specs.Prelude.{◌≤◌, IfOk, length};
+
 use crate::launch::launch;
 use std::env::{Env, FillError};
 use std::test::Fail;
@@ -7,7 +9,9 @@ use std::test::Fail;
 struct Words<'a>(&'a [&'a [u8]]);
 
 /// Puts a value at the start of a buffer.
-fn fill(value: &[u8], buffer: &mut [u8]) -> Result<usize, FillError> {
+fn fill(value: &[u8], buffer: &mut [u8]) -> Result<usize, FillError>
+    ensures { IfOk result (λ count. count ≤ length buffer.new) }
+{
     if value.len() > buffer.len() {
         return Err(FillError::TooLong);
     }

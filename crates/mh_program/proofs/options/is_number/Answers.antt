@@ -1,5 +1,5 @@
 use Rattle.mh_program.proofs.NumberLemmas.{digits-back, digits-from}
-use Rattle.std.proofs.Common.{◌≡◌, ◌<◌, length, rules, sym, subst, arith}
+use Rattle.std.proofs.Common.{◌<◌, length, rules}
 use Rattle.std.specs.Str.Parse.{without_leading_plus}
 use Rattle.mh_program.proofs.options.is_number.Goals as goal
 
