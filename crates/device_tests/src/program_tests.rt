@@ -8,21 +8,20 @@ use mh_program::program::program;
 use mh_text::sink::{Sink, StdSink};
 use mh_text::source::{Source, StdSource};
 use std::alloc::{AllocError, Global};
-use std::env::Args;
 use std::process::Abort;
 use std::sync::Wait;
 use std::test::Fail;
 use std::thread::Threads;
 
-fn words(alloc: Global, words: &[&str]) -> Result<Args, AllocError> {
+fn words(alloc: Global, words: &[&str]) -> Result<Vec<String>, AllocError> {
     let mut texts = Vec::new(alloc);
     for word in words {
         texts.push(word.to_string(alloc)?)?;
     }
-    Ok(texts.into_iter())
+    Ok(texts)
 }
 
-fn words_of(alloc: Global, task: Task) -> Result<Args, AllocError> {
+fn words_of(alloc: Global, task: Task) -> Result<Vec<String>, AllocError> {
     let subcommand = match task {
         Task::Run => return words(alloc, &["metroheap", "run"]),
         Task::Race => return words(alloc, &["metroheap", "race"]),

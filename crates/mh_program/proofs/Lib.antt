@@ -1,4 +1,5 @@
 pub mod CommandLemmas
+pub mod NumberLemmas
 pub mod OptionLemmas
 pub mod ReadingLemmas
 pub mod SubcommandLemmas

@@ -1,6 +1,6 @@
 -- What the options of the matches are read as.
-use Rattle.std.proofs.Common.{◌≡◌, ◌<◌, ◌≤◌, ◌^◌, ℕ, Option, Some, None, option_map, refl, sym, ap, subst, arith}
-use Rattle.std.specs.Prelude.{IfSome, IsSome, IsSomeAnd, Result, Ok, Err, unwrap_or}
+use Rattle.std.proofs.Common.{◌≡◌, ◌<◌, ◌≤◌, ◌^◌, ℕ, Option, Some, None, refl, ap, arith}
+use Rattle.std.specs.Prelude.{IfSome, Result, Ok, Err, unwrap_or}
 use Rattle.std.specs.Str.Parse.{IsNumeral, ParsesUnsigned, without_leading_plus}
 use Rattle.clap.specs.Matches.{ReadsOne}
 use Rattle.clap.specs.Values.{IsUnsignedIn}
@@ -14,11 +14,6 @@ module _ {E : Type 0} (k : ℕ) (gives : Text → Result ℕ E → Type 0) (pars
   number-read text None numeral fits reads = absurd (parses text (Err reads.0) reads.1 (numeral, fits))
   number-read text (Some n) numeral fits reads = ap Some (parses text (Ok n) reads).1
 
-  -- an option that is given
-  pub must-read : (most : ℕ) (found : Option Text) (got : Option ℕ) → most < 2 ^ k → IsSomeAnd found (IsUnsignedIn 0 most) → ((t : Text) → found ≡ Some t → ReadsOne gives t got) → option_map number_in found ≡ got
-  must-read most None got below given some = absurd given
-  must-read most (Some text) got below given some = sym (number-read text got given.0 (omega (arith, given.3, below)) (some text refl))
-
   -- an option that may be left out
   pub may-read : (least most other : ℕ) (found : Option Text) (got : Option ℕ) → most < 2 ^ k → IfSome found (IsUnsignedIn least most) → (found ≡ None → got ≡ None) → ((t : Text) → found ≡ Some t → ReadsOne gives t got)
       → unwrap_or got other ≡ option_map_or number_in found other
@@ -29,7 +24,3 @@ module _ {E : Type 0} (k : ℕ) (gives : Text → Result ℕ E → Type 0) (pars
 pub within-bounds : (least most other : ℕ) (found : Option Text) → least ≤ other → other ≤ most → IfSome found (IsUnsignedIn least most) → (least ≤ option_map_or number_in found other) × (option_map_or number_in found other ≤ most)
 within-bounds least most other None low high given = (low, high)
 within-bounds least most other (Some text) low high given = (given.2, given.3)
-
-pub some-read : (found : Option Text) (got : Option ℕ) → option_map number_in found ≡ got → IsSomeAnd found (IsUnsignedIn 0 4294967295) → IsSome got
-some-read None got is given = absurd given
-some-read (Some text) got is given = subst IsSome is refl

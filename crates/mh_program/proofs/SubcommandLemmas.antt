@@ -15,9 +15,15 @@ use Rattle.clap.specs.Takes.{is_given}
 use Rattle.clap.specs.Walk.{Row, Text, Walk, answers_to, finished, nothing_held, rows_after, settled, walk_from}
 use Rattle.clap.specs.Walk as walk
 use Rattle.clap.specs.declared.parser.matches.ArgMatches.{ArgMatches}
+use Rattle.mh_program.specs.declared.fault.LineFault.{LineFault}
+use Rattle.mh_program.specs.declared.fault.LineFault.TheVariants.{Words, NotText, Configuration, NoMemory}
 use Rattle.mh_program.specs.declared.line.Order.{Order}
-use Rattle.mh_program.specs.Orders.{AsksOutside, GivesOrder, HasFewWorkers, HasFirstRules, IsOrder, IsOutside}
-use Rattle.mh_program.specs.Line.{IsAsked, NamesOne, Nothing, Numbers, TakesNumbers, TakesWorkers, Workers, config_app, config_numbers, metroheap, worker_numbers, workers_app}
+use Rattle.mh_program.specs.declared.options.OptionFault.{OptionFault}
+use Rattle.mh_program.specs.declared.options.OptionFault.TheVariants.{NoNumber, Outside}
+use Rattle.std.specs.Borrow.{Bor}
+use Rattle.clap.specs.declared.error.kind.ErrorKind.{ErrorKind}
+use Rattle.mh_program.specs.Orders.{AsksNoNumber, AsksOutside, GivesOrder, HasFewWorkers, HasFirstRules, HasNoNumber, HasOptionFault, IsFault, IsOrder, IsOutside, NotNumbers, NotTaken, Refuses, RefusesOptions}
+use Rattle.mh_program.specs.Line.{IsAsked, NamesOne, Nothing, Numbers, TakesNumbers, TakesWorkers, Workers, any_text, config_app, metroheap, worker_numbers, workers_app}
 use Rattle.mh_program.proofs.OptionLemmas.{AreRead, level-read, never, none_first, none_next, safe-help, safe-value, value-may, value-must}
 
 -- Required options -------------------------------------------------------------------------------
@@ -67,10 +73,10 @@ sound-numbers : (name : Text) → TakesNumbers name → IsSound (built_leaf (con
 sound-numbers name is words e =
     let s : Shape = built_leaf (config_app name).top in
     let rows : List Row = rows_after s.rules [] words in
-    let safe : (option : Text) → _ = λ option. safe-value config_numbers refl option true 1 in
-    let all : AreRead config_numbers refl rows =
-    level-read config_numbers refl s words (safe (codes "pages"), (safe (codes "quantum"), (safe (codes "trigger"), (safe (codes "every"), (safe-help config_numbers refl 1, tt))))) e in
-    let given : (option : Text) → is_given option rows ≡ true → _ = λ option there. value-must config_numbers refl option rows there all in
+    let safe : (option : Text) → _ = λ option. safe-value any_text refl option true 1 in
+    let all : AreRead any_text refl rows =
+    level-read any_text refl s words (safe (codes "pages"), (safe (codes "quantum"), (safe (codes "trigger"), (safe (codes "every"), (safe-help any_text refl 1, tt))))) e in
+    let given : (option : Text) → is_given option rows ≡ true → _ = λ option there. value-must any_text refl option rows there all in
     let pages = both_false _ _ (level-whole s words e) in
     let quantum = both_false _ _ pages.1 in
     let trigger = both_false _ _ quantum.1 in
@@ -153,9 +159,39 @@ module _ (a : App) (words : List Text) (m : ArgMatches) (is : a ≡ metroheap) (
       let P : Option (Text × List Row) → Type 0 = λ matched. IsSomeAnd matched (λ subcommand. IsOutside subcommand.0 subcommand.1) in
       record { taken = no_fault; named = subst P (sym rows_are) named }
 
+  asks_no_number : IsSomeAnd (subcommand_rows_of m) (λ subcommand. HasNoNumber subcommand.0 subcommand.1) → AsksNoNumber words
+  asks_no_number named =
+      let P : Option (Text × List Row) → Type 0 = λ matched. IsSomeAnd matched (λ subcommand. HasNoNumber subcommand.0 subcommand.1) in
+      record { taken = no_fault; named = subst P (sym rows_are) named }
+
+  has_no_number : (name : Bor Text) (text : Bor Text) (matched : Option (Text × List Row)) → IsSomeAnd matched (λ subcommand. HasOptionFault subcommand.0 subcommand.1 (NoNumber name text))
+      → IsSomeAnd matched (λ subcommand. HasNoNumber subcommand.0 subcommand.1)
+  has_no_number name text None has = absurd has
+  has_no_number name text (Some subcommand) has = (has.0, (name.now, has.1.0, has.1.1))
+
+  -- options with a fault are refused so
+  pub options_refused : (fault : OptionFault) (line : LineFault) → IsSomeAnd (subcommand_rows_of m) (λ subcommand. HasOptionFault subcommand.0 subcommand.1 fault) → RefusesOptions fault line → IsFault words line
+  options_refused (NoNumber name text) (Words error) has told = NotNumbers (asks_no_number (has_no_number name text (subcommand_rows_of m) has)) told
+  options_refused (NoNumber name text) NoMemory has told = tt
+  options_refused (NoNumber name text) NotText has told = absurd told
+  options_refused (NoNumber name text) Configuration has told = absurd told
+  options_refused Outside Configuration has told = asks_outside has
+  options_refused Outside (Words error) has told = absurd told
+  options_refused Outside NotText has told = absurd told
+  options_refused Outside NoMemory has told = absurd told
+
 -- a fault of such a command, but want of memory, is one of the faults of the words
-pub refuses : (a : App) (words : List Text) (e : Error) → a ≡ metroheap → (is_simple_and_free a ≡ true → HasKind (fault_of a words) e) → (kind_of e ≡ kind.OutOfMemory → ⊥) → IsAmong (kind_of e) (fault_of metroheap words)
+refuses : (a : App) (words : List Text) (e : Error) → a ≡ metroheap → (is_simple_and_free a ≡ true → HasKind (fault_of a words) e) → (kind_of e ≡ kind.OutOfMemory → ⊥) → IsAmong (kind_of e) (fault_of metroheap words)
 refuses a words e is has other = go (subst (λ a. HasKind (fault_of a words) e) is (has (ap is_simple_and_free is))) where
   go : HasKind (fault_of metroheap words) e → IsAmong (kind_of e) (fault_of metroheap words)
   go (inl memory) = absurd (other memory)
   go (inr among) = among
+
+-- words that `clap` doesn't take are refused so
+pub words_refused : (a : App) (words : List Text) (e : Error) (line : LineFault) → a ≡ metroheap → (is_simple_and_free a ≡ true → HasKind (fault_of a words) e) → Refuses (kind_of e) line → IsFault words line
+words_refused a words e (Words told) is has refused =
+    let P : ErrorKind → Type 0 = λ k. IsAmong k (fault_of metroheap words) in
+    NotTaken (subst P (sym refused.1) (refuses a words e is has refused.0))
+words_refused a words e NoMemory is has refused = tt
+words_refused a words e NotText is has refused = absurd refused
+words_refused a words e Configuration is has refused = absurd refused

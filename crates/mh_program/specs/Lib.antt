@@ -1,4 +1,5 @@
 pub mod Line
 pub mod Orders
-pub mod Status
 pub mod Program
+pub mod Shown
+pub mod Status

@@ -1,10 +1,12 @@
 -- The command line as `clap` is told it, and what the options in its matches say.
-use Rattle.std.specs.Prelude.{◌≡◌, ◌⊎◌, ℕ, List, Option, Some, true, codes, IfSome, IsSomeAnd, option_map}
+use Rattle.std.specs.Prelude.{◌≡◌, ◌⊎◌, ◌<◌, ◌≤◌, ℕ, List, Option, Some, true, false, codes, IfSome, IsSomeAnd, Result, Ok, Err}
 use Rattle.std.specs.Option.{option_map_or}
-use Rattle.std.specs.Str.Parse.{digits_value, without_leading_plus}
-use Rattle.clap.specs.Words.{App, IsUnsignedIn, Row, Rule, Text, new_app, new_rule, one_of, with_rule, with_subcommand}
+use Rattle.std.specs.Str.Parse.{IsNumeral, digits_value, without_leading_plus}
+use Rattle.clap.specs.Words.{Accepts, App, IsUnsignedIn, Row, Rule, Text, new_app, new_rule, one_of, with_rule, with_subcommand}
 use Rattle.clap.specs.declared.builder.value_parser.ValueParser.{ValueParser}
-use Rattle.clap.specs.declared.builder.value_parser.ValueParser.TheVariants.{Unsigned}
+use Rattle.mh_program.specs.declared.options.OptionNumber.{OptionNumber}
+use Rattle.mh_program.specs.declared.options.NotNumber.{NotNumber}
+use Rattle.clap.specs.declared.builder.value_parser.ValueParser.TheVariants.{String, Unsigned}
 
 -- Options ----------------------------------------------------------------------------------------
 
@@ -12,17 +14,17 @@ use Rattle.clap.specs.declared.builder.value_parser.ValueParser.TheVariants.{Uns
 abbrev pub worker_numbers : ValueParser
 worker_numbers = Unsigned 1 64
 
--- the numbers of 32 bits
-abbrev pub config_numbers : ValueParser
-config_numbers = Unsigned 0 4294967295
+-- any text
+abbrev pub any_text : ValueParser
+any_text = String
 
 -- the option `--workers W`, which may be left out
 abbrev pub workers_rule : Rule
 workers_rule = record (new_rule (codes "workers")) { long = Some (codes "workers"); value_names = 1; parser = Some worker_numbers }
 
--- an option with a number of a configuration, which has to be given
+-- an option with a number of a configuration, which has to be given; whether its text is a number `clap` leaves open
 abbrev pub number_rule : Text → Rule
-number_rule name = record (new_rule name) { long = Some name; value_names = 1; parser = Some config_numbers; required = true }
+number_rule name = record (new_rule name) { long = Some name; value_names = 1; parser = Some any_text; required = true }
 
 -- Subcommands ------------------------------------------------------------------------------------
 
@@ -58,9 +60,34 @@ number_in text = digits_value 10 (without_leading_plus text)
 abbrev pub workers_of : List Row → ℕ
 workers_of rows = option_map_or number_in (one_of (codes "workers") rows) 1
 
+-- the text is digits, after a plus if it has one
+abbrev pub IsNumber : Text → Type 0
+IsNumber text = IsNumeral 10 (without_leading_plus text)
+
 -- the option is given with this number
 abbrev pub HasNumber : List Row → Text → ℕ → Type 0
-HasNumber rows name n = option_map number_in (one_of name rows) ≡ Some n
+HasNumber rows name n = IsSomeAnd (one_of name rows) (λ text. IsNumber text × (number_in text ≡ n))
+
+-- the option is given with a text that is no number
+abbrev pub LacksNumber : List Row → Text → Type 0
+LacksNumber rows name = IsSomeAnd (one_of name rows) (λ text. ¬ (IsNumber text))
+
+-- the name is that of an option of a configuration
+abbrev pub IsConfigOption : Text → Type 0
+IsConfigOption name = (name ≡ codes "pages") ⊎ (name ≡ codes "quantum") ⊎ (name ≡ codes "trigger") ⊎ (name ≡ codes "every")
+
+-- a number as 32 bits hold it: itself, or the largest where it is larger
+abbrev pub IsHeld : ℕ → ℕ → Type 0
+IsHeld n held = ((n ≤ 4294967295) × (held ≡ n)) ⊎ ((4294967295 < n) × (held ≡ 4294967295))
+
+-- what a text is read as, if it is a number
+abbrev pub ReadsNumber : Text → Result OptionNumber NotNumber → Type 0
+ReadsNumber text (Ok number) = IsNumber text × IsHeld (number_in text) number.value
+ReadsNumber text (Err fault) = ¬ (IsNumber text)
+
+-- the option is given with a number that is held so
+abbrev pub HoldsNumber : List Row → Text → ℕ → Type 0
+HoldsNumber rows name held = IsSomeAnd (one_of name rows) (λ text. IsNumber text × IsHeld (number_in text) held)
 
 -- What `clap` has seen to -------------------------------------------------------------------------
 
@@ -68,9 +95,9 @@ HasNumber rows name n = option_map number_in (one_of name rows) ≡ Some n
 abbrev pub AsksForFew : List Row → Type 0
 AsksForFew rows = IfSome (one_of (codes "workers") rows) (IsUnsignedIn 1 64)
 
--- the option is given with a number of 32 bits
+-- the option is given
 abbrev pub IsGiven : List Row → Text → Type 0
-IsGiven rows name = IsSomeAnd (one_of name rows) (IsUnsignedIn 0 4294967295)
+IsGiven rows name = IsSomeAnd (one_of name rows) (Accepts false any_text)
 
 -- each option of a configuration is
 abbrev pub AreGiven : List Row → Type 0

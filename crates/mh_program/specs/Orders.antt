@@ -1,7 +1,7 @@
 -- The order that the matches of a command line give, and why other words give none.
-use Rattle.std.specs.Prelude.{◌≡◌, ◌≢◌, ◌<◌, ◌≤◌, ℕ, List, [], Option, Some, None, codes, IsSomeAnd}
-use Rattle.std.specs.declared.io.ErrorKind.{ErrorKind}
-use Rattle.std.specs.declared.io.ErrorKind.TheVariants.{InvalidData}
+use Rattle.std.specs.Prelude.{◌≡◌, ◌≢◌, ◌<◌, ◌≤◌, ℕ, List, [], Option, Some, None, Result, Ok, Err, codes, IsSomeAnd}
+use Rattle.clap.specs.declared.error.kind.ErrorKind.{ErrorKind}
+use Rattle.clap.specs.declared.error.kind.ErrorKind.TheVariants.{OutOfMemory, ValueValidation}
 use Rattle.clap.specs.Words.{Row, Text, subcommand_of, fault_of, kind_of, IsAmong}
 use Rattle.mh_model.specs.Configs.{configured_first}
 use Rattle.mh_model.specs.declared.config.Config.{Config}
@@ -10,7 +10,9 @@ use Rattle.mh_program.specs.declared.fault.LineFault.{LineFault}
 use Rattle.mh_program.specs.declared.fault.LineFault.TheVariants.{Words, NotText, Configuration, NoMemory}
 use Rattle.mh_program.specs.declared.line.Order.{Order}
 use Rattle.mh_program.specs.declared.line.Order.TheVariants.{Run, Race, Check, Audit, Migrate}
-use Rattle.mh_program.specs.Line.{HasNumber, TakesNumbers, metroheap, workers_of}
+use Rattle.mh_program.specs.declared.options.OptionFault.{OptionFault}
+use Rattle.mh_program.specs.declared.options.OptionFault.TheVariants.{NoNumber, Outside}
+use Rattle.mh_program.specs.Line.{HasNumber, IsConfigOption, LacksNumber, TakesNumbers, metroheap, workers_of}
 
 -- Orders -----------------------------------------------------------------------------------------
 
@@ -50,6 +52,17 @@ HasFirstRules (Check config) = config.rules ≡ First
 HasFirstRules (Migrate config) = config.rules ≡ First
 HasFirstRules order = Unit {0}
 
+-- Faults -----------------------------------------------------------------------------------------
+
+-- what is wrong with the options of a configuration: one is no number, or the numbers are outside the limits
+abbrev pub IsOptionFault : List Row → OptionFault → Type 0
+IsOptionFault rows (NoNumber name text) = IsConfigOption name.now × LacksNumber rows name.now
+IsOptionFault rows Outside = MakesConfig rows None
+
+-- the subcommand takes the numbers of a configuration, and an option is no number
+abbrev pub HasNoNumber : Text → List Row → Type 0
+HasNoNumber name rows = TakesNumbers name × ((option : Text) × IsConfigOption option × LacksNumber rows option)
+
 -- Words ------------------------------------------------------------------------------------------
 
 -- `clap` takes the words, and their subcommand gives the order
@@ -64,16 +77,50 @@ pub record AsksOutside (words : List Text) : Type 0 where
   pub taken : fault_of metroheap words ≡ []
   pub named : IsSomeAnd (subcommand_of metroheap words) (λ subcommand. IsOutside subcommand.0 subcommand.1)
 
+-- `clap` takes the words, and an option of their configuration is no number
+pub record AsksNoNumber (words : List Text) : Type 0 where
+  pub taken : fault_of metroheap words ≡ []
+  pub named : IsSomeAnd (subcommand_of metroheap words) (λ subcommand. HasNoNumber subcommand.0 subcommand.1)
+
+-- why words give no order, of which `clap` says what is wrong: it doesn't take them, or a number of theirs is none
+pub data AreRefused (words : List Text) (kind : ErrorKind) : Type 0 where
+  NotTaken : IsAmong kind (fault_of metroheap words) → AreRefused words kind
+  NotNumbers : AsksNoNumber words → kind ≡ ValueValidation → AreRefused words kind
+
 -- words are refused only where `clap` doesn't take them, with one of the kinds of fault that it finds first, or where their
 -- configuration is outside the limits
 abbrev pub IsFault : List Text → LineFault → Type 0
-IsFault words (Words error) = IsAmong (kind_of error) (fault_of metroheap words)
+IsFault words (Words error) = AreRefused words (kind_of error)
 IsFault words NotText = ⊥
 IsFault words Configuration = AsksOutside words
 IsFault words NoMemory = Unit {0}
 
--- what is said of words that weren't read: where one isn't text, that it isn't, and else that memory was wanting
-abbrev pub IsUnread : ErrorKind → LineFault → Type 0
-IsUnread kind NotText = kind ≡ InvalidData
-IsUnread kind NoMemory = kind ≢ InvalidData
-IsUnread kind fault = ⊥
+-- what may be wrong with words that can't be read: one isn't text, or memory was wanting
+abbrev pub IsUnread : LineFault → Type 0
+IsUnread NotText = Unit {0}
+IsUnread NoMemory = Unit {0}
+IsUnread fault = ⊥
+
+-- what words give: an order, or a fault
+abbrev pub OrdersBy : List Text → Result Order LineFault → Type 0
+OrdersBy words (Ok order) = GivesOrder words order
+OrdersBy words (Err fault) = IsFault words fault
+
+-- Refusals ---------------------------------------------------------------------------------------
+
+-- the subcommand takes the numbers of a configuration, and its options have this fault
+abbrev pub HasOptionFault : Text → List Row → OptionFault → Type 0
+HasOptionFault name rows fault = TakesNumbers name × IsOptionFault rows fault
+
+-- what is said of options with a fault: a number that is none is `clap`'s to refuse
+abbrev pub RefusesOptions : OptionFault → LineFault → Type 0
+RefusesOptions (NoNumber name text) (Words error) = kind_of error ≡ ValueValidation
+RefusesOptions (NoNumber name text) NoMemory = Unit {0}
+RefusesOptions Outside Configuration = Unit {0}
+RefusesOptions fault line = ⊥
+
+-- what is said of words that `clap` refuses with this kind of fault: that, or that memory was wanting
+abbrev pub Refuses : ErrorKind → LineFault → Type 0
+Refuses kind (Words error) = (kind ≢ OutOfMemory) × (kind_of error ≡ kind)
+Refuses kind NoMemory = Unit {0}
+Refuses kind line = ⊥

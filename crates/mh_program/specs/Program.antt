@@ -1,5 +1,5 @@
 -- What the program does with the words of its command line, and what it tells on standard error.
-use Rattle.std.specs.Prelude.{◌≡◌, ℕ, ◌<◌, List, [], Result, Ok, Err, codes}
+use Rattle.std.specs.Prelude.{◌≡◌, ℕ, ◌<◌, [], Result, Ok, Err, codes}
 use Rattle.std.specs.Io.KnownBytes.{Appends}
 use Rattle.mh_model.specs.Bytes.{Text, line_text}
 use Rattle.mh_text.specs.Stream.{AppendsBeginning}
@@ -9,23 +9,12 @@ use Rattle.mh_program.specs.declared.fault.LineFault.{LineFault}
 use Rattle.mh_program.specs.declared.fault.LineFault.TheVariants as line
 use Rattle.mh_program.specs.declared.line.Order.{Order}
 use Rattle.mh_program.specs.declared.line.Order.TheVariants.{Run, Race, Check, Audit, Migrate}
-use Rattle.std.specs.declared.io.ErrorKind.{ErrorKind}
-use Rattle.mh_program.specs.Orders.{GivesOrder, IsFault, IsUnread}
+use Rattle.mh_program.specs.Shown.{IsShown}
 use Rattle.mh_model.specs.HistoryTexts.{IsAudited, IsChecked}
 use Rattle.mh_script.specs.Judged.{IsJudging, IsMigrating}
 use Rattle.mh_script.specs.Raced.{IsRaceRun}
 use Rattle.mh_script.specs.Run.{Device, IsRun}
 use Rattle.mh_program.specs.Status.{status_of, verdict_status_of, line_status_of}
-
--- what words that are text give: an order, or a fault
-abbrev pub OrdersBy : List Text → Result Order LineFault → Type 0
-OrdersBy words (Ok order) = GivesOrder words order
-OrdersBy words (Err fault) = IsFault words fault
-
--- words that weren't read give no order
-abbrev pub Unreads : ErrorKind → Result Order LineFault → Type 0
-Unreads kind (Ok order) = ⊥
-Unreads kind (Err fault) = IsUnread kind fault
 
 -- the line of a fault
 abbrev pub fault_text : ScriptFault → Text
@@ -44,9 +33,14 @@ abbrev pub TellsRun : {T : Type 0} → Device → Device → Result T ScriptFaul
 TellsRun old new (Ok end) = Tells old new []
 TellsRun old new (Err fault) = Tells old new (line_text (fault_text fault))
 
--- what is told of words that gave no order: what `clap` says of them, or a line
+-- what is told of words that `clap` refuses: what it says of them, as far as it can be printed, or a line
+pub data TellsWords (old new : Device) : Type 0 where
+  Quoted : (text : Text) → IsShown text → Tells old new text → TellsWords old new
+  Unquoted : Tells old new (line_text (codes "metroheap: bad command line")) → TellsWords old new
+
+-- what is told of words that gave no order
 abbrev pub TellsLine : Device → Device → LineFault → Type 0
-TellsLine old new (line.Words error) = (text : Text) × Tells old new text
+TellsLine old new (line.Words error) = TellsWords old new
 TellsLine old new line.NotText = Tells old new (line_text (codes "metroheap: a word is not text"))
 TellsLine old new line.Configuration = Tells old new (line_text (codes "metroheap: bad configuration"))
 TellsLine old new line.NoMemory = Tells old new (line_text (codes "metroheap: no memory"))

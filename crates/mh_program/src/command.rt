@@ -10,9 +10,6 @@ use std::alloc::{AllocError, Global};
 /// The most workers that scan at a time.
 const MOST_WORKERS: u64 = 64;
 
-/// The limits of a configuration are not the command line's business, so each number of 32 bits is taken.
-const MOST_NUMBER: u64 = 4_294_967_295;
-
 const ABOUT_RUN: &str =
     "Reads a script from standard input and prints the reply to each of its events, or the line that refuses the script";
 
@@ -56,6 +53,7 @@ fn with_workers<'a>(alloc: Global, name: &'a str, about: &'a str) -> Result<Comm
     command.arg(workers(alloc))
 }
 
+// A number of any length is one, so `clap` takes each text here.
 fn number<'a>(alloc: Global, name: &'a str, value: &'a str, help: &'a str) -> Arg<'a>
     ensures rule { rule_of result ≡ number_rule name.entry.now }
     ensures local { result.global ≡ false }
@@ -64,7 +62,7 @@ fn number<'a>(alloc: Global, name: &'a str, value: &'a str, help: &'a str) -> Ar
         .long(name)
         .value_name(value)
         .required(true)
-        .value_parser(ValueParser::unsigned(0, MOST_NUMBER))
+        .value_parser(ValueParser::string())
         .help(help)
 }
 

@@ -1,78 +1,117 @@
-ghost use Rattle.std.specs.Prelude.{◌≡◌, ◌<◌, ◌≤◌, IfOk, IfErr, IfSome, IsErr, IsNone, IsSomeAnd, map};
-ghost use Rattle.std.specs.IoError.{error_kind};
+ghost use Rattle.std.specs.Prelude.{◌≡◌, IfOk, IfErr, IsSomeAnd, Err, map};
 ghost use Rattle.std.specs.String.{string_bytes};
-ghost use Rattle.std.specs.Vec.Iter.{into_iter_items};
-ghost use Rattle.clap.specs.Words.{found_of, rows_of, subcommand_rows_of};
-ghost use Rattle.mh_program.specs.Line.{AreGiven, AsksForFew, HasNumber, IsAsked, IsGiven, NamesOne, workers_of};
-ghost use Rattle.mh_program.specs.Orders.{GivesOrder, HasFewWorkers, HasFirstRules, IsFault, IsOrder, IsOutside, IsUnread, MakesConfig};
+ghost use Rattle.clap.specs.Words.{found_of, kind_of, rows_of, subcommand_rows_of};
+ghost use Rattle.clap.specs.declared.error.kind.ErrorKind.TheVariants.{ValueValidation};
+ghost use Rattle.mh_program.specs.Line.{IsAsked, NamesOne};
+ghost use Rattle.mh_program.specs.Orders.{GivesOrder, HasFewWorkers, HasFirstRules, HasOptionFault, IsFault, IsOrder, Refuses, RefusesOptions};
 
 use crate::command::command;
 use crate::fault::LineFault;
 use crate::line::Order;
+use crate::options::{OptionFault, config_given, workers_asked};
+use crate::shown::{are_plain, shown, shown_words};
 use clap::ArgMatches;
 use clap::error::ErrorKind;
-use mh_model::config::Config;
 use std::alloc::{AllocError, Global};
 use std::convert::AsStr;
-use std::env::Args;
-use std::io;
 
-fn workers_asked(matches: &ArgMatches<'_>) -> usize
-    requires { AsksForFew (rows_of (found_of matches.now)) }
-    ensures value { result ≡ workers_of (rows_of (found_of matches.now)) }
-    ensures few { (0 < result) × (result ≤ 64) }
-{
-    matches.get_one::<usize>("workers").unwrap_or(1)
-}
-
-fn number_given(matches: &ArgMatches<'_>, name: &str) -> u32
-    requires { IsGiven (rows_of (found_of matches.now)) name.now }
-    ensures { HasNumber (rows_of (found_of matches.now)) name.now result }
-{
-    matches.get_one::<u32>(name).unwrap()
-}
-
-/// The configuration of a subcommand's options. None exactly outside its limits.
-fn config_given(matches: &ArgMatches<'_>) -> Option<Config>
-    requires { AreGiven (rows_of (found_of matches.now)) }
-    ensures { MakesConfig (rows_of (found_of matches.now)) result }
-{
-    Config::first(
-        number_given(matches, "pages"),
-        number_given(matches, "quantum"),
-        number_given(matches, "trigger"),
-        number_given(matches, "every"),
-    )
-}
-
-fn order_named(name: &str, matches: &ArgMatches<'_>) -> Option<Order>
+fn order_named<'a>(name: &str, matches: &ArgMatches<'a>) -> Result<Order, OptionFault<'a>>
     requires { IsAsked name.now (rows_of (found_of matches.now)) }
-    ensures order { IfSome result (IsOrder name.now (rows_of (found_of matches.now))) }
-    ensures few { IfSome result HasFewWorkers }
-    ensures rules { IfSome result HasFirstRules }
-    ensures outside { IsNone result → IsOutside name.now (rows_of (found_of matches.now)) }
+    ensures order { IfOk result (IsOrder name.now (rows_of (found_of matches.now))) }
+    ensures few { IfOk result HasFewWorkers }
+    ensures rules { IfOk result HasFirstRules }
+    ensures fault { IfErr result (HasOptionFault name.now (rows_of (found_of matches.now))) }
 {
     match name {
-        "run" => Some(Order::Run(workers_asked(matches))),
-        "race" => Some(Order::Race(workers_asked(matches))),
-        "check" => Some(Order::Check(config_given(matches)?)),
-        "audit" => Some(Order::Audit),
-        "migrate" => Some(Order::Migrate(config_given(matches)?)),
+        "run" => Ok(Order::Run(workers_asked(matches))),
+        "race" => Ok(Order::Race(workers_asked(matches))),
+        "check" => Ok(Order::Check(config_given(matches)?)),
+        "audit" => Ok(Order::Audit),
+        "migrate" => Ok(Order::Migrate(config_given(matches)?)),
         _ => unreachable!(),
     }
 }
 
-/// The order of what `clap` found. None exactly where a configuration is outside its limits.
-fn order_of(matches: &ArgMatches<'_>) -> Option<Order>
+/// The order of what `clap` found.
+fn order_of<'a>(matches: &ArgMatches<'a>) -> Result<Order, OptionFault<'a>>
     requires { NamesOne (subcommand_rows_of matches.now) }
-    ensures order { IfSome result (λ order. IsSomeAnd (subcommand_rows_of matches.now) (λ subcommand. IsOrder subcommand.0 subcommand.1 order)) }
-    ensures few { IfSome result HasFewWorkers }
-    ensures rules { IfSome result HasFirstRules }
-    ensures outside { IsNone result → IsSomeAnd (subcommand_rows_of matches.now) (λ subcommand. IsOutside subcommand.0 subcommand.1) }
+    ensures order { IfOk result (λ order. IsSomeAnd (subcommand_rows_of matches.now) (λ subcommand. IsOrder subcommand.0 subcommand.1 order)) }
+    ensures few { IfOk result HasFewWorkers }
+    ensures rules { IfOk result HasFirstRules }
+    ensures fault { IfErr result (λ fault. IsSomeAnd (subcommand_rows_of matches.now) (λ subcommand. HasOptionFault subcommand.0 subcommand.1 fault)) }
 {
     match matches.subcommand() {
         Some((name, matches)) => order_named(name, matches),
         None => unreachable!(),
+    }
+}
+
+/// `clap`'s refusal of an option that is no number.
+fn no_number(alloc: Global, name: &str, text: &str) -> Result<clap::Error, AllocError>
+    ensures { IfOk result (λ error. kind_of error ≡ ValueValidation) }
+{
+    let text = shown(alloc, text)?;
+    let message = format!(in alloc; "invalid value '{text}' for '--{name}': not a number")?;
+    let mut command = command(alloc)?;
+    command.error(ErrorKind::ValueValidation, message.as_str())
+}
+
+fn refused_options(alloc: Global, fault: OptionFault<'_>) -> LineFault
+    ensures { RefusesOptions fault.entry result }
+{
+    match fault {
+        OptionFault::Outside => LineFault::Configuration,
+        OptionFault::NoNumber(name, text) => match no_number(alloc, name, text) {
+            Ok(error) => LineFault::Words(error),
+            Err(_) => LineFault::NoMemory,
+        },
+    }
+}
+
+/// How `clap` refuses words, if it does.
+fn refusal<T: AsStr>(alloc: Global, words: &[T]) -> Result<Option<clap::Error>, AllocError> {
+    let command = command(alloc)?;
+    Ok(command.try_get_matches_from(words).err())
+}
+
+/// A refusal that quotes nothing.
+fn unquoted(alloc: Global, kind: ErrorKind) -> Result<clap::Error, AllocError>
+    ensures { IfOk result (λ error. kind_of error ≡ kind) }
+{
+    let mut command = command(alloc)?;
+    command.error(kind, "a word is not as it should be")
+}
+
+/// The refusal of words with all that it quotes as it can be shown, which is that of the words as they are shown. Where that
+/// is another, a refusal that quotes nothing.
+fn shown_refusal<T: AsStr>(
+    alloc: Global,
+    words: &[T],
+    error: clap::Error,
+) -> Result<clap::Error, AllocError>
+    ensures { IfOk result (λ told. kind_of told ≡ kind_of error) }
+{
+    if are_plain(words) {
+        return Ok(error);
+    }
+    let words = shown_words(alloc, words)?;
+    if let Some(told) = refusal(alloc, words.as_slice())? {
+        if told.kind() == error.kind() {
+            return Ok(told);
+        }
+    }
+    unquoted(alloc, error.kind())
+}
+
+fn refused_words<T: AsStr>(alloc: Global, words: &[T], error: clap::Error) -> LineFault
+    ensures { Refuses (kind_of error) result }
+{
+    if error.kind() == ErrorKind::OutOfMemory {
+        return LineFault::NoMemory;
+    }
+    match shown_refusal(alloc, words, error) {
+        Ok(error) => LineFault::Words(error),
+        Err(_) => LineFault::NoMemory,
     }
 }
 
@@ -86,55 +125,30 @@ pub fn order<T: AsStr>(alloc: Global, words: &[T]) -> Result<Order, LineFault>
     };
     match command.try_get_matches_from(words) {
         Ok(matches) => match order_of(&matches) {
-            Some(order) => Ok(order),
-            None => Err(LineFault::Configuration),
+            Ok(order) => Ok(order),
+            Err(fault) => Err(refused_options(alloc, fault)),
         },
-        Err(error) if error.kind() == ErrorKind::OutOfMemory => Err(LineFault::NoMemory),
-        Err(error) => Err(LineFault::Words(error)),
+        Err(error) => Err(refused_words(alloc, words, error)),
     }
 }
 
-fn texts(alloc: Global, words: Args) -> Result<Vec<String>, AllocError>
-    ensures { IfOk result (λ texts. texts.items ≡ into_iter_items words) }
+fn order_of_texts(alloc: Global, words: Vec<String>) -> Result<Order, LineFault>
+    ensures order { IfOk result (GivesOrder (map string_bytes words.items)) }
+    ensures fault { IfErr result (IsFault (map string_bytes words.items)) }
 {
-    let mut texts = Vec::new(alloc);
-    for word in words {
-        texts.push(word)?;
-    }
-    Ok(texts)
-}
-
-fn order_of_texts(alloc: Global, words: Args) -> Result<Order, LineFault>
-    ensures order { IfOk result (GivesOrder (map string_bytes (into_iter_items words))) }
-    ensures fault { IfErr result (IsFault (map string_bytes (into_iter_items words))) }
-{
-    let Ok(texts) = texts(alloc, words) else {
-        return Err(LineFault::NoMemory);
-    };
-    order(alloc, texts.as_slice())
-}
-
-fn unread(error: io::Error) -> LineFault
-    ensures { IsUnread (error_kind error) result }
-{
-    if error.kind() == io::ErrorKind::InvalidData {
-        LineFault::NotText
-    } else {
-        LineFault::NoMemory
-    }
+    order(alloc, words.as_slice())
 }
 
 /// The order of the words that the system gave, of which the first is the program's own name.
-pub fn line_order(alloc: Global, words: io::Result<Args>) -> Result<Order, LineFault>
-    ensures order { IfOk words (λ words. IfOk result (GivesOrder (map string_bytes (into_iter_items words)))) }
-    ensures fault { IfOk words (λ words. IfErr result (IsFault (map string_bytes (into_iter_items words)))) }
-    ensures unread { IfErr words (λ error. IfErr result (IsUnread (error_kind error))) }
-    ensures no_order { IsErr words → IsErr result }
+pub fn line_order(alloc: Global, words: Result<Vec<String>, LineFault>) -> Result<Order, LineFault>
+    ensures order { IfOk words (λ words. IfOk result (GivesOrder (map string_bytes words.items))) }
+    ensures fault { IfOk words (λ words. IfErr result (IsFault (map string_bytes words.items))) }
+    ensures unread { IfErr words (λ fault. result ≡ Err fault) }
     ensures few { IfOk result HasFewWorkers }
     ensures rules { IfOk result HasFirstRules }
 {
     match words {
         Ok(words) => order_of_texts(alloc, words),
-        Err(error) => Err(unread(error)),
+        Err(fault) => Err(fault),
     }
 }

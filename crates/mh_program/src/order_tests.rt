@@ -44,8 +44,8 @@ fn words_about_histories(rt: HostRuntime) {
     let words = [
         "metroheap",
         "migrate",
-        "--every=1000000",
-        "--trigger=2",
+        "--every=+1000000",
+        "--trigger=002",
         "--quantum=1000000",
         "--pages=2",
     ];
@@ -60,6 +60,11 @@ fn words_outside_the_limits(rt: HostRuntime) -> Result<(), Fail> {
         ["0", "209", "0", "0"],
         ["4097", "209", "0", "0"],
         ["4294967295", "209", "0", "0"],
+        ["4294967296", "209", "0", "0"],
+        ["18446744073709551620", "209", "0", "0"],
+        ["4", "100000000000000000000000000000000000209", "0", "0"],
+        ["4", "209", "4294967300", "0"],
+        ["4", "209", "0", "+4294967296"],
         ["4", "208", "0", "0"],
         ["4", "1000001", "0", "0"],
         ["4", "209", "5", "0"],
@@ -120,7 +125,7 @@ fn other_words(rt: HostRuntime) -> Result<(), Fail> {
 
 #[test]
 fn other_options(rt: HostRuntime) -> Result<(), Fail> {
-    let lines: [&[&str]; 8] = [
+    let lines: [&[&str]; 10] = [
         &["--pages=4", "--quantum=209", "--trigger=0"],
         &["--pages=4", "--quantum=209", "--every=0"],
         &["--pages=4", "--trigger=0", "--every=0"],
@@ -133,11 +138,13 @@ fn other_options(rt: HostRuntime) -> Result<(), Fail> {
             "--every=0",
         ],
         &[
-            "--pages=4294967296",
+            "--pages=99999999999999999999x",
             "--quantum=209",
             "--trigger=0",
             "--every=0",
         ],
+        &["--pages=", "--quantum=209", "--trigger=0", "--every=0"],
+        &["--pages=4097", "--quantum=many", "--trigger=0", "--every=0"],
         &["--pages=-4", "--quantum=209", "--trigger=0", "--every=0"],
         &["--pages=4", "--quantum=209", "--trigger=0", "--every=often"],
     ];

@@ -1,12 +1,11 @@
-ghost use Rattle.std.specs.Prelude.{◌≡◌, ◌<◌, ◌≤◌, ◌^◌, Result, IfOk, MatchResult, map};
-ghost use Rattle.std.specs.IoError.{error_kind};
+ghost use Rattle.std.specs.Prelude.{◌≡◌, ◌<◌, ◌≤◌, ◌^◌, Result, Err, IfOk, MatchResult, map};
 ghost use Rattle.std.specs.String.{string_bytes};
-ghost use Rattle.std.specs.Vec.Iter.{into_iter_items};
 ghost use Rattle.mh_model.specs.Bytes.{line_text};
 ghost use Rattle.mh_program.specs.declared.fault.LineFault.{LineFault};
 ghost use Rattle.mh_program.specs.declared.line.Order.{Order};
-ghost use Rattle.mh_program.specs.Orders.{HasFewWorkers, HasFirstRules};
-ghost use Rattle.mh_program.specs.Program.{fault_text, Obeys, OrdersBy, Unreads, Serves, Tells, TellsLine, TellsRun};
+ghost use Rattle.mh_program.specs.Orders.{HasFewWorkers, HasFirstRules, OrdersBy};
+ghost use Rattle.mh_program.specs.Program.{fault_text, Obeys, Serves, Tells, TellsLine, TellsRun, TellsWords};
+ghost use Rattle.mh_program.specs.Shown.{IsShown};
 ghost use Rattle.mh_program.specs.Status.{status_of, verdict_status_of};
 ghost use Rattle.mh_model.specs.declared.config.Rules.TheVariants.{First};
 ghost use Rattle.mh_model.specs.HistoryTexts.{IsAudited, IsChecked};
@@ -17,6 +16,7 @@ ghost use Rattle.mh_script.specs.Run.{device, IsRun};
 use crate::fault::LineFault;
 use crate::line::Order;
 use crate::order::line_order;
+use crate::shown::printable;
 use crate::status::{line_status, status, verdict_status};
 use mh_model::config::Config;
 use mh_scan::crew_scan::CrewGate;
@@ -28,9 +28,7 @@ use mh_script::run::run_script;
 use mh_text::sink::Sink;
 use mh_text::source::Source;
 use mh_text::stream::write_text;
-use std::alloc::Global;
-use std::env::Args;
-use std::io;
+use std::alloc::{AllocError, Global};
 use std::sync::Wait;
 use std::thread::Threads;
 
@@ -64,15 +62,30 @@ fn tell_fault<T, E: Sink>(errors: &mut E, ended: &Result<T, ScriptFault>)
     }
 }
 
+fn words_text(alloc: Global, error: &clap::Error) -> Result<Vec<u8>, AllocError>
+    ensures { IfOk result (λ text. IsShown text.items) }
+{
+    let text = format!(in alloc; "{error}")?;
+    printable(alloc, text.as_str())
+}
+
+/// Tells what `clap` says of words, or where there is no memory for that, that they are bad.
+fn tell_words<E: Sink>(alloc: Global, errors: &mut E, error: &clap::Error)
+    requires { E.failures errors.old < 2 ^ 62 }
+    ensures { TellsWords (device (E.written errors.old) (E.failures errors.old)) (device (E.written errors.new) (E.failures errors.new)) }
+{
+    match words_text(alloc, error) {
+        Ok(text) => tell(errors, text.as_slice()),
+        Err(_) => tell(errors, b"metroheap: bad command line\n"),
+    }
+}
+
 fn tell_line<E: Sink>(alloc: Global, errors: &mut E, fault: &LineFault)
     requires { E.failures errors.old < 2 ^ 62 }
     ensures { TellsLine (device (E.written errors.old) (E.failures errors.old)) (device (E.written errors.new) (E.failures errors.new)) fault.now }
 {
     match fault {
-        LineFault::Words(error) => match format!(in alloc; "{error}") {
-            Ok(text) => tell(errors, text.as_bytes()),
-            Err(_) => tell(errors, b"metroheap: bad command line\n"),
-        },
+        LineFault::Words(error) => tell_words(alloc, errors, error),
         LineFault::NotText => tell(errors, b"metroheap: a word is not text\n"),
         LineFault::Configuration => tell(errors, b"metroheap: bad configuration\n"),
         LineFault::NoMemory => tell(errors, b"metroheap: no memory\n"),
@@ -227,7 +240,7 @@ pub fn serve<R: Threads + Wait + Sync, S: Source, W: Sink, E: Sink, G: CrewGate 
 pub fn program<R: Threads + Wait + Sync, S: Source, W: Sink, E: Sink, G: CrewGate + Sync>(
     rt: &R,
     alloc: Global,
-    words: io::Result<Args>,
+    words: Result<Vec<String>, LineFault>,
     source: &mut S,
     sink: &mut W,
     errors: &mut E,
@@ -237,7 +250,7 @@ pub fn program<R: Threads + Wait + Sync, S: Source, W: Sink, E: Sink, G: CrewGat
     requires sink_count { W.failures sink.old < 2 ^ 62 }
     requires errors_count { E.failures errors.old < 2 ^ 62 }
     ensures { (order : Result Order LineFault)
-        × MatchResult words (λ words. OrdersBy (map string_bytes (into_iter_items words)) order) (λ error. Unreads (error_kind error) order)
+        × MatchResult words (λ words. OrdersBy (map string_bytes words.items) order) (λ fault. order ≡ Err fault)
         × Serves order
         (device (S.rest source.old) (S.failures source.old)) (device (S.rest source.new) (S.failures source.new))
         (device (W.written sink.old) (W.failures sink.old)) (device (W.written sink.new) (W.failures sink.new))

@@ -6,7 +6,6 @@ use mh_claims::gate::Open;
 use mh_program::program::program;
 use mh_text::source::StdSource;
 use std::alloc::{AllocError, Global};
-use std::env::Args;
 use std::sync::Wait;
 use std::thread::Threads;
 
@@ -18,7 +17,7 @@ pub struct Call<'a> {
     pub output: &'a [u8],
     pub status: u8,
     /// The words of the next call, which are made before it.
-    pub line: Option<Args>,
+    pub line: Option<Vec<String>>,
 }
 
 const NO_MEMORY: &[u8] = b"metroheap: no memory\n";
@@ -27,13 +26,13 @@ const NO_MEMORY: &[u8] = b"metroheap: no memory\n";
 const WORDS: usize = 1 << 20;
 
 /// The words, of which the first is the program's name.
-pub fn line_of(alloc: Global, words: &[&str]) -> Result<Args, AllocError> {
+pub fn line_of(alloc: Global, words: &[&str]) -> Result<Vec<String>, AllocError> {
     let mut texts = Vec::new(alloc);
     texts.push("metroheap".to_string(alloc)?)?;
     for word in words {
         texts.push(word.to_string(alloc)?)?;
     }
-    Ok(texts.into_iter())
+    Ok(texts)
 }
 
 impl Call<'_> {

@@ -3,7 +3,7 @@ use Rattle.std.specs.Str.Parse.{ParsesUnsigned, ExplainsUnsignedError, HasUnsign
 use Rattle.clap.proofs.WalkLemmas.{one_text-rows}
 use Rattle.clap.specs.Words.{found_of, one_of, rows_of}
 use Rattle.mh_program.proofs.ReadingLemmas.{may-read, within-bounds}
-use Rattle.mh_program.proofs.order.workers_asked.Goals as goal
+use Rattle.mh_program.proofs.options.workers_asked.Goals as goal
 
 pub returns-clause-value : goal.returns-clause-value
 returns-clause-value c =

@@ -1,0 +1,98 @@
+-- The numbers of the options, as they are read and held.
+use Rattle.std.proofs.Common.{◌≡◌, ◌∙◌, ◌≤◌, ℕ, Bool, true, false, List, [], ◌∷◌, Option, Some, None, refl, sym, ap, inl, inr, arith, codes}
+use Rattle.std.specs.Prelude.{IsSomeAnd}
+use Rattle.std.proofs.lemmas.Bool.{ltb-true, leb-true, lt-ltb}
+use Rattle.std.specs.Char.{digit_value, is_digit}
+use Rattle.std.specs.List.{list_all}
+use Rattle.std.specs.Str.Parse.{AllDigits}
+use Rattle.clap.proofs.WalkLemmas.{both}
+use Rattle.clap.specs.Matches.{ReadsOne}
+use Rattle.clap.specs.Walk.{Row, Text, one_of}
+use Rattle.mh_model.specs.Configs.{configured_by, configured_first}
+use Rattle.mh_model.specs.Limits.{is_configuration}
+use Rattle.mh_model.specs.declared.config.Config.{Config}
+use Rattle.mh_model.specs.declared.config.Rules.TheVariants.{First}
+use Rattle.mh_program.specs.Line.{HoldsNumber, IsHeld, IsNumber, ReadsNumber, number_in}
+use Rattle.mh_program.specs.Orders.{MakesConfig}
+use Rattle.mh_program.specs.declared.options.OptionNumber.{OptionNumber}
+
+-- Digits -----------------------------------------------------------------------------------------
+
+pub digits-from : (ds : List ℕ) → list_all (λ d. is_digit d 10) ds ≡ true → AllDigits 10 ds
+digits-from [] e = tt
+digits-from (d ∷ ds) e =
+    let parts = both _ _ e in
+    (ltb-true _ _ parts.0, digits-from ds parts.1)
+
+pub digits-back : (ds : List ℕ) → AllDigits 10 ds → list_all (λ d. is_digit d 10) ds ≡ true
+digits-back [] h = refl
+digits-back (d ∷ ds) h = rw (lt-ltb (digit_value d) 10 h.0) (digits-back ds h.1)
+
+-- What the option of the matches is read as ----------------------------------------------------------
+
+pub number-held : (found : Option Text) (number : OptionNumber) (given : Text → Type 0) → IsSomeAnd found given → ((t : Text) → found ≡ Some t → ReadsOne ReadsNumber t (Some number)) → IsSomeAnd found (λ text. IsNumber text × IsHeld (number_in text) number.value)
+number-held None number given is reads = absurd is
+number-held (Some text) number given is reads = reads text refl
+
+pub number-lacking : (found : Option Text) (given : Text → Type 0) → IsSomeAnd found given → ((t : Text) → found ≡ Some t → ReadsOne ReadsNumber t None) → IsSomeAnd found (λ text. IsNumber text → ⊥)
+number-lacking None given is reads = absurd is
+number-lacking (Some text) given is reads = (reads text refl).1
+
+-- Held numbers make what the numbers make -------------------------------------------------------------
+
+abbrev IsWithin : ℕ → ℕ → ℕ → ℕ → Type 0
+IsWithin p q t e = (p ≤ 4096) × (q ≤ 1000000) × (t ≤ p) × (e ≤ 1000000)
+
+within : (p q t e : ℕ) → is_configuration p q t e ≡ true → IsWithin p q t e
+within p q t e w =
+    let a = both _ _ w in
+    let b = both _ _ a.1 in
+    let c = both _ _ b.1 in
+    let d = both _ _ c.1 in
+    let f = both _ _ d.1 in
+    (leb-true _ _ b.0, leb-true _ _ d.0, leb-true _ _ f.0, leb-true _ _ f.1)
+
+none_by : (p q t e : ℕ) (b : Bool) (is : is_configuration p q t e ≡ b) → (b ≡ true → ⊥) → configured_by First p q t e b is ≡ None
+none_by p q t e true is never = absurd (never refl)
+none_by p q t e false is never = refl
+
+none_outside : (p q t e : ℕ) → (IsWithin p q t e → ⊥) → configured_first p q t e ≡ None
+none_outside p q t e never = none_by p q t e (is_configuration p q t e) refl (λ w. never (within p q t e w))
+
+same_config : (p q t e p' q' t' e' : ℕ) → IsHeld p p' → IsHeld q q' → IsHeld t t' → IsHeld e e' → configured_first p q t e ≡ configured_first p' q' t' e'
+same_config p q t e p' q' t' e' (inr a) b c d = none_outside p q t e (λ (w : IsWithin p q t e). omega arith) ∙ sym (none_outside p' q' t' e' (λ (w : IsWithin p' q' t' e'). omega arith))
+same_config p q t e p' q' t' e' (inl a) (inr b) c d = none_outside p q t e (λ (w : IsWithin p q t e). omega arith) ∙ sym (none_outside p' q' t' e' (λ (w : IsWithin p' q' t' e'). omega arith))
+same_config p q t e p' q' t' e' (inl a) (inl b) (inr c) d = none_outside p q t e (λ (w : IsWithin p q t e). omega arith) ∙ sym (none_outside p' q' t' e' (λ (w : IsWithin p' q' t' e'). omega arith))
+same_config p q t e p' q' t' e' (inl a) (inl b) (inl c) (inr d) = none_outside p q t e (λ (w : IsWithin p q t e). omega arith) ∙ sym (none_outside p' q' t' e' (λ (w : IsWithin p' q' t' e'). omega arith))
+same_config p q t e p' q' t' e' (inl a) (inl b) (inl c) (inl d) =
+    ap (λ n. configured_first n q t e) (sym a.1) ∙ ap (λ n. configured_first p' n t e) (sym b.1)
+    ∙ ap (λ n. configured_first p' q' n e) (sym c.1) ∙ ap (λ n. configured_first p' q' t' n) (sym d.1)
+
+-- the number that is held
+record IsExact (found : Option Text) (held : ℕ) : Type 0 where
+  number : ℕ
+  given : IsSomeAnd found (λ text. IsNumber text × (number_in text ≡ number))
+  is_held : IsHeld number held
+
+exact : (found : Option Text) (held : ℕ) → IsSomeAnd found (λ text. IsNumber text × IsHeld (number_in text) held) → IsExact found held
+exact None held h = absurd h
+exact (Some text) held h = record { number = number_in text; given = (h.0, refl); is_held = h.1 }
+
+pub makes : (rows : List Row) (p q t e : ℕ) (made : Option Config) → HoldsNumber rows (codes "pages") p → HoldsNumber rows (codes "quantum") q → HoldsNumber rows (codes "trigger") t → HoldsNumber rows (codes "every") e
+    → configured_first p q t e ≡ made → MakesConfig rows made
+makes rows p q t e made hp hq ht he is =
+    let a = exact (one_of (codes "pages") rows) p hp in
+    let b = exact (one_of (codes "quantum") rows) q hq in
+    let c = exact (one_of (codes "trigger") rows) t ht in
+    let d = exact (one_of (codes "every") rows) e he in
+    record {
+      pages = a.number;
+      quantum = b.number;
+      trigger = c.number;
+      every = d.number;
+      has_pages = a.given;
+      has_quantum = b.given;
+      has_trigger = c.given;
+      has_every = d.given;
+      makes = same_config _ _ _ _ p q t e a.is_held b.is_held c.is_held d.is_held ∙ is;
+    }

@@ -1,0 +1,15 @@
+-- What can be shown on standard error.
+use Rattle.std.specs.Prelude.{◌≡◌, ◌≤◌, ◌⊎◌, ℕ, Bool, List, ◌&&◌, nat_le}
+use Rattle.std.specs.List.{All}
+
+-- the byte is a space, a letter, a digit or another sign of ASCII
+abbrev pub is_printable : ℕ → Bool
+is_printable byte = nat_le 32 byte && nat_le byte 126
+
+-- the byte ends a line, or can be printed
+abbrev pub IsShownByte : ℕ → Type 0
+IsShownByte byte = (byte ≡ 10) ⊎ ((32 ≤ byte) × (byte ≤ 126))
+
+-- a text in which nothing but the ends of lines can't be printed
+abbrev pub IsShown : List ℕ → Type 0
+IsShown text = All IsShownByte text

@@ -1,0 +1,26 @@
+use crate::program::program;
+use crate::words::words;
+use mh_claims::gate::Open;
+use mh_text::sink::StdSink;
+use mh_text::source::StdSource;
+use std::alloc::Global;
+use std::env::Env;
+use std::io::{Read, Write};
+use std::sync::Wait;
+use std::thread::Threads;
+
+/// The program on the words that its environment has and on its three streams. Gives the exit status.
+pub fn launch<R: Threads + Wait + Sync, V: Env, I: Read + Drop, O: Write + Drop, E: Write + Drop>(
+    rt: &R,
+    alloc: Global,
+    env: &V,
+    input: I,
+    output: O,
+    errors: E,
+) -> u8 {
+    let words = words(env, alloc);
+    let mut source = StdSource::new(input);
+    let mut sink = StdSink::new(output);
+    let mut errors = StdSink::new(errors);
+    program(rt, alloc, words, &mut source, &mut sink, &mut errors, &Open)
+}

@@ -1,0 +1,67 @@
+//! Words of the command line as they can be shown.
+ghost use Rattle.std.specs.Prelude.{◌≡◌, IfOk};
+ghost use Rattle.mh_program.specs.Shown.{is_printable, IsShown, IsShownByte};
+
+use std::alloc::{AllocError, Global};
+use std::convert::AsStr;
+
+/// The most bytes of a word that are shown.
+const MOST_SHOWN: usize = 80;
+
+fn is_printable(byte: u8) -> bool
+    ensures { result ≡ is_printable byte }
+{
+    (b' '..=b'~').contains(&byte)
+}
+
+/// Whether a word is shown as it is.
+fn is_plain(word: &str) -> bool {
+    word.len() <= MOST_SHOWN && word.as_bytes().iter().all(|byte| is_printable(*byte))
+}
+
+/// Whether each word is shown as it is.
+pub(crate) fn are_plain<T: AsStr>(words: &[T]) -> bool {
+    words.iter().all(|word| is_plain(word.as_str()))
+}
+
+/// A word with what can't be printed escaped, cut after 80 bytes.
+pub(crate) fn shown(alloc: Global, word: &str) -> Result<String, AllocError> {
+    if is_plain(word) {
+        return word.to_string(alloc);
+    }
+    let escaped = format!(in alloc; "{}", word.as_bytes().escape_ascii())?;
+    match escaped.as_str().get(..MOST_SHOWN) {
+        Some(first) => format!(in alloc; "{first}..."),
+        None => Ok(escaped),
+    }
+}
+
+pub(crate) fn shown_words<T: AsStr>(alloc: Global, words: &[T]) -> Result<Vec<String>, AllocError> {
+    let mut shown_words = Vec::new(alloc);
+    for word in words {
+        shown_words.push(shown(alloc, word.as_str())?)?;
+    }
+    Ok(shown_words)
+}
+
+/// The byte, or a question mark where it ends no line and can't be printed.
+fn shown_byte(byte: u8) -> u8
+    ensures { IsShownByte result }
+{
+    if byte == b'\n' || is_printable(byte) {
+        byte
+    } else {
+        b'?'
+    }
+}
+
+/// A text with a question mark for each byte that ends no line and can't be printed.
+pub(crate) fn printable(alloc: Global, text: &str) -> Result<Vec<u8>, AllocError>
+    ensures { IfOk result (λ text. IsShown text.items) }
+{
+    let mut bytes = Vec::new(alloc);
+    for byte in text.as_bytes() {
+        bytes.push(shown_byte(*byte))?;
+    }
+    Ok(bytes)
+}
