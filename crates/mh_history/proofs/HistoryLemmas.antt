@@ -3,24 +3,15 @@ use Rattle.std.proofs.Common.{◌≡◌, ℕ, suc, ◌<◌, ◌≤◌, nat_lt, B
 use Rattle.std.specs.Prelude.{codes}
 use Rattle.std.proofs.lemmas.Bool.Decides.{nat_tests}
 use Rattle.mh_model.specs.declared.config.Config.{Config}
-use Rattle.mh_model.specs.declared.history.Entry.{Entry}
-use Rattle.mh_model.specs.declared.history.Measured.{Measured}
-use Rattle.mh_model.specs.declared.history.Version.TheVariants.{One}
 use Rattle.mh_model.specs.Bytes.{Text, cut_after, words, is_text}
-use Rattle.mh_model.specs.Script.{Reading, BadLine, reading_map}
-use Rattle.mh_model.specs.HistoryTexts.{Recorded, entry_of, measured_of, header_of, entries_from, history_of, history_reading, recorded_by, recorded_of, recorded_reading}
+use Rattle.mh_model.specs.Script.{BadLine}
+use Rattle.mh_model.specs.HistoryTexts.{header_of, entries_from, history_of, history_reading, recorded_by, recorded_of, recorded_reading}
 use Rattle.mh_text.specs.Pieces.{Lines, TakesLine, lines_from}
 use Rattle.mh_text.specs.Reading.{first_lines}
 use Rattle.mh_text.specs.TextErrors.{Refuses}
 use Rattle.mh_text.specs.declared.text_error.TextError.{TextError}
 use Rattle.mh_text.specs.declared.text_error.TextError.TheVariants.{Line, NoMemory}
-use Rattle.mh_history.specs.Beginnings.{entries_left, HasEntry, BeginsWithEntry, BeginsWithMeasured}
-
-abbrev pub entry_line : Text → Option Entry
-entry_line line = entry_of One (words line)
-
-abbrev pub measured_line : Text → Option Measured
-measured_line line = measured_of (words line)
+use Rattle.mh_history.specs.Beginnings.{entry_line, measured_line, entries_left, with_header, HasEntry, BeginsWithEntry, BeginsWithMeasured}
 
 -- the pieces of a cut that is one line and what a reader of lines has left
 taken : (text : Text) (new : Lines) (n : ℕ) (line : Text) → TakesLine (lines_from 1 text) new n line → cut_after 10 text ≡ record { pieces = line ∷ new.lines; rest = new.rest }
@@ -106,10 +97,6 @@ record_lines text new n line config short takes is =
 
 pub record_wrong : (text : Text) (new : Lines) (n : ℕ) (line : Text) → length text ≤ 2147483648 → TakesLine (lines_from 1 text) new n line → header_of (words line) ≡ None → recorded_reading text ≡ BadLine 1
 record_wrong text new n line short takes is = record_lines text new n line None short takes is
-
--- what the entries after a first line make of a history
-abbrev pub with_header : Config → Reading (List Measured) → Reading Recorded
-with_header config = reading_map (λ entries. record { config = config; entries = entries })
 
 pub record_first : (text : Text) (new : Lines) (n : ℕ) (line : Text) (config : Config) → length text ≤ 2147483648 → TakesLine (lines_from 1 text) new n line → header_of (words line) ≡ Some config
     → recorded_reading text ≡ with_header config (entries_left measured_line new)

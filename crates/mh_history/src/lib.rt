@@ -10,7 +10,7 @@ pub mod history;
 #[cfg(test)]
 mod history_tests;
 mod keyed;
-mod lines;
+pub mod lines;
 mod parts;
 pub mod record;
 #[cfg(test)]

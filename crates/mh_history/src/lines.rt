@@ -1,10 +1,10 @@
-ghost use Rattle.std.specs.Prelude.{◌≡◌, ℕ, List, Option, IfOk, IfErr, OnErr, IsErrOf, IsSome};
+ghost use Rattle.std.specs.Prelude.{◌≡◌, ◌<◌, ℕ, List, [], drop, length, Option, IfOk, IfErr, IfSome, IfNone, OnErr, IsErrOf, IsSome};
 ghost use Rattle.mh_model.specs.Bytes.{words};
 ghost use Rattle.mh_model.specs.declared.history.Version.TheVariants.{One};
 ghost use Rattle.mh_model.specs.HistoryTexts.{entry_of, measured_of};
 ghost use Rattle.mh_model.specs.Script.{Means};
 ghost use Rattle.mh_text.specs.TextErrors.{Refuses};
-ghost use Rattle.mh_history.specs.Beginnings.{entries_left, HasEntry};
+ghost use Rattle.mh_history.specs.Beginnings.{entries_left, entry_before, HasEntry, TakesEntry};
 
 use crate::entry::{entry_of, measured_of};
 use mh_model::history::{Entry, Measured, Version};
@@ -12,6 +12,22 @@ use mh_model::memory::NoMemory;
 use mh_text::pieces::{Lines, Words};
 use mh_text::text_error::TextError;
 use std::alloc::Global;
+use thiserror::Error;
+
+/// The first bad line of a text, counted from 1. Line 0 is that of a text that is too long.
+#[derive(Clone, Copy, Debug, PartialEq, Eq, Error)]
+#[error("bad line {0}")]
+pub struct RefusedLine(pub u64);
+
+impl From<RefusedLine> for TextError {
+    ghost use Rattle.mh_text.specs.declared.text_error.TextError.TheVariants.{Line};
+
+    ghost from_gives = { λ refused error. error ≡ Line refused.0 };
+
+    fn from(refused: RefusedLine) -> TextError {
+        TextError::Line(refused.0)
+    }
+}
 
 /// What is read from one line each.
 pub trait FromLine: Sized {
@@ -40,8 +56,34 @@ impl FromLine for Measured {
     }
 }
 
+/// Reads the next line of a history as an entry, none after the last. It takes memory for that entry alone.
+#[tactic(auto, using(crate::proofs::LineLemmas::line_taken, crate::proofs::LineLemmas::entry_taken, crate::proofs::LineLemmas::line_bad, crate::proofs::LineLemmas::lines_end, crate::proofs::LineLemmas::rest_bad))]
+pub fn next_entry<E: FromLine>(alloc: Global, lines: &mut Lines<'_>) -> Result<Option<E>, TextError>
+    ensures entry { IfOk result (λ next. IfSome next (λ entry.
+        entries_left E.of_line lines.old ≡ entry_before entry (entries_left E.of_line lines.new))) }
+    ensures taken { IfOk result (λ next. IfSome next (TakesEntry E.of_line lines.old lines.new)) }
+    ensures fewer { IfOk result (λ next. IfSome next (λ entry. length lines.new.lines < length lines.old.lines)) }
+    ensures end { IfOk result (λ next. IfNone next (entries_left E.of_line lines.old ≡ Means [])) }
+    ensures ended { IfOk result (λ next. IfNone next (lines.new ≡ lines.old)) }
+    ensures line { IfErr result (Refuses (entries_left E.of_line lines.old)) }
+    ensures passed { OnErr result (lines.new.lines ≡ drop 1 lines.old.lines) }
+    ensures memory { IsErrOf result TextError.NoMemory → HasEntry E.of_line lines.old }
+{
+    let Some((number, line)) = lines.next_line() else {
+        return if lines.is_empty() {
+            Ok(None)
+        } else {
+            Err(TextError::Line(lines.number()))
+        };
+    };
+    match E::from_line(alloc, line)? {
+        Some(entry) => Ok(Some(entry)),
+        None => Err(TextError::Line(number)),
+    }
+}
+
 /// Reads the lines that are left, up to the first bad one.
-pub fn entries_from<E: FromLine + Drop>(
+pub(crate) fn entries_from<E: FromLine + Drop>(
     alloc: Global,
     mut lines: Lines<'_>,
 ) -> Result<Vec<E>, TextError>
@@ -50,15 +92,8 @@ pub fn entries_from<E: FromLine + Drop>(
     ensures memory { IsErrOf result TextError.NoMemory → HasEntry E.of_line lines.entry }
 {
     let mut entries = Vec::new(alloc);
-    while let Some((number, line)) = lines.next_line() {
-        match E::from_line(alloc, line)? {
-            Some(entry) => entries.push(entry)?,
-            None => return Err(TextError::Line(number)),
-        }
+    while let Some(entry) = next_entry(alloc, &mut lines)? {
+        entries.push(entry)?;
     }
-    if lines.is_empty() {
-        Ok(entries)
-    } else {
-        Err(TextError::Line(lines.number()))
-    }
+    Ok(entries)
 }

@@ -1,11 +1,11 @@
 ghost use Rattle.std.specs.Prelude.{◌≡◌, IfOk, IfErr, IsErrOf};
 ghost use Rattle.mh_model.specs.HistoryTexts.{recorded_reading};
-ghost use Rattle.mh_model.specs.Script.{Means};
+ghost use Rattle.mh_model.specs.Script.{BadLine, Means};
 ghost use Rattle.mh_text.specs.TextErrors.{Refuses};
-ghost use Rattle.mh_history.specs.Beginnings.{BeginsWithMeasured};
+ghost use Rattle.mh_history.specs.Beginnings.{BeginsWithMeasured, HasEntry, entries_left, measured_line, with_header};
 
 use crate::header::header_of;
-use crate::lines::entries_from;
+use crate::lines::{RefusedLine, entries_from};
 use mh_model::config::Config;
 use mh_model::history::Measured;
 use mh_text::pieces::{Lines, Words};
@@ -53,24 +53,34 @@ impl Record {
     }
 }
 
+/// The configuration of a history of version 2, and the lines after its first line, not read yet. It takes no memory.
+#[tactic(auto, using(crate::proofs::HistoryLemmas::record_long, crate::proofs::HistoryLemmas::record_empty, crate::proofs::HistoryLemmas::record_wrong, crate::proofs::HistoryLemmas::record_first, crate::proofs::HistoryLemmas::begins_with_measured))]
+pub fn record_lines(text: &[u8]) -> Result<(Config, Lines<'_>), RefusedLine>
+    ensures lines { IfOk result (λ read. recorded_reading text.now ≡ with_header read.0 (entries_left measured_line read.1)) }
+    ensures begins { IfOk result (λ read. HasEntry measured_line read.1 → BeginsWithMeasured text.now) }
+    ensures line { IfErr result (λ refused. recorded_reading text.now ≡ BadLine refused.0) }
+{
+    if text.len() > RECORD_BYTES {
+        return Err(RefusedLine(0));
+    }
+    let mut lines = Lines::new(text);
+    let Some((_, line)) = lines.next_line() else {
+        return Err(RefusedLine(1));
+    };
+    let Some(config) = header_of(Words::new(line)) else {
+        return Err(RefusedLine(1));
+    };
+    Ok((config, lines))
+}
+
 /// Reads a history of version 2, up to its first bad line. It takes memory for entries alone, so a text that is refused before
 /// its first entry is never answered with want of memory.
-#[tactic(auto, using(crate::proofs::HistoryLemmas::record_long, crate::proofs::HistoryLemmas::record_empty, crate::proofs::HistoryLemmas::record_wrong, crate::proofs::HistoryLemmas::record_first, crate::proofs::HistoryLemmas::begins_with_measured))]
 pub fn parse_record(alloc: Global, text: &[u8]) -> Result<Record, TextError>
     ensures record { IfOk result (λ read. recorded_reading text.now ≡ Means read) }
     ensures line { IfErr result (Refuses (recorded_reading text.now)) }
     ensures memory { IsErrOf result TextError.NoMemory → BeginsWithMeasured text.now }
 {
-    if text.len() > RECORD_BYTES {
-        return Err(TextError::Line(0));
-    }
-    let mut lines = Lines::new(text);
-    let Some((_, line)) = lines.next_line() else {
-        return Err(TextError::Line(1));
-    };
-    let Some(config) = header_of(Words::new(line)) else {
-        return Err(TextError::Line(1));
-    };
+    let (config, lines) = record_lines(text)?;
     let entries = entries_from(alloc, lines)?;
     Ok(Record { config, entries })
 }

@@ -1,14 +1,16 @@
-use Rattle.std.proofs.Common.{Option, is_some, ap, sym, ◌∙◌}
-use Rattle.mh_history.proofs.LineLemmas.{walked_entry, walked_more}
+use Rattle.std.proofs.lemmas.Result.{err_from_is_err_and}
+use Rattle.mh_history.proofs.LineLemmas.{same_error, taken_entry, walked_entry, walked_more}
 use Rattle.mh_history.proofs.lines.entries_from.Goals as goal
 
 pub returns-in_err-entry-clause-memory : goal.returns-in_err-entry-clause-memory
-returns-in_err-entry-clause-memory g c = λ _. walked_entry _ _ _ _ _ _ _ c.loop-number.invariant c.in-Some.ensures.next c.in_err-entry.ensures.memory
+returns-in_err-entry-clause-memory g c =
+    let p = err_from_is_err_and c.from_residual.result c.from_residual.ensures.1 in
+    rw (p.1, p.2) (λ is. walked_entry _ _ _ _ c.loop-entries.invariant (c.in_err-entry.ensures.memory (same_error _ _ is)))
 
-pub loop-number-preserved : goal.loop-number-preserved
-loop-number-preserved g c =
-    walked_more _ _ _ _ _ _ _ _ c.in-Some-2.entry c.loop-number.invariant c.in-Some.ensures.next (sym c.in_ok-entry.ensures.read ∙ c.in-Some-2.is) c.in_ok-push-in-Some-2.ensures.items
+pub loop-entries-preserved : goal.loop-entries-preserved
+loop-entries-preserved g c =
+    walked_more _ _ _ _ _ _ _ c.loop-entries.invariant (rw c.in-Some.is at c.in_ok-entry.ensures.taken) c.in_ok-push.ensures.items
 
-pub returns-in_err-push-in-Some-2-clause-memory : goal.returns-in_err-push-in-Some-2-clause-memory
-returns-in_err-push-in-Some-2-clause-memory g c =
-    λ _. walked_entry _ _ _ _ _ _ _ c.loop-number.invariant c.in-Some.ensures.next (ap (λ (read : Option g.row.E.Denot). is_some read) (sym c.in_ok-entry.ensures.read ∙ c.in-Some-2.is))
+pub returns-in_err-push-clause-memory : goal.returns-in_err-push-clause-memory
+returns-in_err-push-clause-memory g c =
+    λ _. walked_entry _ _ _ _ c.loop-entries.invariant (taken_entry _ _ _ _ (rw c.in-Some.is at c.in_ok-entry.ensures.taken))
