@@ -110,11 +110,9 @@ impl Judge {
         ensures stopped { OnErr result (self.new ≡ self.old) }
         ensures memory { OnErr result (MayAskForMemory self.old.running.room entry.now.event) }
     {
-        if self.first_bad.is_none() {
-            let number = self.machine.done() + 1;
-            if !try_entry(&mut self.machine, &mut self.scanner, entry)? {
-                self.first_bad = Some(number);
-            }
+        let number = self.machine.done() + 1;
+        if self.first_bad.is_none() && !try_entry(&mut self.machine, &mut self.scanner, entry)? {
+            self.first_bad = Some(number);
         }
         Ok(())
     }
@@ -127,11 +125,11 @@ impl Judge {
         ensures stopped { OnErr result (self.new ≡ self.old) }
         ensures memory { OnErr result (MayAskForMemory self.old.running.room measured.now.entry.event) }
     {
-        if self.first_bad.is_none() {
-            let number = self.machine.done() + 1;
-            if !try_measured(&mut self.machine, &mut self.scanner, measured)? {
-                self.first_bad = Some(number);
-            }
+        let number = self.machine.done() + 1;
+        if self.first_bad.is_none()
+            && !try_measured(&mut self.machine, &mut self.scanner, measured)?
+        {
+            self.first_bad = Some(number);
         }
         Ok(())
     }
