@@ -1,19 +1,21 @@
 -- Histories that are judged entry by entry.
-use Rattle.std.proofs.Common.{◌≡◌, ◌≢◌, ◌∙◌, inl, inr, ℕ, suc, ◌+◌, ◌-◌, ◌<◌, ◌≤◌, true, false, List, [], ◌∷◌, ◌++◌, length, map, take, get_or, ap, sym, refl, subst, arith}
-use Rattle.std.proofs.lemmas.List.{length_push, take_more, map-append, same_from_push}
+use Rattle.std.proofs.Common.{◌≡◌, ◌≢◌, ◌∙◌, inl, inr, ℕ, suc, ◌+◌, ◌-◌, ◌<◌, ◌≤◌, true, false, Option, Some, None, IsSome, IsNone, List, [], ◌∷◌, ◌++◌, length, map, take, get_or, ap, sym, refl, subst, arith}
+use Rattle.std.proofs.lemmas.List.{length-append, length_push, take_all, take_at, take-append-le, take_more, map-append, same_from_push}
 use Rattle.mh_model.specs.declared.command.Event.{Event}
 use Rattle.mh_model.specs.declared.config.Config.{Config}
 use Rattle.mh_model.specs.declared.history.Entry.{Entry}
 use Rattle.mh_model.specs.declared.history.Measured.{Measured}
+use Rattle.mh_model.specs.declared.history.Verdict.{Verdict}
+use Rattle.mh_model.specs.declared.history.Verdict.TheVariants.{Refused, Legal, FirstBad}
 use Rattle.mh_model.specs.declared.reply.Reply.{Reply}
 use Rattle.mh_model.specs.Limits.{most_entries}
 use Rattle.mh_model.specs.History.{IsLegal, IsFirstBadOf}
-use Rattle.mh_model.specs.HistoryTexts.{IsLegalRecord, measured_step, machine_record}
+use Rattle.mh_model.specs.HistoryTexts.{IsJudged, IsLegalRecord, measured_step, machine_record}
 use Rattle.mh_model.specs.Machine.{Machine, first_machine, event_step, machine_after, machine_replies}
 use Rattle.mh_promise.specs.Runs.{machine_at}
 use Rattle.mh_promise.proofs.RunsByEvents.{after_more, replies_more, no-events, no-replies}
 use Rattle.mh_state.specs.Running.{Running, first_running}
-use Rattle.mh_state.specs.Judging.{HasItsReply, IsMeasured, IsTried}
+use Rattle.mh_state.specs.Judging.{HasItsReply, HasJudged, HasSeen, IsMeasured, IsTried, Judging}
 
 none_are_few : 0 ≤ most_entries
 none_are_few = omega arith
@@ -26,12 +28,6 @@ pub record IsEventRule {X : Type 0} (config : Config) (event_of : X → Event) (
   pub few : (xs : List X) → Lawful xs → length xs ≤ most_entries
   pub more : (xs : List X) (x : X) → Lawful xs → length xs ≢ most_entries → Fits (machine_at config (map event_of xs)) x → Lawful (xs ++ x ∷ [])
   pub last : (xs : List X) (x : X) → Lawful (xs ++ x ∷ []) → Fits (machine_at config (map event_of xs)) x
-
--- the machine has done the events of a lawful list
-pub record HasJudged {X : Type 0} (config : Config) (event_of : X → Event) (Lawful : List X → Type 0) (xs : List X) (running : Running) : Type 0 where
-  pub machine : running.machine ≡ machine_at config (map event_of xs)
-  pub done : running.done ≡ length xs
-  pub lawful : Lawful xs
 
 pub none_judged : {X : Type 0} (config : Config) (event_of : X → Event) (Fits : Machine → X → Type 0) (Lawful : List X → Type 0) → IsEventRule config event_of Fits Lawful
     → HasJudged config event_of Lawful [] (first_running config)
@@ -50,13 +46,6 @@ judged_push config event_of Fits Lawful rule xs x old new judged found =
       lawful = rule.more xs x judged.lawful (λ full. found.0 (judged.done ∙ full)) fits;
     }
 
-pub judged_more : {X : Type 0} (config : Config) (event_of : X → Event) (Fits : Machine → X → Type 0) (Lawful : List X → Type 0) → IsEventRule config event_of Fits Lawful
-    → (xs : List X) (i : ℕ) (x : X) (old new : Running) → i < length xs → x ≡ get_or xs i x → HasJudged config event_of Lawful (take i xs) old
-    → IsTried (Fits old.machine x) old (event_of x) new true → HasJudged config event_of Lawful (take (i + 1) xs) new
-judged_more {X} config event_of Fits Lawful rule xs i x old new below is judged found =
-    let cut : take (i + 1) xs ≡ take i xs ++ x ∷ [] = take_more xs i x below ∙ ap (λ (y : X). take i xs ++ y ∷ []) (sym is) in
-    rw cut (judged_push config event_of Fits Lawful rule (take i xs) x old new judged found)
-
 bad_push : {X : Type 0} (config : Config) (event_of : X → Event) (Fits : Machine → X → Type 0) (Lawful : List X → Type 0) → IsEventRule config event_of Fits Lawful
     → (xs : List X) (x : X) (old new : Running) → HasJudged config event_of Lawful xs old → IsTried (Fits old.machine x) old (event_of x) new false
     → Lawful (xs ++ x ∷ []) → ⊥
@@ -64,19 +53,74 @@ bad_push config event_of Fits Lawful rule xs x old new judged (inl full) lawful 
 bad_push config event_of Fits Lawful rule xs x old new judged (inr other) lawful =
     other (subst (λ (machine : Machine). Fits machine x) (sym judged.machine) (rule.last xs x lawful))
 
--- an entry that was not found to be right is the first bad one
-pub first_bad : {X : Type 0} (config : Config) (event_of : X → Event) (Fits : Machine → X → Type 0) (Lawful : List X → Type 0) → IsEventRule config event_of Fits Lawful
-    → (xs : List X) (i : ℕ) (x : X) (old new : Running) → i < length xs → x ≡ get_or xs i x → HasJudged config event_of Lawful (take i xs) old
-    → IsTried (Fits old.machine x) old (event_of x) new false → IsFirstBadOf Lawful xs (i + 1)
-first_bad {X} config event_of Fits Lawful rule xs i x old new below is judged found =
-    let cut : take (i + 1) xs ≡ take i xs ++ x ∷ [] = take_more xs i x below ∙ ap (λ (y : X). take i xs ++ y ∷ []) (sym is) in
-    let before : i + 1 - 1 ≡ i = omega arith in
+-- Judges -----------------------------------------------------------------------------------------
+
+-- the first bad element of a list is that of each longer one
+bad_stays : {X : Type 0} (Lawful : List X → Type 0) (xs more : List X) (number : ℕ) → IsFirstBadOf Lawful xs number → IsFirstBadOf Lawful (xs ++ more) number
+bad_stays {X} Lawful xs more number is =
+    let short : number - 1 ≤ length xs = omega (arith, is.within) in
+    let before : take (number - 1) (xs ++ more) ≡ take (number - 1) xs = take-append-le (number - 1) xs more short in
+    let same : take number (xs ++ more) ≡ take number xs = take-append-le number xs more is.within in
     record {
-      counted = omega arith;
-      within = omega arith;
-      before = rw before judged.lawful;
-      bad = λ lawful. bad_push config event_of Fits Lawful rule (take i xs) x old new judged found (subst Lawful cut lawful);
+      counted = is.counted;
+      within = omega (arith, is.within, length-append xs more);
+      before = subst Lawful (sym before) is.before;
+      bad = λ lawful. is.bad (subst Lawful same lawful);
     }
+
+module _ {X : Type 0} (config : Config) (event_of : X → Event) (Lawful : List X → Type 0) (xs : List X) (x : X) where
+  -- a judge who has found a bad element is shown one more
+  pub seen_settled : (running : Running) (found : Option ℕ) → IsSome found → HasSeen config event_of Lawful xs (record { running = running; first_bad = found })
+      → HasSeen config event_of Lawful (xs ++ x ∷ []) (record { running = running; first_bad = found })
+  seen_settled running None some seen = cc
+  seen_settled running (Some number) some seen = bad_stays Lawful xs (x ∷ []) number seen
+
+  module _ (Fits : Machine → X → Type 0) (rule : IsEventRule config event_of Fits Lawful) (old new : Running) where
+    -- one that is right
+    pub seen_right : (found : Option ℕ) → IsNone found → HasSeen config event_of Lawful xs (record { running = old; first_bad = found }) → IsTried (Fits old.machine x) old (event_of x) new true
+        → HasSeen config event_of Lawful (xs ++ x ∷ []) (record { running = new; first_bad = found })
+    seen_right None none seen tried = judged_push config event_of Fits Lawful rule xs x old new seen tried
+    seen_right (Some number) none seen tried = cc
+
+    wrong_push : HasJudged config event_of Lawful xs old → IsTried (Fits old.machine x) old (event_of x) new false → IsFirstBadOf Lawful (xs ++ x ∷ []) (old.done + 1)
+    wrong_push judged tried =
+        let number : old.done + 1 ≡ length (xs ++ x ∷ []) = omega (arith, judged.done, length_push xs x) in
+        let before : take (old.done + 1 - 1) (xs ++ x ∷ []) ≡ xs = take_at xs (x ∷ []) (old.done + 1 - 1) (omega (arith, judged.done)) in
+        let same : take (old.done + 1) (xs ++ x ∷ []) ≡ xs ++ x ∷ [] = take_all (old.done + 1) (xs ++ x ∷ []) (omega arith) in
+        record {
+          counted = omega arith;
+          within = omega arith;
+          before = subst Lawful (sym before) judged.lawful;
+          bad = λ lawful. bad_push config event_of Fits Lawful rule xs x old new judged tried (subst Lawful same lawful);
+        }
+
+    -- and one that isn't, which is the first bad one
+    pub seen_wrong : (found : Option ℕ) (number : ℕ) → IsNone found → HasSeen config event_of Lawful xs (record { running = old; first_bad = found }) → number ≡ old.done → IsTried (Fits old.machine x) old (event_of x) new false
+        → IsFirstBadOf Lawful (xs ++ x ∷ []) (number + 1)
+    seen_wrong None number none seen is tried = rw is (wrong_push seen tried)
+    seen_wrong (Some other) number none seen is tried = cc
+
+-- the first of some elements were shown, and then one more
+pub shown_more : {X : Type 0} (config : Config) (event_of : X → Event) (Lawful : List X → Type 0) (xs : List X) (i : ℕ) (x : X) (old new : Judging) → i < length xs → x ≡ get_or xs i x
+    → ((seen : List X) → HasSeen config event_of Lawful seen old → HasSeen config event_of Lawful (seen ++ x ∷ []) new)
+    → HasSeen config event_of Lawful (take i xs) old → HasSeen config event_of Lawful (take (i + 1) xs) new
+shown_more {X} config event_of Lawful xs i x old new below is more seen =
+    let P : List X → Type 0 = λ ys. HasSeen config event_of Lawful ys new in
+    let cut : take (i + 1) xs ≡ take i xs ++ x ∷ [] = take_more xs i x below ∙ ap (λ (y : X). take i xs ++ y ∷ []) (sym is) in
+    subst P (sym cut) (more (take i xs) seen)
+
+-- all of them were
+pub shown_all : {X : Type 0} (config : Config) (event_of : X → Event) (Lawful : List X → Type 0) (xs : List X) (i : ℕ) (judging : Judging) → length xs ≤ i
+    → HasSeen config event_of Lawful (take i xs) judging → HasSeen config event_of Lawful xs judging
+shown_all {X} config event_of Lawful xs i judging all seen =
+    let P : List X → Type 0 = λ ys. HasSeen config event_of Lawful ys judging in
+    subst P (take_all i xs all) seen
+
+-- a verdict that names no bad element finds them lawful
+pub judged_lawful : {X : Type 0} (Lawful : List X → Type 0) (xs : List X) (verdict : Verdict) → ((number : ℕ) → verdict ≡ FirstBad number → ⊥) → IsJudged Lawful xs verdict → Lawful xs
+judged_lawful Lawful xs (Refused line) other judged = absurd judged
+judged_lawful Lawful xs (Legal count) other judged = judged.0
+judged_lawful Lawful xs (FirstBad number) other judged = absurd (other number refl)
 
 -- Histories --------------------------------------------------------------------------------------
 

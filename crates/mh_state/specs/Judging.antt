@@ -1,13 +1,15 @@
--- The judging of histories: when an entry is right, and what a fault tells.
-use Rattle.std.specs.Prelude.{◌≡◌, ◌≢◌, ◌⊎◌, suc, Bool, true, false, List}
+-- The judging of histories: when an entry is right, what a judge knows of the entries that were shown, and what a fault tells.
+use Rattle.std.specs.Prelude.{◌≡◌, ◌≢◌, ◌⊎◌, ℕ, suc, Bool, true, false, Option, None, MatchOption, List, length, map}
 use Rattle.mh_model.specs.declared.command.Event.{Event}
+use Rattle.mh_model.specs.declared.config.Config.{Config}
 use Rattle.mh_model.specs.declared.history.Entry.{Entry}
 use Rattle.mh_model.specs.declared.history.Measured.{Measured}
 use Rattle.mh_model.specs.Limits.{most_entries}
-use Rattle.mh_model.specs.History.{IsFirstBadOf}
-use Rattle.mh_model.specs.HistoryTexts.{measured_step}
+use Rattle.mh_model.specs.History.{IsLegal, IsFirstBadOf}
+use Rattle.mh_model.specs.HistoryTexts.{IsLegalRecord, measured_step}
 use Rattle.mh_model.specs.Machine.{Machine, event_step}
-use Rattle.mh_state.specs.Running.{Running}
+use Rattle.mh_promise.specs.Runs.{machine_at}
+use Rattle.mh_state.specs.Running.{Running, first_running}
 use Rattle.mh_state.specs.declared.judge.CheckFault.{CheckFault}
 use Rattle.mh_state.specs.declared.judge.CheckFault.TheVariants.{FirstBad, NoMemory}
 
@@ -23,6 +25,33 @@ IsMeasured machine measured = measured ≡ measured_step machine measured.entry.
 abbrev pub IsTried : Type 0 → Running → Event → Running → Bool → Type 0
 IsTried Right old event new true = (old.done ≢ most_entries) × Right × (new.machine ≡ (event_step old.machine event).state) × (new.done ≡ suc old.done)
 IsTried Right old event new false = (old.done ≡ most_entries) ⊎ ¬ Right
+
+-- a machine, and the number of the first bad entry, where there was one
+pub record Judging : Type 0 where
+  pub running : Running
+  pub first_bad : Option ℕ
+
+-- the first machine, before any entry
+abbrev pub first_judging : Config → Judging
+first_judging config = record { running = first_running config; first_bad = None }
+
+-- the entries are lawful, and the machine has done their events, and no others
+pub record HasJudged {X : Type 0} (config : Config) (event_of : X → Event) (Lawful : List X → Type 0) (seen : List X) (running : Running) : Type 0 where
+  pub machine : running.machine ≡ machine_at config (map event_of seen)
+  pub done : running.done ≡ length seen
+  pub lawful : Lawful seen
+
+-- What a judge knows of the entries that were shown: as long as none is bad, the machine is that after their events; else the first bad one
+abbrev pub HasSeen : {X : Type 0} → Config → (X → Event) → (List X → Type 0) → List X → Judging → Type 0
+HasSeen config event_of Lawful seen judging = MatchOption judging.first_bad (HasJudged config event_of Lawful seen judging.running) (IsFirstBadOf Lawful seen)
+
+-- these entries were shown, and no others
+abbrev pub HasSeenEntries : Config → List Entry → Judging → Type 0
+HasSeenEntries config seen judging = HasSeen config (λ entry. entry.event) (IsLegal config) seen judging
+
+-- the same of entries that tell their units
+abbrev pub HasSeenMeasured : Config → List Measured → Judging → Type 0
+HasSeenMeasured config seen judging = HasSeen config (λ measured. measured.entry.event) (IsLegalRecord config) seen judging
 
 -- A fault tells the first bad entry by a rule; want of memory tells nothing of the history
 abbrev pub TellsFirstBad : {X : Type 0} → (List X → Type 0) → List X → CheckFault → Type 0

@@ -1,17 +1,22 @@
 //! The judging of histories: whether each entry has the machine's reply, and in a record its units too.
-ghost use Rattle.std.specs.Prelude.{◌≡◌, IfOk, IfErr, OnOk};
+ghost use Rattle.std.specs.Prelude.{◌≡◌, [], ◌∷◌, ◌++◌, List, IsSome, IsOk, IfOk, IfErr, OnOk, OnErr};
+ghost use Rattle.mh_model.specs.declared.config.Config.{Config};
+ghost use Rattle.mh_model.specs.declared.history.Entry.{Entry};
+ghost use Rattle.mh_model.specs.declared.history.Measured.{Measured};
 ghost use Rattle.mh_model.specs.History.{IsLegal};
-ghost use Rattle.mh_model.specs.HistoryTexts.{IsLegalRecord};
-ghost use Rattle.mh_state.specs.Judging.{HasItsReply, IsMeasured, IsTried, TellsFirstBad};
+ghost use Rattle.mh_model.specs.HistoryTexts.{IsJudged, IsLegalRecord};
+ghost use Rattle.mh_state.specs.Judging.{HasItsReply, HasSeenEntries, HasSeenMeasured, IsMeasured, IsTried, TellsFirstBad, first_judging};
+ghost use Rattle.mh_state.specs.Running.{MayAskForMemory};
 ghost use Rattle.mh_state.specs.declared.judge.CheckFault.{CheckFault};
 
 use crate::machine::{Machine, Stop};
 use crate::same::is_same;
 use mh_model::config::Config;
-use mh_model::history::{Entry, Measured};
+use mh_model::history::{Entry, Measured, Verdict};
 use mh_model::memory::NoMemory;
 use mh_scan::scan::OneScan;
 use std::alloc::Global;
+use std::marker::Model;
 use thiserror::Error;
 
 /// Why a history was not found to be legal.
@@ -34,7 +39,9 @@ impl From<NoMemory> for CheckFault {
 
 /// Does an entry's event, unless 1,000,000 were done, and tells whether it was answered with the entry's reply.
 fn try_entry(machine: &mut Machine, scanner: &mut OneScan, entry: &Entry) -> Result<bool, NoMemory>
-    ensures { IfOk result (IsTried (HasItsReply machine.old.machine entry.now) machine.old entry.now.event machine.new) }
+    ensures tried { IfOk result (IsTried (HasItsReply machine.old.machine entry.now) machine.old entry.now.event machine.new) }
+    ensures stopped { OnErr result (machine.new ≡ machine.old) }
+    ensures memory { OnErr result (MayAskForMemory machine.old.room entry.now.event) }
 {
     match machine.step(entry.event, scanner) {
         Ok(reply) => Ok(is_same(&entry.reply, &reply)),
@@ -49,7 +56,9 @@ fn try_measured(
     scanner: &mut OneScan,
     measured: &Measured,
 ) -> Result<bool, NoMemory>
-    ensures { IfOk result (IsTried (IsMeasured machine.old.machine measured.now) machine.old measured.now.entry.event machine.new) }
+    ensures tried { IfOk result (IsTried (IsMeasured machine.old.machine measured.now) machine.old measured.now.entry.event machine.new) }
+    ensures stopped { OnErr result (machine.new ≡ machine.old) }
+    ensures memory { OnErr result (MayAskForMemory machine.old.room measured.now.entry.event) }
 {
     let mutator = machine.trace().mutator_count();
     let collector = machine.trace().collector_count();
@@ -62,19 +71,94 @@ fn try_measured(
     )
 }
 
+/// A judge, who is shown the entries of a history one by one, and replays them with one worker. An entry past the
+/// 1,000,000th is bad.
+#[derive(Drop)]
+pub struct Judge {
+    machine: Machine,
+    scanner: OneScan,
+    first_bad: Option<u64>,
+}
+
+impl Model for Judge {
+    ghost use Rattle.mh_state.specs.Judging.{Judging};
+
+    ghost Value = { Judging };
+
+    ghost view = { λ j. record { running = j.machine; first_bad = j.first_bad } };
+}
+
+impl Judge {
+    /// A judge who has seen no entry.
+    pub fn open(alloc: Global, config: Config) -> Result<Judge, NoMemory>
+        ensures first { IfOk result (λ judge. judge ≡ first_judging config) }
+        ensures entries { IfOk result (HasSeenEntries config []) }
+        ensures measured { IfOk result (HasSeenMeasured config []) }
+    {
+        Ok(Judge {
+            machine: Machine::open(alloc, config)?,
+            scanner: OneScan::new(alloc),
+            first_bad: None,
+        })
+    }
+
+    /// Shows it the next entry. After the first bad one it does nothing.
+    #[tactic(auto, unfolding(mh_model::specs::Limits::most_entries))]
+    pub fn entry(&mut self, entry: &Entry) -> Result<(), NoMemory>
+        ensures seen { OnOk result ((config : Config) (seen : List Entry) → HasSeenEntries config seen self.old → HasSeenEntries config (seen ++ entry.now ∷ []) self.new) }
+        ensures settled { IsSome self.old.first_bad → (self.new ≡ self.old) × IsOk result }
+        ensures stopped { OnErr result (self.new ≡ self.old) }
+        ensures memory { OnErr result (MayAskForMemory self.old.running.room entry.now.event) }
+    {
+        let number = self.machine.done() + 1;
+        if self.first_bad.is_none() && !try_entry(&mut self.machine, &mut self.scanner, entry)? {
+            self.first_bad = Some(number);
+        }
+        Ok(())
+    }
+
+    /// The same of an entry that tells its units.
+    #[tactic(auto, unfolding(mh_model::specs::Limits::most_entries))]
+    pub fn measured(&mut self, measured: &Measured) -> Result<(), NoMemory>
+        ensures seen { OnOk result ((config : Config) (seen : List Measured) → HasSeenMeasured config seen self.old → HasSeenMeasured config (seen ++ measured.now ∷ []) self.new) }
+        ensures settled { IsSome self.old.first_bad → (self.new ≡ self.old) × IsOk result }
+        ensures stopped { OnErr result (self.new ≡ self.old) }
+        ensures memory { OnErr result (MayAskForMemory self.old.running.room measured.now.entry.event) }
+    {
+        let number = self.machine.done() + 1;
+        if self.first_bad.is_none()
+            && !try_measured(&mut self.machine, &mut self.scanner, measured)?
+        {
+            self.first_bad = Some(number);
+        }
+        Ok(())
+    }
+
+    /// What was found of the entries that were shown.
+    pub fn verdict(&self) -> Verdict
+        ensures entries { (config : Config) (seen : List Entry) → HasSeenEntries config seen self.now → IsJudged (IsLegal config) seen result }
+        ensures measured { (config : Config) (seen : List Measured) → HasSeenMeasured config seen self.now → IsJudged (IsLegalRecord config) seen result }
+    {
+        match self.first_bad {
+            Some(number) => Verdict::FirstBad(number),
+            None => Verdict::Legal(self.machine.done()),
+        }
+    }
+}
+
 /// Replays a history with one worker. An entry past the 1,000,000th is bad.
 pub fn check(alloc: Global, config: Config, history: &[Entry]) -> Result<(), CheckFault>
     ensures legal { OnOk result (IsLegal config history.now) }
     ensures bad { IfErr result (TellsFirstBad (IsLegal config) history.now) }
 {
-    let mut machine = Machine::open(alloc, config)?;
-    let mut scanner = OneScan::new(alloc);
-    for (index, entry) in history.iter().enumerate() {
-        if !try_entry(&mut machine, &mut scanner, entry)? {
-            return Err(CheckFault::FirstBad(index as u64 + 1));
-        }
+    let mut judge = Judge::open(alloc, config)?;
+    for entry in history {
+        judge.entry(entry)?;
     }
-    Ok(())
+    match judge.verdict() {
+        Verdict::FirstBad(number) => Err(CheckFault::FirstBad(number)),
+        _ => Ok(()),
+    }
 }
 
 /// Replays a history whose entries tell their units, with one worker. An entry past the 1,000,000th is bad.
@@ -82,12 +166,12 @@ pub fn audit(alloc: Global, config: Config, entries: &[Measured]) -> Result<(), 
     ensures legal { OnOk result (IsLegalRecord config entries.now) }
     ensures bad { IfErr result (TellsFirstBad (IsLegalRecord config) entries.now) }
 {
-    let mut machine = Machine::open(alloc, config)?;
-    let mut scanner = OneScan::new(alloc);
-    for (index, measured) in entries.iter().enumerate() {
-        if !try_measured(&mut machine, &mut scanner, measured)? {
-            return Err(CheckFault::FirstBad(index as u64 + 1));
-        }
+    let mut judge = Judge::open(alloc, config)?;
+    for measured in entries {
+        judge.measured(measured)?;
     }
-    Ok(())
+    match judge.verdict() {
+        Verdict::FirstBad(number) => Err(CheckFault::FirstBad(number)),
+        _ => Ok(()),
+    }
 }

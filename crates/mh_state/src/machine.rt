@@ -1,5 +1,5 @@
 //! The machine that runs: the heap of pages, the units since the last quantum, and the trace.
-ghost use Rattle.std.specs.Prelude.{◌≡◌, ◌↔◌, IfOk, IsTrue, OnErr, IsErrOf};
+ghost use Rattle.std.specs.Prelude.{◌≡◌, ◌≤◌, ◌↔◌, IfOk, IsTrue, OnErr, IsErrOf};
 ghost use Rattle.mh_model.specs.Limits.{most_entries};
 ghost use Rattle.mh_state.specs.Running.{first_running, Does, MayAskForMemory};
 ghost use Rattle.mh_state.specs.declared.machine.Stop.{Stop};
@@ -95,6 +95,14 @@ impl Machine {
         ensures { IsTrue result ↔ (self.now.done ≡ most_entries) }
     {
         self.done == MOST_EVENTS
+    }
+
+    /// How many events it has done.
+    pub fn done(&self) -> u64
+        ensures done { result ≡ self.now.done }
+        ensures few { result ≤ most_entries }
+    {
+        self.done
     }
 
     pub fn config(&self) -> Config

@@ -1,24 +1,20 @@
-use Rattle.std.proofs.Common.{◌≡◌, take, subst, arith}
-use Rattle.std.proofs.lemmas.List.{take_all}
+use Rattle.std.proofs.Common.{arith}
 use Rattle.mh_model.specs.HistoryTexts.{IsLegalRecord}
-use Rattle.mh_state.specs.Judging.{IsMeasured}
-use Rattle.mh_state.proofs.JudgeLemmas.{measured_event, record_rule, none_judged, judged_more, first_bad}
+use Rattle.mh_state.proofs.JudgeLemmas.{measured_event, judged_lawful, shown_all, shown_more}
 use Rattle.mh_state.proofs.judge.audit.Goals as goal
 
-pub loop-index-init : goal.loop-index-init
-loop-index-init c = rw c.in_ok-machine.ensures (none_judged c.args.config measured_event IsMeasured (IsLegalRecord c.args.config) (record_rule c.args.config))
+pub loop-measured-preserved : goal.loop-measured-preserved
+loop-measured-preserved c =
+    shown_more c.args.config measured_event (IsLegalRecord c.args.config) c.args.entries.now c.loop-measured.measured-index c.measured-item.result c.loop-measured.judge _ (omega arith) c.measured-item.is (c.in_ok-measured.ensures.seen c.args.config) c.loop-measured.invariant
 
-pub returns-then-not-branch-clause-bad : goal.returns-then-not-branch-clause-bad
-returns-then-not-branch-clause-bad c =
-    first_bad c.args.config measured_event IsMeasured (IsLegalRecord c.args.config) (record_rule c.args.config) c.args.entries.now c.loop-index.index c.index-entries-index.result _ c.try_measured.new.machine
-    (omega arith) c.index-entries-index.is c.loop-index.invariant (rw c.if-not-branch.true at c.in_ok-try_measured.ensures)
+pub returns-in-FirstBad-clause-bad : goal.returns-in-FirstBad-clause-bad
+returns-in-FirstBad-clause-bad c =
+    c.in-FirstBad.ensures.measured c.args.config c.args.entries.now
+    (shown_all c.args.config measured_event (IsLegalRecord c.args.config) c.args.entries.now c.loop-measured.measured-index c.loop-measured.judge (omega arith) c.loop-measured.invariant)
 
-pub loop-index-preserved : goal.loop-index-preserved
-loop-index-preserved c =
-    judged_more c.args.config measured_event IsMeasured (IsLegalRecord c.args.config) (record_rule c.args.config) c.args.entries.now c.loop-index.index c.index-entries-index.result _ c.try_measured.new.machine
-    (omega arith) c.index-entries-index.is c.loop-index.invariant (rw c.if-not-branch.false at c.in_ok-try_measured.ensures)
-
-pub returns-clause-legal : goal.returns-clause-legal
-returns-clause-legal c =
-    let whole : take c.loop-index.index c.args.entries.now ≡ c.args.entries.now = take_all c.loop-index.index c.args.entries.now (omega arith) in
-    subst (IsLegalRecord c.args.config) whole c.loop-index.invariant.lawful
+pub returns : goal.returns
+returns c = record {
+  legal = judged_lawful (IsLegalRecord c.args.config) c.args.entries.now c.verdict.result c.in_default.not-FirstBad (c.verdict.ensures.measured c.args.config c.args.entries.now
+      (shown_all c.args.config measured_event (IsLegalRecord c.args.config) c.args.entries.now c.loop-measured.measured-index c.loop-measured.judge (omega arith) c.loop-measured.invariant));
+  bad = tt;
+}
