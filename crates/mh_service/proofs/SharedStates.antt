@@ -1,5 +1,5 @@
 -- What the laws tell of the stored state under the lock, and of the call of a seat.
-use Rattle.std.proofs.Common.{arith, ◌≡◌, ◌++◌, [], ◌∷◌, ◌≤◌, List, length, get_or, Some, map, All, Result, Ok, Err, MatchResult, IsErr, refl, ap, sym, ◌∙◌, subst}
+use Rattle.std.proofs.Common.{arith, ◌≡◌, ◌++◌, [], ◌∷◌, List, length, get_or, Some, map, All, Result, Ok, Err, MatchResult, IfOk, OnErr, IsErrOf, refl, ap, sym, ◌∙◌, subst}
 use Rattle.std.proofs.lemmas.List.{length-append, map-append}
 use Rattle.mh_lock.specs.Seats.{LockView, LockSeatView, IsKeptAtHome}
 use Rattle.mh_model.specs.declared.command.Event.{Event}
@@ -14,8 +14,13 @@ use Rattle.mh_promise.specs.Replays.{EventsKeepTheReplay, IsReplay}
 use Rattle.mh_seat_laws.specs.Laws.{LogsMergeToTheHistory}
 use Rattle.mh_service.specs.Services.{ServiceView, IsServed, AreMerged}
 use Rattle.mh_service.specs.Sharing.{IsReplayed, IsReplayOf, IsDone, IsRefused}
-use Rattle.mh_state.specs.Storing.{Stored, first_stored, events_of, replies_of, with_entry}
+use Rattle.mh_state.specs.Storing.{Stored, KeepsState, MayWantMemory, first_stored, events_of, replies_of, with_entry}
 use Rattle.mh_state.specs.declared.machine.Stop.{Stop}
+use Rattle.mh_state.specs.declared.machine.Stop.TheVariants as stop
+
+-- a state with the machine and the history of a replay is one too
+pub kept-replayed : (found left : Stored) → IsReplayed found → KeepsState found left → IsReplayed left
+kept-replayed found left is kept = record { replay = rw (kept.machine, kept.history) is.replay; legal = rw (kept.machine, kept.history) is.legal }
 
 module _ (law : EventsKeepTheReplay) where
   pub first-replayed : (config : Config) → IsReplayed (first_stored config)
@@ -41,6 +46,12 @@ module _ (law : EventsKeepTheReplay) where
         legal = legal;
       }
 
+  -- an event that was answered or refused leaves one
+  pub answered-replayed : (found left : Stored) (event : Event) (answer : Result Reply Stop) → IsReplayed found → MatchResult answer (λ reply. IsDone event found reply left) (λ reason. IsRefused event found reason left)
+      → left.machine.heap.config ≡ found.machine.heap.config → IsLegal left.machine.heap.config left.history → IsReplayed left
+  answered-replayed found left event (Ok given) is done same legal = done-replayed found left event given is done.step done.entered same legal
+  answered-replayed found left event (Err reason) is refused same legal = kept-replayed found left is refused.unchanged
+
   pub replayed-of : (stored : Stored) → IsReplayed stored → IsReplayOf stored.machine.heap.config stored
   replayed-of stored is =
       let config : Config = stored.machine.heap.config in record {
@@ -50,17 +61,28 @@ module _ (law : EventsKeepTheReplay) where
         promise = law.promise config (events_of stored.history) (replies_of stored.history) stored.machine is.replay;
       }
 
--- a full history refuses an event
-full-refuses : (config : Config) (event : Event) (answer : Result Reply Stop) (found left : Stored) → IsLegal config left.history → MatchResult answer (λ reply. IsDone event found reply left) (λ reason. IsRefused found reason left) → length found.history ≡ most_entries → IsErr answer
+-- what the state tells of an event
+pub answered : (found left : Stored) (event : Event) (answer : Result Reply Stop) → IfOk answer (λ given. event_step found.machine event ≡ says given left.machine) → IfOk answer (λ given. left.history ≡ with_entry found.history event given)
+    → OnErr answer (KeepsState found left) → (IsErrOf answer stop.HistoryFull → length found.history ≡ most_entries) → (length found.history ≡ most_entries → IsErrOf answer stop.HistoryFull)
+    → (IsErrOf answer stop.NoMemory → MayWantMemory found event) → MatchResult answer (λ reply. IsDone event found reply left) (λ reason. IsRefused event found reason left)
+answered found left event (Ok given) step entered stopped full ends memory = record { step = step; entered = entered }
+answered found left event (Err reason) step entered stopped full ends memory = record {
+  unchanged = stopped;
+  full = (λ is. full (ap Err is), λ is. let told : Err reason ≡ Err stop.HistoryFull = ends is in cc);
+  memory = λ is. memory (ap Err is);
+}
+
+-- a full history is told as full
+full-refuses : (config : Config) (event : Event) (answer : Result Reply Stop) (found left : Stored) → IsLegal config left.history → MatchResult answer (λ reply. IsDone event found reply left) (λ reason. IsRefused event found reason left) → length found.history ≡ most_entries → IsErrOf answer stop.HistoryFull
 full-refuses config event (Ok reply) found left legal done full =
     let entry : Entry = record { event = event; reply = reply } in
     absurd (omega (arith, full, legal.few, ap length done.entered, length-append found.history (entry ∷ [])))
-full-refuses config event (Err reason) found left legal done full = refl
+full-refuses config event (Err reason) found left legal done full = ap Err ((done.full).1 full)
 
 -- what a call that took the lock tells
 pub call-served : (service : ServiceView) (before after : LockSeatView Entry) (event : Event) (answer : Result Reply Stop) (found left : Stored) → found.machine.heap.config ≡ service.config → left.machine.heap.config ≡ service.config
     → IsReplayOf found.machine.heap.config found → IsReplayOf left.machine.heap.config left → before.log ≡ owned_by (λ entry. owner_of entry.event) before.number found.history
-    → after.log ≡ owned_by (λ entry. owner_of entry.event) after.number left.history → MatchResult answer (λ reply. IsDone event found reply left) (λ reason. IsRefused found reason left)
+    → after.log ≡ owned_by (λ entry. owner_of entry.event) after.number left.history → MatchResult answer (λ reply. IsDone event found reply left) (λ reason. IsRefused event found reason left)
     → IsServed service before after event answer
 call-served service before after event answer found left config_found config_left replay_found replay_left log_found log_left done = record {
   found = found;

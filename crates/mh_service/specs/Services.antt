@@ -1,5 +1,5 @@
 -- Services and their seats as contracts see them, and what a service leaves.
-use Rattle.std.specs.Prelude.{◌≡◌, ℕ, List, [], All, Result, MatchResult, IsErr, get_or, length}
+use Rattle.std.specs.Prelude.{◌≡◌, ℕ, List, [], All, Result, MatchResult, IsErrOf, get_or, length}
 use Rattle.atomic_table.specs.Seated.{TableId}
 use Rattle.mh_lock.specs.Seats.{LockSeatView}
 use Rattle.mh_model.specs.declared.command.Event.{Event}
@@ -14,6 +14,7 @@ use Rattle.mh_service.specs.declared.service.Closed.{Closed}
 use Rattle.mh_service.specs.Sharing.{IsReplayOf, IsDone, IsRefused}
 use Rattle.mh_state.specs.Storing.{Stored, replies_of}
 use Rattle.mh_state.specs.declared.machine.Stop.{Stop}
+use Rattle.mh_state.specs.declared.machine.Stop.TheVariants as stop
 
 -- A service: the table of its lock, and its configuration
 pub record ServiceView : Type 0 where
@@ -43,7 +44,7 @@ pub record AreMerged (seats : List (LockSeatView Entry)) (history : List Entry) 
   pub each : All (λ seat. get_or logs seat.number [] ≡ seat.log) seats
   pub merge : IsMerge logs history
 
--- A call that took the lock: it found the replay of a history under the service's configuration, and left the replay of one, in each of which the seat owns just its log. Where it was answered, its event was done in the state found, and where it was refused, that state is left; a full history refuses it
+-- A call that took the lock: it found the replay of a history under the service's configuration, and left the replay of one, in each of which the seat owns just its log. Where it was answered, its event was done in the state found, and where it was refused, that state is left; a full history is told as full
 pub record IsServed (service : ServiceView) (before after : LockSeatView Entry) (event : Event) (answer : Result Reply Stop) : Type 0 where
   pub found : Stored
   pub left : Stored
@@ -51,5 +52,5 @@ pub record IsServed (service : ServiceView) (before after : LockSeatView Entry) 
   pub replay_left : IsReplayOf service.config left
   pub log_found : before.log ≡ owned_by (λ entry. owner_of entry.event) before.number found.history
   pub log_left : after.log ≡ owned_by (λ entry. owner_of entry.event) after.number left.history
-  pub done : MatchResult answer (λ reply. IsDone event found reply left) (λ reason. IsRefused found reason left)
-  pub ends : length found.history ≡ most_entries → IsErr answer
+  pub done : MatchResult answer (λ reply. IsDone event found reply left) (λ reason. IsRefused event found reason left)
+  pub ends : length found.history ≡ most_entries → IsErrOf answer stop.HistoryFull

@@ -1,5 +1,5 @@
 -- The stored state under the lock of a service, and what an event does to it.
-use Rattle.std.specs.Prelude.{◌≡◌, length}
+use Rattle.std.specs.Prelude.{◌≡◌, ◌↔◌, length}
 use Rattle.mh_model.specs.declared.command.Event.{Event}
 use Rattle.mh_model.specs.declared.config.Config.{Config}
 use Rattle.mh_model.specs.declared.reply.Reply.{Reply}
@@ -8,7 +8,7 @@ use Rattle.mh_model.specs.Limits.{most_entries}
 use Rattle.mh_model.specs.Machine.{event_step}
 use Rattle.mh_model.specs.World.{says}
 use Rattle.mh_promise.specs.Replays.{IsReplay}
-use Rattle.mh_state.specs.Storing.{Stored, events_of, replies_of, with_entry, IsTheReplay, KeepsItsPromise}
+use Rattle.mh_state.specs.Storing.{Stored, KeepsState, MayWantMemory, events_of, replies_of, with_entry, IsTheReplay, KeepsItsPromise}
 use Rattle.mh_state.specs.declared.machine.Stop.{Stop}
 use Rattle.mh_state.specs.declared.machine.Stop.TheVariants as stop
 
@@ -29,7 +29,8 @@ pub record IsDone (event : Event) (found : Stored) (given : Reply) (left : Store
   pub step : event_step found.machine event ≡ says given left.machine
   pub entered : left.history ≡ with_entry found.history event given
 
--- An event was refused: the state is unchanged, and its history is full where that is the reason
-pub record IsRefused (found : Stored) (reason : Stop) (left : Stored) : Type 0 where
-  pub unchanged : left ≡ found
-  pub full : reason ≡ stop.HistoryFull → length found.history ≡ most_entries
+-- An event was refused: the state is unchanged; a full history is the reason just where it is full, and want of memory only where the event may ask for memory
+pub record IsRefused (event : Event) (found : Stored) (reason : Stop) (left : Stored) : Type 0 where
+  pub unchanged : KeepsState found left
+  pub full : (reason ≡ stop.HistoryFull) ↔ (length found.history ≡ most_entries)
+  pub memory : reason ≡ stop.NoMemory → MayWantMemory found event

@@ -3,7 +3,6 @@ ghost use Rattle.std.specs.Prelude.{◌≡◌, IfOk, MatchResult};
 ghost use Rattle.mh_service.specs.Sharing.{IsDone, IsRefused, IsReplayOf};
 ghost use Rattle.mh_state.specs.Storing.{first_stored};
 
-use crate::twice::Twice;
 use mh_lock::entries::{Entries, Work};
 use mh_model::command::Event;
 use mh_model::config::Config;
@@ -11,7 +10,7 @@ use mh_model::history::Entry;
 use mh_model::memory::NoMemory;
 use mh_promise::replays::events_keep_the_replay;
 use mh_scan::scan::Scanner;
-use mh_state::copies::dump_for;
+use mh_state::copies::Twice;
 use mh_state::machine::Stop;
 use mh_state::state::State;
 use std::alloc::Global;
@@ -65,7 +64,6 @@ impl Shared {
 
 /// One event, done by a scanner of the calling thread.
 pub(crate) struct Job<'a, S> {
-    pub(crate) alloc: Global,
     pub(crate) event: Event,
     pub(crate) scanner: &'a mut S,
 }
@@ -75,22 +73,13 @@ impl<'a, S: Scanner> Work<Shared, Entry> for Job<'a, S> {
 
     type Refusal = Stop;
 
-    ghost entry = { λ job twice. record { event = job.event; reply = twice.given } };
+    ghost entry = { λ job twice. record { event = job.event; reply = twice } };
 
-    ghost does = { λ job found answer left. IsReplayOf found.machine.heap.config found × IsReplayOf left.machine.heap.config left × MatchResult answer (λ twice. IsDone job.event found twice.given left) (λ stop. IsRefused found stop left) };
+    ghost does = { λ job found answer left. IsReplayOf found.machine.heap.config found × IsReplayOf left.machine.heap.config left × MatchResult answer (λ reply. IsDone job.event found reply left) (λ stop. IsRefused job.event found stop left) };
 
-    // The memory for the log's copy is taken before the event is done.
     fn run(self, shared: &mut Shared) -> Result<Twice, Stop> {
         events_keep_the_replay();
-        let Job {
-            alloc,
-            event,
-            scanner,
-        } = self;
-        let Ok(dump) = dump_for(alloc, shared.state.machine(), event) else {
-            return Err(Stop::NoMemory);
-        };
-        let given = shared.state.apply(event, scanner)?;
-        Ok(Twice::new(given, dump))
+        let Job { event, scanner } = self;
+        shared.state.apply_with_copy(event, scanner)
     }
 }

@@ -6,4 +6,3 @@ pub mod seat;
 pub mod service;
 #[cfg(test)]
 mod tests;
-mod twice;

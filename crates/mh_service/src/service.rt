@@ -128,7 +128,6 @@ impl<'a, G: CrewGate> Service<'a, G> {
         }
         let mut scanner = CrewScan::new(rt, self.alloc, self.workers, self.gate);
         let job = Job {
-            alloc: self.alloc,
             event,
             scanner: &mut scanner,
         };

@@ -1,5 +1,5 @@
 -- Histories with an entry more.
-use Rattle.std.proofs.Common.{◌≡◌, ◌≢◌, ◌≤◌, List, [], ◌∷◌, ◌++◌, length, sym, ap, ◌∙◌, subst, arith}
+use Rattle.std.proofs.Common.{◌≡◌, ◌≢◌, ◌≤◌, ℕ, List, [], ◌∷◌, ◌++◌, length, sym, ap, ◌∙◌, subst, arith}
 use Rattle.std.proofs.lemmas.List.{length-append, map-append}
 use Rattle.mh_model.specs.declared.command.Event.{Event}
 use Rattle.mh_model.specs.declared.config.Config.{Config}
@@ -43,8 +43,8 @@ module _ (law : EventsKeepTheReplay) where
       let replay = law.step old.machine.heap.config (events_of history) (replies_of history) old.machine new.machine event given is.replay does.step in
       config-replay old.machine.heap.config (events_of history ++ event ∷ []) (replies_of history ++ given ∷ []) new.machine replay
 
-  pub replayed-stored : (running : Running) (history : List Entry) → IsStored running history → IsTheReplay (record { machine = running.machine; history = history })
-  replayed-stored running history is = law.machines running.machine.heap.config (events_of history) (replies_of history) running.machine is.replay
+  pub replayed-stored : (running : Running) (history : List Entry) (room : ℕ) → IsStored running history → IsTheReplay (record { machine = running.machine; history = history; trace_room = running.room; entry_room = room })
+  replayed-stored running history room is = law.machines running.machine.heap.config (events_of history) (replies_of history) running.machine is.replay
 
-  pub promised-stored : (running : Running) (history : List Entry) → IsStored running history → KeepsItsPromise (record { machine = running.machine; history = history })
-  promised-stored running history is = law.promise running.machine.heap.config (events_of history) (replies_of history) running.machine is.replay
+  pub promised-stored : (running : Running) (history : List Entry) (room : ℕ) → IsStored running history → KeepsItsPromise (record { machine = running.machine; history = history; trace_room = running.room; entry_room = room })
+  promised-stored running history room is = law.promise running.machine.heap.config (events_of history) (replies_of history) running.machine is.replay

@@ -1,5 +1,5 @@
 -- The machine that is stored with the history of what it did.
-use Rattle.std.specs.Prelude.{◌≡◌, List, [], ◌∷◌, ◌++◌, length, map}
+use Rattle.std.specs.Prelude.{◌≡◌, ◌⊎◌, ℕ, List, [], ◌∷◌, ◌++◌, length, map}
 use Rattle.mh_model.specs.declared.command.Event.{Event}
 use Rattle.mh_model.specs.declared.config.Config.{Config}
 use Rattle.mh_model.specs.declared.history.Entry.{Entry}
@@ -9,16 +9,27 @@ use Rattle.mh_model.specs.Machine.{Machine, first_machine}
 use Rattle.mh_promise.specs.Replays.{IsReplay}
 use Rattle.mh_promise.specs.Runs.{outcome_of, IsTheMachines}
 use Rattle.mh_promise.specs.Promise.{IsPromised}
-use Rattle.mh_state.specs.Running.{Running}
+use Rattle.mh_state.specs.Running.{Running, MayAskForMemory}
 
--- the machine, and each event that it did with its reply, in order
+-- The machine, and each event that it did with its reply, in order; how many segments the trace and how many entries the history have room for without asking for memory
 pub record Stored : Type 0 where
   pub machine : Machine
   pub history : List Entry
+  pub trace_room : ℕ
+  pub entry_room : ℕ
 
 -- the first machine, which did none
 abbrev pub first_stored : Config → Stored
-first_stored config = record { machine = first_machine config; history = [] }
+first_stored config = record { machine = first_machine config; history = []; trace_room = 0; entry_room = 0 }
+
+-- machine and history are the same; room is no part of the state
+pub record KeepsState (old new : Stored) : Type 0 where
+  pub machine : new.machine ≡ old.machine
+  pub history : new.history ≡ old.history
+
+-- an event may ask for memory: for itself, or for its entry where the history has no room for one
+abbrev pub MayWantMemory : Stored → Event → Type 0
+MayWantMemory stored event = MayAskForMemory stored.trace_room event ⊎ (stored.entry_room ≡ 0)
 
 abbrev pub events_of : List Entry → List Event
 events_of history = map (λ entry. entry.event) history

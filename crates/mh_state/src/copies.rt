@@ -1,5 +1,7 @@
 //! Copies of replies, for which memory is asked before an event is done.
-ghost use Rattle.std.specs.Prelude.{◌≡◌, IfOk};
+ghost use Rattle.std.specs.Prelude.{◌≡◌, IfOk, OnErr};
+ghost use Rattle.mh_model.specs.declared.command.Control.TheVariants as controls;
+ghost use Rattle.mh_model.specs.declared.command.Event.TheVariants as events;
 ghost use Rattle.mh_model.specs.Machine.{event_step};
 ghost use Rattle.mh_state.specs.Copies.{IsPlain, IsDumpOf};
 
@@ -9,16 +11,73 @@ use mh_model::dump::Dump;
 use mh_model::memory::NoMemory;
 use mh_model::reply::Reply;
 use std::alloc::Global;
+use std::marker::Model;
+
+/// A reply, and an equal one, which shows itself as the reply.
+#[derive(Drop)]
+pub struct Twice {
+    given: Reply,
+    kept: Reply,
+}
+
+impl Model for Twice {
+    ghost use Rattle.std.specs.Prelude.{◌≡◌};
+    ghost use Rattle.mh_model.specs.declared.reply.Reply.{Reply};
+
+    ghost Value = { Reply };
+
+    ghost view = { λ twice. twice.given };
+
+    ghost invariant = { λ twice. twice.kept ≡ twice.given };
+}
+
+impl Twice {
+    /// The reply, and the equal one.
+    pub fn both(self) -> (Reply, Reply)
+        ensures { result ≡ (self, self) }
+    {
+        let Twice { given, kept } = self;
+        (given, kept)
+    }
+}
+
+/// A dump three times over, which shows itself as the dump.
+#[derive(Drop)]
+pub(crate) struct Dumps {
+    given: Dump,
+    kept: Dump,
+    entered: Dump,
+}
+
+impl Model for Dumps {
+    ghost use Rattle.std.specs.Prelude.{◌≡◌, List};
+    ghost use Rattle.mh_model.specs.declared.dump.DumpItem.{DumpItem};
+
+    ghost Value = { List DumpItem };
+
+    ghost view = { λ dumps. dumps.given };
+
+    ghost invariant = { λ dumps. (dumps.kept ≡ dumps.given) × (dumps.entered ≡ dumps.given) };
+}
 
 /// The dump that an event will be answered, where it asks for one.
 #[tactic(auto, unfolding(mh_model::specs::Machine::event_step, mh_model::specs::Machine::control_step))]
-pub fn dump_for(alloc: Global, machine: &Machine, event: Event) -> Result<Option<Dump>, NoMemory>
-    ensures { IfOk result (λ dump. IsDumpOf (event_step machine.now.machine event).reply dump) }
+pub(crate) fn dumps_for(
+    alloc: Global,
+    machine: &Machine,
+    event: Event,
+) -> Result<Option<Dumps>, NoMemory>
+    ensures dumps { IfOk result (λ dumps. IsDumpOf (event_step machine.now.machine event).reply dumps) }
+    ensures memory { OnErr result (event ≡ events.Control controls.Dump) }
 {
     match event {
         Event::Session(_, _) => Ok(None),
         Event::Control(control) => match control {
-            Control::Dump => Ok(Some(machine.heap().dump(alloc)?)),
+            Control::Dump => Ok(Some(Dumps {
+                given: machine.heap().dump(alloc)?,
+                kept: machine.heap().dump(alloc)?,
+                entered: machine.heap().dump(alloc)?,
+            })),
             _ => Ok(None),
         },
     }
@@ -75,13 +134,29 @@ fn plain_copy(reply: &Reply) -> Reply
     }
 }
 
-/// An equal reply, of a dump by the dump that is given. It takes no memory.
-pub fn copy_of(reply: &Reply, dump: Option<Dump>) -> Reply
-    requires { IsDumpOf reply.now dump }
-    ensures { result ≡ reply.now }
+/// A reply for the history and twice over for the caller, of a dump by the dumps that are given. It takes no memory.
+pub(crate) fn copies_of(reply: Reply, dumps: Option<Dumps>) -> (Reply, Twice)
+    requires { IsDumpOf reply dumps }
+    ensures { result ≡ (reply, reply) }
 {
-    match dump {
-        Some(dump) => Reply::Dump(dump),
-        None => plain_copy(reply),
+    match dumps {
+        Some(dumps) => {
+            let Dumps {
+                given,
+                kept,
+                entered,
+            } = dumps;
+            let twice = Twice {
+                given: Reply::Dump(given),
+                kept: Reply::Dump(kept),
+            };
+            (Reply::Dump(entered), twice)
+        }
+        None => {
+            let entered = plain_copy(&reply);
+            let kept = plain_copy(&reply);
+            let twice = Twice { given: reply, kept };
+            (entered, twice)
+        }
     }
 }

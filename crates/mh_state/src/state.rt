@@ -1,19 +1,20 @@
 //! The state: the machine with the history of what it did.
-ghost use Rattle.std.specs.Prelude.{◌≡◌, ◌<◌, IfOk, OnOk, OnErr, IsErrOf, length, vec_len};
+ghost use Rattle.std.specs.Prelude.{◌≡◌, ◌<◌, ◌⊎◌, IfOk, OnOk, OnErr, IsErrOf, length, vec_len};
 ghost use Rattle.std.specs.Vec.{vec_capacity};
+ghost use Rattle.mh_model.specs.declared.command.Control.TheVariants as controls;
+ghost use Rattle.mh_model.specs.declared.command.Event.TheVariants as events;
 ghost use Rattle.mh_model.specs.History.{IsLegal};
 ghost use Rattle.mh_model.specs.Limits.{most_entries};
 ghost use Rattle.mh_model.specs.World.{says};
 ghost use Rattle.mh_model.specs.Machine.{event_step};
 ghost use Rattle.mh_state.specs.Copies.{IsDumpOf};
-ghost use Rattle.mh_state.specs.Storing.{first_stored, with_entry, IsTheReplay, KeepsItsPromise};
+ghost use Rattle.mh_state.specs.Storing.{first_stored, KeepsState, MayWantMemory, with_entry, IsTheReplay, KeepsItsPromise};
 ghost use Rattle.mh_state.specs.declared.machine.Stop.{Stop};
 
-use crate::copies::{copy_of, dump_for};
+use crate::copies::{Dumps, Twice, copies_of, dumps_for};
 use crate::machine::{MOST_EVENTS, Machine, Stop};
 use mh_model::command::Event;
 use mh_model::config::Config;
-use mh_model::dump::Dump;
 use mh_model::history::Entry;
 use mh_model::memory::NoMemory;
 use mh_model::reply::Reply;
@@ -33,28 +34,36 @@ pub struct State {
 }
 
 impl Model for State {
+    ghost use Rattle.std.specs.Prelude.{◌-◌, vec_len};
+    ghost use Rattle.std.specs.Vec.{vec_capacity};
     ghost use Rattle.mh_state.specs.Storing.{Stored, IsStored};
 
     ghost Value = { Stored };
 
-    ghost view = { λ s. record { machine = s.machine.machine; history = s.history.items } };
+    ghost view = { λ s. record {
+      machine = s.machine.machine;
+      history = s.history.items;
+      trace_room = s.machine.room;
+      entry_room = vec_capacity s.history - vec_len s.history;
+    } };
 
     ghost invariant = { λ s. IsStored s.machine s.history.items };
 }
 
-/// Makes room for an entry, and the dump that its event will be answered, where it asks for one.
+/// Makes room for an entry, and the dumps that its event will be answered, where it asks for one.
 fn prepare(
     alloc: Global,
     history: &mut Vec<Entry>,
     machine: &Machine,
     event: Event,
-) -> Result<Option<Dump>, NoMemory>
+) -> Result<Option<Dumps>, NoMemory>
     ensures kept { history.new.items ≡ history.old.items }
     ensures room { OnOk result (vec_len history.new < vec_capacity history.new) }
-    ensures dump { IfOk result (λ dump. IsDumpOf (event_step machine.now.machine event).reply dump) }
+    ensures dumps { IfOk result (λ dumps. IsDumpOf (event_step machine.now.machine event).reply dumps) }
+    ensures memory { OnErr result ((event ≡ events.Control controls.Dump) ⊎ (vec_capacity history.old ≡ vec_len history.old)) }
 {
     history.reserve(1)?;
-    dump_for(alloc, machine, event)
+    dumps_for(alloc, machine, event)
 }
 
 impl State {
@@ -72,13 +81,14 @@ impl State {
 
     /// Does an event and enters it.
     #[tactic(auto, unfolding(mh_model::specs::Limits::most_entries))]
-    fn enter<S: Scanner>(&mut self, event: Event, scanner: &mut S) -> Result<Reply, Stop>
+    fn enter<S: Scanner>(&mut self, event: Event, scanner: &mut S) -> Result<Twice, Stop>
         ensures step { IfOk result (λ reply. event_step self.old.machine event ≡ says reply self.new.machine) }
         ensures entered { IfOk result (λ reply. self.new.history ≡ with_entry self.old.history event reply) }
         ensures config { self.new.machine.heap.config ≡ self.old.machine.heap.config }
-        ensures stopped { OnErr result (self.new ≡ self.old) }
+        ensures stopped { OnErr result (KeepsState self.old self.new) }
         ensures full { IsErrOf result Stop.HistoryFull → length self.old.history ≡ most_entries }
         ensures ends { length self.old.history ≡ most_entries → IsErrOf result Stop.HistoryFull }
+        ensures memory { IsErrOf result Stop.NoMemory → MayWantMemory self.old event }
     {
         events_keep_the_replay();
         if self.history.len() as u64 == MOST_EVENTS {
@@ -86,11 +96,11 @@ impl State {
         }
         match prepare(self.alloc, &mut self.history, &self.machine, event) {
             Err(NoMemory) => Err(Stop::NoMemory),
-            Ok(dump) => {
+            Ok(dumps) => {
                 let reply = self.machine.step(event, scanner)?;
-                let copy = copy_of(&reply, dump);
+                let (copy, twice) = copies_of(reply, dumps);
                 self.history.push_reserved(Entry { event, reply: copy });
-                Ok(reply)
+                Ok(twice)
             }
         }
     }
@@ -111,9 +121,31 @@ impl State {
         ensures step { IfOk result (λ reply. event_step self.old.machine event ≡ says reply self.new.machine) }
         ensures entered { IfOk result (λ reply. self.new.history ≡ with_entry self.old.history event reply) }
         ensures config { self.new.machine.heap.config ≡ self.old.machine.heap.config }
-        ensures stopped { OnErr result (self.new ≡ self.old) }
+        ensures stopped { OnErr result (KeepsState self.old self.new) }
         ensures full { IsErrOf result Stop.HistoryFull → length self.old.history ≡ most_entries }
         ensures ends { length self.old.history ≡ most_entries → IsErrOf result Stop.HistoryFull }
+        ensures memory { IsErrOf result Stop.NoMemory → MayWantMemory self.old event }
+        ensures legal { IsLegal self.new.machine.heap.config self.new.history }
+        ensures replay { IsTheReplay self.new }
+        ensures promise { KeepsItsPromise self.new }
+    {
+        let (reply, _) = self.apply_with_copy(event, scanner)?.both();
+        Ok(reply)
+    }
+
+    /// Does what `apply` does, and answers twice over, for a caller that keeps the reply too.
+    pub fn apply_with_copy<S: Scanner>(
+        &mut self,
+        event: Event,
+        scanner: &mut S,
+    ) -> Result<Twice, Stop>
+        ensures step { IfOk result (λ reply. event_step self.old.machine event ≡ says reply self.new.machine) }
+        ensures entered { IfOk result (λ reply. self.new.history ≡ with_entry self.old.history event reply) }
+        ensures config { self.new.machine.heap.config ≡ self.old.machine.heap.config }
+        ensures stopped { OnErr result (KeepsState self.old self.new) }
+        ensures full { IsErrOf result Stop.HistoryFull → length self.old.history ≡ most_entries }
+        ensures ends { length self.old.history ≡ most_entries → IsErrOf result Stop.HistoryFull }
+        ensures memory { IsErrOf result Stop.NoMemory → MayWantMemory self.old event }
         ensures legal { IsLegal self.new.machine.heap.config self.new.history }
         ensures replay { IsTheReplay self.new }
         ensures promise { KeepsItsPromise self.new }

@@ -1,5 +1,4 @@
 use Rattle.std.proofs.Common.{arith, ◌≡◌, ◌∙◌, ap, sym, subst}
-use Rattle.mh_model.specs.History.{IsLegal}
 use Rattle.mh_service.proofs.ClosedServices.{closed-machine}
 use Rattle.mh_service.specs.Services.{AreMerged}
 use Rattle.mh_service.proofs.SharedStates.{closed-merged}

@@ -1,4 +1,4 @@
-use Rattle.std.proofs.Common.{arith, ◌≡◌, All, ap, sym, subst}
+use Rattle.std.proofs.Common.{arith, All, ap, sym, subst}
 use Rattle.mh_lock.specs.Seats.{IsOf}
 use Rattle.mh_service.proofs.service.Service.open.Goals as goal
 

@@ -1,8 +1,0 @@
-use Rattle.mh_state.proofs.PlainReplies.{session-plain, control-plain}
-use Rattle.mh_state.proofs.copies.dump_for.Goals as goal
-
-pub returns-in-Session : goal.returns-in-Session
-returns-in-Session c = rw c.in-Session.is (session-plain c.args.machine.now.machine c.in-Session.field-0 c.in-Session.field-1)
-
-pub returns-in_default : goal.returns-in_default
-returns-in_default c = rw c.in-Control.is (control-plain c.args.machine.now.machine c.in-Control.control c.in_default.not-Dump)
