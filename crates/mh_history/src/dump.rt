@@ -173,7 +173,7 @@ pub fn dump_of(alloc: Global, words: Words<'_>) -> Result<Option<Reply>, NoMemor
         return Ok(None);
     }
     match items_of(alloc, words)? {
-        Some(items) => Ok(Some(Reply::Dump(Dump::new(items)))),
+        Some(items) => Ok(Some(Reply::Dump(Dump::new(alloc, items)?))),
         None => Ok(None),
     }
 }

@@ -1,6 +1,9 @@
-ghost use Rattle.std.specs.Prelude.{◌≡◌};
+ghost use Rattle.std.specs.Prelude.{◌≡◌, IfOk};
 
+use crate::memory::NoMemory;
+use std::alloc::Global;
 use std::marker::Model;
+use std::sync::Arc;
 
 /// One item of a dump: a page in use, or a block or forwarder of the page before it.
 #[derive(Clone, Copy, Debug, PartialEq, Eq)]
@@ -23,26 +26,28 @@ pub enum DumpItem {
     },
 }
 
-/// What the table of blocks holds: each page in use, followed by its blocks.
+/// What the table of blocks holds: each page in use, followed by its blocks. A dump and its clones share the items.
 #[derive(Clone, Debug, Drop)]
 pub struct Dump {
-    items: Vec<DumpItem>,
+    items: Arc<Vec<DumpItem>, Global>,
 }
 
 impl Model for Dump {
     ghost use Rattle.std.specs.Prelude.{List};
+    ghost use Rattle.std.specs.Arc.{arc_value};
     ghost use Rattle.mh_model.specs.declared.dump.DumpItem.{DumpItem};
 
     ghost Value = { List DumpItem };
 
-    ghost view = { λ dump. dump.items.items };
+    ghost view = { λ dump. (arc_value dump.items).items };
 }
 
 impl Dump {
-    pub fn new(items: Vec<DumpItem>) -> Dump
-        ensures { result ≡ items.items }
+    pub fn new(alloc: Global, items: Vec<DumpItem>) -> Result<Dump, NoMemory>
+        ensures { IfOk result (λ dump. dump ≡ items.items) }
     {
-        Dump { items }
+        let items = Arc::new(alloc, items)?;
+        Ok(Dump { items })
     }
 
     pub fn items(&self) -> &[DumpItem]

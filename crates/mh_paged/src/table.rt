@@ -81,5 +81,5 @@ pub(crate) fn dump(alloc: Global, blocks: &Blocks) -> Result<Dump, NoMemory>
     for page in 0..blocks.len() {
         add_page(&mut items, blocks, page)?;
     }
-    Ok(Dump::new(items))
+    Dump::new(alloc, items)
 }

@@ -41,7 +41,7 @@ impl Twice {
     }
 }
 
-/// A dump three times over, which shows itself as the dump.
+/// A dump three times over, which shows itself as the dump. The three share their items.
 #[derive(Drop)]
 pub(crate) struct Dumps {
     given: Dump,
@@ -60,6 +60,18 @@ impl Model for Dumps {
     ghost invariant = { λ dumps. (dumps.kept ≡ dumps.given) × (dumps.entered ≡ dumps.given) };
 }
 
+impl Dumps {
+    fn new(given: Dump) -> Result<Dumps, NoMemory>
+        ensures { IfOk result (λ dumps. dumps ≡ given) }
+    {
+        Ok(Dumps {
+            kept: given.clone()?,
+            entered: given.clone()?,
+            given,
+        })
+    }
+}
+
 /// The dump that an event will be answered, where it asks for one.
 #[tactic(auto, unfolding(mh_model::specs::Machine::event_step, mh_model::specs::Machine::control_step))]
 pub(crate) fn dumps_for(
@@ -73,11 +85,7 @@ pub(crate) fn dumps_for(
     match event {
         Event::Session(_, _) => Ok(None),
         Event::Control(control) => match control {
-            Control::Dump => Ok(Some(Dumps {
-                given: machine.heap().dump(alloc)?,
-                kept: machine.heap().dump(alloc)?,
-                entered: machine.heap().dump(alloc)?,
-            })),
+            Control::Dump => Ok(Some(Dumps::new(machine.heap().dump(alloc)?)?)),
             _ => Ok(None),
         },
     }

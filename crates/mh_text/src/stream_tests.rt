@@ -222,7 +222,7 @@ fn the_text_of_a_dump(rt: HostRuntime) -> Result<(), Fail> {
     shows(
         &rt,
         rt.alloc(),
-        Reply::Dump(Dump::new(Vec::new(rt.alloc()))),
+        Reply::Dump(Dump::new(rt.alloc(), Vec::new(rt.alloc()))?),
         "dump",
     )?;
     let page = |page, is_flagged| DumpItem::Page {
@@ -250,7 +250,7 @@ fn the_text_of_a_dump(rt: HostRuntime) -> Result<(), Fail> {
     shows(
         &rt,
         rt.alloc(),
-        Reply::Dump(Dump::new(items.to_vec(rt.alloc())?)),
+        Reply::Dump(Dump::new(rt.alloc(), items.to_vec(rt.alloc())?)?),
         "dump P0 C64 - 0=0.0 1=4.0 P1 C64 + 0>0.1",
     )
 }
