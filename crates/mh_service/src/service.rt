@@ -106,8 +106,8 @@ impl<'a, G: CrewGate> Service<'a, G> {
     }
 
     /// Does an event of the seat's, alone, with the quantum that it makes due, and enters it in the seat's log. It waits
-    /// while another call runs. Room in the log is made before that, and the memory for a dump's copy before the event is
-    /// done.
+    /// while another call runs. Room in the log is made before that, and the memory for a dump before the event is done; the
+    /// history, the log and the reply share a dump's items.
     pub fn call<R: Threads + Wait>(
         &self,
         rt: &R,
