@@ -10,8 +10,7 @@ use Rattle.mh_program.specs.declared.fault.LineFault.TheVariants as line
 use Rattle.mh_program.specs.declared.line.Order.{Order}
 use Rattle.mh_program.specs.declared.line.Order.TheVariants.{Run, Race, Check, Audit, Migrate}
 use Rattle.mh_program.specs.Shown.{IsShown}
-use Rattle.mh_model.specs.HistoryTexts.{IsAudited, IsChecked}
-use Rattle.mh_script.specs.Judged.{IsJudging, IsMigrating}
+use Rattle.mh_script.specs.Judged.{IsAuditing, IsChecking, IsMigrating}
 use Rattle.mh_script.specs.Raced.{IsRaceRun}
 use Rattle.mh_script.specs.Run.{Device, IsRun}
 use Rattle.mh_program.specs.Status.{status_of, verdict_status_of, line_status_of}
@@ -63,7 +62,7 @@ pub record Declines (source source' sink sink' errors errors' : Device) (fault :
 abbrev pub Serves : Result Order LineFault → (source source' sink sink' errors errors' : Device) → ℕ → Type 0
 Serves (Ok (Run workers)) source source' sink sink' errors errors' status = Obeys (IsRun source source' sink sink') status_of errors errors' status
 Serves (Ok (Race workers)) source source' sink sink' errors errors' status = Obeys (IsRaceRun source source' sink sink') status_of errors errors' status
-Serves (Ok (Check config)) source source' sink sink' errors errors' status = Obeys (IsJudging (IsChecked config) 1073741824 source source' sink sink') verdict_status_of errors errors' status
-Serves (Ok Audit) source source' sink sink' errors errors' status = Obeys (IsJudging IsAudited 2147483648 source source' sink sink') verdict_status_of errors errors' status
+Serves (Ok (Check config)) source source' sink sink' errors errors' status = Obeys (IsChecking config source source' sink sink') verdict_status_of errors errors' status
+Serves (Ok Audit) source source' sink sink' errors errors' status = Obeys (IsAuditing source source' sink sink') verdict_status_of errors errors' status
 Serves (Ok (Migrate config)) source source' sink sink' errors errors' status = Obeys (IsMigrating config source source' sink sink') verdict_status_of errors errors' status
 Serves (Err fault) source source' sink sink' errors errors' status = Declines source source' sink sink' errors errors' fault status

@@ -8,8 +8,7 @@ ghost use Rattle.mh_program.specs.Program.{fault_text, Obeys, Serves, Tells, Tel
 ghost use Rattle.mh_program.specs.Shown.{IsShown};
 ghost use Rattle.mh_program.specs.Status.{status_of, verdict_status_of};
 ghost use Rattle.mh_model.specs.declared.config.Rules.TheVariants.{First};
-ghost use Rattle.mh_model.specs.HistoryTexts.{IsAudited, IsChecked};
-ghost use Rattle.mh_script.specs.Judged.{IsJudging, IsMigrating};
+ghost use Rattle.mh_script.specs.Judged.{IsAuditing, IsChecking, IsMigrating};
 ghost use Rattle.mh_script.specs.Raced.{IsRaceRun};
 ghost use Rattle.mh_script.specs.Run.{device, IsRun};
 
@@ -150,7 +149,7 @@ fn check<S: Source, W: Sink, E: Sink>(
     requires source_count { S.failures source.old < 2 ^ 62 }
     requires sink_count { W.failures sink.old < 2 ^ 62 }
     requires errors_count { E.failures errors.old < 2 ^ 62 }
-    ensures { Obeys (IsJudging (IsChecked config) 1073741824
+    ensures { Obeys (IsChecking config
         (device (S.rest source.old) (S.failures source.old)) (device (S.rest source.new) (S.failures source.new))
         (device (W.written sink.old) (W.failures sink.old)) (device (W.written sink.new) (W.failures sink.new))) verdict_status_of
         (device (E.written errors.old) (E.failures errors.old)) (device (E.written errors.new) (E.failures errors.new)) result }
@@ -170,7 +169,7 @@ fn audit<S: Source, W: Sink, E: Sink>(
     requires source_count { S.failures source.old < 2 ^ 62 }
     requires sink_count { W.failures sink.old < 2 ^ 62 }
     requires errors_count { E.failures errors.old < 2 ^ 62 }
-    ensures { Obeys (IsJudging IsAudited 2147483648
+    ensures { Obeys (IsAuditing
         (device (S.rest source.old) (S.failures source.old)) (device (S.rest source.new) (S.failures source.new))
         (device (W.written sink.old) (W.failures sink.old)) (device (W.written sink.new) (W.failures sink.new))) verdict_status_of
         (device (E.written errors.old) (E.failures errors.old)) (device (E.written errors.new) (E.failures errors.new)) result }

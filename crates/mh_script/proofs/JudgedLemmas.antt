@@ -1,13 +1,19 @@
 -- Verdicts on the whole text of a source, of which a text was read.
-use Rattle.std.proofs.Common.{◌≡◌}
+use Rattle.std.proofs.Common.{◌≡◌, ◌∙◌, ℕ, List, ap, refl}
 use Rattle.std.specs.Prelude.{Option}
 use Rattle.std.specs.Io.KnownBytes.{Appends}
 use Rattle.mh_model.specs.declared.config.Config.{Config}
+use Rattle.mh_model.specs.declared.history.Entry.{Entry}
+use Rattle.mh_model.specs.declared.history.Measured.{Measured}
 use Rattle.mh_model.specs.declared.history.Verdict.{Verdict}
+use Rattle.mh_model.specs.declared.history.Verdict.TheVariants.{Refused}
+use Rattle.mh_model.specs.History.{IsLegal}
 use Rattle.mh_model.specs.Bytes.{Text, line_text}
-use Rattle.mh_model.specs.HistoryTexts.{IsAudited, IsChecked, history_reading, recorded_reading, verdict_text}
+use Rattle.mh_model.specs.HistoryTexts.{IsAudited, IsChecked, IsLegalRecord, history_reading, recorded_reading, verdict_text}
+use Rattle.mh_model.specs.Script.{Reading, BadLine, Means}
+use Rattle.mh_history.specs.Beginnings.{with_header}
 use Rattle.mh_text.specs.Stream.{AppendsBeginning}
-use Rattle.mh_script.specs.Judged.{BeginsToJudge, Judges}
+use Rattle.mh_script.specs.Judged.{BeginsToJudge, IsVerdictOn, Judges}
 use Rattle.mh_script.proofs.AddedLines.{AppendsBeginning-nothing}
 use Rattle.mh_script.proofs.SourceLemmas.{Reads, some_text}
 
@@ -20,6 +26,27 @@ checked_by config a b verdict same h = rw same h
 
 pub audited_by : GoesBy recorded_reading IsAudited
 audited_by a b verdict same h = rw same h
+
+-- what is found of the entries that are read is the verdict on their text
+pub checked_verdict : (config : Config) (text : Text) (r : Reading (List Entry)) (verdict : Verdict) → history_reading text ≡ r → IsVerdictOn (IsLegal config) r verdict → IsChecked config text verdict
+checked_verdict config text (BadLine line) verdict is found = rw is found
+checked_verdict config text (Means entries) verdict is found = rw is found
+
+pub checked_refused : (config : Config) (text : Text) (line : ℕ) → history_reading text ≡ BadLine line → IsChecked config text (Refused line)
+checked_refused config text line is = rw is refl
+
+pub checked_bad : (config : Config) (text : Text) (r : Reading (List Entry)) (line : ℕ) → history_reading text ≡ r → r ≡ BadLine line → IsChecked config text (Refused line)
+checked_bad config text r line is bad = checked_refused config text line (is ∙ bad)
+
+pub audited_verdict : (config : Config) (text : Text) (r : Reading (List Measured)) (verdict : Verdict) → recorded_reading text ≡ with_header config r → IsVerdictOn (IsLegalRecord config) r verdict → IsAudited text verdict
+audited_verdict config text (BadLine line) verdict is found = rw is found
+audited_verdict config text (Means entries) verdict is found = rw is found
+
+pub audited_refused : (text : Text) (line : ℕ) → recorded_reading text ≡ BadLine line → IsAudited text (Refused line)
+audited_refused text line is = rw is refl
+
+pub audited_bad : (config : Config) (text : Text) (r : Reading (List Measured)) (line : ℕ) → recorded_reading text ≡ with_header config r → r ≡ BadLine line → IsAudited text (Refused line)
+audited_bad config text r line is bad = audited_refused text line (is ∙ ap (with_header config) bad)
 
 -- nothing is a beginning of the line of any verdict
 pub begins_to_judge_nothing : (Judged : Text → Verdict → Type 0) → ((text : Text) → (verdict : Verdict) × Judged text verdict) → (known a : Option Text) → BeginsToJudge Judged known a a

@@ -6,4 +6,5 @@ pub mod MachineLemmas
 pub mod MigratedLemmas
 pub mod RacedLemmas
 pub mod RunLemmas
+pub mod ShownLemmas
 pub mod SourceLemmas

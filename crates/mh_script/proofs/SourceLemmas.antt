@@ -12,7 +12,7 @@ use Rattle.mh_model.specs.Script.{Reading, Meaning, Means, BadLine, reading}
 use Rattle.mh_model.proofs.ScriptLemmas.{reading-long}
 use Rattle.mh_text.specs.Stream.{AppendsBeginning}
 use Rattle.mh_script.specs.Run.{Outputs, WritesBeginning}
-use Rattle.mh_script.specs.Texts.{IsTextOf}
+use Rattle.mh_script.specs.Texts.{IsTextOf, WantsMemory, ForText}
 
 -- Texts ------------------------------------------------------------------------------------------
 
@@ -70,6 +70,11 @@ reads-consumed read most bounded (Some bytes) (Some left) text consumed whole =
 pub reads_slice : {R : Type 0} (read : Text → R) (most : ℕ) → IsBounded read most → (known rest : Option Text) (items text : Text) → text ≡ items → Consumes known rest items
     → (length items ≤ most → IsAtEnd rest) → Reads read known text
 reads_slice read most bounded known rest items text same consumed whole = subst (Reads read known) (sym same) (reads-consumed read most bounded known rest items consumed whole)
+
+-- memory was wanting for a text that was read whole
+pub wants_text : (Begins : Text → Type 0) (most : ℕ) (known rest : Option Text) (items text : Text) → text ≡ items → Consumes known rest items → (length items ≤ most → IsAtEnd rest) → length text ≤ most → Begins text
+    → WantsMemory Begins known rest
+wants_text Begins most known rest items text same consumed whole short begins = ForText items consumed (whole (omega (arith, ap length same, short))) (subst Begins same begins)
 
 -- a source has some text
 pub some_text : (known : Option Text) → (text : Text) × IsTextOf known text

@@ -1,18 +1,25 @@
 -- What calls that judge or migrate a history have written.
-use Rattle.std.specs.Prelude.{◌≡◌, ◌≢◌, ℕ, Option, Result, Err, IfOk, OnErr, IsErrOf}
+use Rattle.std.specs.Prelude.{◌≡◌, ◌≢◌, ℕ, List, Option, Result, Err, IfOk, OnErr, IsErrOf}
 use Rattle.std.specs.Io.KnownBytes.{Appends, Keeps}
 use Rattle.mh_model.specs.declared.config.Config.{Config}
 use Rattle.mh_model.specs.declared.history.Verdict.{Verdict}
-use Rattle.mh_model.specs.declared.history.Verdict.TheVariants.{Legal}
+use Rattle.mh_model.specs.declared.history.Verdict.TheVariants.{Legal, Refused}
 use Rattle.mh_model.specs.Bytes.{Text, line_text}
-use Rattle.mh_model.specs.HistoryTexts.{IsAudited, IsChecked, IsMigratedTo, history_reading, migration_text, verdict_text}
+use Rattle.mh_model.specs.HistoryTexts.{IsAudited, IsChecked, IsJudged, IsMigratedTo, history_reading, migration_text, verdict_text}
+use Rattle.mh_model.specs.Script.{Reading, BadLine, Means}
 use Rattle.mh_text.specs.Stream.{AppendsBeginning}
+use Rattle.mh_history.specs.Beginnings.{BeginsWithEntry, BeginsWithMeasured}
 use Rattle.mh_script.specs.declared.fault.ScriptFault.{ScriptFault}
 use Rattle.mh_script.specs.declared.fault.ScriptFault.TheVariants.{Read, NoMemory, HistoryFull}
 use Rattle.mh_script.specs.Run.{Device}
-use Rattle.mh_script.specs.Texts.{Blames, IsTextOf, LeavesSource}
+use Rattle.mh_script.specs.Texts.{Blames, IsTextOf, LeavesSource, WantsMemory}
 
 -- Judged -----------------------------------------------------------------------------------------
+
+-- the verdict on entries that are read, by a rule for lists of them: the bad line, or what is found of the entries
+abbrev pub IsVerdictOn : {X : Type 0} → (List X → Type 0) → Reading (List X) → Verdict → Type 0
+IsVerdictOn Lawful (BadLine line) verdict = verdict ≡ Refused line
+IsVerdictOn Lawful (Means entries) verdict = IsJudged Lawful entries verdict
 
 -- by a judgement, this is the verdict on the text of a source; its line was written, and nothing else
 pub record Judges (Judged : Text → Verdict → Type 0) (known old new : Option Text) (verdict : Verdict) : Type 0 where
@@ -57,15 +64,24 @@ pub record BeginsToMigrate (config : Config) (known old new : Option Text) : Typ
 
 -- Ended ------------------------------------------------------------------------------------------
 
--- A history of a source was judged, of so many bytes at most, and how that ended
-pub record IsJudging (Judged : Text → Verdict → Type 0) (most : ℕ) (source source' sink sink' : Device) (ended : Result Verdict ScriptFault) : Type 0 where
+-- A history of a source was judged, of so many bytes at most and with such a beginning where memory is taken for it, and how that ended
+pub record IsJudging (Judged : Text → Verdict → Type 0) (Begins : Text → Type 0) (most : ℕ) (source source' sink sink' : Device) (ended : Result Verdict ScriptFault) : Type 0 where
   pub judged : IfOk ended (Judges Judged source.bytes sink.bytes sink'.bytes)
   pub begun : OnErr ended (BeginsToJudge Judged source.bytes sink.bytes sink'.bytes)
   pub never_full : ended ≢ Err HistoryFull
   pub unread : IsErrOf ended Read → Keeps sink.bytes sink'.bytes
   pub unjudged : IsErrOf ended NoMemory → Keeps sink.bytes sink'.bytes
+  pub memory : IsErrOf ended NoMemory → WantsMemory Begins source.bytes source'.bytes
   pub taken : LeavesSource most source.bytes source'.bytes ended
   pub blames : Blames source.failures source'.failures sink.failures sink'.failures ended
+
+-- A history of version 1 was judged under a configuration, and how that ended
+abbrev pub IsChecking : Config → (source source' sink sink' : Device) → Result Verdict ScriptFault → Type 0
+IsChecking config = IsJudging (IsChecked config) BeginsWithEntry 1073741824
+
+-- a history of version 2 was judged, and how that ended
+abbrev pub IsAuditing : (source source' sink sink' : Device) → Result Verdict ScriptFault → Type 0
+IsAuditing = IsJudging IsAudited BeginsWithMeasured 2147483648
 
 -- A history of a source was migrated, and how that ended
 pub record IsMigrating (config : Config) (source source' sink sink' : Device) (ended : Result Verdict ScriptFault) : Type 0 where

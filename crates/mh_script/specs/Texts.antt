@@ -4,7 +4,7 @@ use Rattle.std.specs.Io.KnownBytes.{Appends, Consumes, IsAtEnd}
 use Rattle.mh_model.specs.Bytes.{Text}
 use Rattle.mh_state.specs.declared.machine.Stop.{Stop}
 use Rattle.mh_state.specs.declared.machine.Stop.TheVariants as stop
-use Rattle.mh_text.specs.Stream.{ConsumesBeginning}
+use Rattle.mh_text.specs.Stream.{ConsumesBeginning, ConsumesSome}
 use Rattle.mh_script.specs.declared.fault.ScriptFault.{ScriptFault}
 use Rattle.mh_script.specs.declared.fault.ScriptFault.TheVariants.{Read, Write, NoMemory, HistoryFull}
 use Rattle.mh_script.specs.declared.fault.WriteError.{WriteError}
@@ -27,6 +27,11 @@ abbrev pub LeavesSource : {X : Type 0} → ℕ → Option Text → Option Text �
 LeavesSource most old new (Err Read) = ConsumesBeginning old new
 LeavesSource most old new (Err NoMemory) = ConsumesBeginning old new
 LeavesSource most old new _ = ReadsText most old new
+
+-- Memory was wanting for bytes that a source gave, or for what its whole text is or begins with
+pub data WantsMemory (Begins : Text → Type 0) (old new : Option Text) : Type 0 where
+  ForBytes : ConsumesSome old new → WantsMemory Begins old new
+  ForText : (text : Text) → Consumes old new text → IsAtEnd new → Begins text → WantsMemory Begins old new
 
 -- by their counts of failures a device failed only where it is blamed
 abbrev pub Blames : {X : Type 0} → (source source' sink sink' : ℕ) → Result X ScriptFault → Type 0

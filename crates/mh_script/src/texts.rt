@@ -1,11 +1,11 @@
 //! Texts that are read whole, and written by lines through a buffer.
-ghost use Rattle.std.specs.Prelude.{◌≡◌, ◌<◌, ◌≤◌, ◌^◌, [], length, IfOk, OnOk, OnErr};
+ghost use Rattle.std.specs.Prelude.{◌≡◌, ◌<◌, ◌≤◌, ◌^◌, [], length, IfOk, OnOk, OnErr, IsErrOf};
 ghost use Rattle.std.specs.Io.KnownBytes.{Appends, Consumes, IsAtEnd};
 ghost use Rattle.std.specs.String.{string_bytes};
 ghost use Rattle.mh_model.specs.Bytes.{line_text};
 ghost use Rattle.mh_model.specs.HistoryTexts.{verdict_text};
 ghost use Rattle.mh_script.specs.Texts.{BlamesSource, Buffers};
-ghost use Rattle.mh_text.specs.Stream.{AppendsBeginning, ConsumesBeginning};
+ghost use Rattle.mh_text.specs.Stream.{AppendsBeginning, ConsumesBeginning, ConsumesSome};
 
 use crate::fault::ScriptFault;
 use arrayvec::ArrayString;
@@ -33,6 +33,7 @@ pub(crate) fn read_whole<S: Source>(
     ensures read { IfOk result (λ text. Consumes (S.rest source.old) (S.rest source.new) text.items) }
     ensures whole { IfOk result (λ text. length text.items ≤ most → IsAtEnd (S.rest source.new)) }
     ensures begun { OnErr result (ConsumesBeginning (S.rest source.old) (S.rest source.new)) }
+    ensures took { IsErrOf result ScriptFault.NoMemory → ConsumesSome (S.rest source.old) (S.rest source.new) }
     ensures blames { BlamesSource (S.failures source.old) (S.failures source.new) result }
 {
     match read_text(alloc, source, most) {
