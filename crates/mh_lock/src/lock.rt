@@ -173,6 +173,11 @@ impl<T: Entries<E> + Drop, E: Owned> Lock<T, E> {
         }
     }
 
+    #[cfg(test)]
+    pub(crate) fn sleepers(&self) -> u64 {
+        self.sleepers.load(SeqCst)
+    }
+
     // Waits until the value is at home, and takes it.
     fn take<A: About<T::Origin>, R: Wait>(&self, rt: &R, seat: &mut Seat<T, SeatView<E, T::Origin>>)
         requires about { A.about ≡ Some (self.now.seats, self.now.origin) }

@@ -7,6 +7,8 @@ use crate::seat::LockSeat;
 use mh_model::memory::NoMemory;
 use std::alloc::{AllocError, Global};
 use std::sync::Wait;
+use std::sync::atomic::AtomicU64;
+use std::sync::atomic::Ordering::SeqCst;
 use std::test::Fail;
 use std::thread;
 use std::thread::Threads;
@@ -251,5 +253,133 @@ fn each_thread_that_sleeps_is_woken(rt: HostRuntime) -> Result<(), Fail> {
     for by in 0..3 {
         assert!(rt; are_in_order(&marks, by, SLOW));
     }
+    Ok(())
+}
+
+const ROUNDS: u64 = 2_000;
+
+/// Where two threads meet before each round, and how many calls got the value.
+#[derive(Drop)]
+struct Rounds {
+    arrived: AtomicU64,
+    got: AtomicU64,
+}
+
+fn wait_for(counter: &AtomicU64, count: u64) {
+    for _ in 0..u64::MAX {
+        if counter.load(SeqCst) >= count {
+            return;
+        }
+        thread::yield_now();
+    }
+}
+
+impl Rounds {
+    /// Waits until both threads have come to a round, and the second also until the first has the value.
+    fn begin(&self, round: u64, by: u64) {
+        let before = round.saturating_mul(2);
+        self.arrived.fetch_add(1, SeqCst);
+        wait_for(&self.arrived, before.saturating_add(2));
+        if by != 0 {
+            wait_for(&self.got, before.saturating_add(1));
+        }
+    }
+}
+
+/// Waits until a thread is counted as asleep, which it may be about to be, and then for some looks more.
+fn wait_for_a_sleeper(lock: &Lock<Marks, Mark>, looks: u64) {
+    for turn in 0..u64::MAX {
+        if lock.sleepers() != 0 {
+            break;
+        }
+        if turn % 1_000 == 999 {
+            thread::yield_now();
+        }
+    }
+    for _ in 0..looks {
+        let _ = lock.sleepers();
+    }
+}
+
+/// Adds a mark. The first seat's call gives the value back just as the other's falls asleep.
+#[derive(Clone, Copy)]
+struct AddInRound<'a> {
+    mark: Mark,
+    rounds: &'a Rounds,
+    lock: &'a Lock<Marks, Mark>,
+}
+
+impl Work<Marks, Mark> for AddInRound<'_> {
+    type Reply = ();
+
+    type Refusal = AllocError;
+
+    ghost entry = { λ add _. add.mark };
+
+    ghost does = { λ _ before _ after. after.name ≡ before.name };
+
+    fn run(self, value: &mut Marks) -> Result<(), AllocError> {
+        self.rounds.got.fetch_add(1, SeqCst);
+        if self.mark.by == 0 {
+            wait_for_a_sleeper(self.lock, self.mark.count % 64);
+        }
+        Ok(value.list.push(self.mark)?)
+    }
+}
+
+/// A call in each round.
+fn call_in_rounds<R: Wait>(
+    rt: &R,
+    lock: &Lock<Marks, Mark>,
+    seat: &mut LockSeat<Marks, Mark>,
+    rounds: &Rounds,
+)
+    requires { IsOf lock.now seat.old }
+    ensures { IsOf lock.now seat.new }
+{
+    for round in 0..ROUNDS {
+        let mark = Mark {
+            by: seat.number(),
+            count: round,
+        };
+        rounds.begin(round, mark.by);
+        let add = AddInRound { mark, rounds, lock };
+        let _ = lock.call(rt, seat, add);
+    }
+}
+
+fn call_by_two<R: Threads + Wait + Sync>(
+    rt: &R,
+    lock: &Lock<Marks, Mark>,
+    seats: &mut [LockSeat<Marks, Mark>],
+    rounds: &Rounds,
+)
+    requires { All (IsOf lock.now) seats.old }
+    ensures { All (IsOf lock.now) seats.new }
+{
+    let one = |_index: usize, seat: &mut LockSeat<Marks, Mark>|
+        requires { IsOf lock.now seat.now }
+    { call_in_rounds(rt, lock, seat, rounds) };
+    thread::for_each_mut(rt, seats, 2, &one);
+}
+
+/// A sleeper whose wake is lost sleeps for ever, since the other thread waits for it before it calls again. So does the
+/// first thread where the other sleeps uncounted. The test is then ended after 60 seconds.
+#[test]
+fn no_wake_is_lost(rt: HostRuntime) -> Result<(), Fail> {
+    let alloc = rt.alloc();
+    let (lock, mut seats) = Lock::<Marks, Mark>::open(alloc, no_marks(alloc), 2)?;
+    let rounds = Rounds {
+        arrived: AtomicU64::new(0),
+        got: AtomicU64::new(0),
+    };
+    call_by_two(&rt, &lock, &mut seats, &rounds);
+    let Ok(marks) = lock.close(seats) else {
+        panic!(rt; "not closed")
+    };
+    for (index, mark) in marks.list.iter().enumerate() {
+        assert_eq!(rt; (mark.by, mark.count), (index as u64 % 2, index as u64 / 2));
+    }
+    assert_eq!(rt; marks.list.len() as u64, 2 * ROUNDS);
     Ok(())
 }

@@ -1,0 +1,123 @@
+//! A gate that watches the workers of crews.
+
+use crate::tally::Tally;
+use arrayvec::ArrayVec;
+use mh_blocks::blocks::Blocks;
+use mh_claims::gate::Gate;
+use mh_model::memory::NoMemory;
+use mh_model::place::Place;
+use mh_scan::crew;
+use mh_scan::crew_scan::CrewGate;
+use std::alloc::Global;
+use std::sync::atomic::AtomicU64;
+use std::sync::atomic::Ordering::SeqCst;
+use std::thread::Threads;
+
+/// How many places a piece has.
+const PIECE: usize = 16;
+
+/// How many pieces a batch has at most.
+const MOST_PIECES: usize = 64;
+
+/// A gate that sees which pieces of each batch pass, and with which workers. Where a batch has more than one piece it holds
+/// each piece until as many workers as are wanted have one. A crew of fewer threads is held for ever, and its test is ended
+/// after 60 seconds.
+#[derive(Drop)]
+pub struct Watch {
+    wanted: u32,
+    pieces_now: AtomicU64,
+    pieces: Tally,
+    workers: Tally,
+    passed: AtomicU64,
+    cut: AtomicU64,
+    faults: AtomicU64,
+}
+
+/// What a gate has seen: how many pieces passed, how many batches had more than one, and how many batches were at fault.
+/// A batch is at fault where some piece didn't pass just once, or where it had fewer workers than are wanted, or one whose
+/// number isn't below the most that there may be.
+#[derive(Clone, Copy, Debug, PartialEq, Eq)]
+pub struct Seen {
+    pub passed: u64,
+    pub cut: u64,
+    pub faults: u64,
+}
+
+/// How many workers a batch of so many pieces may have: no more than pieces, and one for each sixteen pieces begun beside
+/// the calling thread.
+fn most_workers(workers: usize, count: u32) -> u32 {
+    let most = count.min(1 + count.div_ceil(16)) as usize;
+    workers.min(most) as u32
+}
+
+impl Watch {
+    /// At least so many workers are to share each batch of more than one piece.
+    pub fn new(wanted: u32) -> Watch {
+        Watch {
+            wanted,
+            pieces_now: AtomicU64::new(0),
+            pieces: Tally::new(),
+            workers: Tally::new(),
+            passed: AtomicU64::new(0),
+            cut: AtomicU64::new(0),
+            faults: AtomicU64::new(0),
+        }
+    }
+
+    pub fn seen(&self) -> Seen {
+        Seen {
+            passed: self.passed.load(SeqCst),
+            cut: self.cut.load(SeqCst),
+            faults: self.faults.load(SeqCst),
+        }
+    }
+
+    fn begin(&self, count: u32) {
+        self.pieces.clear();
+        self.workers.clear();
+        self.pieces_now.store(u64::from(count), SeqCst);
+        if count > 1 {
+            self.cut.fetch_add(1, SeqCst);
+        }
+    }
+
+    fn end(&self, workers: usize, count: u32) {
+        let most = most_workers(workers, count);
+        let is_right = self.pieces.is_each_once(count)
+            && self.workers.is_below(most)
+            && self.workers.kinds() >= self.wanted.min(most);
+        if !is_right {
+            self.faults.fetch_add(1, SeqCst);
+        }
+    }
+}
+
+impl Gate for Watch {
+    fn piece(&self, worker: usize, piece: u64) {
+        self.passed.fetch_add(1, SeqCst);
+        self.pieces.add(piece);
+        self.workers.add(worker as u64);
+        if self.pieces_now.load(SeqCst) > 1 {
+            self.workers.wait_for(self.wanted);
+        }
+    }
+
+    fn session(&self, _who: u8) {}
+}
+
+impl CrewGate for Watch {
+    fn scan_by_crew<R: Threads>(
+        &self,
+        rt: &R,
+        alloc: Global,
+        workers: usize,
+        blocks: &Blocks,
+        batch: &[Place],
+    ) -> Result<Vec<ArrayVec<Option<Place>, 60>>, NoMemory> {
+        let count = batch.len().div_ceil(PIECE).min(MOST_PIECES) as u32;
+        self.begin(count);
+        let found = crew::scan(rt, alloc, workers, self, blocks, batch);
+        self.end(workers, count);
+        found
+    }
+}
