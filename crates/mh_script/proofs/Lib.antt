@@ -1,4 +1,5 @@
 pub mod AddedLines
+pub mod AgainLemmas
 pub mod BufferLemmas
 pub mod FaultLemmas
 pub mod JudgedLemmas

@@ -1,5 +1,6 @@
 -- What migration makes of a text, and of the whole text of a source of which it was read.
-use Rattle.std.proofs.Common.{◌≡◌, ◌∙◌, ℕ, List, ap, refl, subst, sym}
+use Rattle.std.proofs.Common.{◌≡◌, ◌∙◌, ◌<◌, ◌≤◌, ℕ, Bool, true, false, inl, inr, List, length, nat_lt, ap, arith, refl, subst, sym}
+use Rattle.std.proofs.lemmas.Bool.Decides.{nat_tests}
 use Rattle.std.specs.Prelude.{Option}
 use Rattle.std.specs.Io.KnownBytes.{Appends}
 use Rattle.mh_model.specs.declared.config.Config.{Config}
@@ -13,7 +14,8 @@ use Rattle.mh_model.specs.HistoryTexts.{IsChecked, IsJudged, history_reading, mi
 use Rattle.mh_model.specs.Script.{Reading, BadLine, Means}
 use Rattle.mh_text.specs.Stream.{AppendsBeginning}
 use Rattle.mh_text_laws.specs.Migration.{MigratedTextsAreLegal, TextsAreMigrated}
-use Rattle.mh_script.specs.Judged.{BeginsMigration, BeginsToMigrate, Migrates, MigratesText}
+use Rattle.mh_history.proofs.HistoryLemmas.{history_long}
+use Rattle.mh_script.specs.Judged.{BeginsMigration, BeginsToMigrate, Migrates, MigratesText, TakesToMigrate}
 use Rattle.mh_script.proofs.AddedLines.{AppendsBeginning-nothing}
 use Rattle.mh_script.proofs.JudgedLemmas.{checked_by}
 use Rattle.mh_script.proofs.SourceLemmas.{Reads, some_text}
@@ -25,22 +27,29 @@ pub record Makes (config : Config) (text : Text) (verdict : Verdict) (whole : Te
   pub checked : IsChecked config text verdict
   pub same : migration_text config verdict (history_reading text) ≡ whole
 
-pub makes_refusal : (config : Config) (text : Text) (line : ℕ) → history_reading text ≡ BadLine line → Makes config text (Refused line) (line_text (verdict_text (Refused line)))
-makes_refusal config text line is = record { checked = rw is refl; same = refl }
+pub makes_record : (config : Config) (text : Text) (entries : List Entry) (count : ℕ) → history_reading text ≡ Means entries → IsChecked config text (Legal count)
+    → Makes config text (Legal count) (recorded_text (migrated config entries))
+makes_record config text entries count is checked = record { checked = checked; same = rw is refl }
 
-pub makes_record : (config : Config) (text : Text) (entries shown written : List Entry) (count : ℕ) → history_reading text ≡ Means entries → shown ≡ entries → written ≡ entries
-    → IsJudged (IsLegal config) shown (Legal count) → Makes config text (Legal count) (recorded_text (migrated config written))
-makes_record config text entries shown written count is same also h =
-    let judged : IsJudged (IsLegal config) entries (Legal count) = subst (λ (es : List Entry). IsJudged (IsLegal config) es (Legal count)) same h in
-    record { checked = rw is judged; same = rw is (ap (λ (es : List Entry). recorded_text (migrated config es)) (sym also)) }
+pub makes_line : (config : Config) (text : Text) (verdict : Verdict) → ((count : ℕ) → verdict ≡ Legal count → ⊥) → IsChecked config text verdict → Makes config text verdict (line_text (verdict_text verdict))
+makes_line config text (Refused line) other checked = record { checked = checked; same = refl }
+makes_line config text (Legal count) other checked = absurd (other count refl)
+makes_line config text (FirstBad number) other checked = record { checked = checked; same = refl }
 
-pub makes_line : (config : Config) (text : Text) (entries shown : List Entry) (verdict : Verdict) → history_reading text ≡ Means entries → shown ≡ entries
-    → ((count : ℕ) → verdict ≡ Legal count → ⊥) → IsJudged (IsLegal config) shown verdict → Makes config text verdict (line_text (verdict_text verdict))
-makes_line config text entries shown (Refused line) is same other h = absurd h
-makes_line config text entries shown (Legal count) is same other h = absurd (other count refl)
-makes_line config text entries shown (FirstBad number) is same other h =
-    let judged : IsJudged (IsLegal config) entries (FirstBad number) = subst (λ (es : List Entry). IsJudged (IsLegal config) es (FirstBad number)) same h in
-    record { checked = rw is judged; same = refl }
+-- the entries of a text that is found legal
+pub record LegalEntries (config : Config) (text : Text) : Type 0 where
+  pub entries : List Entry
+  pub means : history_reading text ≡ Means entries
+  pub legal : IsLegal config entries
+
+legal_by : (config : Config) (text : Text) (count : ℕ) (r : Reading (List Entry)) → history_reading text ≡ r → IsChecked config text (Legal count) → LegalEntries config text
+legal_by config text count (BadLine line) is checked = let other : Legal count ≡ Refused line = rw is at checked in cc
+legal_by config text count (Means entries) is checked =
+    let judged : IsJudged (IsLegal config) entries (Legal count) = rw is at checked in
+    record { entries = entries; means = is; legal = judged.0 }
+
+pub legal_entries : (config : Config) (text : Text) (count : ℕ) → IsChecked config text (Legal count) → LegalEntries config text
+legal_entries config text count checked = legal_by config text count (history_reading text) refl checked
 
 module _ {config : Config} {text : Text} {verdict : Verdict} {whole : Text} (makes : Makes config text verdict whole) where
   pub migrates_text : (old new : Option Text) → Appends old new whole → MigratesText config text old new verdict
@@ -59,6 +68,18 @@ pub begins_migration_nothing : TextsAreMigrated → (config : Config) (text : Te
 begins_migration_nothing some config text a =
     let made = some config text in
     record { whole = made.0; migrated = made.1; wrote = AppendsBeginning-nothing a _ }
+
+-- a text for which memory is taken is not too long
+pub takes_short : (text : Text) → TakesToMigrate text → length text ≤ 1073741824
+takes_short text (inl begins) = begins.short
+takes_short text (inr history) = go (nat_lt 1073741824 (length text)) refl where
+  go : (b : Bool) → nat_lt 1073741824 (length text) ≡ b → length text ≤ 1073741824
+  go true is =
+      let long : 1073741824 < length text = grind (arith, nat_tests) in
+      let refused : history_reading text ≡ BadLine 0 = history_long text long in
+      let other : BadLine 0 ≡ Means history.0 = sym refused ∙ history.1 in
+      cc
+  go false is = grind (arith, nat_tests)
 
 -- Sources ----------------------------------------------------------------------------------------
 

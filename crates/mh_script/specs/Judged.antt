@@ -1,7 +1,8 @@
 -- What calls that judge or migrate a history have written.
-use Rattle.std.specs.Prelude.{◌≡◌, ◌≢◌, ℕ, List, Option, Result, Err, IfOk, OnErr, IsErrOf}
+use Rattle.std.specs.Prelude.{◌≡◌, ◌≢◌, ◌⊎◌, ℕ, List, Option, Result, Err, IfOk, OnErr, IsErrOf}
 use Rattle.std.specs.Io.KnownBytes.{Appends, Keeps}
 use Rattle.mh_model.specs.declared.config.Config.{Config}
+use Rattle.mh_model.specs.declared.history.Entry.{Entry}
 use Rattle.mh_model.specs.declared.history.Verdict.{Verdict}
 use Rattle.mh_model.specs.declared.history.Verdict.TheVariants.{Legal, Refused}
 use Rattle.mh_model.specs.Bytes.{Text, line_text}
@@ -37,6 +38,10 @@ pub record BeginsToJudge (Judged : Text → Verdict → Type 0) (known old new :
   pub wrote : AppendsBeginning old new (line_text (verdict_text verdict))
 
 -- Migrated ---------------------------------------------------------------------------------------
+
+-- a text for which migration takes memory: it begins with an entry, or is a history
+abbrev pub TakesToMigrate : Text → Type 0
+TakesToMigrate text = BeginsWithEntry text ⊎ ((entries : List Entry) × (history_reading text ≡ Means entries))
 
 -- this is the verdict on a text, and what migration then makes of it was written, and nothing else
 pub record MigratesText (config : Config) (text : Text) (old new : Option Text) (verdict : Verdict) : Type 0 where

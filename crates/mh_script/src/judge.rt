@@ -2,7 +2,7 @@
 ghost use Rattle.std.specs.Prelude.{◌≡◌, ◌≢◌, ◌<◌, ◌^◌, [], IfOk, IfErr, OnErr, IsErrOf};
 ghost use Rattle.std.specs.Io.KnownBytes.{Keeps};
 ghost use Rattle.mh_model.specs.History.{IsLegal};
-ghost use Rattle.mh_model.specs.HistoryTexts.{IsAudited, IsChecked, IsJudged, IsLegalRecord};
+ghost use Rattle.mh_model.specs.HistoryTexts.{IsAudited, IsChecked, IsLegalRecord};
 ghost use Rattle.mh_model.specs.declared.config.Config.{Config};
 ghost use Rattle.mh_state.specs.Judging.{HasSeenEntries, HasSeenMeasured};
 ghost use Rattle.mh_text.specs.TextErrors.{Refuses};
@@ -18,7 +18,7 @@ use mh_history::record::{RECORD_BYTES, record_lines};
 use mh_model::config::Config;
 use mh_model::history::{Entry, Measured, Verdict};
 use mh_model::memory::NoMemory;
-use mh_state::judge::{CheckFault, Judge, check};
+use mh_state::judge::Judge;
 use mh_text::device::DeviceFailed;
 use mh_text::pieces::Lines;
 use mh_text::sink::Sink;
@@ -26,21 +26,6 @@ use mh_text::source::Source;
 use mh_text::text_error::TextError;
 use mh_text_laws::verdicts::{texts_are_audited, texts_are_checked};
 use std::alloc::Global;
-
-/// The verdict on the entries of a history, which are replayed with one worker.
-pub(crate) fn verdict_on_entries(
-    alloc: Global,
-    config: Config,
-    entries: &[Entry],
-) -> Result<Verdict, NoMemory>
-    ensures { IfOk result (IsJudged (IsLegal config) entries.now) }
-{
-    match check(alloc, config, entries) {
-        Ok(()) => Ok(Verdict::Legal(entries.len() as u64)),
-        Err(CheckFault::FirstBad(number)) => Ok(Verdict::FirstBad(number)),
-        Err(CheckFault::NoMemory) => Err(NoMemory),
-    }
-}
 
 /// Shows a judge an entry of version 1, and then those that are left, each as it is read.
 fn replay_entries(
@@ -62,11 +47,7 @@ fn replay_entries(
 
 /// The verdict on the entries that are left of a history of version 1. No machine is opened before there is one.
 #[tactic(auto, using(crate::proofs::ShownLemmas::none_legal, mh_history::proofs::LineLemmas::taken_entry))]
-fn judge_entries(
-    alloc: Global,
-    config: Config,
-    mut lines: Lines<'_>,
-) -> Result<Verdict, TextError>
+fn judge_entries(alloc: Global, config: Config, mut lines: Lines<'_>) -> Result<Verdict, TextError>
     ensures verdict { IfOk result (IsVerdictOn (IsLegal config) (entries_left entry_line lines.entry)) }
     ensures line { IfErr result (Refuses (entries_left entry_line lines.entry)) }
     ensures memory { IsErrOf result TextError.NoMemory → HasEntry entry_line lines.entry }
@@ -98,11 +79,7 @@ fn replay_measured(
 
 /// The same of a history of version 2.
 #[tactic(auto, using(crate::proofs::ShownLemmas::none_legal_record, mh_history::proofs::LineLemmas::taken_entry))]
-fn judge_measured(
-    alloc: Global,
-    config: Config,
-    mut lines: Lines<'_>,
-) -> Result<Verdict, TextError>
+fn judge_measured(alloc: Global, config: Config, mut lines: Lines<'_>) -> Result<Verdict, TextError>
     ensures verdict { IfOk result (IsVerdictOn (IsLegalRecord config) (entries_left measured_line lines.entry)) }
     ensures line { IfErr result (Refuses (entries_left measured_line lines.entry)) }
     ensures memory { IsErrOf result TextError.NoMemory → HasEntry measured_line lines.entry }

@@ -3,22 +3,22 @@ ghost use Rattle.std.specs.Prelude.{◌≡◌, ◌≢◌, ◌<◌, ◌^◌, IfOk
 ghost use Rattle.std.specs.Io.KnownBytes.{Appends, Keeps};
 ghost use Rattle.mh_model.specs.declared.config.Rules.TheVariants.{First};
 ghost use Rattle.mh_model.specs.Bytes.{line_text};
-ghost use Rattle.mh_model.specs.HistoryTexts.{verdict_text};
+ghost use Rattle.mh_model.specs.declared.history.Verdict.{Verdict};
+ghost use Rattle.mh_model.specs.HistoryTexts.{IsChecked, verdict_text};
 ghost use Rattle.mh_text.specs.Stream.{AppendsBeginning};
-ghost use Rattle.mh_script.specs.Judged.{BeginsMigration, BeginsToMigrate, Migrates, MigratesText};
-ghost use Rattle.mh_script.specs.Texts.{Blames, BlamesSink, LeavesSource};
+ghost use Rattle.mh_script.specs.Judged.{BeginsMigration, BeginsToMigrate, Migrates, MigratesText, TakesToMigrate};
+ghost use Rattle.mh_script.specs.Texts.{Blames, BlamesSink, LeavesSource, WantsMemory};
 
 use crate::fault::ScriptFault;
-use crate::judge::verdict_on_entries;
-use crate::record::write_record;
+use crate::judge::verdict_on_history;
+use crate::record::write_lines;
 use crate::texts::{read_whole, write_verdict};
-use mh_history::history::{HISTORY_BYTES, parse_history};
+use mh_history::history::{HISTORY_BYTES, history_lines};
 use mh_model::config::Config;
 use mh_model::history::Verdict;
 use mh_text::device::DeviceFailed;
 use mh_text::sink::Sink;
 use mh_text::source::Source;
-use mh_text::text_error::TextError;
 use mh_text_laws::migration::{migrated_texts_are_legal, texts_are_migrated};
 use std::alloc::Global;
 
@@ -28,12 +28,35 @@ fn write_unmigrated<W: Sink>(verdict: Verdict, sink: &mut W) -> Result<Verdict, 
     ensures done { IfOk result (λ told. (told ≡ verdict) × Appends (W.written sink.old) (W.written sink.new) (line_text (verdict_text verdict))) }
     ensures begun { OnErr result (AppendsBeginning (W.written sink.old) (W.written sink.new) (line_text (verdict_text verdict))) }
     ensures never_full { result ≢ Err ScriptFault.HistoryFull }
+    ensures never_starved { IsErrOf result ScriptFault.NoMemory → ⊥ }
     ensures blames { BlamesSink (W.failures sink.old) (W.failures sink.new) result }
 {
     match write_verdict(verdict, sink) {
         Ok(()) => Ok(verdict),
         Err(DeviceFailed) => Err(ScriptFault::Write),
     }
+}
+
+/// Writes a legal history of so many entries as version 2. It is read once more, entry by entry.
+fn write_legal<W: Sink>(
+    alloc: Global,
+    config: Config,
+    text: &[u8],
+    count: u64,
+    sink: &mut W,
+) -> Result<Verdict, ScriptFault>
+    requires legal { IsChecked config text.now (Verdict.Legal count) }
+    requires failures { W.failures sink.old < 2 ^ 62 }
+    ensures done { IfOk result (MigratesText config text.now (W.written sink.old) (W.written sink.new)) }
+    ensures begun { OnErr result (BeginsMigration config text.now (W.written sink.old) (W.written sink.new)) }
+    ensures never_full { result ≢ Err ScriptFault.HistoryFull }
+    ensures blames { BlamesSink (W.failures sink.old) (W.failures sink.new) result }
+{
+    let Ok(lines) = history_lines(text) else {
+        unreachable!();
+    };
+    write_lines(alloc, config, lines, sink)?;
+    Ok(Verdict::Legal(count))
 }
 
 /// Writes what migration makes of a text.
@@ -47,19 +70,12 @@ fn write_migrated<W: Sink>(
     ensures done { IfOk result (MigratesText config text.now (W.written sink.old) (W.written sink.new)) }
     ensures begun { OnErr result (BeginsMigration config text.now (W.written sink.old) (W.written sink.new)) }
     ensures never_full { result ≢ Err ScriptFault.HistoryFull }
+    ensures memory { IsErrOf result ScriptFault.NoMemory → TakesToMigrate text.now }
     ensures blames { BlamesSink (W.failures sink.old) (W.failures sink.new) result }
 {
     texts_are_migrated();
-    let entries = match parse_history(alloc, text) {
-        Ok(entries) => entries,
-        Err(TextError::Line(line)) => return write_unmigrated(Verdict::Refused(line), sink),
-        Err(TextError::NoMemory) => return Err(ScriptFault::NoMemory),
-    };
-    match verdict_on_entries(alloc, config, entries.as_slice())? {
-        Verdict::Legal(count) => {
-            write_record(alloc, config, entries.as_slice(), sink)?;
-            Ok(Verdict::Legal(count))
-        }
+    match verdict_on_history(alloc, config, text)? {
+        Verdict::Legal(count) => write_legal(alloc, config, text, count, sink),
         verdict => write_unmigrated(verdict, sink),
     }
 }
@@ -78,6 +94,7 @@ pub fn migrate_script<S: Source, W: Sink>(
     ensures begun { OnErr result (BeginsToMigrate config (S.rest source.old) (W.written sink.old) (W.written sink.new)) }
     ensures never_full { result ≢ Err ScriptFault.HistoryFull }
     ensures unread { IsErrOf result ScriptFault.Read → Keeps (W.written sink.old) (W.written sink.new) }
+    ensures memory { IsErrOf result ScriptFault.NoMemory → WantsMemory TakesToMigrate (S.rest source.old) (S.rest source.new) }
     ensures taken { LeavesSource HISTORY_BYTES (S.rest source.old) (S.rest source.new) result }
     ensures blames { Blames (S.failures source.old) (S.failures source.new) (W.failures sink.old) (W.failures sink.new) result }
 {
