@@ -62,11 +62,7 @@ fn replay_entries(
 
 /// The verdict on the entries that are left of a history of version 1. No machine is opened before there is one.
 #[tactic(auto, using(crate::proofs::ShownLemmas::none_legal, mh_history::proofs::LineLemmas::taken_entry))]
-fn judge_entries(
-    alloc: Global,
-    config: Config,
-    mut lines: Lines<'_>,
-) -> Result<Verdict, TextError>
+fn judge_entries(alloc: Global, config: Config, mut lines: Lines<'_>) -> Result<Verdict, TextError>
     ensures verdict { IfOk result (IsVerdictOn (IsLegal config) (entries_left entry_line lines.entry)) }
     ensures line { IfErr result (Refuses (entries_left entry_line lines.entry)) }
     ensures memory { IsErrOf result TextError.NoMemory → HasEntry entry_line lines.entry }
@@ -98,11 +94,7 @@ fn replay_measured(
 
 /// The same of a history of version 2.
 #[tactic(auto, using(crate::proofs::ShownLemmas::none_legal_record, mh_history::proofs::LineLemmas::taken_entry))]
-fn judge_measured(
-    alloc: Global,
-    config: Config,
-    mut lines: Lines<'_>,
-) -> Result<Verdict, TextError>
+fn judge_measured(alloc: Global, config: Config, mut lines: Lines<'_>) -> Result<Verdict, TextError>
     ensures verdict { IfOk result (IsVerdictOn (IsLegalRecord config) (entries_left measured_line lines.entry)) }
     ensures line { IfErr result (Refuses (entries_left measured_line lines.entry)) }
     ensures memory { IsErrOf result TextError.NoMemory → HasEntry measured_line lines.entry }

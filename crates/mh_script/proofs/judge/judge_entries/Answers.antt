@@ -4,8 +4,8 @@ use Rattle.mh_script.proofs.judge.judge_entries.Goals as goal
 pub returns-clause-verdict : goal.returns-clause-verdict
 returns-clause-verdict c =
     if_ok_by c.replay_entries.result
-        (λ verdict judged. verdict_taken _ _ _ _ _ verdict (rw c.in-Some.is at c.in_ok-first.ensures.taken) (judged c.args.config c.in_ok-judge.ensures.entries))
-        c.replay_entries.ensures.verdict
+    (λ verdict judged. verdict_taken _ _ _ _ _ verdict (rw c.in-Some.is at c.in_ok-first.ensures.taken) (judged c.args.config c.in_ok-judge.ensures.entries))
+    c.replay_entries.ensures.verdict
 
 pub returns-clause-line : goal.returns-clause-line
 returns-clause-line c =
