@@ -205,34 +205,37 @@ impl Write for Troubled<'_> {
     }
 }
 
-/// A reader and a writer of std of which each other call is interrupted, the first among them.
+/// A reader and a writer of std of which so many calls in a row are interrupted before each one that isn't.
 #[derive(Drop)]
 pub struct Interrupted<'a> {
     pub bytes: &'a [u8],
     pub taken: Vec<u8>,
     pub most: usize,
+    pub in_a_row: u64,
     pub calls: u64,
 }
 
 impl<'a> Interrupted<'a> {
-    pub fn reader(alloc: Global, bytes: &'a [u8], most: usize) -> Interrupted<'a> {
+    pub fn reader(alloc: Global, bytes: &'a [u8], most: usize, in_a_row: u64) -> Interrupted<'a> {
         Interrupted {
             bytes,
             taken: Vec::new(alloc),
             most,
+            in_a_row,
             calls: 0,
         }
     }
 
-    pub fn writer(alloc: Global, most: usize) -> Interrupted<'static> {
-        Interrupted::reader(alloc, b"", most)
+    pub fn writer(alloc: Global, most: usize, in_a_row: u64) -> Interrupted<'static> {
+        Interrupted::reader(alloc, b"", most, in_a_row)
     }
 
     fn room(&mut self, wanted: usize) -> io::Result<usize> {
-        self.calls = self.calls.wrapping_add(1);
-        if self.calls % 2 == 1 {
+        if self.calls < self.in_a_row {
+            self.calls += 1;
             return Err(io::Error::from(ErrorKind::Interrupted));
         }
+        self.calls = 0;
         Ok(wanted.min(self.most))
     }
 }

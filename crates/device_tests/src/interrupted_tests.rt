@@ -10,15 +10,16 @@ use std::process::Abort;
 use std::sync::Wait;
 use std::thread::Threads;
 
-/// A reader and a writer that are interrupted at each other call, and take and give at most `most` bytes at the others.
-fn interrupt_each_other_call<R: Threads + Wait + Sync + Abort>(
+/// A reader and a writer that are interrupted so often in a row, and then take and give at most `most` bytes.
+fn interrupt_in_a_row<R: Threads + Wait + Sync + Abort>(
     rt: &R,
     alloc: Global,
     case: &Case<'_>,
     most: usize,
+    in_a_row: u64,
 ) {
-    let mut source = StdSource::new(Interrupted::reader(alloc, case.input, most));
-    let mut sink = StdSink::new(Interrupted::writer(alloc, most));
+    let mut source = StdSource::new(Interrupted::reader(alloc, case.input, most, in_a_row));
+    let mut sink = StdSink::new(Interrupted::writer(alloc, most, in_a_row));
     let ended = case.perform(rt, alloc, &mut source, &mut sink);
     assert_eq!(rt; ended, Ok(case.ended));
     assert!(rt; case.is_output(sink.writer.taken.as_slice()));
@@ -28,9 +29,11 @@ fn interrupt_each_other_call<R: Threads + Wait + Sync + Abort>(
 #[test]
 fn interruptions_change_nothing(rt: HostRuntime) {
     for case in cases::all() {
-        interrupt_each_other_call(&rt, rt.alloc(), &case, 1);
-        interrupt_each_other_call(&rt, rt.alloc(), &case, 7);
-        interrupt_each_other_call(&rt, rt.alloc(), &case, usize::MAX);
+        for in_a_row in [1, 10] {
+            interrupt_in_a_row(&rt, rt.alloc(), &case, 1, in_a_row);
+            interrupt_in_a_row(&rt, rt.alloc(), &case, 7, in_a_row);
+            interrupt_in_a_row(&rt, rt.alloc(), &case, usize::MAX, in_a_row);
+        }
     }
 }
 

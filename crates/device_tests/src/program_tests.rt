@@ -179,22 +179,26 @@ fn refused_words_leave_both_devices(rt: HostRuntime) -> Result<(), Fail> {
     Ok(())
 }
 
+/// The program on devices that are interrupted so often in a row.
+fn interrupt_the_program<R: Threads + Wait + Sync + Abort>(
+    rt: &R,
+    alloc: Global,
+    case: &Case<'_>,
+    in_a_row: u64,
+) {
+    let mut source = StdSource::new(Interrupted::reader(alloc, case.input, 1, in_a_row));
+    let mut sink = StdSink::new(Interrupted::writer(alloc, 1, in_a_row));
+    let mut errors = StdSink::new(Interrupted::writer(alloc, 1, in_a_row));
+    let status = status_of(rt, alloc, case.task, &mut source, &mut sink, &mut errors);
+    assert_eq!(rt; status, wanted_status(case.ended));
+    assert!(rt; case.is_output(sink.writer.taken.as_slice()));
+    assert!(rt; errors.writer.taken.is_empty());
+}
+
 #[test]
 fn interrupted_devices_change_nothing(rt: HostRuntime) {
     for case in cases::all() {
-        let mut source = StdSource::new(Interrupted::reader(rt.alloc(), case.input, 1));
-        let mut sink = StdSink::new(Interrupted::writer(rt.alloc(), 1));
-        let mut errors = StdSink::new(Interrupted::writer(rt.alloc(), 1));
-        let status = status_of(
-            &rt,
-            rt.alloc(),
-            case.task,
-            &mut source,
-            &mut sink,
-            &mut errors,
-        );
-        assert_eq!(rt; status, wanted_status(case.ended));
-        assert!(rt; case.is_output(sink.writer.taken.as_slice()));
-        assert!(rt; errors.writer.taken.is_empty());
+        interrupt_the_program(&rt, rt.alloc(), &case, 1);
+        interrupt_the_program(&rt, rt.alloc(), &case, 10);
     }
 }
