@@ -28,6 +28,8 @@ mod history_limit_tests;
 #[cfg(test)]
 mod history_number_tests;
 #[cfg(test)]
+mod late_tests;
+#[cfg(test)]
 mod limit_tests;
 #[cfg(test)]
 mod long_rows;
