@@ -11,7 +11,7 @@ returns-then-not-branch-clause-seen c = rw (← c.self.view_is) (λ config seen 
 
 pub returns-else-is_none-clause-seen : goal.returns-else-is_none-clause-seen
 returns-else-is_none-clause-seen c = elim c.else-is_none.branch [
-  else-is_none-via-then-is_none+in_ok-try_measured+else-not-branch w ↦ rw (w.self-is, ← c.self.view_is) (λ config seen has.
+  | else-is_none-via-then-is_none+in_ok-try_measured+else-not-branch w ↦ rw (w.self-is, ← c.self.view_is) (λ config seen has.
       seen_right config measured_event (IsLegalRecord config) seen c.args.measured.now IsMeasured (record_rule config) c.self.inside.machine w.try_measured.new.machine c.self.inside.first_bad
       w.if-is_none.ensures has (rw w.if-not-branch.false at w.in_ok-try_measured.ensures.tried))
   | else-is_none-via-else-is_none w ↦ rw (w.self-is, ← c.self.view_is) (λ config seen has.
