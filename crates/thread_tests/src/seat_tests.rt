@@ -50,7 +50,7 @@ impl Rounds {
     }
 }
 
-/// What a session asks for in a round: it makes objects that lead to one of the next session.
+/// What a session asks for in a round: it makes objects that lead to one which another session posted.
 fn command_of(who: u32, round: u64) -> Command {
     match round % 4 {
         0 => Command::New {
