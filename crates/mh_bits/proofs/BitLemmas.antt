@@ -41,10 +41,6 @@ pub some_bit : (n i : ℕ) → has_bit n i ≡ true → (n == 0) ≡ false
 some_bit zero i e = absurd (omega (arith, eqb-true _ _ e, bit_at-zero i))
 some_bit (suc n) i e = ne_eqb _ _ (λ k. absurd (omega arith))
 
--- a word of which no bit is set is 0
-pub no_bit : (n : ℕ) → n < 2 ^ 64 → ((i : ℕ) → i < 64 → has_bit n i ≡ false) → n ≡ 0
-no_bit n small none = same_from_bits_below 64 n 0 small (omega arith) (λ i l. bit_clear n i (none i l) ∙ sym (bit_at-zero i))
-
 -- the lowest bit of a word
 pub record IsLowest (n k : ℕ) : Type 0 where
   pub within : k < 64
@@ -62,6 +58,3 @@ has_bit-ones k i h = eq-eqb _ _ (bit_at_ones k i h)
 
 pub has_bit-ones_above : (k i : ℕ) → k ≤ i → has_bit (2 ^ k - 1) i ≡ false
 has_bit-ones_above k i h = ap (λ b. b == 1) (bit_at_ones_above k i h)
-
-pub has_bit-above : (n i : ℕ) → n < 2 ^ 64 → 64 ≤ i → has_bit n i ≡ false
-has_bit-above n i small h = ap (λ b. b == 1) (bit_at_above n 64 i small h)

@@ -95,20 +95,6 @@ summed-set words summaries at word summary summed within same others = record {
             ∙ (others (k % 64) (omega arith) (λ e. there (omega arith)) ∙ ap (λ j. has_bit (get_or summaries j 0) (k % 64)) (sym row)))
         in_summary (inr row) = ap (λ w. has_bit w (k % 64)) (get_or-set_other summaries (at / 64) (k / 64) summary 0 row)
 
--- one word changed that is 0 or not as before
-pub summed-kept : (words summaries : List ℕ) (at word : ℕ) → IsSummed words summaries → at < length words → (word == 0) ≡ (get_or words at 0 == 0) → IsSummed (set words at word) summaries
-summed-kept words summaries at word summed within same = record {
-  counts = length-set words at word ∙ summed.counts;
-  few = summed.few;
-  sums = λ k l. at_word k (omega (arith, l, length-set words at word)) (cases_eq k at);
-}
-  where
-    at_word : (k : ℕ) → k < length words → (k ≡ at) ⊎ (k ≡ at → ⊥) → has_bit_among summaries k ≡ not (get_or (set words at word) k 0 == 0)
-    at_word k l (inl here) =
-        summed.sums k l ∙ (ap (λ j. not (get_or words j 0 == 0)) here ∙ (ap not (sym same)
-        ∙ (ap (λ w. not (w == 0)) (sym (get_or-set_same words at word 0 within)) ∙ ap (λ j. not (get_or (set words at word) j 0 == 0)) (sym here))))
-    at_word k l (inr there) = summed.sums k l ∙ ap (λ w. not (w == 0)) (sym (get_or-set_other words at k word 0 there))
-
 -- Members ----------------------------------------------------------------------------------------
 
 pub member_is : (words : List ℕ) (number member : ℕ) → 64 * number + member / 64 < length words → has_member (bits_of words) number member ≡ has_bit (get_or words (64 * number + member / 64) 0) (member % 64)
@@ -226,12 +212,6 @@ module _ (words summaries : List ℕ) (number page word summary : ℕ) (summed :
       summed_at _ _
       (has_bit-clear_same summary (page / 64) (omega arith) ∙ ap not (sym (eq-eqb _ _ none)))
       (λ i l apart. has_bit-clear_other summary (page / 64) i (omega arith) l apart)
-
-  pub removed_one : without_bit word (page % 64) ≢ 0 → IsSummed (set words (number * 64 + page / 64) (without_bit word (page % 64))) summaries
-  removed_one some =
-      let less = and_le_l word (bit_not w64 (1 * 2 ^ (page % 64) % 2 ^ bits w64)) in
-      summed-kept words summaries (number * 64 + page / 64) _ summed at_within
-      (ne_eqb _ _ some ∙ sym (ne_eqb _ _ (λ e. some (omega (arith, less, read)))))
 
 -- the words that the search for the least member reads
 module _ (words summaries : List ℕ) (number summary : ℕ) (summed : IsSummed words summaries) (inside : number < length summaries) (read : summary ≡ get_or summaries number 0) (some : summary ≢ 0) (small : summary < 2 ^ 64) where

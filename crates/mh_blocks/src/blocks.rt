@@ -7,16 +7,17 @@ ghost use Rattle.mh_model.specs.Machine.{blocks_of};
 ghost use Rattle.mh_pages.specs.Addresses.{address_in};
 
 use crate::packing::{
-    BIRTH, COUNTS, FORWARD, HEADER, STAMP, header_in, new_header, number_count, part_in, place_in,
-    place_word, reference_count,
+    header_in, new_header, number_count, part_in, place_in, place_word, reference_count,
 };
 use mh_classes::class::Class;
 use mh_classes::parts::Part;
 use mh_model::birth::Birth;
+use mh_model::limits::HEADER;
 use mh_model::memory::NoMemory;
 use mh_model::place::Place;
 use mh_model::shape::Shape;
 use mh_pages::address::Address;
+use mh_pages::header::{BIRTH, COUNTS, FORWARD, STAMP};
 use mh_pages::pages::Pages;
 use std::alloc::Global;
 use std::marker::Model;

@@ -6,33 +6,19 @@ ghost use Rattle.mh_blocks.specs.Words.{place_in, part_in, header_in};
 ghost use Rattle.mh_blocks.specs.Headers.{IsNewHeader};
 
 use mh_model::birth::Birth;
+use mh_model::limits;
 use mh_model::place::Place;
 use mh_model::shape::Shape;
 use mh_pages::header::Header;
-
-/// Which word of a block has its birth.
-pub const BIRTH: usize = 0;
-
-/// Which has its part and its counts.
-pub const COUNTS: usize = 1;
-
-/// Which has its mark stamp.
-pub const STAMP: usize = 2;
-
-/// Which leads to where it moved.
-pub const FORWARD: usize = 3;
-
-/// How many words come before its fields.
-pub const HEADER: usize = 4;
 
 /// Each count of a header is below this number.
 const COUNT: u64 = 1 << 20;
 
 /// The most fields of a block, and of a run of an object's fields.
-const RUN: usize = 60;
+const RUN: usize = limits::RUN as usize;
 
 /// The most fields of an object whose spine leads to its arraylets; above, it leads to middle spines.
-const SPINE_FIELDS: usize = 3600;
+const SPINE_FIELDS: usize = limits::SPINE_FIELDS as usize;
 
 /// The header of a block as it is made.
 pub fn new_header(birth: Birth, stamp: u64, part: usize, counts: Shape) -> Header

@@ -4,11 +4,8 @@ ghost use Rattle.std.specs.Prelude.{◌≡◌, ◌<◌, ◌≤◌, IsTrue, unwra
 ghost use Rattle.mh_model.specs.Classes.{class_of, is_class_size, slots_in};
 ghost use Rattle.mh_classes.specs.Numbers.{class_number};
 
+use mh_model::limits::PAGE_WORDS;
 use std::marker::Model;
-
-/// The words of a page.
-const PAGE: usize = 256;
-
 /// The size of the class for each number of words up to 64, and 0 for none.
 const SIZES: [u8; 65] = [
     0, 4, 4, 4, 4, 5, 6, 7, 8, 9, 11, 11, 13, 13, 15, 15, 17, 17, 20, 20, 20, 23, 23, 23, 26, 26,
@@ -83,7 +80,7 @@ impl Class {
         ensures some { 4 ≤ result }
         ensures few { result ≤ 64 }
     {
-        PAGE / self.size as usize
+        PAGE_WORDS / self.size as usize
     }
 
     /// The classes are numbered from 0 by their sizes.

@@ -4,18 +4,9 @@ ghost use Rattle.mh_model.specs.Classes.{class_of, part_words, plain_part, spine
 ghost use Rattle.mh_classes.specs.Fits.{AreParts, FitsItsHeader};
 
 use crate::class::{Class, class_of};
+use mh_model::limits::{HEADER, RUN, SPINE_FIELDS};
 use mh_model::shape::Shape;
 use std::marker::Model;
-
-/// The header words of a block.
-const HEADER: usize = 4;
-
-/// The most fields or children of a block.
-const RUN: u32 = 60;
-
-/// The most fields of an object whose spine leads to its arraylets; above, it leads to middle spines.
-const SPINE_FIELDS: u32 = 3_600;
-
 /// A part of an object: one block, as it is to be made.
 #[derive(Clone, Copy, Debug)]
 pub struct Part {

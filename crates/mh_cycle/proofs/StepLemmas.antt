@@ -25,10 +25,6 @@ pub first-cost : (table : Table Block) (grey : List ℕ) (place : ℕ) → slice
 first-cost table [] place is = cc
 first-cost table (first ∷ grey) place is = let same : first ≡ place = same_Some first place is in rw same refl
 
-pub first-in : (grey : List ℕ) (place : ℕ) → slice_get grey 0 ≡ Some place → is_in place grey ≡ true
-first-in [] place is = cc
-first-in (first ∷ grey) place is = ap (λ b. b || is_in place grey) (eq-eqb place first (sym (same_Some first place is)))
-
 -- marking goes on, or the sweep follows
 pub after-mark : (r : Collector) (phase : Phase) (grey : List ℕ) → phase ≡ (if length grey == 0 then Sweep else Mark) → after_mark r grey ≡ with_phase r phase 0
 after-mark r phase [] next = rw next refl

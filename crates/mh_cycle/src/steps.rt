@@ -19,14 +19,10 @@ use mh_mark::batch::mark_batch;
 use mh_mark::mark::{FirstGrey, first_grey, mark_step};
 use mh_mark::roots_step::roots_step;
 use mh_model::cycle::Phase;
+use mh_model::limits::{PLACES, ROOT_SLOTS};
 use mh_model::place::Place;
-use mh_roots::roots::SLOTS;
 use mh_scan::scan::Scanner;
 use mh_sweep::sweep;
-
-/// How many places each page has, whatever its class.
-const PLACES: usize = 64;
-
 /// The phase in which blocks are marked while some are grey, and then the sweep.
 fn after_mark(grey: &Grey) -> Phase
     ensures { result ≡ (if length grey.now.places == 0 then Sweep else Mark) }
@@ -104,7 +100,7 @@ impl Cycle {
             self.cursor,
         );
         self.cursor += 1;
-        if self.cursor == SLOTS {
+        if self.cursor == ROOT_SLOTS {
             self.cursor = 0;
             self.phase = after_mark(&self.grey);
         }

@@ -5,12 +5,9 @@ ghost use Rattle.mh_roots.specs.Roots.{SlotsLead};
 ghost use Rattle.mh_defrag.specs.Moves.{IsTarget, moved, slots_moved, AreUnflagged};
 
 use mh_blocks::blocks::Blocks;
+use mh_model::limits::{PLACES, ROOT_SLOTS};
 use mh_model::place::Place;
-use mh_roots::roots::{Roots, SLOTS};
-
-/// How many places each page has, whatever its class.
-const PLACES: usize = 64;
-
+use mh_roots::roots::Roots;
 /// Where the block at a place moves, if the step at this place moves one.
 pub fn next_target(blocks: &Blocks, place: Place) -> Option<Place>
     requires { page_number place < length blocks.now }
@@ -40,7 +37,7 @@ pub fn cost(blocks: &Blocks, place: Place, target: Option<Place>, has_moved: boo
     if has_moved {
         1 + words
     } else {
-        1 + words + SLOTS as u64
+        1 + words + ROOT_SLOTS as u64
     }
 }
 

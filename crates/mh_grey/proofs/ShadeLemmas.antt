@@ -37,10 +37,6 @@ pub shade-new : (m : Marking) (reference : ℕ) → IsSome (block_at m.table (re
     → shade m (Some reference) ≡ record m { table = with_stamp_at m.table (resolve m.table reference) m.cycle; grey = m.grey ++ resolve m.table reference ∷ [] }
 shade-new m reference there apart = place-new m (resolve m.table reference) there apart
 
--- a place with a block is a place of the table
-pub place_below : (table : Table Block) (place : ℕ) → IsSome (block_at table place) → place < 64 * length table
-place_below table place there = let inside : page_number place < length table = page_there table place there in omega arith
-
 -- where the grey places are marked, a reference may be shaded
 pub marked-apart : (table : Table Block) (cycle : ℕ) (grey : List ℕ) (reference : Option ℕ) → AreMarked table cycle grey → IsApart table cycle grey reference
 marked-apart table cycle grey reference marked place is unmarked = go (is_in place grey) refl

@@ -109,13 +109,6 @@ like-stamp table place stamp =
       long = length-with_block table place (option_map change (block_at table place));
     }
 
--- references lead on where all is like it was
-pub leads-like : (table new : Table Block) (reference : Option ℕ) → IsLike table new → LeadsOn table reference → LeadsOn new reference
-leads-like table new None like leads = leads
-leads-like table new (Some place) like leads =
-    let same : resolve new place ≡ resolve table place = ap (λ o. unwrap_or o place) (like.forwards place) in
-    (like.there place ∙ leads.0, rw same (like.there (resolve table place) ∙ leads.1))
-
 -- and lead home
 pub home-like : (table new : Table Block) (reference : Option ℕ) → IsLike table new → LeadsHome table reference → LeadsHome new reference
 home-like table new None like home = tt

@@ -11,14 +11,11 @@ use arrayvec::ArrayVec;
 use circular_buffer::HeapCircularBuffer;
 use mh_blocks::blocks::Blocks;
 use mh_model::memory::NoMemory;
+use mh_model::limits::PLACES;
 use mh_model::place::Place;
 use mh_pages::address::Address;
 use std::alloc::Global;
 use std::marker::Model;
-
-/// How many places each page has, whatever its class.
-const PLACES: usize = 64;
-
 /// The grey places in the order in which they were shaded, with room for one entry a place.
 #[derive(Drop)]
 pub struct Grey {

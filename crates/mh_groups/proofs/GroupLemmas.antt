@@ -76,11 +76,6 @@ no_group table birth stamp (first ∷ []) part at one e =
 
 -- Many parts -------------------------------------------------------------------------------------
 
-pub group_made : (old table : Table Block) (birth stamp : ℕ) (list : List Part) (places : List ℕ) → made_parts old birth stamp 0 list ≡ Some (record { places = places; table = table }) → 0 < length places
-    → made_group old birth stamp list ≡ Some (record { place = get_or places 0 0; table = linked_parts places table places list })
-group_made old table birth stamp list [] e some = absurd (omega arith)
-group_made old table birth stamp list (place ∷ places) e some = ap (option_and_then (λ (m : MadeParts). group_of m.table m.places list)) e
-
 -- parts at the first of these places are at those in front of them
 pub unlinked-front : (table : Table Block) (places rest all : List ℕ) (list : List Part) (size count : ℕ) → all ≡ take size (places ++ rest) → length list ≤ size → length list ≤ count → length list ≤ length places → AreUnlinked table places list 0 → AreUnlinked table (take count all) list 0
 unlinked-front table places rest all list size count is many many' enough unlinked number part least at =

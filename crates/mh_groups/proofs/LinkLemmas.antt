@@ -87,12 +87,6 @@ one_written count (child ∷ children) [] below same = absurd (omega arith)
 one_written zero (child ∷ children) (r ∷ references) below same = refl
 one_written (suc count) (child ∷ children) (r ∷ references) below same = ap (λ rest. Some child ∷ rest) (one_written count children references (omega arith) (omega arith))
 
-all_written : (children : List ℕ) (references : List (Option ℕ)) → length references ≡ length children → map Some (take (length children) children) ++ drop (length children) references ≡ map Some children
-all_written [] [] same = refl
-all_written [] (r ∷ references) same = absurd (omega arith)
-all_written (child ∷ children) [] same = absurd (omega arith)
-all_written (child ∷ children) (r ∷ references) same = ap (λ rest. Some child ∷ rest) (all_written children references (omega arith))
-
 -- So many of a part's references are written
 pub record HasSomeChildren (old : Table Block) (place : ℕ) (children : List ℕ) (table : Table Block) (count : ℕ) : Type 0 where
   pub is : table ≡ with_block_change old place (with_some_children children count)
@@ -130,9 +124,6 @@ module _ (old : Table Block) (place : ℕ) (children : List ℕ) (is : IsSome (b
         ∙ changed_twice old place block there (with_some_children children count) (λ b. record b { references = set b.references count (Some (get_or children count 0)) })
         ∙ changed_alike old place block there _ (with_some_children children (suc count)) (ap (λ references. record block { references = references }) (one_written count children block.references below size));
   }
-
-  pub all_children : (table : Table Block) → HasSomeChildren old place children table (length children) → table ≡ with_block_change old place (with_children children)
-  all_children table so_far = so_far.is ∙ changed_alike old place block there _ (with_children children) (ap (λ references. record block { references = references }) (all_written children block.references size))
 
 -- The parts in order -----------------------------------------------------------------------------
 

@@ -105,18 +105,6 @@ pub record AreMadeSoFar (old : Table Block) (birth stamp : ℕ) (list : List Par
   pub can : AllCanBeUnmade table places fresh count
   pub born : (number : ℕ) (part : Part) → number < count → slice_get list number ≡ Some part → block_at table (get_or places number 0) ≡ Some (new_block birth stamp number part)
 
-made_after-none : (made : Option MadeParts) → made ≡ option_map (made_after []) made
-made_after-none None = refl
-made_after-none (Some made) = refl
-
-pub none_so_far : (old : Table Block) (birth stamp : ℕ) (list : List Part) (places : List ℕ) (fresh : List Bool) → AreMadeSoFar old birth stamp list old places fresh 0
-none_so_far old birth stamp list places fresh = record {
-  left = made_after-none (made_parts old birth stamp 0 list);
-  back = refl;
-  can = tt;
-  born = λ number part below at. absurd (omega (arith, below));
-}
-
 pub one_so_far : (old : Table Block) (birth stamp : ℕ) (list : List Part) (table : Table Block) (places : List ℕ) (fresh : List Bool) (count : ℕ) (part : Part) (size place : ℕ) (is_fresh : Bool) → AreMadeSoFar old birth stamp list table places fresh count
     → count < length places → count < length fresh → slice_get list count ≡ Some part → class_of (part_words part) ≡ Some size → least_place table size ≡ Some place → IsFreeFor table size place → is_fresh ≡ is_none (class_at table (page_number place))
     → AreMadeSoFar old birth stamp list (with_taken table size place (new_block birth stamp count part)) (set places count place) (set fresh count is_fresh) (suc count)

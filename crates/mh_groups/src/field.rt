@@ -10,13 +10,14 @@ ghost use Rattle.mh_model.specs.Invariant.{HasChild, IsFindable};
 
 pub use crate::position::Position;
 use mh_blocks::blocks::Blocks;
+use mh_model::limits;
 use mh_model::place::Place;
 
 /// The most fields of a block, and of an arraylet.
-const RUN: usize = 60;
+const RUN: usize = limits::RUN as usize;
 
 /// The most fields of an object without middle spines, and of one middle spine.
-const SPINE_FIELDS: usize = 3_600;
+const SPINE_FIELDS: usize = limits::SPINE_FIELDS as usize;
 
 /// Where a reference of a spine leads.
 fn child(blocks: &Blocks, place: Place, index: usize) -> Place

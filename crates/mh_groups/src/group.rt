@@ -7,14 +7,11 @@ ghost use Rattle.mh_groups.specs.Making.{HaveTheirChildren, without_parts, AllCa
 use mh_blocks::blocks::{Blocks, Full};
 use mh_classes::parts::Parts;
 use mh_model::birth::Birth;
+use mh_model::limits::MOST_PARTS;
 use mh_model::memory::NoMemory;
 use mh_model::place::Place;
 use std::alloc::Global;
 use std::marker::Model;
-
-/// The most parts of an object.
-const MOST_PARTS: usize = 3_661;
-
 /// Room for the places of the parts of one object, taken once, so that making an object takes no memory.
 #[derive(Drop)]
 pub struct PartPlaces {

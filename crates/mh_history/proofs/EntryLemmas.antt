@@ -17,9 +17,6 @@ measured_other entry (a ∷ b ∷ c ∷ found) other = refl
 pub units_none : (words : List Text) → few_numbers words ≡ None → (entry : Entry) → option_and_then (measured_with entry) (numbers words) ≡ None
 units_none words few entry = none_of (measured_with entry) (λ found many. measured_other entry found (λ two. omega arith)) words few
 
-pub units_other : (words : List Text) (found : List ℕ) → few_numbers words ≡ Some found → (length found ≡ 2 → ⊥) → (entry : Entry) → option_and_then (measured_with entry) (numbers words) ≡ None
-units_other words found few other entry = rw (few_same words found few) (measured_other entry found other)
-
 no_units_by : (entry : Option Entry) (after : List Text) → ((entry : Entry) → option_and_then (measured_with entry) (numbers after) ≡ None)
     → option_and_then (λ entry. option_and_then (measured_with entry) (numbers after)) entry ≡ None
 no_units_by None after none = refl

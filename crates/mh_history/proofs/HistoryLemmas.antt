@@ -115,8 +115,3 @@ begins_with_measured text new n line config short takes is has = record {
       ∙ (ap (λ (n : ℕ). with_header config (entries_from measured_line n (take has.count new.lines) [])) (counted text new n line takes) ∙ ap (with_header config) has.reads));
   some = has.some;
 }
-
-pub record_refused : (text : Text) (new : Lines) (n : ℕ) (line : Text) (config : Config) (error : TextError) → length text ≤ 2147483648 → TakesLine (lines_from 1 text) new n line → header_of (words line) ≡ Some config
-    → Refuses (entries_left measured_line new) error → Refuses (recorded_reading text) error
-record_refused text new n line config (Line bad) short takes is refused = record_first text new n line config short takes is ∙ ap (with_header config) refused
-record_refused text new n line config NoMemory short takes is refused = tt

@@ -20,18 +20,11 @@ none_before : (all : Option (List Text)) → all ≡ option_map (λ (more : List
 none_before None = refl
 none_before (Some more) = refl
 
-pub valued_start : (keys : List (Bor (List ℕ))) (line : List Text) (value : Text) (words : List Text) → line ≡ value ∷ words → Valued (values (names_shown keys) line) keys 0 [] value words
-valued_start keys line value words is = record { reads = sym (ap (values (names_shown keys)) is ∙ none_before (values (names_shown keys) (value ∷ words))); count = refl }
-
 kept_by : (is : Bool) (found : List Text) (value : Text) (rest : Option (List Text)) → is ≡ true
     → option_map (λ more. found ++ more) (if is then option_map (λ more. value ∷ more) rest else None) ≡ option_map (λ more. (found ++ value ∷ []) ++ more) rest
 kept_by true found value None same = refl
 kept_by true found value (Some more) same = ap Some (sym (append_assoc found (value ∷ []) more))
 kept_by false found value rest same = cc
-
-valued_step : (keys : List Text) (found : List Text) (value key word : Text) (words : List Text) → is_text word key ≡ true
-    → option_map (λ more. found ++ more) (values (key ∷ keys) (value ∷ word ∷ words)) ≡ option_map (λ more. (found ++ value ∷ []) ++ more) (values keys words)
-valued_step keys found value key word words is = kept_by (is_text word key) found value (values keys words) is
 
 -- the values so far, before a key and what follows it
 valued_key : (all : Option (List Text)) (keys : List (Bor (List ℕ))) (i : ℕ) (found : List (Bor (List ℕ))) (value : Text) (key : Text) (missing : Bor (List ℕ)) (line : List Text) → Valued all keys i found value line → i < length keys
@@ -40,18 +33,6 @@ valued_key all keys i found value key missing line done below at = ap (λ (ks : 
 
 shown_more : (found : List (Bor (List ℕ))) (value : Bor (List ℕ)) → names_shown (found ++ value ∷ []) ≡ names_shown found ++ value.now ∷ []
 shown_more found value = map-append (λ (seen : Bor (List ℕ)). seen.now) found (value ∷ [])
-
-pub valued_next : (all : Option (List Text)) (keys : List (Bor (List ℕ))) (i : ℕ) (found : List (Bor (List ℕ))) (value : Bor (List ℕ)) (key : Text) (missing : Bor (List ℕ)) (line rest words : List Text) (word next : Text) (kept : List (Bor (List ℕ)))
-    → Valued all keys i found value.now line → i < length keys → key ≡ (get_or keys i missing).now → line ≡ word ∷ rest → rest ≡ next ∷ words → is_text word key ≡ true → kept ≡ found ++ value ∷ []
-    → Valued all keys (i + 1) kept next words
-valued_next all keys i found value key missing line rest words word next kept done below at first second is pushed =
-    let line_is : line ≡ word ∷ next ∷ words = first ∙ ap (λ (ws : List Text). word ∷ ws) second in
-    let before : option_map (λ more. names_shown found ++ more) (values (key ∷ names_shown (drop (i + 1) keys)) (value.now ∷ word ∷ next ∷ words)) ≡ all =
-    ap (λ (ws : List Text). option_map (λ more. names_shown found ++ more) (values (key ∷ names_shown (drop (i + 1) keys)) (value.now ∷ ws))) (sym line_is) ∙ valued_key all keys i found value.now key missing line done below at in
-    record {
-      reads = rw (pushed, shown_more found value) (sym (valued_step (names_shown (drop (i + 1) keys)) (names_shown found) value.now key word (next ∷ words) is) ∙ before);
-      count = rw (pushed, length-append) (ap (λ (n : ℕ). n + 1) done.count);
-    }
 
 none_kept : (all : Option (List Text)) (found : List Text) (rest : Option (List Text)) → option_map (λ more. found ++ more) rest ≡ all → rest ≡ None → all ≡ None
 none_kept all found rest same none = sym same ∙ rw none refl
@@ -86,16 +67,6 @@ pub valued_short : (all : Option (List Text)) (keys : List (Bor (List ℕ))) (i 
 valued_short all keys i found value key missing line rest word done below at is same none =
     none_kept all (names_shown found) (values (key ∷ names_shown (drop (i + 1) keys)) (value ∷ line)) (valued_key all keys i found value key missing line done below at)
     (rw (is, none) (key_last (names_shown (drop (i + 1) keys)) value key word same))
-
-pub valued_long : (all : Option (List Text)) (keys : List (Bor (List ℕ))) (i : ℕ) (found : List (Bor (List ℕ))) (value : Text) (line rest : List Text) (word : Text) → Valued all keys i found value line → length keys ≤ i
-    → line ≡ word ∷ rest → all ≡ None
-valued_long all keys i found value line rest word done past is =
-    none_kept all (names_shown found) (values (names_shown (drop i keys)) (value ∷ line)) done.reads (rw (no_more keys i past, is) refl)
-
-pub valued_done : (all : Option (List Text)) (keys : List (Bor (List ℕ))) (i : ℕ) (found : List (Bor (List ℕ))) (value : Bor (List ℕ)) (line : List Text) (kept : List (Bor (List ℕ))) → Valued all keys i found value.now line → length keys ≤ i
-    → line ≡ [] → kept ≡ found ++ value ∷ [] → all ≡ Some (names_shown kept)
-valued_done all keys i found value line kept done past none pushed =
-    sym done.reads ∙ rw (no_more keys i past, none, pushed, shown_more found value) refl
 
 -- Five values ------------------------------------------------------------------------------------
 

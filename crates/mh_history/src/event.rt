@@ -4,12 +4,13 @@ ghost use Rattle.mh_model.specs.HistoryTexts.{session_of, event_of};
 use crate::parts::tagged;
 use mh_model::command::Event;
 use mh_model::history::Version;
+use mh_model::limits::SESSIONS;
 use mh_text::forms::{command_of, control_of};
 use mh_text::pieces::Words;
 use mh_text::word::is_word;
 
 /// The most of the numbers that sessions have.
-const LAST_SESSION: u64 = 8;
+const LAST_SESSION: u64 = SESSIONS as u64;
 
 /// The number of the session that a word is.
 fn session_of(word: &[u8]) -> Option<u8>

@@ -17,11 +17,6 @@ pub rest-of_split : {T E O : Type 0} (first count rest next : ℕ) (before after
 rest-of_split {T} {E} {O} first count rest next before after is cut same more =
     cut ∙ (ap (λ (me : Me T (SeatView E O)). (seat_view (drop 1 me.0.logs) me.0.found, me.1)) is ∙ λ i. (seat_view (empty_logs (more i) (same i)) None, []))
 
--- and the new seat stands for the first of them
-pub first-of_split : {T E O : Type 0} (first count : ℕ) (before after : Me T (SeatView E O)) → before ≡ (seat_view (empty_logs first (suc count)) None, []) → after ≡ (seat_view (take 1 before.0.logs) None, [])
-    → after ≡ alone first []
-first-of_split {T} {E} {O} first count before after is cut = cut ∙ ap (λ (me : Me T (SeatView E O)). (seat_view (take 1 me.0.logs) None, [])) is
-
 -- what holds at each place of a list holds with one value more
 pub each-push : {X : Type 0} (P : ℕ → X → Type 0) (xs : List X) (x : X) (n m : ℕ) → length xs ≡ n → m ≡ n + 1 → ((j : ℕ) (d : X) → j < n → P j (get_or xs j d)) → P n x
     → (j : ℕ) (d : X) → j < m → P j (get_or (xs ++ x ∷ []) j d)

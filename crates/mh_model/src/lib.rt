@@ -8,6 +8,7 @@ pub mod config;
 pub mod cycle;
 pub mod dump;
 pub mod history;
+pub mod limits;
 pub mod memory;
 pub mod place;
 pub mod reply;

@@ -1,11 +1,8 @@
 ghost use Rattle.std.specs.Prelude.{◌≡◌};
 ghost use Rattle.mh_model.specs.Pages.{page_number, slot_number};
 
+use crate::limits::PLACES;
 use std::marker::Model;
-
-/// How many places each page has, whatever its class.
-const PLACES: usize = 64;
-
 /// The place of a block: the number of its page times 64, and the number of its slot in the page.
 #[derive(Clone, Copy, Debug, Default, PartialEq, Eq, Hash)]
 pub struct Place(pub usize);

@@ -5,7 +5,7 @@ ghost use Rattle.mh_model.specs.declared.command.Command.TheVariants as command;
 ghost use Rattle.mh_heap.specs.Outcome.{done_or, number_or, same_or, shape_or};
 ghost use Rattle.mh_paged.specs.Kept.{Steps};
 
-use crate::kept::{KeptHeap, SLOTS, board_slot, field_below, own_slot, parts_of};
+use crate::kept::{KeptHeap, board_slot, field_below, own_slot, parts_of};
 use crate::lent::{
     clear_roots, loaded, make_parts, number, place_of, root, write_number, write_reference,
     write_root,
@@ -16,6 +16,7 @@ use mh_laws::commands::commands_are_answered;
 use mh_laws::fields::{fields_are_found, references_lead_on};
 use mh_laws::snapshots::{collectors_stay_steady, heaps_stay_kept};
 use mh_model::birth::Birth;
+use mh_model::limits::SESSION_SLOTS;
 use mh_model::reply::Refusal;
 use mh_model::shape::Shape;
 
@@ -211,7 +212,7 @@ impl KeptHeap {
         commands_are_answered();
         collectors_stay_steady();
         let session = self.session(who)?;
-        clear_roots(&mut self.cycle, session * SLOTS);
+        clear_roots(&mut self.cycle, session * SESSION_SLOTS);
         self.ended[session] = true;
         Ok(())
     }

@@ -28,6 +28,7 @@ use mh_laws::snapshots::{collectors_stay_steady, heaps_stay_kept};
 use mh_model::config::Config;
 use mh_model::cycle::{Phase, Spent};
 use mh_model::dump::Dump;
+use mh_model::limits::{SESSION_SLOTS, SESSIONS};
 use mh_model::memory::NoMemory;
 use mh_model::place::Place;
 use mh_model::reply::{Refusal, Reply};
@@ -35,13 +36,6 @@ use mh_model::shape::Shape;
 use mh_scan::scan::Scanner;
 use std::alloc::Global;
 use std::marker::Model;
-
-/// How many sessions there are.
-const SESSIONS: usize = 8;
-
-/// How many roots each session has, and the board.
-pub(crate) const SLOTS: usize = 16;
-
 /// The heap of pages with its collector and its sessions.
 #[derive(Drop)]
 pub struct KeptHeap {
@@ -76,10 +70,10 @@ pub(crate) fn own_slot(session: usize, slot: u32) -> Result<usize, Refusal>
     ensures within { IfOk result (λ root. root < 144) }
 {
     let slot = slot as usize;
-    if slot >= SLOTS {
+    if slot >= SESSION_SLOTS {
         return Err(Refusal::BadSlot);
     }
-    Ok(session * SLOTS + slot)
+    Ok(session * SESSION_SLOTS + slot)
 }
 
 /// The root of a slot of the board.
@@ -88,10 +82,10 @@ pub(crate) fn board_slot(board: u32) -> Result<usize, Refusal>
     ensures within { IfOk result (λ root. root < 144) }
 {
     let board = board as usize;
-    if board >= SLOTS {
+    if board >= SESSION_SLOTS {
         return Err(Refusal::BadSlot);
     }
-    Ok(SESSIONS * SLOTS + board)
+    Ok(SESSIONS * SESSION_SLOTS + board)
 }
 
 /// The parts of an object of so many references and numbers.

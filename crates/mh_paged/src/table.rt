@@ -8,12 +8,9 @@ use mh_blocks::blocks::Blocks;
 use mh_classes::class::Class;
 use mh_model::dump::{Dump, DumpItem};
 use mh_model::memory::NoMemory;
+use mh_model::limits::PLACES;
 use mh_model::place::Place;
 use std::alloc::Global;
-
-/// How many places each page has, whatever its class.
-const PLACES: usize = 64;
-
 /// What a dump says of the block at a place.
 fn block_item(blocks: &Blocks, place: Place) -> DumpItem
     requires { IsSome (block_at blocks.now place) }

@@ -13,34 +13,6 @@ use Rattle.mh_pages.proofs.ShownLemmas.{IsTaken, block_at-shown}
 use Rattle.mh_pages.proofs.WriteLemmas.{block_fits, shown-copied}
 use Rattle.mh_pages.proofs.KeptLemmas.{start, block_of, class_shown, kept-block}
 
-pub copied_none : (words : List ℕ) (source first : ℕ) → IsCopied words words source first 0
-copied_none words source first = record {
-  copied = λ i l. absurd (omega arith);
-  others = record { lengths = refl; before = λ i l. refl; after = λ i l. refl };
-}
-
--- the word that is read next is as it was
-source_word : (old words : List ℕ) (source first count index : ℕ) → IsCopied old words source first index → AreApart source first count → index < count → get_or words (source + index) 0 ≡ get_or old (source + index) 0
-source_word old words source first count index so (inl before) less = so.others.before (source + index) (omega arith)
-source_word old words source first count index so (inr after) less = so.others.after (source + index) (omega arith)
-
-pub copied_more : (old words : List ℕ) (source first count index word : ℕ) → IsCopied old words source first index → AreApart source first count → index < count → first + count ≤ length old → word ≡ get_or words (source + index) 0
-    → IsCopied old (set words (first + index) word) source first (index + 1)
-copied_more old words source first count index word so apart less within is = record {
-  copied = λ i l. elim (cases_eq i index) [
-    | inl here ↦
-        ap (λ k. get_or (set words (first + index) word) (first + k) 0) here
-        ∙ (get_or-set_same words (first + index) word 0 (omega (arith, so.others.lengths))
-        ∙ (is ∙ (source_word old words source first count index so apart less ∙ ap (λ k. get_or old (source + k) 0) (sym here))))
-    | inr there ↦ get_or-set_other words (first + index) (first + i) word 0 (λ e. there (omega arith)) ∙ so.copied i (omega arith)
-  ];
-  others = record {
-    lengths = length-set words (first + index) word ∙ so.others.lengths;
-    before = λ i l. get_or-set_other words (first + index) i word 0 (λ e. omega arith) ∙ so.others.before i l;
-    after = λ i l. get_or-set_other words (first + index) i word 0 (λ e. omega arith) ∙ so.others.after i (omega arith);
-  };
-}
-
 -- two slots of a size have no word in common
 slots_apart : (page slot other_page other_slot size : ℕ) → slot * size + size ≤ 256 → other_slot * size + size ≤ 256 → ((page ≡ other_page) × (slot ≡ other_slot) → ⊥)
     → AreApart (256 * page + slot * size) (256 * other_page + other_slot * size) size

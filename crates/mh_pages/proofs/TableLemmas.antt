@@ -63,9 +63,6 @@ module _ {X : Type 0} where
   block_after table place content has =
       ap (option_and_then (block_in (slot_number place))) (page_after table place content has) ∙ get_or-set_same has.page.slots (slot_number place) content None has.within
 
-  pub class_after : (table : Table X) (place : ℕ) (content : Option X) → HasPage table place → class_at (with_block table place content) (page_number place) ≡ class_at table (page_number place)
-  class_after table place content has = ap (option_map (λ used. used.class_size)) (page_after table place content has) ∙ sym (ap (option_map (λ used. used.class_size)) has.is)
-
   -- the content of a place changed twice
   pub block_twice : (table : Table X) (place : ℕ) (a b : Option X) → HasPage table place → with_block (with_block table place a) place b ≡ with_block table place b
   block_twice table place a b has =
@@ -80,9 +77,6 @@ module _ {X : Type 0} where
   count_after table place some =
       let has = page_of_block table place some in
       omega (arith, ap (λ p. unwrap_or (option_map live_in p) 0) (page_after table place None has), one_less has.page.slots (slot_number place) has.there, ap (λ p. unwrap_or (option_map live_in p) 0) has.is)
-
-  pub used_after : (table : Table X) (place : ℕ) (content : Option X) → IsSome (block_at table place) → IsSome (page_at (with_block table place content) (page_number place))
-  used_after table place content some = ap is_some (page_after table place content (page_of_block table place some))
 
   -- Places taken ---------------------------------------------------------------------------------
 

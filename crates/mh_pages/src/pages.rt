@@ -6,30 +6,16 @@ ghost use Rattle.mh_pages.specs.Kept.{AreApart, IsCopied};
 ghost use Rattle.mh_pages.specs.Words.{header_of, with_header, with_word, words_at};
 
 use crate::address::Address;
-use crate::header::Header;
+use crate::header::{BIRTH, COUNTS, FORWARD, Header, STAMP};
 use crate::index::{DENSE, FREE, ROOMY, SPARSE, change, change_free, put_all};
 use mh_bits::counted::{Counted, Tally};
 use mh_bits::page_sets::PageSets;
 use mh_classes::class::Class;
+use mh_model::limits::{PAGE_WORDS, PLACES};
 use mh_model::memory::NoMemory;
 use mh_model::place::Place;
 use std::alloc::Global;
 use std::marker::Model;
-
-/// How many words a page has.
-const WORDS: usize = 256;
-
-/// How many places a page has, whatever its class.
-const PLACES: usize = 64;
-
-/// The words of a header.
-const BIRTH: usize = 0;
-
-const COUNTS: usize = 1;
-
-const STAMP: usize = 2;
-
-const FORWARD: usize = 3;
 
 /// Pages of blocks: for each page its head (0 where it is free, and else twice the size of its class
 /// and 1 for its flag) and a word with a bit for each slot without a block, the words of all pages,
@@ -73,7 +59,7 @@ fn start_of(heads: &Counted, place: Place) -> usize
 {
     let mut tally = Tally::new();
     let size = heads.read(place.page(), &mut tally) as usize / 2;
-    WORDS * place.page() + place.slot() * size
+    PAGE_WORDS * place.page() + place.slot() * size
 }
 
 /// Copies so many words to where others begin.
@@ -102,7 +88,7 @@ impl Pages {
         Ok(Pages {
             heads: Counted::zeros(alloc, pages)?,
             frees: Counted::zeros(alloc, pages)?,
-            words: Counted::zeros(alloc, WORDS * pages)?,
+            words: Counted::zeros(alloc, PAGE_WORDS * pages)?,
             sets,
             free: pages,
         })
@@ -406,7 +392,7 @@ impl Pages {
             return false;
         }
         let size = class_of_head(head).size();
-        (place.slot() + 1) * size <= WORDS
+        (place.slot() + 1) * size <= PAGE_WORDS
             && self.frees.read(page, &mut tally) >> place.slot() & 1 == 0
     }
 

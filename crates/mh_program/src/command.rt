@@ -5,10 +5,8 @@ ghost use Rattle.mh_program.specs.Line.{config_app, metroheap, number_rule, opti
 
 use clap::builder::ValueParser;
 use clap::{Arg, Command};
+use mh_model::limits::MOST_WORKERS;
 use std::alloc::{AllocError, Global};
-
-/// The most workers that scan at a time.
-const MOST_WORKERS: u64 = 64;
 
 const ABOUT_RUN: &str =
     "Reads a script from standard input and prints the reply to each of its events, or the line that refuses the script";

@@ -1,4 +1,9 @@
+use mh_script::fault::NO_MEMORY;
 use thiserror::Error;
+
+pub const NOT_TEXT: &str = "metroheap: a word is not text\n";
+
+pub const BAD_CONFIGURATION: &str = "metroheap: bad configuration\n";
 
 /// Why a command line gave no order. The text of words that are refused is that of `clap`, which ends with its line.
 #[derive(Debug, Drop, Error)]
@@ -6,11 +11,11 @@ pub enum LineFault {
     #[error("{0}")]
     Words(clap::Error),
     /// A word isn't UTF-8.
-    #[error("metroheap: a word is not text\n")]
+    #[error("{}", NOT_TEXT)]
     NotText,
     /// The numbers of a configuration are outside its limits.
-    #[error("metroheap: bad configuration\n")]
+    #[error("{}", BAD_CONFIGURATION)]
     Configuration,
-    #[error("metroheap: no memory\n")]
+    #[error("{}", NO_MEMORY)]
     NoMemory,
 }

@@ -12,14 +12,14 @@ ghost use Rattle.mh_script.specs.Judged.{IsAuditing, IsChecking, IsMigrating};
 ghost use Rattle.mh_script.specs.Raced.{IsRaceRun};
 ghost use Rattle.mh_script.specs.Run.{device, IsRun};
 
-use crate::fault::LineFault;
+use crate::fault::{BAD_CONFIGURATION, LineFault, NOT_TEXT};
 use crate::line::Order;
 use crate::order::line_order;
 use crate::shown::printable;
 use crate::status::{line_status, status, verdict_status};
 use mh_model::config::Config;
 use mh_scan::crew_scan::CrewGate;
-use mh_script::fault::ScriptFault;
+use mh_script::fault::{HISTORY_FULL, NO_MEMORY, READ_FAILED, ScriptFault, WRITE_FAILED};
 use mh_script::judge::{audit_script, check_script};
 use mh_script::migrate::migrate_script;
 use mh_script::race::race_script;
@@ -36,10 +36,10 @@ fn fault_line(fault: ScriptFault) -> &'static [u8]
     ensures { result.now ≡ line_text (fault_text fault) }
 {
     match fault {
-        ScriptFault::Read => b"metroheap: read failed\n",
-        ScriptFault::Write => b"metroheap: write failed\n",
-        ScriptFault::NoMemory => b"metroheap: no memory\n",
-        ScriptFault::HistoryFull => b"metroheap: history full\n",
+        ScriptFault::Read => READ_FAILED.as_bytes(),
+        ScriptFault::Write => WRITE_FAILED.as_bytes(),
+        ScriptFault::NoMemory => NO_MEMORY.as_bytes(),
+        ScriptFault::HistoryFull => HISTORY_FULL.as_bytes(),
     }
 }
 
@@ -85,9 +85,9 @@ fn tell_line<E: Sink>(alloc: Global, errors: &mut E, fault: &LineFault)
 {
     match fault {
         LineFault::Words(error) => tell_words(alloc, errors, error),
-        LineFault::NotText => tell(errors, b"metroheap: a word is not text\n"),
-        LineFault::Configuration => tell(errors, b"metroheap: bad configuration\n"),
-        LineFault::NoMemory => tell(errors, b"metroheap: no memory\n"),
+        LineFault::NotText => tell(errors, NOT_TEXT.as_bytes()),
+        LineFault::Configuration => tell(errors, BAD_CONFIGURATION.as_bytes()),
+        LineFault::NoMemory => tell(errors, NO_MEMORY.as_bytes()),
     }
 }
 

@@ -30,6 +30,9 @@ pub(crate) fn shown(alloc: Global, word: &str) -> Result<String, AllocError> {
         return word.to_string(alloc);
     }
     let escaped = format!(in alloc; "{}", word.as_bytes().escape_ascii())?;
+    if escaped.len() <= MOST_SHOWN {
+        return Ok(escaped);
+    }
     match escaped.as_str().get(..MOST_SHOWN) {
         Some(first) => format!(in alloc; "{first}..."),
         None => Ok(escaped),

@@ -1,5 +1,5 @@
 //! Races over the events of a script.
-ghost use Rattle.std.specs.Prelude.{◌≡◌, ◌<◌, ◌≤◌, ◌+◌, ◌++◌, ℕ, All, IfOk, None, Some, map, vec_len};
+ghost use Rattle.std.specs.Prelude.{◌≡◌, ◌≢◌, ◌<◌, ◌≤◌, ◌+◌, ◌++◌, ℕ, All, IfOk, None, Some, map, vec_len};
 ghost use Rattle.std.specs.Vec.{vec_capacity};
 ghost use Rattle.mh_model.specs.History.{IsLegal};
 ghost use Rattle.mh_model.specs.Limits.{most_entries};
@@ -12,12 +12,13 @@ use crate::racer::Racer;
 use mh_model::command::Event;
 use mh_model::config::Config;
 use mh_model::history::Entry;
+use mh_model::limits::MOST_EVENTS;
 use mh_model::memory::NoMemory;
 use mh_scan::crew_scan::CrewGate;
 use mh_seat_laws::lock::events_have_one_owner;
 use mh_service::seat::{DESK, Seat};
 use mh_service::service::Service;
-use mh_state::machine::{MOST_EVENTS, Stop};
+use mh_state::machine::Stop;
 use std::alloc::Global;
 use std::sync::Wait;
 use std::thread;
@@ -101,6 +102,8 @@ fn take_seats(racers: Vec<Racer>, seats: &mut Vec<Seat>, stop: Option<Stop>) -> 
     ensures room { vec_capacity seats.new ≡ vec_capacity seats.old }
     ensures before { result ≡ None → stop ≡ None }
     ensures none { result ≡ None → All (λ racer. racer.stop ≡ None) racers.items }
+    ensures starved { stop ≡ Some Stop.NoMemory → result ≡ Some Stop.NoMemory }
+    ensures full { result ≡ Some Stop.HistoryFull → All (λ racer. racer.stop ≢ Some Stop.NoMemory) racers.items }
 {
     let mut most = stop;
     for Racer { seat, stop } in racers {
@@ -138,6 +141,7 @@ fn run_seats<R: Threads + Wait + Sync, G: CrewGate + Sync>(
 #[tactic(auto, unfolding(mh_model::specs::Limits::most_entries))]
 fn stop_of(stop: Option<Stop>, entries: u64) -> Option<Stop>
     ensures none { result ≡ None → stop ≡ None }
+    ensures starved { stop ≡ Some Stop.NoMemory → result ≡ Some Stop.NoMemory }
     ensures full { result ≡ Some Stop.HistoryFull → entries ≡ most_entries }
 {
     match stop {

@@ -4,19 +4,13 @@ ghost use Rattle.mh_model.specs.World.{own_slot};
 ghost use Rattle.mh_roots.specs.Roots.{SlotsLead, without_session};
 
 use mh_blocks::blocks::Blocks;
+use mh_model::limits::{ROOT_SLOTS, SESSION_SLOTS};
 use mh_model::place::Place;
 use std::marker::Model;
-
-/// How many slots there are.
-pub const SLOTS: usize = 144;
-
-/// How many each session has.
-const OWN: usize = 16;
-
 /// The root slots, each empty or with the place of an object.
 #[derive(Debug, Drop)]
 pub struct Roots {
-    slots: [Option<Place>; SLOTS],
+    slots: [Option<Place>; ROOT_SLOTS],
 }
 
 impl Model for Roots {
@@ -45,7 +39,7 @@ impl Roots {
         ensures { result ≡ replicate 144 None }
     {
         Roots {
-            slots: [None; SLOTS],
+            slots: [None; ROOT_SLOTS],
         }
     }
 
@@ -80,7 +74,7 @@ impl Roots {
         ensures { self.new ≡ without_session self.old who }
     {
         let slots = &mut self.slots[..];
-        slots[OWN * who..OWN * who + OWN].fill(None);
+        slots[SESSION_SLOTS * who..SESSION_SLOTS * who + SESSION_SLOTS].fill(None);
     }
 
     /// Lets each slot lead straight to where it led.

@@ -70,14 +70,6 @@ none_again config all entries running old buffer is few first header = rw first 
 })
 
 module _ {config : Config} {all left : Reading (List Entry)} {running : Running} {old new : Option Text} {buffer : Text} (again : WritesAgain config all left running old new buffer) where
-  pub again_meant : (entries : List Entry) × (left ≡ Means entries)
-  again_meant = (drop running.done again.entries, again.left_is)
-
-  pub again_few : (after : Reading (List Entry)) (entry : Entry) → left ≡ entry_before entry after → running.done < most_entries
-  again_few after entry reads =
-      let next = next_entry left after again.entries running.done entry again.left_is reads in
-      omega (arith, next.2.below, again.few)
-
   -- one entry more
   pub again_more : (after : Reading (List Entry)) (entry : Entry) (running' : Running) (longer : Text) → left ≡ entry_before entry after → running'.machine ≡ entry_next running.machine entry → running'.done ≡ suc running.done
       → longer ≡ buffer ++ entry_line running.machine entry → WritesAgain config all after running' old new longer

@@ -50,9 +50,6 @@ module _ {X : Type 0} {read : Text → Option X} {HasSeen : List X → Judging �
       → IsVerdictOn Lawful (entry_before first (entries_left read old)) verdict
   shown_end Lawful verdict end judged = rw (walked_end read old mid has.seen has.walked end) (judged (first ∷ has.seen) has.shown)
 
-  pub shown_refused : (error : TextError) → Refuses (entries_left read mid) error → Refuses (entries_left read old) error
-  shown_refused error refused = walked_refused read old mid has.seen error has.walked refused
-
 -- what one says of an entry and those after it says of them all
 pub verdict_taken : {X : Type 0} (read : Text → Option X) (Lawful : List X → Type 0) (old new : Lines) (first : X) (verdict : Verdict) → TakesEntry read old new first → IsVerdictOn Lawful (entry_before first (entries_left read new)) verdict
     → IsVerdictOn Lawful (entries_left read old) verdict

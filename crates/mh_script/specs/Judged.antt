@@ -94,5 +94,6 @@ pub record IsMigrating (config : Config) (source source' sink sink' : Device) (e
   pub begun : OnErr ended (BeginsToMigrate config source.bytes sink.bytes sink'.bytes)
   pub never_full : ended ≢ Err HistoryFull
   pub unread : IsErrOf ended Read → Keeps sink.bytes sink'.bytes
+  pub memory : IsErrOf ended NoMemory → WantsMemory TakesToMigrate source.bytes source'.bytes
   pub taken : LeavesSource 1073741824 source.bytes source'.bytes ended
   pub blames : Blames source.failures source'.failures sink.failures sink'.failures ended

@@ -9,9 +9,9 @@ use Rattle.mh_text.specs.Stream.{AppendsBeginning}
 use Rattle.mh_script.specs.declared.end.End.{End}
 use Rattle.mh_script.specs.declared.end.End.TheVariants.{Done, Refused}
 use Rattle.mh_script.specs.declared.fault.ScriptFault.{ScriptFault}
-use Rattle.mh_script.specs.declared.fault.ScriptFault.TheVariants.{Read, HistoryFull}
-use Rattle.mh_script.specs.Run.{Device}
-use Rattle.mh_script.specs.Texts.{Blames, IsTextOf, LeavesSource, Writes}
+use Rattle.mh_script.specs.declared.fault.ScriptFault.TheVariants.{Read, NoMemory, HistoryFull}
+use Rattle.mh_script.specs.Run.{Device, TakesToRun}
+use Rattle.mh_script.specs.Texts.{Blames, IsTextOf, LeavesSource, WantsMemory, Writes}
 
 -- the text of a source means a script, and what a race of it leaves was written, and nothing else
 pub record Races (Raced : Meaning → Text → Type 0) (known old new : Option Text) : Type 0 where
@@ -50,5 +50,6 @@ pub record IsRaceRun (source source' sink sink' : Device) (ended : Result End Sc
   pub begun : OnErr ended (BeginsToRace source.bytes sink.bytes sink'.bytes)
   pub full : IsErrOf ended HistoryFull → Races IsRacedFull source.bytes sink.bytes sink'.bytes
   pub unread : IsErrOf ended Read → Keeps sink.bytes sink'.bytes
+  pub memory : IsErrOf ended NoMemory → WantsMemory TakesToRun source.bytes source'.bytes
   pub taken : LeavesSource 67108864 source.bytes source'.bytes ended
   pub blames : Blames source.failures source'.failures sink.failures sink'.failures ended

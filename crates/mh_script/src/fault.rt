@@ -3,17 +3,26 @@ use mh_state::machine::Stop;
 use mh_text::device::DeviceFailed;
 use thiserror::Error;
 
-/// Why a script was not run to its end.
+/// The line that tells that the source failed.
+pub const READ_FAILED: &str = "metroheap: read failed\n";
+
+pub const WRITE_FAILED: &str = "metroheap: write failed\n";
+
+pub const NO_MEMORY: &str = "metroheap: no memory\n";
+
+pub const HISTORY_FULL: &str = "metroheap: history full\n";
+
+/// Why a script was not run to its end. Its text is the line that the program writes.
 #[derive(Clone, Copy, Debug, PartialEq, Eq, Error)]
 pub enum ScriptFault {
-    #[error("metroheap: read failed")]
+    #[error("{}", READ_FAILED)]
     Read,
-    #[error("metroheap: write failed")]
+    #[error("{}", WRITE_FAILED)]
     Write,
-    #[error("metroheap: no memory")]
+    #[error("{}", NO_MEMORY)]
     NoMemory,
     /// More events than a history has room for; those that it has were answered.
-    #[error("metroheap: history full")]
+    #[error("{}", HISTORY_FULL)]
     HistoryFull,
 }
 
@@ -42,11 +51,9 @@ impl From<Stop> for ScriptFault {
 }
 
 /// Why lines were not all written.
-#[derive(Clone, Copy, Debug, PartialEq, Eq, Error)]
+#[derive(Clone, Copy, Debug, PartialEq, Eq)]
 pub enum WriteError {
-    #[error("write failed")]
     Device,
-    #[error("no memory")]
     NoMemory,
 }
 

@@ -3,7 +3,8 @@ ghost use Rattle.std.specs.Prelude.{◌≡◌, ◌≢◌, ◌<◌, ◌≤◌, �
 ghost use Rattle.std.specs.Io.KnownBytes.{Keeps};
 ghost use Rattle.mh_model.specs.Races.{IsRaced, IsRacedFull, IsRaceBegun};
 ghost use Rattle.mh_script.specs.Raced.{BeginsToRace, RaceEndsAs, Races};
-ghost use Rattle.mh_script.specs.Texts.{Blames, BlamesSink, LeavesSource, Writes};
+ghost use Rattle.mh_script.specs.Run.{TakesToRun};
+ghost use Rattle.mh_script.specs.Texts.{Blames, BlamesSink, LeavesSource, WantsMemory, Writes};
 
 use crate::end::End;
 use crate::fault::ScriptFault;
@@ -21,7 +22,8 @@ use std::alloc::Global;
 use std::sync::Wait;
 use std::thread::Threads;
 
-/// Lets the sessions of a script race, and writes the history that they made as far as they came.
+/// Lets the sessions of a script race, and writes the history that they made as far as they came, or a beginning of it
+/// where memory was refused.
 fn write_race<R: Threads + Wait + Sync, W: Sink, G: CrewGate + Sync>(
     rt: &R,
     alloc: Global,
@@ -62,6 +64,7 @@ pub fn race_script<R: Threads + Wait + Sync, S: Source, W: Sink, G: CrewGate + S
     ensures begun { OnErr result (BeginsToRace (S.rest source.old) (W.written sink.old) (W.written sink.new)) }
     ensures full { IsErrOf result ScriptFault.HistoryFull → Races IsRacedFull (S.rest source.old) (W.written sink.old) (W.written sink.new) }
     ensures unread { IsErrOf result ScriptFault.Read → Keeps (W.written sink.old) (W.written sink.new) }
+    ensures memory { IsErrOf result ScriptFault.NoMemory → WantsMemory TakesToRun (S.rest source.old) (S.rest source.new) }
     ensures taken { LeavesSource SCRIPT_BYTES (S.rest source.old) (S.rest source.new) result }
     ensures blames { Blames (S.failures source.old) (S.failures source.new) (W.failures sink.old) (W.failures sink.new) result }
 {

@@ -5,8 +5,8 @@ ghost use Rattle.mh_model.specs.Output as model;
 ghost use Rattle.mh_model.specs.Output.{output_of};
 ghost use Rattle.mh_model.specs.Script.{Means};
 ghost use Rattle.mh_text.specs.Stream.{AppendsBeginning};
-ghost use Rattle.mh_script.specs.Run.{EndsAs, Outputs, WritesBeginning};
-ghost use Rattle.mh_script.specs.Texts.{LeavesSource, Blames};
+ghost use Rattle.mh_script.specs.Run.{EndsAs, Outputs, TakesToRun, WritesBeginning};
+ghost use Rattle.mh_script.specs.Texts.{LeavesSource, Blames, WantsMemory};
 
 use crate::end::End;
 use crate::fault::{ScriptFault, WriteError};
@@ -14,6 +14,7 @@ use crate::replies::write_replies;
 use crate::texts::{read_whole, write_verdict};
 use mh_model::command::Event;
 use mh_model::history::Verdict;
+use mh_model::limits;
 use mh_scan::crew_scan::{CrewGate, CrewScan};
 use mh_scan::scan::Scanner;
 use mh_state::machine::Machine;
@@ -24,9 +25,7 @@ use mh_text::source::Source;
 use mh_text::text_error::TextError;
 use std::alloc::Global;
 use std::thread::Threads;
-
-/// The most events that are answered.
-const MOST_ENTRIES: usize = 1_000_000;
+const MOST_ENTRIES: usize = limits::MOST_EVENTS as usize;
 
 /// The events that are answered.
 #[tactic(auto, using(crate::proofs::RunLemmas::take_min, crate::proofs::RunLemmas::front_is_few), unfolding(mh_model::specs::Limits::most_entries))]
@@ -74,6 +73,7 @@ pub fn run_script<R: Threads, S: Source, W: Sink, G: CrewGate>(
     ensures begun { OnErr result (WritesBeginning (S.rest source.old) (W.written sink.old) (W.written sink.new)) }
     ensures full { IsErrOf result ScriptFault.HistoryFull → Outputs (S.rest source.old) (W.written sink.old) (W.written sink.new) model.HistoryFull }
     ensures unread { IsErrOf result ScriptFault.Read → Keeps (W.written sink.old) (W.written sink.new) }
+    ensures memory { IsErrOf result ScriptFault.NoMemory → WantsMemory TakesToRun (S.rest source.old) (S.rest source.new) }
     ensures taken { LeavesSource SCRIPT_BYTES (S.rest source.old) (S.rest source.new) result }
     ensures blames { Blames (S.failures source.old) (S.failures source.new) (W.failures sink.old) (W.failures sink.new) result }
 {

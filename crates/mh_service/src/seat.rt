@@ -6,12 +6,13 @@ use crate::job::Shared;
 use mh_lock::seat::{HasSeat, LockSeat};
 use mh_model::command::Event;
 use mh_model::history::Entry;
+use mh_model::limits::SESSIONS;
 use std::alloc::Global;
 use std::marker::Model;
 
 /// The number of the desk, the seat of the controls and of the sessions 8 and more. The other seats are those of the
 /// sessions below 8.
-pub const DESK: u64 = 8;
+pub const DESK: u64 = SESSIONS as u64;
 
 /// The right to make the calls of a session below 8, or of the desk, and the log of these calls. One thread at a time can
 /// use it.

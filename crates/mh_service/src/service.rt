@@ -9,7 +9,7 @@ ghost use Rattle.mh_service.specs.Services.{IsOf, new_seat, Owns, IsServed, AreM
 ghost use Rattle.mh_state.specs.Storing.{events_of};
 
 use crate::job::{Job, Shared};
-use crate::seat::Seat;
+use crate::seat::{DESK, Seat};
 use mh_lock::lock::Lock;
 use mh_lock::seat::LockSeat;
 use mh_model::command::Event;
@@ -28,7 +28,7 @@ use std::sync::Wait;
 use std::thread::Threads;
 
 /// How many seats a service has.
-pub const SEATS: u64 = 9;
+pub const SEATS: u64 = DESK + 1;
 
 /// One state under a lock, whose calls scan with as many workers at most as it was opened for.
 #[derive(Drop)]

@@ -8,6 +8,7 @@ use crate::engine::Engine;
 use mh_laws::bounds::runs_stay_within_their_events;
 use mh_model::command::Event;
 use mh_model::config::Config;
+use mh_model::limits::MOST_EVENTS;
 use mh_model::memory::NoMemory;
 use mh_model::reply::Reply;
 use mh_paged::paged::PagedHeap;
@@ -17,10 +18,6 @@ use mh_scan::scan::Scanner;
 use std::alloc::Global;
 use std::marker::Model;
 use thiserror::Error;
-
-/// The most events that a machine does.
-pub const MOST_EVENTS: u64 = 1_000_000;
-
 /// Why an event was not done. It left everything as it was.
 #[derive(Clone, Copy, Debug, PartialEq, Eq, Error)]
 pub enum Stop {

@@ -12,10 +12,11 @@ ghost use Rattle.mh_state.specs.Storing.{first_stored, KeepsState, MayWantMemory
 ghost use Rattle.mh_state.specs.declared.machine.Stop.{Stop};
 
 use crate::copies::{Dumps, Twice, copies_of, dumps_for};
-use crate::machine::{MOST_EVENTS, Machine, Stop};
+use crate::machine::{Machine, Stop};
 use mh_model::command::Event;
 use mh_model::config::Config;
 use mh_model::history::Entry;
+use mh_model::limits::MOST_EVENTS;
 use mh_model::memory::NoMemory;
 use mh_model::reply::Reply;
 use mh_paged::paged::PagedHeap;

@@ -85,9 +85,6 @@ passed cycle table place (suc n) free =
     let step = step-free cycle table q (ap (class_at table) page ∙ free (suc n) (omega arith)) in
     ap (swept_once cycle) (passed cycle table place n (λ k below. free k (omega arith))) ∙ at_parts _ _ _ _ step.0 (step.1 ∙ next)
 
-pub free-goes : (table : Table Block) (first count : ℕ) → AreFree table first count → class_at table (first + count) ≡ None → AreFree table first (count + 1)
-free-goes table first count free is = below_more (λ k. class_at table (first + k) ≡ None) count free is
-
 pub free-passed : (cycle : ℕ) (table : Table Block) (place n : ℕ) → page_number place < length table → class_at table (page_number place) ≡ None → AreFree table (page_number place + 1) n → page_number place + 1 + n ≤ length table
     → IsSweptTo cycle (sweeping table place) (sweeping table (64 * (place / 64 + (1 + n)))) (1 + n)
 free-passed cycle table place n inside is free few =

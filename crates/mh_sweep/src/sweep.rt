@@ -5,11 +5,8 @@ ghost use Rattle.mh_sweep.specs.Swept.{slot_swept, judged, AreFree, IsSweptTo};
 
 use mh_blocks::blocks::Blocks;
 use mh_classes::class::Class;
+use mh_model::limits::PLACES;
 use mh_model::place::Place;
-
-/// How many places each page has, whatever its class.
-const PLACES: usize = 64;
-
 /// How far a sweep came: the place of its next step, and the steps that it took.
 #[derive(Clone, Copy, Debug, PartialEq, Eq)]
 pub struct Swept {

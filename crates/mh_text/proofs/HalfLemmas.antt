@@ -49,13 +49,6 @@ pub record Scanned (mark line rest : Text) (front : Option Text) : Type 0 where
   pub line_is : line ≡ bytes_of front ++ rest
   pub reads : (more : List Text) → halves_at mark (words_left front ++ more) ≡ option_map (after_words (words_left front)) (halves_at mark more)
 
-none_before : (halves : Option Halves) → halves ≡ option_map (after_words []) halves
-none_before None = refl
-none_before (Some halves) = refl
-
-pub scan_start : (mark line : Text) → Scanned mark line line None
-scan_start mark line = record { line_is = refl; reads = λ more. none_before (halves_at mark more) }
-
 front_words : (front : Option Text) (rest : Text) → words (bytes_of front ++ rest) ≡ words_left front ++ words rest
 front_words None rest = refl
 front_words (Some front) rest = ap words (append_assoc front (32 ∷ []) rest) ∙ words_then front rest

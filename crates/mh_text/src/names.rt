@@ -5,12 +5,13 @@ ghost use Rattle.mh_text.specs.Names.{names_shown};
 
 use crate::word::is_word;
 use indexmap::IndexSet;
+use mh_model::limits::SESSIONS;
 use mh_model::memory::NoMemory;
 use std::alloc::Global;
 use std::marker::Model;
 
 /// How many names are told apart.
-const NAMES: usize = 8;
+const NAMES: usize = SESSIONS;
 
 /// The first names of sessions that a script has, eight at most, and the name that was looked up last.
 #[derive(Drop)]

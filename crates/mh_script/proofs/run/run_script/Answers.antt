@@ -1,5 +1,9 @@
 use Rattle.std.proofs.Common.{sym, ap, ◌∙◌}
+use Rattle.std.proofs.Common.{inl, inr}
+use Rattle.std.proofs.lemmas.Result.{err_from_is_err_and}
+use Rattle.mh_history.proofs.LineLemmas.{same_error}
 use Rattle.mh_model.specs.Script.{BadLine}
+use Rattle.mh_script.specs.Texts.{ForBytes}
 use Rattle.mh_script.proofs.AddedLines.{on_err}
 use Rattle.mh_script.proofs.SourceLemmas.{Refused-reads, Done-reads, HistoryFull-reads, WritesBeginning-nothing, WritesBeginning-reads, beginning_of, few_entries, many_entries, reads_slice, script_bounded}
 use Rattle.mh_script.proofs.run.run_script.Goals as goal

@@ -12,22 +12,22 @@ roots_step-requires-clause-marked c =
 pub invariant_of-self : goal.invariant_of-self
 invariant_of-self c = framed-next _ _ _ _ _ _ _ _ c.self.invariant (rw c.roots_step.ensures.table (length-shade _ _)) (rw c.roots_step.ensures.grey refl) c.after_mark-self-inside.ensures
 
-pub invariant_of-self-else-self-eq-SLOTS : goal.invariant_of-self-else-self-eq-SLOTS
-invariant_of-self-else-self-eq-SLOTS c =
+pub invariant_of-self-else-self-eq-ROOT_SLOTS : goal.invariant_of-self-else-self-eq-ROOT_SLOTS
+invariant_of-self-else-self-eq-ROOT_SLOTS c =
     let phase = rw (← c.self.view_is) at c.requires.phase in
-    rw (c.roots_step.ensures.table, c.roots_step.ensures.grey) (framed-roots _ _ _ _ _ _ _ c.self.invariant phase c.if-self-eq-SLOTS.false)
+    rw (c.roots_step.ensures.table, c.roots_step.ensures.grey) (framed-roots _ _ _ _ _ _ _ c.self.invariant phase c.if-self-eq-ROOT_SLOTS.false)
 
-pub returns-then-self-eq-SLOTS : goal.returns-then-self-eq-SLOTS
-returns-then-self-eq-SLOTS c =
+pub returns-then-self-eq-ROOT_SLOTS : goal.returns-then-self-eq-ROOT_SLOTS
+returns-then-self-eq-ROOT_SLOTS c =
     let next = rw c.roots_step.ensures.grey at c.after_mark-self-inside.ensures in
     rw (
-      roots-after c.args.self.now.collector c.after_mark-self-inside.result c.requires.phase (rw (← c.self.view_is) c.if-self-eq-SLOTS.true) (rw (← c.self.view_is) next),
+      roots-after c.args.self.now.collector c.after_mark-self-inside.result c.requires.phase (rw (← c.self.view_is) c.if-self-eq-ROOT_SLOTS.true) (rw (← c.self.view_is) next),
       ← c.self.view_is,
       c.roots_step.ensures.table,
       c.roots_step.ensures.grey,
     ) refl
 
-pub returns-else-self-eq-SLOTS : goal.returns-else-self-eq-SLOTS
-returns-else-self-eq-SLOTS c =
+pub returns-else-self-eq-ROOT_SLOTS : goal.returns-else-self-eq-ROOT_SLOTS
+returns-else-self-eq-ROOT_SLOTS c =
     let phase = rw (← c.self.view_is) at c.requires.phase in
-    rw (roots-stay c.args.self.now.collector c.requires.phase (rw (← c.self.view_is) c.if-self-eq-SLOTS.false), ← c.self.view_is, c.roots_step.ensures.table, c.roots_step.ensures.grey) (rw phase refl)
+    rw (roots-stay c.args.self.now.collector c.requires.phase (rw (← c.self.view_is) c.if-self-eq-ROOT_SLOTS.false), ← c.self.view_is, c.roots_step.ensures.table, c.roots_step.ensures.grey) (rw phase refl)

@@ -1,0 +1,32 @@
+//! The numbers of the rules, each named once for the code. The book has them where it speaks of them.
+
+/// The words of a page.
+pub const PAGE_WORDS: usize = 256;
+
+/// The places of a page, whatever its class.
+pub const PLACES: usize = 64;
+
+/// The words of a block before its fields.
+pub const HEADER: usize = 4;
+
+/// The most fields of one block, and of a run of an object's fields.
+pub const RUN: u32 = 60;
+
+/// The most fields of an object whose spine leads to its arraylets; above, it leads to middle spines.
+pub const SPINE_FIELDS: u32 = 3_600;
+
+/// The most parts of an object.
+pub const MOST_PARTS: usize = 3_661;
+
+pub const SESSIONS: usize = 8;
+
+/// The slots of a session, and of the board.
+pub const SESSION_SLOTS: usize = 16;
+
+/// The root slots: those of the sessions, then those of the board.
+pub const ROOT_SLOTS: usize = SESSIONS * SESSION_SLOTS + SESSION_SLOTS;
+
+/// The most entries of a history, and the most events of a script that are answered.
+pub const MOST_EVENTS: u64 = 1_000_000;
+
+pub const MOST_WORKERS: u64 = 64;
