@@ -7,8 +7,7 @@ use Rattle.std.proofs.lemmas.List.Sums.{sum_by-cons}
 use Rattle.mh_lock.specs.Seats.{LockSeatView}
 use Rattle.mh_model.specs.declared.command.Event.{Event}
 use Rattle.mh_model.specs.declared.history.Entry.{Entry}
-use Rattle.mh_model.specs.History.{owner_of, owned_by}
-use Rattle.mh_state.specs.Storing.{events_of}
+use Rattle.mh_model.specs.History.{owner_of, owned_by, events_of}
 use Rattle.mh_state.specs.declared.machine.Stop.{Stop}
 use Rattle.mh_race.specs.Racing.{HasRun}
 

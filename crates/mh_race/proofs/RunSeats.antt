@@ -6,8 +6,7 @@ use Rattle.std.proofs.lemmas.Option.{none-some}
 use Rattle.mh_lock.specs.Seats.{LockSeatView}
 use Rattle.mh_model.specs.declared.command.Event.{Event}
 use Rattle.mh_model.specs.declared.history.Entry.{Entry}
-use Rattle.mh_model.specs.History.{owner_of, owned_by}
-use Rattle.mh_state.specs.Storing.{events_of}
+use Rattle.mh_model.specs.History.{owner_of, owned_by, events_of}
 use Rattle.mh_state.specs.declared.machine.Stop.{Stop}
 use Rattle.mh_race.specs.Racing.{HasRun, HasRunIn}
 use Rattle.mh_race.specs.declared.racer.Racer.{Racer}

@@ -1,11 +1,10 @@
 //! Races over the events of a script.
 ghost use Rattle.std.specs.Prelude.{◌≡◌, ◌≢◌, ◌<◌, ◌≤◌, ◌+◌, ◌++◌, ℕ, All, IfOk, None, Some, map, vec_len};
 ghost use Rattle.std.specs.Vec.{vec_capacity};
-ghost use Rattle.mh_model.specs.History.{IsLegal};
+ghost use Rattle.mh_model.specs.History.{IsLegal, events_of};
 ghost use Rattle.mh_model.specs.Limits.{most_entries};
 ghost use Rattle.mh_race.specs.Racing.{IsNew, IsFresh, HasRun, HasRunIn, MakesTheCalls, BeginsTheCalls};
 ghost use Rattle.mh_service.specs.Services.{ServiceView, IsOf};
-ghost use Rattle.mh_state.specs.Storing.{events_of};
 ghost use Rattle.mh_state.specs.declared.machine.Stop.{Stop};
 
 use crate::racer::Racer;

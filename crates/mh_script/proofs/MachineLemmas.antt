@@ -7,7 +7,8 @@ use Rattle.mh_model.specs.declared.config.Config.{Config}
 use Rattle.mh_model.specs.declared.history.Entry.{Entry}
 use Rattle.mh_model.specs.declared.history.Measured.{Measured}
 use Rattle.mh_model.specs.Bytes.{Text, joined, line_text, lines_text}
-use Rattle.mh_model.specs.HistoryTexts.{header_words, measured_words, measured_step, machine_record, recorded_text, migrated}
+use Rattle.mh_model.specs.History.{events_of}
+use Rattle.mh_model.specs.HistoryTexts.{header_words, measured_line, measured_step, machine_record, recorded_text, migrated}
 use Rattle.mh_model.specs.Machine.{Machine, first_machine, event_step, machine_after, machine_replies}
 use Rattle.mh_model.specs.Replies.{replies_text}
 use Rattle.mh_promise.proofs.RunsByEvents.{after_more, replies_more}
@@ -49,9 +50,6 @@ replies_add first = record {
 
 -- Records ----------------------------------------------------------------------------------------
 
-abbrev pub events_of : List Entry → List Event
-events_of entries = map (λ entry. entry.event) entries
-
 -- the machine after the events of a history
 abbrev pub machine_of : Config → List Entry → Machine
 machine_of config entries = machine_after (first_machine config) (events_of entries)
@@ -62,9 +60,6 @@ entry_next machine entry = (event_step machine entry.event).state
 -- their record as a text
 abbrev pub record_of_entries : Config → List Entry → Text
 record_of_entries config entries = recorded_text (migrated config entries)
-
-abbrev measured_line : Measured → Text
-measured_line measured = joined (measured_words measured)
 
 -- the line of one of them
 abbrev pub entry_line : Machine → Entry → Text

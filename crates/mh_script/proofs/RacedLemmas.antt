@@ -9,8 +9,8 @@ use Rattle.mh_model.specs.declared.config.Config.{Config}
 use Rattle.mh_model.specs.declared.history.Entry.{Entry}
 use Rattle.mh_model.specs.declared.history.Measured.{Measured}
 use Rattle.mh_model.specs.Bytes.{Text, line_text}
-use Rattle.mh_model.specs.History.{IsLegal, owner_of, owned_by}
-use Rattle.mh_model.specs.HistoryTexts.{IsLegalRecord, machine_record, migrated, recorded_text}
+use Rattle.mh_model.specs.History.{IsLegal, owner_of, owned_by, events_of}
+use Rattle.mh_model.specs.HistoryTexts.{IsLegalRecord, machine_record, measured_events, migrated, recorded_text}
 use Rattle.mh_model.specs.Limits.{most_entries}
 use Rattle.mh_model.specs.Machine.{Machine, first_machine, event_step}
 use Rattle.mh_model.specs.Races.{IsRaced, IsRacedFull, IsRaceBegun}
@@ -18,26 +18,13 @@ use Rattle.mh_model.specs.Replies.{bad_line_text}
 use Rattle.mh_model.specs.Script.{Meaning, Reading, BadLine, Means, reading}
 use Rattle.mh_race.specs.Racing.{BeginsTheCalls, MakesTheCalls}
 use Rattle.mh_text.specs.Stream.{AppendsBeginning}
+use Rattle.mh_text_laws.proofs.migration.MigratedRecords.{record_events, record_length}
 use Rattle.mh_script.specs.Raced.{BeginsRaceOf, BeginsToRace, Races, RefusesScript}
 use Rattle.mh_script.specs.Texts.{Writes}
 use Rattle.mh_script.proofs.AddedLines.{AppendsBeginning-nothing}
-use Rattle.mh_script.proofs.MachineLemmas.{events_of}
 use Rattle.mh_script.proofs.SourceLemmas.{Reads, some_text}
 
 -- Records ----------------------------------------------------------------------------------------
-
-abbrev measured_events : List Measured → List Event
-measured_events entries = map (λ measured. measured.entry.event) entries
-
-record_events : (machine : Machine) (events : List Event) → measured_events (machine_record machine events) ≡ events
-unfolding machine_record
-record_events machine [] = refl
-record_events machine (event ∷ events) = ap (λ (found : List Event). event ∷ found) (record_events (event_step machine event).state events)
-
-record_length : (machine : Machine) (events : List Event) → length (machine_record machine events) ≡ length events
-unfolding machine_record
-record_length machine [] = refl
-record_length machine (event ∷ events) = ap suc (record_length (event_step machine event).state events)
 
 length_migrated : (config : Config) (history : List Entry) → length (migrated config history).entries ≡ length history
 length_migrated config history = record_length (first_machine config) (events_of history) ∙ length-map history (λ entry. entry.event)

@@ -1,12 +1,13 @@
 -- What a service leaves is what its state was.
 use Rattle.std.proofs.Common.{◌≡◌, ℕ, List}
+use Rattle.mh_model.specs.History.{events_of, replies_of}
 use Rattle.mh_model.specs.declared.config.Config.{Config}
 use Rattle.mh_model.specs.declared.history.Entry.{Entry}
 use Rattle.mh_model.specs.Pages.{free_pages}
 use Rattle.mh_model.specs.Mutator.{HeapState}
 use Rattle.mh_model.specs.Trace.{TraceState}
 use Rattle.mh_promise.specs.Runs.{IsTheMachines}
-use Rattle.mh_state.specs.Storing.{Stored, IsTheReplay, events_of, replies_of}
+use Rattle.mh_state.specs.Storing.{Stored, IsTheReplay}
 
 pub closed-machine : (config : Config) (state : Stored) (history : List Entry) (heap : HeapState) (free : ℕ) (trace : TraceState)
     → state.machine.heap.config ≡ config → history ≡ state.history → heap ≡ state.machine.heap → free ≡ free_pages state.machine.heap.collector.table → trace ≡ state.machine.trace → IsTheReplay state

@@ -6,7 +6,7 @@ use Rattle.mh_model.specs.declared.command.Event.{Event}
 use Rattle.mh_model.specs.declared.config.Config.{Config}
 use Rattle.mh_model.specs.declared.history.Entry.{Entry}
 use Rattle.mh_model.specs.declared.reply.Reply.{Reply}
-use Rattle.mh_model.specs.History.{IsLegal, AreLogs, owner_of, owned_by}
+use Rattle.mh_model.specs.History.{IsLegal, AreLogs, owner_of, owned_by, events_of, replies_of}
 use Rattle.mh_model.specs.Limits.{most_entries}
 use Rattle.mh_model.specs.World.{says}
 use Rattle.mh_model.specs.Machine.{event_step}
@@ -14,7 +14,7 @@ use Rattle.mh_promise.specs.Replays.{EventsKeepTheReplay, IsReplay}
 use Rattle.mh_seat_laws.specs.Laws.{LogsMergeToTheHistory}
 use Rattle.mh_service.specs.Services.{ServiceView, IsServed, AreMerged}
 use Rattle.mh_service.specs.Sharing.{IsReplayed, IsReplayOf, IsDone, IsRefused}
-use Rattle.mh_state.specs.Storing.{Stored, KeepsState, MayWantMemory, first_stored, events_of, replies_of, with_entry}
+use Rattle.mh_state.specs.Storing.{Stored, KeepsState, MayWantMemory, first_stored, with_entry}
 use Rattle.mh_state.specs.declared.machine.Stop.{Stop}
 use Rattle.mh_state.specs.declared.machine.Stop.TheVariants as stop
 

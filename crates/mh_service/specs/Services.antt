@@ -6,13 +6,13 @@ use Rattle.mh_model.specs.declared.command.Event.{Event}
 use Rattle.mh_model.specs.declared.config.Config.{Config}
 use Rattle.mh_model.specs.declared.history.Entry.{Entry}
 use Rattle.mh_model.specs.declared.reply.Reply.{Reply}
-use Rattle.mh_model.specs.History.{owner_of, owned_by}
+use Rattle.mh_model.specs.History.{owner_of, owned_by, replies_of}
 use Rattle.mh_model.specs.Limits.{most_entries}
 use Rattle.mh_promise.specs.Runs.{Outcome}
 use Rattle.mh_seat_laws.specs.Merges.{IsMerge}
 use Rattle.mh_service.specs.declared.service.Closed.{Closed}
 use Rattle.mh_service.specs.Sharing.{IsReplayOf, IsDone, IsRefused}
-use Rattle.mh_state.specs.Storing.{Stored, replies_of}
+use Rattle.mh_state.specs.Storing.{Stored}
 use Rattle.mh_state.specs.declared.machine.Stop.{Stop}
 use Rattle.mh_state.specs.declared.machine.Stop.TheVariants as stop
 

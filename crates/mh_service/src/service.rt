@@ -1,12 +1,11 @@
 //! The service.
 ghost use Rattle.std.specs.Prelude.{◌≡◌, ◌≢◌, ◌<◌, ◌≤◌, ◌==◌, ◌⊎◌, [], ◌∷◌, ◌++◌, ℕ, All, IfOk, OnOk, IfErr, OnErr, IsErrOf, count_by, slice_index_or, vec_len};
 ghost use Rattle.mh_lock.specs.Seats.{LockSeatView};
-ghost use Rattle.mh_model.specs.History.{IsLegal, owner_of, owned_by};
+ghost use Rattle.mh_model.specs.History.{IsLegal, owner_of, owned_by, events_of};
 ghost use Rattle.mh_model.specs.declared.history.Entry.{Entry};
 ghost use Rattle.mh_promise.specs.Runs.{IsTheMachines};
 ghost use Rattle.mh_promise.specs.Promise.{IsPromised};
 ghost use Rattle.mh_service.specs.Services.{IsOf, new_seat, Owns, IsServed, AreMerged, shown};
-ghost use Rattle.mh_state.specs.Storing.{events_of};
 
 use crate::job::{Job, Shared};
 use crate::seat::{DESK, Seat};

@@ -1,6 +1,7 @@
 -- Histories with an entry more.
 use Rattle.std.proofs.Common.{◌≡◌, ◌≢◌, ◌≤◌, ℕ, List, [], ◌∷◌, ◌++◌, length, sym, ap, ◌∙◌, subst, arith}
 use Rattle.std.proofs.lemmas.List.{length-append, map-append}
+use Rattle.mh_model.specs.History.{events_of, replies_of}
 use Rattle.mh_model.specs.declared.command.Event.{Event}
 use Rattle.mh_model.specs.declared.config.Config.{Config}
 use Rattle.mh_model.specs.declared.history.Entry.{Entry}
@@ -10,7 +11,7 @@ use Rattle.mh_model.specs.Machine.{Machine, first_machine}
 use Rattle.mh_laws.proofs.bounds.CyclesInTime.{run-stays}
 use Rattle.mh_promise.specs.Replays.{EventsKeepTheReplay, IsReplay}
 use Rattle.mh_state.specs.Running.{Running, Does}
-use Rattle.mh_state.specs.Storing.{IsStored, events_of, replies_of, with_entry, IsTheReplay, KeepsItsPromise}
+use Rattle.mh_state.specs.Storing.{IsStored, with_entry, IsTheReplay, KeepsItsPromise}
 
 -- the machine of a replay has its configuration
 pub config-replay : (config : Config) (events : List Event) (replies : List Reply) (machine : Machine) → IsReplay config events replies machine → machine.heap.config ≡ config

@@ -4,7 +4,7 @@ use Rattle.mh_model.specs.declared.command.Event.{Event}
 use Rattle.mh_model.specs.declared.config.Config.{Config}
 use Rattle.mh_model.specs.declared.history.Entry.{Entry}
 use Rattle.mh_model.specs.declared.reply.Reply.{Reply}
-use Rattle.mh_model.specs.History.{IsLegal}
+use Rattle.mh_model.specs.History.{IsLegal, events_of, replies_of}
 use Rattle.mh_model.specs.Machine.{Machine, first_machine}
 use Rattle.mh_promise.specs.Replays.{IsReplay}
 use Rattle.mh_promise.specs.Runs.{outcome_of, IsTheMachines}
@@ -30,12 +30,6 @@ pub record KeepsState (old new : Stored) : Type 0 where
 -- an event may ask for memory: for itself, or for its entry where the history has no room for one
 abbrev pub MayWantMemory : Stored → Event → Type 0
 MayWantMemory stored event = MayAskForMemory stored.trace_room event ⊎ (stored.entry_room ≡ 0)
-
-abbrev pub events_of : List Entry → List Event
-events_of history = map (λ entry. entry.event) history
-
-abbrev pub replies_of : List Entry → List Reply
-replies_of history = map (λ entry. entry.reply) history
 
 -- a history with an event more and its reply
 abbrev pub with_entry : List Entry → Event → Reply → List Entry

@@ -18,8 +18,8 @@ use Rattle.mh_model.specs.Replies.{is_reply, are_u64}
 use Rattle.mh_model.specs.Script.{Reading, BadLine, Means}
 use Rattle.mh_model.specs.Trace.{mutator_count, collector_count}
 use Rattle.mh_model.specs.Machine.{Machine, first_machine, event_step, machine_replies}
-use Rattle.mh_model.specs.History.{IsLegal}
-use Rattle.mh_model.specs.HistoryTexts.{IsMigratedTo, is_event, is_entry, is_measured, measured_step, machine_record, history_text, history_reading, migrated, migration_text, IsJudged, IsChecked, IsAudited}
+use Rattle.mh_model.specs.History.{IsLegal, events_of, replies_of}
+use Rattle.mh_model.specs.HistoryTexts.{IsMigratedTo, is_event, is_entry, is_measured, measured_step, machine_record, history_text, history_reading, migrated, migration_text, IsJudged, IsChecked, IsAudited, measured_events}
 use Rattle.mh_model.specs.declared.history.Verdict.{Verdict}
 use Rattle.mh_model.specs.declared.history.Verdict.TheVariants.{Refused, Legal}
 use Rattle.mh_text_laws.specs.Migration.{IsMigrated}
@@ -27,7 +27,6 @@ use Rattle.mh_text_laws.proofs.ListLemmas.{first_same, others_same}
 use Rattle.mh_text_laws.proofs.round_trips.HeaderRoundTrips.{config_limits}
 use Rattle.mh_text_laws.proofs.round_trips.HistoryRoundTrips.{recorded_reading-text}
 use Rattle.mh_text_laws.proofs.rewritings.HistoriesWrittenAgain.{history_reading_is}
-use Rattle.mh_text_laws.proofs.verdicts.LegalHistories.{events_of, replies_of, measured_events}
 use Rattle.mh_text_laws.proofs.verdicts.OneVerdict.{checked-once}
 use Rattle.mh_text_laws.proofs.verdicts.SomeVerdict.{texts_checked}
 use Rattle.mh_text_laws.proofs.migration.LettersAdded.{event_adds}
@@ -80,12 +79,12 @@ record_measured machine (e ∷ entries) first h same =
     let later = record_measured (event_step machine e.event).state entries next (and_parts _ _ h).1 (others_same same) in
     and_from _ _ (and_from _ _ answered (units_small machine e.event first)) later
 
-record_events : (machine : Machine) (events : List Event) → measured_events (machine_record machine events) ≡ events
+pub record_events : (machine : Machine) (events : List Event) → measured_events (machine_record machine events) ≡ events
 unfolding machine_record
 record_events machine [] = refl
 record_events machine (e ∷ events) = ap (λ (found : List Event). e ∷ found) (record_events (event_step machine e).state events)
 
-record_length : (machine : Machine) (events : List Event) → length (machine_record machine events) ≡ length events
+pub record_length : (machine : Machine) (events : List Event) → length (machine_record machine events) ≡ length events
 unfolding machine_record
 record_length machine [] = refl
 record_length machine (e ∷ events) = ap suc (record_length (event_step machine e).state events)

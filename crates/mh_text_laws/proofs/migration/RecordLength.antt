@@ -7,10 +7,10 @@ use Rattle.mh_model.specs.declared.config.Config.{Config}
 use Rattle.mh_model.specs.Bytes.{Text, joined, lines_text}
 use Rattle.mh_model.specs.Forms.{u64}
 use Rattle.mh_model.specs.Replies.{are_u64}
-use Rattle.mh_model.specs.HistoryTexts.{Recorded, entry_words, is_measured, header_words, history_text, recorded_text}
+use Rattle.mh_model.specs.HistoryTexts.{Recorded, entry_words, is_measured, header_words, history_text, recorded_text, measured_line}
 use Rattle.mh_model.specs.declared.history.Measured.{Measured}
 use Rattle.mh_text_laws.proofs.round_trips.HeaderRoundTrips.{header_numbers, small_header}
-use Rattle.mh_text_laws.proofs.round_trips.HistoryRoundTrips.{entry_line, measured_line}
+use Rattle.mh_text_laws.proofs.round_trips.HistoryRoundTrips.{entry_line}
 
 joined-append : (word : Text) (words : List Text) (next : Text) (more : List Text) → joined ((word ∷ words) ++ next ∷ more) ≡ joined (word ∷ words) ++ 32 ∷ joined (next ∷ more)
 joined-append word [] next more = refl

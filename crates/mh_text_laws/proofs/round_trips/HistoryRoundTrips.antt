@@ -7,7 +7,7 @@ use Rattle.mh_model.specs.declared.history.Entry.{Entry}
 use Rattle.mh_model.specs.Bytes.{Text, cut_after, words, joined, lines_text}
 use Rattle.mh_model.specs.declared.history.Version.TheVariants.{One}
 use Rattle.mh_model.specs.Script.{Means, reading_map}
-use Rattle.mh_model.specs.HistoryTexts.{Recorded, entry_words, measured_words, is_entry, is_measured, entry_of, measured_of, header_words, header_of, history_text, recorded_text, entries_from, history_of, history_reading, recorded_by, recorded_of, recorded_reading}
+use Rattle.mh_model.specs.HistoryTexts.{Recorded, entry_words, measured_line, measured_words, is_entry, is_measured, entry_of, measured_of, header_words, header_of, history_text, recorded_text, entries_from, history_of, history_reading, recorded_by, recorded_of, recorded_reading}
 use Rattle.mh_model.specs.declared.history.Measured.{Measured}
 use Rattle.mh_text_laws.proofs.ListLemmas.{all-map}
 use Rattle.mh_text_laws.proofs.round_trips.WordRoundTrips.{is_free, are_free, cut-lines, joined_free}
@@ -19,10 +19,6 @@ use Rattle.mh_text_laws.proofs.round_trips.HeaderRoundTrips.{header_are_words, h
 -- an entry as a line
 abbrev pub entry_line : Entry → Text
 entry_line e = joined (entry_words e)
-
--- and with its units
-abbrev pub measured_line : Measured → Text
-measured_line m = joined (measured_words m)
 
 step_entry : {X : Type 0} (read : Text → Option X) (n : ℕ) (line : Text) (lines : List Text) (rest : Text) (x : X) → read line ≡ Some x
     → entries_from read n (line ∷ lines) rest ≡ reading_map (λ entries. x ∷ entries) (entries_from read (suc n) lines rest)

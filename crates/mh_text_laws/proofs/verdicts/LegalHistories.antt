@@ -8,20 +8,14 @@ use Rattle.mh_model.specs.declared.history.Entry.{Entry}
 use Rattle.mh_model.specs.declared.history.Version.TheVariants.{One, Two}
 use Rattle.mh_model.specs.Machine.{Machine, first_machine, event_step, machine_replies}
 use Rattle.mh_model.specs.Limits.{most_entries}
-use Rattle.mh_model.specs.History.{IsLegal}
-use Rattle.mh_model.specs.HistoryTexts.{is_entry, is_measured, measured_step, machine_record, IsLegalRecord}
+use Rattle.mh_model.specs.History.{IsLegal, events_of, replies_of}
+use Rattle.mh_model.specs.HistoryTexts.{is_entry, is_measured, measured_events, measured_step, machine_record, IsLegalRecord}
 use Rattle.mh_model.specs.declared.history.Measured.{Measured}
 use Rattle.mh_text_laws.proofs.ListLemmas.{first_same, others_same}
 use Rattle.mh_text_laws.proofs.verdicts.EqualReplies.{same_or_other}
 use Rattle.mh_text_laws.proofs.verdicts.StepRules.{Follows, IsRule}
 
 -- Version 1 --------------------------------------------------------------------------------------
-
-abbrev pub events_of : List Entry → List Event
-events_of entries = map (λ entry. entry.event) entries
-
-abbrev pub replies_of : List Entry → List Reply
-replies_of entries = map (λ entry. entry.reply) entries
 
 -- an entry has the machine's reply to its event
 abbrev pub IsAnswered : Machine → Entry → Type 0
@@ -55,9 +49,6 @@ legal_rule config = record {
 }
 
 -- Version 2 --------------------------------------------------------------------------------------
-
-abbrev pub measured_events : List Measured → List Event
-measured_events entries = map (λ measured. measured.entry.event) entries
 
 -- an entry has the machine's reply to its event, and the letters that it adds
 abbrev pub IsRight : Machine → Measured → Type 0

@@ -1,6 +1,5 @@
 use Rattle.std.proofs.Common.{◌++◌, ap, ◌∙◌, sym, subst, append-nil}
-use Rattle.mh_model.specs.History.{IsLegal, owner_of, owned_by}
-use Rattle.mh_state.specs.Storing.{events_of}
+use Rattle.mh_model.specs.History.{IsLegal, owner_of, owned_by, events_of}
 use Rattle.mh_race.proofs.RacedCalls.{calls-at}
 use Rattle.mh_race.proofs.race.race.Goals as goal
 

@@ -1,6 +1,5 @@
 use Rattle.std.proofs.Common.{◌≡◌, None, take}
-use Rattle.mh_model.specs.History.{owner_of, owned_by}
-use Rattle.mh_state.specs.Storing.{events_of}
+use Rattle.mh_model.specs.History.{owner_of, owned_by, events_of}
 use Rattle.mh_race.proofs.racer.Racer.run.Given as goal
 
 abbrev pub invariant-loop-event : goal.invariant-loop-event
