@@ -10,8 +10,8 @@ use Rattle.mh_program.specs.declared.fault.LineFault.TheVariants as line
 use Rattle.mh_program.specs.declared.line.Order.{Order}
 use Rattle.mh_program.specs.declared.line.Order.TheVariants.{Run, Race, Check, Audit, Migrate}
 use Rattle.mh_program.specs.Shown.{IsShown}
-use Rattle.mh_script.specs.Judged.{IsAuditing, IsChecking, IsMigrating}
-use Rattle.mh_script.specs.Raced.{IsRaceRun}
+use Rattle.mh_judging.specs.Judged.{IsAuditing, IsChecking, IsMigrating}
+use Rattle.mh_racing.specs.Raced.{IsRaceRun}
 use Rattle.mh_script.specs.Run.{Device, IsRun}
 use Rattle.mh_program.specs.Status.{status_of, verdict_status_of, line_status_of}
 

@@ -8,8 +8,8 @@ ghost use Rattle.mh_program.specs.Program.{fault_text, Obeys, Serves, Tells, Tel
 ghost use Rattle.mh_program.specs.Shown.{IsShown};
 ghost use Rattle.mh_program.specs.Status.{status_of, verdict_status_of};
 ghost use Rattle.mh_model.specs.declared.config.Rules.TheVariants.{First};
-ghost use Rattle.mh_script.specs.Judged.{IsAuditing, IsChecking, IsMigrating};
-ghost use Rattle.mh_script.specs.Raced.{IsRaceRun};
+ghost use Rattle.mh_judging.specs.Judged.{IsAuditing, IsChecking, IsMigrating};
+ghost use Rattle.mh_racing.specs.Raced.{IsRaceRun};
 ghost use Rattle.mh_script.specs.Run.{device, IsRun};
 
 use crate::fault::{BAD_CONFIGURATION, LineFault, NOT_TEXT};
@@ -20,9 +20,9 @@ use crate::status::{line_status, status, verdict_status};
 use mh_model::config::Config;
 use mh_scan::crew_scan::CrewGate;
 use mh_script::fault::{HISTORY_FULL, NO_MEMORY, READ_FAILED, ScriptFault, WRITE_FAILED};
-use mh_script::judge::{audit_script, check_script};
-use mh_script::migrate::migrate_script;
-use mh_script::race::race_script;
+use mh_judging::judge::{audit_script, check_script};
+use mh_judging::migrate::migrate_script;
+use mh_racing::race::race_script;
 use mh_script::run::run_script;
 use mh_text::sink::Sink;
 use mh_text::source::Source;

@@ -1,11 +1,6 @@
 pub mod AddedLines
-pub mod AgainLemmas
 pub mod BufferLemmas
 pub mod FaultLemmas
-pub mod JudgedLemmas
 pub mod MachineLemmas
-pub mod MigratedLemmas
-pub mod RacedLemmas
 pub mod RunLemmas
-pub mod ShownLemmas
 pub mod SourceLemmas

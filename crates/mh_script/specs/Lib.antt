@@ -1,4 +1,2 @@
-pub mod Judged
-pub mod Raced
 pub mod Texts
 pub mod Run

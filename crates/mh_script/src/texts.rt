@@ -24,7 +24,7 @@ const BUFFER: usize = 65_536;
 const VERDICT_BYTES: usize = 64;
 
 /// Reads a source to its end, or until it has given more than `most` bytes.
-pub(crate) fn read_whole<S: Source>(
+pub fn read_whole<S: Source>(
     alloc: Global,
     source: &mut S,
     most: usize,
@@ -59,7 +59,7 @@ fn verdict_line(verdict: Verdict) -> ArrayString<VERDICT_BYTES>
 }
 
 /// Writes the line of a verdict. It takes no memory.
-pub(crate) fn write_verdict<W: Sink>(verdict: Verdict, sink: &mut W) -> Result<(), DeviceFailed>
+pub fn write_verdict<W: Sink>(verdict: Verdict, sink: &mut W) -> Result<(), DeviceFailed>
     requires { W.failures sink.old < 2 ^ 62 }
     ensures done { OnOk result (Appends (W.written sink.old) (W.written sink.new) (line_text (verdict_text verdict))) }
     ensures begun { OnErr result (AppendsBeginning (W.written sink.old) (W.written sink.new) (line_text (verdict_text verdict))) }
@@ -71,7 +71,7 @@ pub(crate) fn write_verdict<W: Sink>(verdict: Verdict, sink: &mut W) -> Result<(
 }
 
 /// Writes the text that waits, and empties it.
-pub(crate) fn flush<W: Sink>(sink: &mut W, text: &mut String) -> Result<(), DeviceFailed>
+pub fn flush<W: Sink>(sink: &mut W, text: &mut String) -> Result<(), DeviceFailed>
     requires { W.failures sink.old < 2 ^ 62 }
     ensures done { OnOk result (Appends (W.written sink.old) (W.written sink.new) (string_bytes text.old)) }
     ensures empty { OnOk result (string_bytes text.new ≡ []) }
@@ -89,7 +89,7 @@ pub(crate) fn flush<W: Sink>(sink: &mut W, text: &mut String) -> Result<(), Devi
 }
 
 /// Writes the text that waits where it has filled its buffer.
-pub(crate) fn flush_full<W: Sink>(sink: &mut W, text: &mut String) -> Result<(), DeviceFailed>
+pub fn flush_full<W: Sink>(sink: &mut W, text: &mut String) -> Result<(), DeviceFailed>
     requires { W.failures sink.old < 2 ^ 62 }
     ensures kept { OnOk result (Buffers (W.written sink.old) (W.written sink.new) (string_bytes text.new) (string_bytes text.old)) }
     ensures begun { OnErr result (AppendsBeginning (W.written sink.old) (W.written sink.new) (string_bytes text.old)) }

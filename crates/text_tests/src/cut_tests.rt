@@ -9,7 +9,7 @@ use crate::rows::Row;
 use mh_claims::gate::Open;
 use mh_model::history::Verdict;
 use mh_script::end::End;
-use mh_script::race::race_script;
+use mh_racing::race::race_script;
 use mh_text::sink::StdSink;
 use mh_text::source::StdSource;
 use std::alloc::Global;

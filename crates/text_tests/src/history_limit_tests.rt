@@ -2,7 +2,7 @@ use crate::expected::verdict_line;
 use crate::generated::Generated;
 use mh_model::config::Config;
 use mh_model::history::Verdict;
-use mh_script::judge::{audit_script, check_script};
+use mh_judging::judge::{audit_script, check_script};
 use mh_text::sink::StdSink;
 use std::alloc::Global;
 use std::process::Abort;

@@ -1,0 +1,4 @@
+pub mod AgainLemmas
+pub mod JudgedLemmas
+pub mod MigratedLemmas
+pub mod ShownLemmas

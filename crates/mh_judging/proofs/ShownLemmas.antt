@@ -1,0 +1,68 @@
+-- Entries that are shown to a judge as they are read.
+use Rattle.std.proofs.Common.{◌≡◌, ◌∙◌, Option, List, [], ◌∷◌, ◌++◌, ap, refl}
+use Rattle.std.specs.Prelude.{Result, Ok, Err, IfOk, IfErr}
+use Rattle.mh_model.specs.declared.config.Config.{Config}
+use Rattle.mh_model.specs.declared.history.Entry.{Entry}
+use Rattle.mh_model.specs.declared.history.Measured.{Measured}
+use Rattle.mh_model.specs.declared.history.Verdict.{Verdict}
+use Rattle.mh_model.specs.declared.history.Verdict.TheVariants.{Legal}
+use Rattle.mh_model.specs.History.{IsLegal}
+use Rattle.mh_model.specs.Bytes.{Text}
+use Rattle.mh_model.specs.HistoryTexts.{IsJudged, IsLegalRecord}
+use Rattle.mh_model.specs.Script.{Reading, Means}
+use Rattle.mh_state.specs.Judging.{Judging}
+use Rattle.mh_state.proofs.JudgeLemmas.{legal_rule, record_rule}
+use Rattle.mh_text.specs.Pieces.{Lines}
+use Rattle.mh_text.specs.TextErrors.{Refuses}
+use Rattle.mh_text.specs.declared.text_error.TextError.{TextError}
+use Rattle.mh_text.specs.declared.text_error.TextError.TheVariants.{Line, NoMemory}
+use Rattle.mh_history.specs.Beginnings.{TakesEntry, entries_left, entry_before}
+use Rattle.mh_history.proofs.LineLemmas.{Walked, entry_taken, walked_end, walked_more, walked_refused, walked_start}
+use Rattle.mh_judging.specs.Judged.{IsVerdictOn}
+
+-- what follows from a result's value, and from its error
+pub if_ok_by : {T E : Type 0} {P Q : T → Type 0} (r : Result T E) → ((value : T) → P value → Q value) → IfOk r P → IfOk r Q
+if_ok_by (Ok value) by h = by value h
+if_ok_by (Err error) by h = tt
+
+pub if_err_by : {T E : Type 0} {P Q : E → Type 0} (r : Result T E) → ((error : E) → P error → Q error) → IfErr r P → IfErr r Q
+if_err_by (Ok value) by h = tt
+if_err_by (Err error) by h = by error h
+
+-- a judge has seen an entry, and then the entries that were read
+pub record HasShown {X : Type 0} (read : Text → Option X) (HasSeen : List X → Judging → Type 0) (first : X) (old new : Lines) (judging : Judging) : Type 0 where
+  pub seen : List X
+  pub walked : Walked read old new seen
+  pub shown : HasSeen (first ∷ seen) judging
+
+pub shown_first : {X : Type 0} (read : Text → Option X) (HasSeen : List X → Judging → Type 0) (first : X) (old : Lines) (judging : Judging) → HasSeen (first ∷ []) judging → HasShown read HasSeen first old old judging
+shown_first read HasSeen first old judging shown = record { seen = []; walked = walked_start read old; shown = shown }
+
+module _ {X : Type 0} {read : Text → Option X} {HasSeen : List X → Judging → Type 0} {first : X} {old mid : Lines} {before : Judging} (has : HasShown read HasSeen first old mid before) where
+  pub shown_more : (new : Lines) (entry : X) (judging : Judging) → TakesEntry read mid new entry → ((seen : List X) → HasSeen seen before → HasSeen (seen ++ entry ∷ []) judging) → HasShown read HasSeen first old new judging
+  shown_more new entry judging took shows = record {
+    seen = has.seen ++ entry ∷ [];
+    walked = walked_more read old mid new has.seen (has.seen ++ entry ∷ []) entry has.walked took refl;
+    shown = shows (first ∷ has.seen) has.shown;
+  }
+
+  pub shown_end : (Lawful : List X → Type 0) (verdict : Verdict) → entries_left read mid ≡ Means [] → ((seen : List X) → HasSeen seen before → IsJudged Lawful seen verdict)
+      → IsVerdictOn Lawful (entry_before first (entries_left read old)) verdict
+  shown_end Lawful verdict end judged = rw (walked_end read old mid has.seen has.walked end) (judged (first ∷ has.seen) has.shown)
+
+-- what one says of an entry and those after it says of them all
+pub verdict_taken : {X : Type 0} (read : Text → Option X) (Lawful : List X → Type 0) (old new : Lines) (first : X) (verdict : Verdict) → TakesEntry read old new first → IsVerdictOn Lawful (entry_before first (entries_left read new)) verdict
+    → IsVerdictOn Lawful (entries_left read old) verdict
+verdict_taken read Lawful old new first verdict took judged = rw (entry_taken read old new first took) judged
+
+-- a line after an entry at which a text is refused
+pub taken_refused : {X : Type 0} (read : Text → Option X) (old new : Lines) (first : X) (error : TextError) → TakesEntry read old new first → Refuses (entries_left read new) error → Refuses (entries_left read old) error
+taken_refused read old new first (Line bad) took refused = entry_taken read old new first took ∙ ap (entry_before first) refused
+taken_refused read old new first NoMemory took refused = tt
+
+-- a history without entries is legal
+pub none_legal : (config : Config) (r : Reading (List Entry)) → r ≡ Means [] → IsVerdictOn (IsLegal config) r (Legal 0)
+none_legal config r is = rw is ((legal_rule config).empty, refl)
+
+pub none_legal_record : (config : Config) (r : Reading (List Measured)) → r ≡ Means [] → IsVerdictOn (IsLegalRecord config) r (Legal 0)
+none_legal_record config r is = rw is ((record_rule config).empty, refl)

@@ -1,0 +1,105 @@
+//! Histories of version 1 that become histories of version 2.
+ghost use Rattle.std.specs.Prelude.{◌≡◌, ◌≢◌, ◌<◌, ◌^◌, IfOk, OnErr, IsErrOf};
+ghost use Rattle.std.specs.Io.KnownBytes.{Appends, Keeps};
+ghost use Rattle.mh_model.specs.declared.config.Rules.TheVariants.{First};
+ghost use Rattle.mh_model.specs.Bytes.{line_text};
+ghost use Rattle.mh_model.specs.declared.history.Verdict.{Verdict};
+ghost use Rattle.mh_model.specs.HistoryTexts.{IsChecked, verdict_text};
+ghost use Rattle.mh_text.specs.Stream.{AppendsBeginning};
+ghost use Rattle.mh_judging.specs.Judged.{BeginsMigration, BeginsToMigrate, Migrates, MigratesText, TakesToMigrate};
+ghost use Rattle.mh_script.specs.Texts.{Blames, BlamesSink, LeavesSource, WantsMemory};
+
+use mh_script::fault::ScriptFault;
+use crate::judge::verdict_on_history;
+use crate::record::write_lines;
+use mh_script::texts::{read_whole, write_verdict};
+use mh_history::history::{HISTORY_BYTES, history_lines};
+use mh_model::config::Config;
+use mh_model::history::Verdict;
+use mh_text::device::DeviceFailed;
+use mh_text::sink::Sink;
+use mh_text::source::Source;
+use mh_text_laws::migration::{migrated_texts_are_legal, texts_are_migrated};
+use std::alloc::Global;
+
+/// Writes the line of the verdict on a text that is not migrated.
+fn write_unmigrated<W: Sink>(verdict: Verdict, sink: &mut W) -> Result<Verdict, ScriptFault>
+    requires { W.failures sink.old < 2 ^ 62 }
+    ensures done { IfOk result (λ told. (told ≡ verdict) × Appends (W.written sink.old) (W.written sink.new) (line_text (verdict_text verdict))) }
+    ensures begun { OnErr result (AppendsBeginning (W.written sink.old) (W.written sink.new) (line_text (verdict_text verdict))) }
+    ensures never_full { result ≢ Err ScriptFault.HistoryFull }
+    ensures never_starved { IsErrOf result ScriptFault.NoMemory → ⊥ }
+    ensures blames { BlamesSink (W.failures sink.old) (W.failures sink.new) result }
+{
+    match write_verdict(verdict, sink) {
+        Ok(()) => Ok(verdict),
+        Err(DeviceFailed) => Err(ScriptFault::Write),
+    }
+}
+
+/// Writes a legal history of so many entries as version 2. It is read once more, entry by entry.
+fn write_legal<W: Sink>(
+    alloc: Global,
+    config: Config,
+    text: &[u8],
+    count: u64,
+    sink: &mut W,
+) -> Result<Verdict, ScriptFault>
+    requires legal { IsChecked config text.now (Verdict.Legal count) }
+    requires failures { W.failures sink.old < 2 ^ 62 }
+    ensures done { IfOk result (MigratesText config text.now (W.written sink.old) (W.written sink.new)) }
+    ensures begun { OnErr result (BeginsMigration config text.now (W.written sink.old) (W.written sink.new)) }
+    ensures never_full { result ≢ Err ScriptFault.HistoryFull }
+    ensures blames { BlamesSink (W.failures sink.old) (W.failures sink.new) result }
+{
+    let Ok(lines) = history_lines(text) else {
+        unreachable!();
+    };
+    write_lines(alloc, config, lines, sink)?;
+    Ok(Verdict::Legal(count))
+}
+
+/// Writes what migration makes of a text.
+fn write_migrated<W: Sink>(
+    alloc: Global,
+    config: Config,
+    text: &[u8],
+    sink: &mut W,
+) -> Result<Verdict, ScriptFault>
+    requires { W.failures sink.old < 2 ^ 62 }
+    ensures done { IfOk result (MigratesText config text.now (W.written sink.old) (W.written sink.new)) }
+    ensures begun { OnErr result (BeginsMigration config text.now (W.written sink.old) (W.written sink.new)) }
+    ensures never_full { result ≢ Err ScriptFault.HistoryFull }
+    ensures memory { IsErrOf result ScriptFault.NoMemory → TakesToMigrate text.now }
+    ensures blames { BlamesSink (W.failures sink.old) (W.failures sink.new) result }
+{
+    texts_are_migrated();
+    match verdict_on_history(alloc, config, text)? {
+        Verdict::Legal(count) => write_legal(alloc, config, text, count, sink),
+        verdict => write_unmigrated(verdict, sink),
+    }
+}
+
+/// Reads a whole history of version 1, and writes it as version 2 where it is legal, and else the line of its verdict.
+pub fn migrate_script<S: Source, W: Sink>(
+    alloc: Global,
+    config: Config,
+    source: &mut S,
+    sink: &mut W,
+) -> Result<Verdict, ScriptFault>
+    requires first { config.rules ≡ First }
+    requires source_count { S.failures source.old < 2 ^ 62 }
+    requires sink_count { W.failures sink.old < 2 ^ 62 }
+    ensures migrated { IfOk result (Migrates config (S.rest source.old) (W.written sink.old) (W.written sink.new)) }
+    ensures begun { OnErr result (BeginsToMigrate config (S.rest source.old) (W.written sink.old) (W.written sink.new)) }
+    ensures never_full { result ≢ Err ScriptFault.HistoryFull }
+    ensures unread { IsErrOf result ScriptFault.Read → Keeps (W.written sink.old) (W.written sink.new) }
+    ensures memory { IsErrOf result ScriptFault.NoMemory → WantsMemory TakesToMigrate (S.rest source.old) (S.rest source.new) }
+    ensures taken { LeavesSource HISTORY_BYTES (S.rest source.old) (S.rest source.new) result }
+    ensures blames { Blames (S.failures source.old) (S.failures source.new) (W.failures sink.old) (W.failures sink.new) result }
+{
+    texts_are_migrated();
+    migrated_texts_are_legal();
+    let text = read_whole(alloc, source, HISTORY_BYTES)?;
+    write_migrated(alloc, config, text.as_slice(), sink)
+}

@@ -1,0 +1,4 @@
+//! Races of the sessions of a script, from text to text.
+#![tactic(auto)]
+
+pub mod race;
