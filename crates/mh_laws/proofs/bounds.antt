@@ -4,4 +4,3 @@ pub mod CycleBounds
 pub mod CyclesInTime
 pub mod StepsOfACycle
 pub mod SizedTables
-pub mod WithinEvents

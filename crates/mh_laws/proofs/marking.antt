@@ -1,11 +1,5 @@
-pub mod GreyList
-pub mod GreyRoom
-pub mod BatchMarking
 pub mod BatchSteps
-pub mod MarkedOnce
 pub mod MarkingPaths
 pub mod BlockChanges
 pub mod SameTable
 pub mod MarkSteps
-pub mod ReachableNow
-pub mod StandingStill

@@ -1,6 +1,1 @@
-pub mod Parts
-pub mod Headers
-pub mod MadeGroups
-pub mod RefusedObjects
 pub mod NewbornBlocks
-pub mod JoinedFields

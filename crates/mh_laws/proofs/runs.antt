@@ -1,2 +1,1 @@
 pub mod EveryMoment
-pub mod FaithfulMoments

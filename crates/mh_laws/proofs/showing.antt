@@ -1,10 +1,3 @@
 pub mod ObjectsShown
 pub mod FoundBlocks
-pub mod AlikeTables
-pub mod MarkingShows
 pub mod SamePlainBlocks
-pub mod SweepShows
-pub mod MovesShow
-pub mod StepsShow
-pub mod QuantaShow
-pub mod ClosedViews

@@ -4,6 +4,5 @@ pub mod NewObjects
 pub mod SessionCommands
 pub mod CycleStarts
 pub mod RunningCycles
-pub mod AgreeingWorlds
 pub mod BarrierLaws
 pub mod SteadyStates

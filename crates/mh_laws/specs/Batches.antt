@@ -1,15 +1,11 @@
 -- Marking by batches: what a front of the grey list refers to is found at once, and then written back and shaded block by block.
-use Rattle.std.specs.Prelude.{◌≡◌, ◌⊎◌, ℕ, zero, suc, ◌+◌, ◌-◌, ◌<◌, ◌≤◌, Bool, List, [], ◌++◌, length}
+use Rattle.std.specs.Prelude.{◌≡◌, ◌⊎◌, ℕ, ◌+◌, ◌-◌, ◌<◌, ◌≤◌, Bool, List, [], ◌++◌, length}
 use Rattle.mh_model.specs.declared.cycle.Phase.TheVariants.{Mark}
 use Rattle.mh_model.specs.Pages.{Table}
 use Rattle.mh_model.specs.Table.{Block}
-use Rattle.mh_model.specs.Collector.{Collector, Marking, mark_step, first_mark_cost, with_units, steps}
+use Rattle.mh_model.specs.Collector.{Collector, Marking, first_mark_cost, with_units, steps}
 use Rattle.mh_model.specs.Batches.{NoneTwice, batch_cost, batch_marked, after_batch, longest_front}
-
--- so many mark steps
-abbrev pub mark_steps : ℕ → Marking → Marking
-mark_steps zero marking = marking
-mark_steps (suc count) marking = mark_steps count (mark_step marking)
+use Rattle.mh_table_laws.specs.Marking.{mark_steps}
 
 -- a front that has so few places and fits, and no longer one has and does: the batch is full, or no place is after it, or the next doesn't fit
 pub record IsLongestFront (most : ℕ) (table : Table Block) (left : ℕ) (grey batch : List ℕ) : Type 0 where

@@ -1,12 +1,11 @@
 -- What quanta spend, and what their steps cost.
-use Rattle.std.specs.Prelude.{◌≡◌, ℕ, ◌+◌, ◌≤◌, ◌<◌, ◌⊎◌, Bool, false, IsTrue, Some, List, length}
+use Rattle.std.specs.Prelude.{◌≡◌, ℕ, ◌+◌, ◌≤◌, ◌<◌, ◌⊎◌, Bool, false, IsTrue, List}
 use Rattle.mh_model.specs.declared.config.Config.{Config}
 use Rattle.mh_model.specs.declared.command.Event.{Event}
-use Rattle.mh_model.specs.Pages.{Page, Table, page_at}
-use Rattle.mh_model.specs.Table.{Block, references_at}
 use Rattle.mh_model.specs.Collector.{Collector, is_idle, step_cost, steps, quantum}
 use Rattle.mh_model.specs.Machine.{first_machine, half_step, machine_after}
 use Rattle.mh_model.specs.CycleBounds.{IsInBounds}
+use Rattle.mh_table_laws.specs.Tables.{IsSized}
 
 -- No quantum spends more units than are configured
 abbrev pub QuantumKeepsItsLimit : Type 0
@@ -15,11 +14,6 @@ QuantumKeepsItsLimit = (config : Config) (collector : Collector) → (quantum co
 -- While a cycle runs, the next step costs at least 1
 abbrev pub RunningStepCosts : Type 0
 RunningStepCosts = (collector : Collector) (has_moved : Bool) → is_idle collector.phase ≡ false → 1 ≤ step_cost collector has_moved
-
--- classes have at most 64 words, and blocks at most 60 references
-pub record IsSized (table : Table Block) : Type 0 where
-  pub classes : (number : ℕ) (page : Page Block) → page_at table number ≡ Some page → page.class_size ≤ 64
-  pub references : (place : ℕ) → length (references_at table place) ≤ 60
 
 -- The next step costs at most 209 where the table is of such sizes, as it is wherever a collector is within the bounds of its cycle, and at every moment of every run, half steps included
 pub record DearestStepCosts209 : Type 0 where

@@ -1,5 +1,5 @@
 //! Laws of snapshots: what steps, quanta and commands keep of a running cycle.
-ghost use Rattle.mh_laws.specs.Snapshots.{ShadingKeepsTheSnapshot, MarkingKeepsTheSnapshot, MarkingEndsWithAllMarked, SweepLeavesWhatIsKept, StepsKeepTheSnapshot, QuantaKeepTheSnapshot, CommandsKeepTheSnapshot, CyclesStartFromTheView, CyclesStartFromTheWorld, MomentsKeepASnapshot, EndedCyclesAreExact, ReachableIsKept, CollectorsStaySteady, HeapsStayKept};
+ghost use Rattle.mh_laws.specs.Snapshots.{ShadingKeepsTheSnapshot, MarkingKeepsTheSnapshot, MarkingEndsWithAllMarked, SweepLeavesWhatIsKept, StepsKeepTheSnapshot, QuantaKeepTheSnapshot, CommandsKeepTheSnapshot, CyclesStartFromTheView, MomentsKeepASnapshot, EndedCyclesAreExact, CollectorsStaySteady, HeapsStayKept};
 
 /// Shading a root keeps what a running cycle has promised.
 pub fn shading_keeps_the_snapshot()
@@ -41,11 +41,6 @@ pub fn cycles_start_from_the_view()
     ensures { CyclesStartFromTheView }
 {}
 
-/// A quantum that starts a cycle keeps what is reachable in a world that agrees with the view at its entry.
-pub fn cycles_start_from_the_world()
-    ensures { CyclesStartFromTheWorld }
-{}
-
 /// At every moment of a run the running cycle keeps some snapshot, and references lead in one hop at most to held blocks.
 pub fn moments_keep_a_snapshot()
     ensures { MomentsKeepASnapshot }
@@ -54,11 +49,6 @@ pub fn moments_keep_a_snapshot()
 /// A quantum that ends its cycle leaves just what the snapshot reached and what was born since, each whole.
 pub fn ended_cycles_are_exact()
     ensures { EndedCyclesAreExact }
-{}
-
-/// While blocks are marked, what is reachable now is kept by the running cycle.
-pub fn reachable_is_kept()
-    ensures { ReachableIsKept }
 {}
 
 /// A collector that keeps some snapshot still does at the start of a quantum, after a quantum and after each step.

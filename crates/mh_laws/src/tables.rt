@@ -1,5 +1,5 @@
-//! Laws of tables and the slots of their pages.
-ghost use Rattle.mh_laws.specs.Tables.{FirstTableHasItsPages, StepKeepsThePages, QuantumKeepsThePages, EventKeepsThePages, EveryTableHasItsPages, MakingKeepsThePages, BlocksAreInPages, TablesKeepTheirPages, MarkingMovesNothing};
+//! Laws of what keeps the pages of tables and their slots.
+ghost use Rattle.mh_laws.specs.Tables.{FirstTableHasItsPages, StepKeepsThePages, QuantumKeepsThePages, EventKeepsThePages, EveryTableHasItsPages, MakingKeepsThePages, TablesKeepTheirPages};
 
 /// The first table has as many pages as are configured.
 pub fn first_table_has_its_pages()
@@ -31,17 +31,7 @@ pub fn making_keeps_the_pages()
     ensures { MakingKeepsThePages }
 {}
 
-/// A block is at a place of the table, in a page in use.
-pub fn blocks_are_in_pages()
-    ensures { BlocksAreInPages }
-{}
-
 /// A heap's table keeps its pages, their slots and blocks within the limits of the rules.
 pub fn tables_keep_their_pages()
     ensures { TablesKeepTheirPages }
-{}
-
-/// While roots are scanned and blocks are marked, no block moves, no place is freed and no page changes its class or flag.
-pub fn marking_moves_nothing()
-    ensures { MarkingMovesNothing }
 {}

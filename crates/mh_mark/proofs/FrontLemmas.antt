@@ -9,7 +9,7 @@ use Rattle.mh_model.specs.Pages.{Table, block_at}
 use Rattle.mh_model.specs.Table.{Block, references_at, found_in}
 use Rattle.mh_model.specs.Collector.{Marking, mark_cost}
 use Rattle.mh_model.specs.Batches.{longest_front, batch_cost, batch_written, batch_marked, NoneTwice}
-use Rattle.mh_laws.proofs.marking.BatchMarking.{first_marked, mark_step-front, batch_written-first}
+use Rattle.mh_table_laws.proofs.marking.BatchMarking.{first_marked, mark_step-front, batch_written-first}
 use Rattle.mh_grey.specs.Queue.{Queue, is_in}
 use Rattle.mh_grey.specs.Shading.{marking}
 use Rattle.mh_grey.proofs.QueueLemmas.{or_right}

@@ -5,7 +5,7 @@ use Rattle.mh_model.specs.declared.reply.Reply.{Reply}
 use Rattle.mh_model.specs.World.{Answer, says, heap_step}
 use Rattle.mh_model.specs.Mutator.{HeapState}
 use Rattle.mh_model.specs.View.{heap_view}
-use Rattle.mh_laws.specs.Following.{has_no_place}
+use Rattle.mh_run_laws.specs.Following.{has_no_place}
 use Rattle.mh_heap.specs.Shown.{ShowsCommand, ShowsQuantum}
 use Rattle.mh_paged.specs.Kept.{Steps}
 use Rattle.mh_paged.specs.Told.{IsTold, IsQuantum, showing}

@@ -6,7 +6,7 @@ use Rattle.mh_model.specs.Paths.{Agrees}
 use Rattle.mh_model.specs.Collector.{quantum}
 use Rattle.mh_model.specs.Mutator.{HeapState, mutator_step}
 use Rattle.mh_model.specs.View.{heap_view}
-use Rattle.mh_laws.specs.Following.{Follows, has_no_place}
+use Rattle.mh_run_laws.specs.Following.{Follows, has_no_place}
 use Rattle.mh_heap.specs.Shown.{Showing}
 
 -- what a heap of pages shows: its view, where its pages have no place, its cycle's number, and the configured quantum

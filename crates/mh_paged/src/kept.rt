@@ -20,10 +20,6 @@ use mh_laws::bounds::{collectors_stay_in_bounds, quantum_starts_one_cycle_at_mos
 use mh_laws::commands::command_keeps_the_course;
 use mh_laws::costs::quantum_keeps_its_limit;
 use mh_laws::fields::slots_hold_objects;
-use mh_laws::following::commands_follow;
-use mh_laws::showing::{
-    kept_views_agree_with_themselves, kept_views_are_closed, quanta_keep_the_view,
-};
 use mh_laws::snapshots::{collectors_stay_steady, heaps_stay_kept};
 use mh_model::config::Config;
 use mh_model::cycle::{Phase, Spent};
@@ -33,6 +29,10 @@ use mh_model::memory::NoMemory;
 use mh_model::place::Place;
 use mh_model::reply::{Refusal, Reply};
 use mh_model::shape::Shape;
+use mh_run_laws::following::commands_follow;
+use mh_run_laws::showing::{
+    kept_views_agree_with_themselves, kept_views_are_closed, quanta_keep_the_view,
+};
 use mh_scan::scan::Scanner;
 use std::alloc::Global;
 use std::marker::Model;

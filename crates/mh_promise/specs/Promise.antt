@@ -19,9 +19,9 @@ use Rattle.mh_model.specs.Machine.{half_step, machine_after}
 use Rattle.mh_model.specs.Invariant.{IsFinished, IsLinked}
 use Rattle.mh_model.specs.Snapshot.{Moment, half_moment, has_quantum, is_heap_full, snapshot_at, world_beside}
 use Rattle.mh_model.specs.Trace.{least_mutator, floor}
-use Rattle.mh_laws.specs.BesideTheWorld.{IsFaithful, IsInCycle}
+use Rattle.mh_run_laws.specs.BesideTheWorld.{IsFaithful, IsInCycle}
 use Rattle.mh_laws.specs.Bounds.{HasEnded, HasRun}
-use Rattle.mh_laws.specs.Forwarders.{AreOfItsCycle}
+use Rattle.mh_run_laws.specs.Forwarders.{AreOfItsCycle}
 use Rattle.mh_promise.specs.Runs.{Outcome, machine_at, moment_at, outcome_of, IsAnswered, IsTheMachines, AreAnsweredSoFar}
 
 -- Replies ----------------------------------------------------------------------------------------

@@ -1,16 +1,16 @@
 //! Laws of what a run promises.
 ghost use Rattle.mh_promise.specs.Promise.{RunsKeepTheirPromise, StoppedRunsKeepTheirPromise};
 
-use mh_laws::beside_the_world::{
-    finished_cycles_are_exact, moments_are_faithful, replies_are_the_worlds,
-};
 use mh_laws::bounds::{cycle_ends_within_its_bound, quanta_left_end_the_cycle};
 use mh_laws::commands::{full_heap_has_no_place, no_place_is_a_full_heap, refusal_leaves_the_heap};
 use mh_laws::costs::quantum_keeps_its_limit;
-use mh_laws::forwarders::finished_cycles_made_their_forwarders;
 use mh_laws::snapshots::moments_keep_a_snapshot;
-use mh_laws::utilisation::{mutator_has_its_share, quanta_stay_within_their_bound};
-use mh_laws::worlds::{moment_has_the_machine, moment_has_the_world};
+use mh_run_laws::beside_the_world::{
+    finished_cycles_are_exact, moments_are_faithful, replies_are_the_worlds,
+};
+use mh_run_laws::forwarders::finished_cycles_made_their_forwarders;
+use mh_run_laws::utilisation::{mutator_has_its_share, quanta_stay_within_their_bound};
+use mh_run_laws::worlds::{moment_has_the_machine, moment_has_the_world};
 
 /// An outcome that is the machine's keeps the promise.
 pub fn runs_keep_their_promise()

@@ -5,7 +5,6 @@ ghost use Rattle.mh_state.specs.Running.{first_running, Does, MayAskForMemory};
 ghost use Rattle.mh_state.specs.declared.machine.Stop.{Stop};
 
 use crate::engine::Engine;
-use mh_laws::bounds::runs_stay_within_their_events;
 use mh_model::command::Event;
 use mh_model::config::Config;
 use mh_model::limits::MOST_EVENTS;
@@ -14,6 +13,7 @@ use mh_model::reply::Reply;
 use mh_paged::paged::PagedHeap;
 use mh_promise::replays::machine_after_more;
 use mh_report::trace::Trace;
+use mh_run_laws::bounds::runs_stay_within_their_events;
 use mh_scan::scan::Scanner;
 use std::alloc::Global;
 use std::marker::Model;

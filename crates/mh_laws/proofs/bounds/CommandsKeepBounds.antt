@@ -13,12 +13,12 @@ use Rattle.mh_model.specs.Table.{Block, Made, MadeParts, Position, new_block, ma
 use Rattle.mh_model.specs.Collector.{Collector, Marking, shade, marking_of, with_shade}
 use Rattle.mh_model.specs.Mutator.{HeapState, in_roots, in_roots_or_mark, before_field, with_root, with_roots_cleared, with_session_cleared, with_reference_stored, with_number_stored, field_of, number_field, new_group, with_born, heap_sight, heap_effect, mutator_step}
 use Rattle.mh_model.specs.CycleBounds.{count_at, grey_weight, IsGreySound, IsMarkedIn}
-use Rattle.mh_laws.specs.NewObjects.{AreMade}
-use Rattle.mh_laws.proofs.placing.Places.{block_at-with_block_same, block_at-with_block_other, least_place-free, block_at-with_taken_other, block-slot}
-use Rattle.mh_laws.proofs.objects.Parts.{children_inside}
-use Rattle.mh_laws.proofs.objects.MadeGroups.{length-words_of, made_parts-are, slots_in-class_of}
-use Rattle.mh_laws.proofs.tables.BlockRoom.{IsClass, roomy-shaped, with_taken-roomy, class_of-is, class_of-fits}
-use Rattle.mh_laws.proofs.marking.GreyList.{Carries, carries_nothing, then_carries, grey_weight-same, all-map, class-with_taken, weight-with_taken, weight-marked, shade-carries, cycle-shade, change-carries, reference-carries}
+use Rattle.mh_table_laws.specs.NewObjects.{AreMade}
+use Rattle.mh_table_laws.proofs.placing.Places.{block_at-with_block_same, block_at-with_block_other, least_place-free, block_at-with_taken_other, block-slot}
+use Rattle.mh_table_laws.proofs.objects.Parts.{children_inside}
+use Rattle.mh_table_laws.proofs.objects.MadeGroups.{length-words_of, made_parts-are, slots_in-class_of}
+use Rattle.mh_table_laws.proofs.tables.BlockRoom.{IsClass, roomy-shaped, with_taken-roomy, class_of-is, class_of-fits}
+use Rattle.mh_table_laws.proofs.marking.GreyList.{Carries, carries_nothing, then_carries, grey_weight-same, all-map, class-with_taken, weight-with_taken, weight-marked, shade-carries, cycle-shade, change-carries, reference-carries}
 use Rattle.mh_laws.proofs.marking.BlockChanges.{roots_mark}
 
 -- New objects ------------------------------------------------------------------------------------

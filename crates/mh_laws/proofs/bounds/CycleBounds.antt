@@ -14,7 +14,7 @@ use Rattle.mh_model.specs.Mutator.{in_roots_or_mark}
 use Rattle.mh_model.specs.CycleBounds.{IsRoomyPage, IsRoomy, class_at, slot_weight, page_weight, table_weight, in_steps, in_units, size_at, movable, movable_words, steps_left, units_left, StageOf, IsUnderway}
 use Rattle.mh_laws.proofs.costs.Quanta.{steps-stop, steps-go, step_cost-positive, step_cost-bounded}
 use Rattle.mh_laws.specs.Commands.{IsOnCourse}
-use Rattle.mh_laws.proofs.tables.BlockRoom.{few_slots, roomy-sized}
+use Rattle.mh_table_laws.proofs.tables.BlockRoom.{few_slots, roomy-sized}
 use Rattle.mh_laws.proofs.bounds.CommandsKeepBounds.{Carried}
 use Rattle.mh_laws.proofs.bounds.WorkLeft.{collector_step-paid}
 use Rattle.mh_laws.proofs.costs.QuantumStarts.{begins}

@@ -20,7 +20,7 @@ use Rattle.mh_model.specs.CycleBounds.{IsRoomy, in_steps, in_units, steps_left, 
 use Rattle.mh_laws.specs.Bounds.{IsInTime, HasEnded, HasRun, CycleEndsWithinItsBound, left_of, QuantaLeftEndTheCycle, CollectorsStayInBounds}
 use Rattle.mh_laws.proofs.costs.Quanta.{steps-idle}
 use Rattle.mh_laws.proofs.commands.LeftUnchanged.{mutator_step-course, steps-keeps}
-use Rattle.mh_laws.proofs.Lists.{none_at}
+use Rattle.mh_table_laws.proofs.Lists.{none_at}
 use Rattle.mh_laws.proofs.bounds.CommandsKeepBounds.{mutator_step-carried}
 use Rattle.mh_laws.proofs.bounds.WorkLeft.{none_grey, steps_left-positive}
 use Rattle.mh_laws.proofs.bounds.CycleBounds.{carried-leaves, Spends, steps-spend, steps-some, KeepsCount, steps-count, page-in_steps, page-in_units, table-bounded}

@@ -2,8 +2,9 @@
 use Rattle.mh_model.specs.declared.config.Config.{Config}
 use Rattle.mh_model.specs.Collector.{Collector}
 use Rattle.mh_model.specs.CycleBounds.{IsInBounds}
-use Rattle.mh_laws.specs.Costs.{IsSized, DearestStepCosts209}
-use Rattle.mh_laws.proofs.tables.BlockRoom.{roomy-sized}
+use Rattle.mh_table_laws.specs.Tables.{IsSized}
+use Rattle.mh_laws.specs.Costs.{DearestStepCosts209}
+use Rattle.mh_table_laws.proofs.tables.BlockRoom.{roomy-sized}
 use Rattle.mh_laws.proofs.costs.Quanta.{step_cost-bounded}
 use Rattle.mh_laws.proofs.bounds.CyclesInTime.{run-stays, half-stays}
 

@@ -12,11 +12,11 @@ use Rattle.mh_model.specs.Collector.{Collector, Marking, Move, marking_of, with_
 use Rattle.mh_model.specs.CycleBounds.{IsRoomy, count_at, class_at, weight, IsGreySound, in_steps, in_units, size_at, movable, movable_words, steps_left, units_left, StageOf, IsUnderway}
 use Rattle.mh_laws.proofs.commands.LeftUnchanged.{shade-keeps, mark_first-keeps, step_in-keeps}
 use Rattle.mh_laws.proofs.moving.NextMove.{IsNextMove, next_move-is}
-use Rattle.mh_laws.proofs.placing.Places.{least_dense_place-page, block_at-with_taken_other}
-use Rattle.mh_laws.proofs.tables.BlockRoom.{IsClass, roomy-shaped, swept-roomy, with_taken-roomy, rewritten-roomy}
-use Rattle.mh_laws.proofs.marking.GreyList.{Carries, MarksThrough, class-with_block, class-with_taken, mark_first-pays, cycle-mark_first}
+use Rattle.mh_table_laws.proofs.placing.Places.{least_dense_place-page, block_at-with_taken_other}
+use Rattle.mh_table_laws.proofs.tables.BlockRoom.{IsClass, roomy-shaped, swept-roomy, with_taken-roomy, rewritten-roomy}
+use Rattle.mh_table_laws.proofs.marking.GreyList.{Carries, MarksThrough, class-with_block, class-with_taken, mark_first-pays, cycle-mark_first}
 use Rattle.mh_laws.proofs.bounds.CommandsKeepBounds.{with_shade-carries}
-use Rattle.mh_laws.proofs.Lists.{below_length}
+use Rattle.mh_table_laws.proofs.Lists.{below_length}
 
 -- What is left -----------------------------------------------------------------------------------
 

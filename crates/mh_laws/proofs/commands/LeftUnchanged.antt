@@ -20,15 +20,16 @@ use Rattle.mh_model.specs.Collector.{Collector, first_collector, Marking, is_mar
 use Rattle.mh_model.specs.Mutator.{HeapState, in_roots, in_roots_or_mark, before_field, with_root, with_roots_cleared, with_session_cleared, with_reference_stored, with_number_stored, field_of, number_field, new_group, with_born, heap_sight, heap_effect, mutator_step}
 use Rattle.mh_model.specs.Machine.{Machine, first_machine, with_collector, quantum_run, command_step, machine_after}
 use Rattle.mh_model.specs.Invariant.{HasItsPages}
-use Rattle.mh_laws.specs.Tables.{KeepsItsPages, EventKeeps, TablesKeepTheirPages}
+use Rattle.mh_table_laws.specs.Tables.{KeepsItsPages}
+use Rattle.mh_laws.specs.Tables.{EventKeeps, TablesKeepTheirPages}
 use Rattle.mh_laws.specs.Commands.{IsOnCourse}
-use Rattle.mh_laws.proofs.Lists.{none_at}
-use Rattle.mh_laws.proofs.tables.PageSlots.{IsSmallPage, class_of-class_size, judged_page-is, page_with-slots, page_with-small, small_page, small_block, same_limits, keeps_same, keeps_then, set-keeps, with_block-slots, with_block-limits, with_block-keeps, change-keeps, with_taken-keeps}
+use Rattle.mh_table_laws.proofs.Lists.{none_at}
+use Rattle.mh_table_laws.proofs.tables.PageSlots.{IsSmallPage, class_of-class_size, judged_page-is, page_with-slots, page_with-small, small_page, small_block, same_limits, keeps_same, keeps_then, set-keeps, with_block-slots, with_block-limits, with_block-keeps, change-keeps, with_taken-keeps}
 use Rattle.mh_laws.proofs.runs.EveryMoment.{config-mutator_step, half_step-keeps, event_step-keeps, machine_after-keeps}
 use Rattle.mh_laws.proofs.costs.Quanta.{steps-stop, steps-go}
 use Rattle.mh_laws.proofs.moving.NextMove.{IsNextMove, next_move-is}
-use Rattle.mh_laws.proofs.objects.Parts.{some_parts, few_fields, small_parts}
-use Rattle.mh_laws.proofs.tables.BlockRoom.{class_of-is, class_of-fits, survivor-same}
+use Rattle.mh_table_laws.proofs.objects.Parts.{some_parts, few_fields, small_parts}
+use Rattle.mh_table_laws.proofs.tables.BlockRoom.{class_of-is, class_of-fits, survivor-same}
 use Rattle.mh_laws.proofs.costs.QuantumStarts.{begins}
 
 -- New objects ------------------------------------------------------------------------------------

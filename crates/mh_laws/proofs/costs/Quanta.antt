@@ -7,7 +7,7 @@ use Rattle.mh_model.specs.declared.cycle.Phase.TheVariants.{Idle, Roots, Mark, S
 use Rattle.mh_model.specs.Pages.{Table, page_number}
 use Rattle.mh_model.specs.Table.{Block}
 use Rattle.mh_laws.proofs.moving.NextMove.{next_move-is}
-use Rattle.mh_laws.specs.Costs.{IsSized}
+use Rattle.mh_table_laws.specs.Tables.{IsSized}
 use Rattle.mh_model.specs.Collector.{Collector, Move, first_mark_cost, next_move, move_cost, cost_in, step_cost, is_moving, collector_step, is_idle, with_units, quantum_start, Spending, steps, quantum}
 
 -- steps stop, or one is taken

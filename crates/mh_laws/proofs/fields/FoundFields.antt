@@ -9,12 +9,12 @@ use Rattle.mh_model.specs.Collector.{Collector}
 use Rattle.mh_model.specs.View.{field_blocks}
 use Rattle.mh_model.specs.Invariant.{IsPlainAt, LeadsToObject, IsSound, IsObjectAt, HasChild, IsFindable, HasField}
 use Rattle.mh_laws.specs.Fields.{LeadsThere, SlotsHoldObjects, FieldsAreFound, ReferencesLeadOn, CommandsWriteWhatTheyMay}
-use Rattle.mh_laws.proofs.Lists.{below_length}
+use Rattle.mh_table_laws.proofs.Lists.{below_length}
 use Rattle.mh_laws.proofs.marking.BlockChanges.{resolve-live}
 use Rattle.mh_laws.proofs.marking.MarkSteps.{leads}
-use Rattle.mh_laws.proofs.objects.Headers.{flat_of}
-use Rattle.mh_laws.proofs.objects.JoinedFields.{IsRun, AreRuns, child_place-is, own_count, a_middle, an_arraylet, are_runs, laid, has_fields}
-use Rattle.mh_laws.proofs.objects.Parts.{counts}
+use Rattle.mh_table_laws.proofs.objects.Headers.{flat_of}
+use Rattle.mh_table_laws.proofs.objects.JoinedFields.{IsRun, AreRuns, child_place-is, own_count, a_middle, an_arraylet, are_runs, laid, has_fields}
+use Rattle.mh_table_laws.proofs.objects.Parts.{counts}
 use Rattle.mh_laws.proofs.snapshots.Barriers.{root_writable}
 use Rattle.mh_laws.proofs.snapshots.SessionCommands.{held_by, field_held, loaded_writable}
 

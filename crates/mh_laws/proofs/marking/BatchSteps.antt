@@ -8,11 +8,12 @@ use Rattle.mh_model.specs.declared.cycle.Phase.TheVariants.{Mark}
 use Rattle.mh_model.specs.Pages.{Table}
 use Rattle.mh_model.specs.Table.{Block, references_at, target_of, found_in}
 use Rattle.mh_model.specs.Collector.{Collector, Marking, Spending, mark_step, mark_cost, first_mark_cost, marking_of, with_marking, with_phase, after_mark, is_idle, cost_in, is_moving_in, is_moving, step_in, phase_after, step_cost, collector_step, with_units, steps}
-use Rattle.mh_laws.specs.Batches.{IsLongestFront, mark_steps, AnyCutIntoBatchesIsTheSame}
+use Rattle.mh_table_laws.specs.Marking.{mark_steps}
+use Rattle.mh_laws.specs.Batches.{IsLongestFront, AnyCutIntoBatchesIsTheSame}
 use Rattle.mh_model.specs.Batches.{longest_front, written_back, batch_written, batch_marked, after_batch, batch_cost, NoneTwice}
 use Rattle.mh_laws.proofs.costs.Quanta.{steps-stop, steps-go, steps-enough}
-use Rattle.mh_laws.proofs.marking.GreyList.{cycle-shade}
-use Rattle.mh_laws.proofs.marking.BatchMarking.{KeepsOthers, written_back-keeps, with_front, first_marked, mark_step-front, written_back-front, batch_written-first, front-marked}
+use Rattle.mh_table_laws.proofs.marking.GreyList.{cycle-shade}
+use Rattle.mh_table_laws.proofs.marking.BatchMarking.{KeepsOthers, written_back-keeps, with_front, first_marked, mark_step-front, written_back-front, batch_written-first, front-marked}
 
 -- Lists with none twice --------------------------------------------------------------------------
 

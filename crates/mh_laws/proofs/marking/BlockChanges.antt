@@ -16,7 +16,7 @@ use Rattle.mh_model.specs.View.{in_sweep}
 use Rattle.mh_model.specs.Paths.{Reachable}
 use Rattle.mh_model.specs.Snapshot.{IsKept}
 use Rattle.mh_model.specs.Invariant.{IsIn, IsPlainAt, LeadsToObject, LeadsToPart, IsStraight, IsPartOf, first_child, in_trace, IsSound, IsMarkedAt, Links, IsWhole, KeepsCycle, KeepsSnapshot}
-use Rattle.mh_laws.proofs.placing.Places.{block_at-with_block_same, block_at-with_block_other, block-slot}
+use Rattle.mh_table_laws.proofs.placing.Places.{block_at-with_block_same, block_at-with_block_other, block-slot}
 use Rattle.mh_laws.proofs.marking.MarkingPaths.{Keeps, promises_stay}
 
 -- Reading ----------------------------------------------------------------------------------------

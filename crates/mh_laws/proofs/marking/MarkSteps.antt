@@ -16,7 +16,7 @@ use Rattle.mh_model.specs.Invariant.{IsIn, IsPlainAt, first_child, in_trace, IsS
 use Rattle.mh_laws.proofs.marking.MarkingPaths.{is_in-left, is_in-last, is_in-either}
 use Rattle.mh_laws.proofs.marking.BlockChanges.{IsChange, IsKeptChange, forth, at_here, resolve-changed, snapshot-changed, resolve-live, not_sweep, marked_at}
 use Rattle.mh_laws.proofs.marking.SameTable.{IsTurn, turned, snapshot-turned}
-use Rattle.mh_laws.proofs.Lists.{below_length}
+use Rattle.mh_table_laws.proofs.Lists.{below_length}
 
 pub traces : (phase : Phase) → in_roots_or_mark phase ≡ true → in_trace phase ≡ true
 traces Idle m = absurd (false≢true m)

@@ -13,7 +13,7 @@ use Rattle.mh_model.specs.View.{in_sweep}
 use Rattle.mh_model.specs.Snapshot.{IsKept}
 use Rattle.mh_model.specs.Invariant.{IsIn, IsPlainAt, IsPartOf, IsUnflagged, in_defrag, IsSound, KeepsSnapshot, IsFinished}
 use Rattle.mh_laws.proofs.moving.NextMove.{next_move-is}
-use Rattle.mh_laws.proofs.placing.Places.{IsShaped, least_dense_place-page, block_at-with_block_same, block_at-with_block_other, block-slot}
+use Rattle.mh_table_laws.proofs.placing.Places.{IsShaped, least_dense_place-page, block_at-with_block_same, block_at-with_block_other, block-slot}
 use Rattle.mh_laws.proofs.marking.BlockChanges.{resolve-live, pages-with_block, live_plain}
 use Rattle.mh_laws.proofs.marking.SameTable.{snapshot-turned}
 

@@ -11,7 +11,7 @@ use Rattle.mh_model.specs.Collector.{Collector}
 use Rattle.mh_model.specs.View.{in_sweep, is_held, block_of_birth, object_of, object_shown}
 use Rattle.mh_model.specs.Invariant.{IsSound}
 use Rattle.mh_laws.proofs.showing.ObjectsShown.{first_block-is, first_block-some}
-use Rattle.mh_laws.proofs.Lists.{below_length}
+use Rattle.mh_table_laws.proofs.Lists.{below_length}
 
 -- a held part 0 of a birth is at a place
 pub record IsFirstAt (c : Collector) (birth place : ℕ) (block : Block) : Type 0 where

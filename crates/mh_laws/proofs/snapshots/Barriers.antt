@@ -10,8 +10,8 @@ use Rattle.mh_model.specs.Collector.{Collector, with_shade}
 use Rattle.mh_model.specs.Mutator.{in_roots, in_roots_or_mark, with_root, with_roots_cleared, with_session_cleared, with_reference_stored, with_number_stored}
 use Rattle.mh_model.specs.Snapshot.{IsKept}
 use Rattle.mh_model.specs.Invariant.{IsPlainAt, HasFieldsAt, IsSound, IsMarkedAt, KeepsSnapshot}
-use Rattle.mh_laws.proofs.Lists.{get_or-set_either}
-use Rattle.mh_laws.proofs.objects.Headers.{flat_of}
+use Rattle.mh_table_laws.proofs.Lists.{get_or-set_either}
+use Rattle.mh_table_laws.proofs.objects.Headers.{flat_of}
 use Rattle.mh_laws.proofs.marking.BlockChanges.{IsChange, IsKeptChange, snapshot-changed, resolve-live, not_sweep, roots_mark}
 use Rattle.mh_laws.proofs.marking.SameTable.{snapshot-turned}
 use Rattle.mh_laws.proofs.marking.MarkSteps.{IsGuarded, guarded, unguarded, root_target, leads}

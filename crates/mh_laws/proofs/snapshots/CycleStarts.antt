@@ -13,13 +13,13 @@ use Rattle.mh_model.specs.Mutator.{HeapState}
 use Rattle.mh_model.specs.View.{in_sweep, block_of_birth, birth_named, arraylet_words, object_of, object_shown, heap_view}
 use Rattle.mh_model.specs.Invariant.{IsPlainAt, IsPartOf, first_child, IsSound, IsMarkedAt, IsPromised, IsWhole, KeepsSnapshot}
 use Rattle.mh_laws.proofs.marking.BlockChanges.{resolve-live, live_plain}
-use Rattle.mh_laws.proofs.objects.Parts.{later_part, IsChild, parent_of, child_is}
-use Rattle.mh_laws.proofs.objects.Headers.{header_is}
-use Rattle.mh_laws.proofs.objects.JoinedFields.{has_children, has_none, an_arraylet, arraylet_count}
+use Rattle.mh_table_laws.proofs.objects.Parts.{later_part, IsChild, parent_of, child_is}
+use Rattle.mh_table_laws.proofs.objects.Headers.{header_is}
+use Rattle.mh_table_laws.proofs.objects.JoinedFields.{has_children, has_none, an_arraylet, arraylet_count}
 use Rattle.mh_laws.proofs.showing.FoundBlocks.{live_held, first-found, IsFirstAt}
 use Rattle.mh_laws.proofs.showing.ObjectsShown.{IsFieldBlock, named-back, named-forth, refers-back, refers-forth, tabulate-read}
 use Rattle.mh_model.proofs.TabulateLemmas.{length-tabulate, get_or-tabulate}
-use Rattle.mh_laws.proofs.Lists.{below_length}
+use Rattle.mh_table_laws.proofs.Lists.{below_length}
 
 pub births-view : (heap : HeapState) → births (heap_view heap) ≡ heap.next_birth
 unfolding heap_view

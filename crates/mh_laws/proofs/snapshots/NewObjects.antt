@@ -15,7 +15,7 @@ use Rattle.mh_model.specs.Invariant.{IsPlainAt, IsPartOf, first_child, IsSound, 
 use Rattle.mh_laws.proofs.marking.MarkingPaths.{Keeps, promises_stay}
 use Rattle.mh_laws.proofs.marking.BlockChanges.{resolve-live, not_sweep}
 use Rattle.mh_laws.proofs.marking.MarkSteps.{leads}
-use Rattle.mh_laws.proofs.objects.Parts.{first_part, slice_there}
+use Rattle.mh_table_laws.proofs.objects.Parts.{first_part, slice_there}
 use Rattle.mh_laws.proofs.objects.NewbornBlocks.{IsNewborn, IsObjectBorn}
 
 pub kept_on : (snapshot : World) (n birth : ℕ) → IsKept snapshot n birth → IsKept snapshot (n + 1) birth

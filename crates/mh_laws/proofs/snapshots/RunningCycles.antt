@@ -15,7 +15,7 @@ use Rattle.mh_model.specs.Machine.{Machine, first_machine, with_collector, quant
 use Rattle.mh_model.specs.View.{in_sweep, heap_view}
 use Rattle.mh_model.specs.Invariant.{IsSound, KeepsSnapshot, Continues, IsLinked, IsKeeping}
 use Rattle.mh_laws.specs.Snapshots.{MomentsKeepASnapshot}
-use Rattle.mh_laws.proofs.Lists.{none_at}
+use Rattle.mh_table_laws.proofs.Lists.{none_at}
 use Rattle.mh_laws.proofs.runs.EveryMoment.{half_step-keeps, machine_after-keeps}
 use Rattle.mh_laws.proofs.marking.MarkSteps.{leads}
 use Rattle.mh_laws.proofs.snapshots.CycleSteps.{continues-steps, continues-quantum, snapshot-counted}

@@ -18,8 +18,8 @@ use Rattle.mh_laws.proofs.marking.BlockChanges.{resolve-live}
 use Rattle.mh_laws.proofs.marking.MarkSteps.{leads}
 use Rattle.mh_laws.proofs.snapshots.Barriers.{IsWritable, HasFields, nothing_writable, root_writable, snapshot-with_root, snapshot-with_session_cleared, snapshot-with_reference_stored, snapshot-with_number_stored}
 use Rattle.mh_laws.proofs.objects.NewbornBlocks.{made_group-born}
-use Rattle.mh_laws.proofs.objects.Headers.{flat_of}
-use Rattle.mh_laws.proofs.objects.JoinedFields.{laid, has_fields}
+use Rattle.mh_table_laws.proofs.objects.Headers.{flat_of}
+use Rattle.mh_table_laws.proofs.objects.JoinedFields.{laid, has_fields}
 use Rattle.mh_laws.proofs.snapshots.NewObjects.{snapshot-borne, newborn_root, borne}
 
 -- Refusals ---------------------------------------------------------------------------------------

@@ -16,7 +16,7 @@ use Rattle.mh_laws.proofs.marking.BlockChanges.{resolve-live, not_sweep}
 use Rattle.mh_laws.proofs.marking.SameTable.{snapshot-turned}
 use Rattle.mh_laws.proofs.marking.MarkSteps.{traces, runs, leads}
 use Rattle.mh_laws.proofs.sweeping.SweptTables.{IsSwept, swept-is}
-use Rattle.mh_laws.proofs.Lists.{below_length}
+use Rattle.mh_table_laws.proofs.Lists.{below_length}
 
 -- When marking ends ------------------------------------------------------------------------------
 

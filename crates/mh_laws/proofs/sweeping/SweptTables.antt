@@ -6,8 +6,8 @@ use Rattle.std.proofs.lemmas.List.{get_or-set_same, get_or-set_other, length-set
 use Rattle.mh_model.specs.Pages.{Page, Table, page_number, slot_number, page_at, block_in, block_at, block_count, live_in, page_with}
 use Rattle.mh_model.specs.Table.{Block, is_forwarder}
 use Rattle.mh_model.specs.Collector.{is_marked, next_page, is_last_slot, next_place, survivor, judged_page, swept_page, swept_table}
-use Rattle.mh_laws.proofs.tables.PageSlots.{judged_page-is}
-use Rattle.mh_laws.proofs.Lists.{below_length}
+use Rattle.mh_table_laws.proofs.tables.PageSlots.{judged_page-is}
+use Rattle.mh_table_laws.proofs.Lists.{below_length}
 
 -- What a sweep step leaves: nothing but blocks that were there, at its place only a marked one that is no forwarder, and each such block
 pub record IsSwept (cycle : ℕ) (table : Table Block) (place : ℕ) (table' : Table Block) (place' : ℕ) : Type 0 where

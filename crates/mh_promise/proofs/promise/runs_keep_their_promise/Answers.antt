@@ -10,7 +10,7 @@ use Rattle.mh_model.specs.Machine.{first_machine, half_step, event_step}
 use Rattle.mh_model.specs.Snapshot.{first_moment, half_moment, is_heap_full, snapshot_at}
 use Rattle.mh_model.specs.Invariant.{IsFinished, IsLinked}
 use Rattle.mh_laws.specs.Bounds.{left_of}
-use Rattle.mh_laws.specs.Utilisation.{HasShare}
+use Rattle.mh_run_laws.specs.Utilisation.{HasShare}
 use Rattle.mh_laws.proofs.bounds.CyclesInTime.{run-stays}
 use Rattle.mh_promise.specs.Runs.{machine_at, moment_at}
 use Rattle.mh_promise.proofs.RunsByEvents.{after_more, replies-length}

@@ -1,6 +1,0 @@
-use Rattle.mh_laws.proofs.following.AllCommands.{commands-follow}
-use Rattle.mh_laws.proofs.runs.FaithfulMoments.{moments-faithful}
-use Rattle.mh_laws.proofs.beside_the_world.moments_are_faithful.Goals as goal
-
-pub returns : goal.returns
-returns c = moments-faithful commands-follow

@@ -1,6 +1,0 @@
-use Rattle.mh_laws.proofs.following.AllCommands.{commands-follow}
-use Rattle.mh_laws.proofs.runs.FaithfulMoments.{replies-worlds}
-use Rattle.mh_laws.proofs.beside_the_world.replies_are_the_worlds.Goals as goal
-
-pub returns : goal.returns
-returns c = replies-worlds commands-follow

@@ -1,5 +1,0 @@
-use Rattle.mh_laws.proofs.following.AllCommands.{commands-follow}
-use Rattle.mh_laws.proofs.following.commands_follow.Goals as goal
-
-pub returns : goal.returns
-returns c = commands-follow

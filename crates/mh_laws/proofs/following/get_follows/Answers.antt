@@ -1,5 +1,0 @@
-use Rattle.mh_laws.proofs.following.SlotCommands.{get-follows}
-use Rattle.mh_laws.proofs.following.get_follows.Goals as goal
-
-pub returns : goal.returns
-returns c = get-follows

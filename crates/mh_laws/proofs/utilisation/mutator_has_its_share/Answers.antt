@@ -1,5 +1,0 @@
-use Rattle.mh_laws.proofs.trace.RunTraces.{mutator_share}
-use Rattle.mh_laws.proofs.utilisation.mutator_has_its_share.Goals as goal
-
-pub returns : goal.returns
-returns c = mutator_share

@@ -1,0 +1,52 @@
+-- Which units of the mutator commands are, and when they make a quantum due.
+use Rattle.std.proofs.Common.{[], codes, refl, ◌∷◌, ◌≡◌}
+use Rattle.mh_model.specs.declared.command.Command.TheVariants.{Clear, New}
+use Rattle.mh_rows.proofs.rows.Worked.{a, dump, first_lines, left, lines, quantum_asked, report, start, stat, worked}
+
+-- a refused command is one unit, and makes the quantum due
+pub refused_commands_are_units : lines 4 209 0 2 (a (Clear 0) ∷ a (Clear 16) ∷ report 1 ∷ [])
+    ≡ codes "ok\nrefused 1 bad slot\nmutator 2 collector 0 quanta 1 greatest 0 window 1 least 1 floor 0\n"
+unfolding worked
+refused_commands_are_units = refl
+
+-- an object of three parts that has no place is one unit
+pub refused_object_is_one_unit : lines 2 209 0 0 (a (New 0 0 61) ∷ report 1 ∷ [])
+    ≡ codes "refused 5 heap full\nmutator 1 collector 0 quanta 0 greatest 0 window 1 least 1 floor none\n"
+unfolding worked
+refused_object_is_one_unit = refl
+
+-- an object of three parts is three units; they make one quantum due, after which the count begins at 0
+pub units_past_the_scheduled : lines 8 209 0 2 (a (New 0 0 61) ∷ a (Clear 1) ∷ report 1 ∷ [])
+    ≡ codes "ok\nok\nmutator 4 collector 0 quanta 1 greatest 0 window 1 least 1 floor 0\n"
+unfolding worked
+units_past_the_scheduled = refl
+
+-- however many units a command is, one quantum is run after it
+pub one_quantum_for_many_units : lines 8 209 0 1 (a (New 0 0 61) ∷ report 1 ∷ a (Clear 1) ∷ report 1 ∷ [])
+    ≡ codes "ok\nmutator 3 collector 0 quanta 1 greatest 0 window 1 least 1 floor 0\nok\nmutator 4 collector 0 quanta 2 greatest 0 window 1 least 1 floor 0\n"
+unfolding worked
+one_quantum_for_many_units = refl
+
+-- under the first rules such an object is one unit
+pub one_unit_under_the_first_rules : first_lines 8 209 0 2 (a (New 0 0 61) ∷ report 1 ∷ [])
+    ≡ codes "ok\nmutator 1 collector 0 quanta 0 greatest 0 window 1 least 1 floor 0\n"
+unfolding worked
+one_unit_under_the_first_rules = refl
+
+-- a quantum that spends nothing ends the count too
+pub count_begins_anew : lines 4 209 0 2 (a (Clear 0) ∷ a (Clear 0) ∷ a (Clear 0) ∷ report 1 ∷ [])
+    ≡ codes "ok\nok\nok\nmutator 3 collector 0 quanta 1 greatest 0 window 1 least 1 floor 0\n"
+unfolding worked
+count_begins_anew = refl
+
+-- no control is a unit
+pub controls_are_no_units : lines 4 209 0 2 (a (Clear 0) ∷ start ∷ stat ∷ dump ∷ left ∷ report 1 ∷ quantum_asked ∷ report 1 ∷ [])
+    ≡ codes "ok\nok\nfree 4 live 0 old 0 phase idle cycle 0\ndump\nleft 0\nmutator 1 collector 0 quanta 0 greatest 0 window 1 least 1 floor 0\nspent 0 phase idle\nmutator 1 collector 0 quanta 0 greatest 0 window 1 least 1 floor 0\n"
+unfolding worked
+controls_are_no_units = refl
+
+-- where quanta are scheduled an asked one tells the phase, runs nothing and leaves the count
+pub scheduled_quanta_alone : lines 4 209 0 2 (start ∷ a (Clear 0) ∷ quantum_asked ∷ a (Clear 0) ∷ quantum_asked ∷ a (Clear 0) ∷ quantum_asked ∷ report 1 ∷ a (Clear 0) ∷ stat ∷ [])
+    ≡ codes "ok\nok\nspent 0 phase idle\nok\nspent 0 phase roots\nok\nspent 0 phase roots\nmutator 3 collector 208 quanta 1 greatest 208 window 1 least 0 floor 0\nok\nfree 4 live 0 old 0 phase idle cycle 1\n"
+unfolding worked
+scheduled_quanta_alone = refl

@@ -1,0 +1,3 @@
+pub mod marking
+pub mod runs
+pub mod trace

@@ -1,0 +1,3 @@
+pub mod GreyRoom
+pub mod MarkedOnce
+pub mod ReachableNow

@@ -1,0 +1,13 @@
+//! The laws of runs, beside the world of their commands and what the heap shows of it.
+//! Each is what a function with nothing to do ensures. They speak of the machine of the book, and not yet of code.
+#![tactic(auto)]
+
+pub mod beside_the_world;
+pub mod bounds;
+pub mod following;
+pub mod forwarders;
+pub mod grey_room;
+pub mod showing;
+pub mod snapshots;
+pub mod utilisation;
+pub mod worlds;

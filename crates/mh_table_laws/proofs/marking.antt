@@ -1,0 +1,3 @@
+pub mod GreyList
+pub mod BatchMarking
+pub mod StandingStill

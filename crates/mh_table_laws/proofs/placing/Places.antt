@@ -1,0 +1,340 @@
+-- Places: reading a table after a write, what the search for a place finds, and a place taken and given back.
+use Rattle.std.proofs.Common.{◌≡◌, ◌≢◌, ℕ, zero, suc, ◌+◌, ◌/◌, ◌%◌, ◌<◌, ◌≤◌, ◌==◌, Bool, true, false, not, if◌then◌else◌, inl, inr, List, [], ◌∷◌, length, get_or, set, Option, Some, None, is_some, is_none, option_map, option_and_then, IsSome, refl, sym, ap, ◌∙◌, subst, arith, eq-eqb}
+use Rattle.std.specs.Option.{option_or}
+use Rattle.std.proofs.lemmas.Bool.{cases_eq, false≢true, and_parts, not-true, eqb-true}
+use Rattle.std.proofs.lemmas.Option.{none-some, same_Some}
+use Rattle.std.proofs.lemmas.List.{get_or-set_same, get_or-set_other, length-replicate}
+use Rattle.mh_model.specs.Classes.{slots_in}
+use Rattle.mh_model.specs.Pages.{Page, Table, page_number, slot_number, page_at, block_in, block_at, block_count, is_dense, is_sparse, empty_slot, open_slot, fresh_slot, first_place, least, least_dense_place, least_place, page_with, with_block, page_for, with_taken, with_released, HaveTheirSlots, IsFreeFor}
+use Rattle.mh_table_laws.specs.Placing.{IsFirstEmpty, IsFound, GivesNone, HasRoom, IsLeastOfItsTier, IsDensePlace}
+use Rattle.mh_table_laws.proofs.Lists.{from_some, below_length, set_back, none_at}
+use Rattle.mh_table_laws.proofs.tables.PageSlots.{slots_in-class_size}
+
+option_or-left : (a b : Option ℕ) → IsSome a → IsSome (option_or a b)
+option_or-left (Some x) b h = refl
+option_or-left None b h = absurd (false≢true h)
+
+option_or-right : (a b : Option ℕ) → IsSome b → IsSome (option_or a b)
+option_or-right None b h = h
+option_or-right (Some x) b h = refl
+
+module _ {X : Type 0} where
+  -- Reading and writing --------------------------------------------------------------------------
+
+  -- a place is a slot of a page in use
+  pub record IsSlot (table : Table X) (place : ℕ) : Type 0 where
+    pub page : Page X
+    pub in_use : page_at table (page_number place) ≡ Some page
+    pub within : slot_number place < length page.slots
+
+  -- and so is each place with a block
+  pub block-slot : (table : Table X) (place : ℕ) (block : X) → block_at table place ≡ Some block → IsSlot table place
+  block-slot table place block e = go (page_at table (page_number place)) refl e
+    where
+      go : (content : Option (Page X)) → page_at table (page_number place) ≡ content → option_and_then (block_in (slot_number place)) content ≡ Some block → IsSlot table place
+      go None at h = absurd (none-some block h)
+      go (Some page) at h = record { page = page; in_use = at; within = below_length page.slots (slot_number place) block h }
+
+  pub block_at-with_block_same : (table : Table X) (place : ℕ) (content : Option X) → IsSlot table place → block_at (with_block table place content) place ≡ content
+  block_at-with_block_same table place content slot =
+      let number = page_number place in
+      let inside : number < length table = below_length table number slot.page slot.in_use in
+      let new = option_map (page_with (slot_number place) content) (page_at table number) in
+      ap (option_and_then (block_in (slot_number place))) (get_or-set_same table number new None inside ∙ ap (option_map (page_with (slot_number place) content)) slot.in_use)
+      ∙ get_or-set_same slot.page.slots (slot_number place) content None slot.within
+
+  -- a page's own change, read at another slot
+  page-other : (table : Table X) (number slot other : ℕ) (content : Option X) → other ≢ slot
+      → option_and_then (block_in other) (page_at (set table number (option_map (page_with slot content) (page_at table number))) number) ≡ option_and_then (block_in other) (page_at table number)
+  page-other [] number slot other content apart = refl
+  page-other (None ∷ table) zero slot other content apart = refl
+  page-other (Some page ∷ table) zero slot other content apart = get_or-set_other page.slots slot other content None apart
+  page-other (page ∷ table) (suc number) slot other content apart = page-other table number slot other content apart
+
+  pub block_at-with_block_other : (table : Table X) (place other : ℕ) (content : Option X) → other ≢ place → block_at (with_block table place content) other ≡ block_at table other
+  block_at-with_block_other table place other content apart = elim (cases_eq (page_number other) (page_number place)) [
+    | inl same ↦
+        let slots_apart : slot_number other ≢ slot_number place = λ k. apart (omega arith) in
+        rw same (page-other table (page_number place) (slot_number place) (slot_number other) content slots_apart)
+    | inr pages_apart ↦ ap (option_and_then (block_in (slot_number other))) (get_or-set_other table (page_number place) (page_number other) _ None pages_apart)
+  ]
+
+  -- no page has more than 64 slots
+  abbrev pub IsShaped : Table X → Type 0
+  IsShaped table = (number : ℕ) (page : Page X) → page_at table number ≡ Some page → length page.slots ≤ 64
+
+  -- pages that have the slots of their classes have no more
+  pub shaped-slots : (table : Table X) → HaveTheirSlots table → IsShaped table
+  shaped-slots table have number page at =
+      let has = have number page at in
+      let few = (slots_in-class_size page.class_size has.class).1 in
+      omega (arith, has.slots, few)
+
+  -- The search -----------------------------------------------------------------------------------
+
+  found_here : (slot_of : Option (Page X) → Option ℕ) (page : Option (Page X)) (table : Table X) (slot : ℕ) → slot < 64 → slot_of page ≡ Some slot → IsFound slot_of (page ∷ table) slot
+  found_here slot_of page table slot small e =
+      let a : slot / 64 ≡ 0 = omega arith in
+      let b : slot % 64 ≡ slot = omega arith in
+      record { inside = omega (arith, a); gives = rw (a, b) e; first = λ number h. absurd (omega (arith, a)) }
+
+  found_after : (slot_of : Option (Page X) → Option ℕ) (page : Option (Page X)) (table : Table X) (place : ℕ) → slot_of page ≡ None → IsFound slot_of table place → IsFound slot_of (page ∷ table) (64 + place)
+  found_after slot_of page table place e found =
+      let a : (64 + place) / 64 ≡ suc (place / 64) = omega arith in
+      let b : (64 + place) % 64 ≡ place % 64 = omega arith in
+      record {
+        inside = omega (arith, a, found.inside);
+        gives = rw (a, b) found.gives;
+        first = λ number l. before number (omega (arith, a, l));
+      }
+    where
+      before : (number : ℕ) → number < suc (place / 64) → slot_of (page_at (page ∷ table) number) ≡ None
+      before zero l = e
+      before (suc number) l = found.first number (omega arith)
+
+  pub least-is : (slot_of : Option (Page X) → Option ℕ) (table : Table X) → ((number slot : ℕ) → slot_of (page_at table number) ≡ Some slot → slot < 64) → (place : ℕ) → least slot_of table ≡ Some place → IsFound slot_of table place
+  least-is slot_of [] small place e = absurd (none-some place e)
+  least-is slot_of (page ∷ table) small place e = go (slot_of page) refl (least slot_of table) e (λ after k. least-is slot_of table (λ number slot h. small (suc number) slot h) after k)
+    where
+      go : (here : Option ℕ) → slot_of page ≡ here → (rest : Option ℕ) → first_place here rest ≡ Some place → ((after : ℕ) → rest ≡ Some after → IsFound slot_of table after) → IsFound slot_of (page ∷ table) place
+      go (Some slot) is rest h after = subst (IsFound slot_of (page ∷ table)) (same_Some slot place h) (found_here slot_of page table slot (small zero slot is) is)
+      go None is None h after = absurd (none-some place h)
+      go None is (Some q) h after = subst (IsFound slot_of (page ∷ table)) (same_Some (64 + q) place h) (found_after slot_of page table q is (after q refl))
+
+  pub least-some : (slot_of : Option (Page X) → Option ℕ) (table : Table X) (number : ℕ) → number < length table → IsSome (slot_of (page_at table number)) → IsSome (least slot_of table)
+  least-some slot_of [] number inside given = absurd (omega arith)
+  least-some slot_of (page ∷ table) zero inside given = here (slot_of page) (least slot_of table) given
+    where
+      here : (o rest : Option ℕ) → IsSome o → IsSome (first_place o rest)
+      here None rest i = absurd (false≢true i)
+      here (Some slot) rest i = refl
+  least-some slot_of (page ∷ table) (suc number) inside given = there (slot_of page) (least slot_of table) (least-some slot_of table number (omega arith) given)
+    where
+      there : (o rest : Option ℕ) → IsSome rest → IsSome (first_place o rest)
+      there (Some slot) rest i = refl
+      there None None i = i
+      there None (Some q) i = refl
+
+  pub least-none : (slot_of : Option (Page X) → Option ℕ) (table : Table X) → least slot_of table ≡ None → GivesNone slot_of table
+  least-none slot_of table none number inside = go (slot_of (page_at table number)) refl
+    where
+      go : (slot : Option ℕ) → slot_of (page_at table number) ≡ slot → slot ≡ None
+      go None is = refl
+      go (Some slot) is = absurd (false≢true (sym (ap is_some none) ∙ least-some slot_of table number inside (ap is_some is)))
+
+  pub empty_slot-is : (slots : List (Option X)) (slot : ℕ) → empty_slot slots ≡ Some slot → IsFirstEmpty slots slot
+  empty_slot-is [] slot e = absurd (none-some slot e)
+  empty_slot-is (None ∷ slots) slot e = subst (IsFirstEmpty (None ∷ slots)) (same_Some 0 slot e) (record { within = omega arith; empty = refl; first = λ other h. absurd (omega arith) })
+  empty_slot-is (Some block ∷ slots) slot e = go (empty_slot slots) e (λ after h. empty_slot-is slots after h)
+    where
+      first_after : (after : ℕ) → IsFirstEmpty slots after → (other : ℕ) → other < suc after → IsSome (get_or (Some block ∷ slots) other None)
+      first_after after k zero h = refl
+      first_after after k (suc other) h = k.first other (omega arith)
+
+      go : (rest : Option ℕ) → option_map suc rest ≡ Some slot → ((after : ℕ) → rest ≡ Some after → IsFirstEmpty slots after) → IsFirstEmpty (Some block ∷ slots) slot
+      go None h ih = absurd (none-some slot h)
+      go (Some after) h ih =
+          let k = ih after refl in
+          subst (IsFirstEmpty (Some block ∷ slots)) (same_Some (suc after) slot h) (record { within = omega (arith, k.within); empty = k.empty; first = first_after after k })
+
+  pub empty_slot-some : (slots : List (Option X)) (slot : ℕ) → slot < length slots → get_or slots slot None ≡ None → IsSome (empty_slot slots)
+  empty_slot-some [] slot h e = absurd (omega arith)
+  empty_slot-some (None ∷ slots) slot h e = refl
+  empty_slot-some (Some block ∷ slots) zero h e = absurd (none-some block (sym e))
+  empty_slot-some (Some block ∷ slots) (suc slot) h e = mapped (empty_slot slots) (empty_slot-some slots slot (omega arith) e)
+    where
+      mapped : (o : Option ℕ) → IsSome o → IsSome (option_map suc o)
+      mapped None i = i
+      mapped (Some a) i = refl
+
+  -- an open slot is the first without a block, of a page in use that passes the test
+  pub record IsOpen (test : Page X → Bool) (content : Option (Page X)) (slot : ℕ) : Type 0 where
+    pub page : Page X
+    pub in_use : content ≡ Some page
+    pub passes : test page ≡ true
+    pub empty : IsFirstEmpty page.slots slot
+
+  pub open_slot-is : (test : Page X → Bool) (content : Option (Page X)) (slot : ℕ) → open_slot test content ≡ Some slot → IsOpen test content slot
+  open_slot-is test None slot e = absurd (none-some slot e)
+  open_slot-is test (Some page) slot e = go (test page) refl e
+    where
+      go : (passes : Bool) → test page ≡ passes → (if passes then empty_slot page.slots else None) ≡ Some slot → IsOpen test (Some page) slot
+      go true is h = record { page = page; in_use = refl; passes = is; empty = empty_slot-is page.slots slot h }
+      go false is h = absurd (none-some slot h)
+
+  fresh_slot-is : (content : Option (Page X)) (slot : ℕ) → fresh_slot content ≡ Some slot → (content ≡ None) × (slot ≡ 0)
+  fresh_slot-is None slot e = (refl, sym (same_Some 0 slot e))
+  fresh_slot-is (Some page) slot e = absurd (none-some slot e)
+
+  -- The first tier -------------------------------------------------------------------------------
+
+  least_open-is : (test : Page X → Bool) (table : Table X) → IsShaped table → (place : ℕ) → least (open_slot test) table ≡ Some place → IsFound (open_slot test) table place
+  least_open-is test table shaped place e = least-is (open_slot test) table small place e
+    where
+      small : (number slot : ℕ) → open_slot test (page_at table number) ≡ Some slot → slot < 64
+      small number slot h =
+          let open_there = open_slot-is test (page_at table number) slot h in
+          let few : length (open_there.page).slots ≤ 64 = shaped number open_there.page open_there.in_use in
+          omega (arith, open_there.empty.within)
+
+  -- The first tier's place is in a page in use that is unflagged and of the class, and no slot before it there and no page below it has room
+  pub least_dense_place-is : (table : Table X) (size : ℕ) → IsShaped table → (place : ℕ) → least_dense_place table size ≡ Some place → IsFound (open_slot (is_dense size)) table place
+  least_dense_place-is table size shaped place e = least_open-is (is_dense size) table shaped place e
+
+  pub least_dense_place-page : (table : Table X) (size : ℕ) → IsShaped table → (place : ℕ) → least_dense_place table size ≡ Some place
+      → (page : Page X) × (page_at table (page_number place) ≡ Some page) × (page.class_size ≡ size) × (page.is_flagged ≡ false) × IsFirstEmpty page.slots (slot_number place)
+  least_dense_place-page table size shaped place e =
+      let there = open_slot-is (is_dense size) (page_at table (page_number place)) (slot_number place) (least_dense_place-is table size shaped place e).gives in
+      let (of_class, unflagged) = and_parts (there.page.class_size == size) (not there.page.is_flagged) there.passes in
+      (there.page, there.in_use, eqb-true there.page.class_size size of_class, not-true there.page.is_flagged unflagged, there.empty)
+
+  pub least_dense_place-dense : (table : Table X) (size place : ℕ) → IsShaped table → least_dense_place table size ≡ Some place → IsDensePlace table size place
+  least_dense_place-dense table size place shaped e =
+      let (page, in_use, of_class, unflagged, empty) = least_dense_place-page table size shaped place e in
+      record { found = least_dense_place-is table size shaped place e; page = page; in_use = in_use; of_class = of_class; unflagged = unflagged; empty = empty }
+
+  -- All tiers ------------------------------------------------------------------------------------
+
+  open-free : (test : Page X → Bool) (table : Table X) (size : ℕ) → ((page : Page X) → test page ≡ true → page.class_size ≡ size) → IsShaped table → (place : ℕ) → least (open_slot test) table ≡ Some place → IsFreeFor table size place
+  open-free test table size of_class shaped place e =
+      let found = least_open-is test table shaped place e in
+      let there = open_slot-is test (page_at table (page_number place)) (slot_number place) found.gives in
+      record {
+        inside = found.inside;
+        empty = ap (option_and_then (block_in (slot_number place))) there.in_use ∙ there.empty.empty;
+        within = subst (λ p. slot_number place < length (page_for size p).slots) (sym there.in_use) there.empty.within;
+        of_class = subst (λ p. (page_for size p).class_size ≡ size) (sym there.in_use) (of_class there.page there.passes);
+      }
+
+  fresh-free : (table : Table X) (size : ℕ) → 0 < slots_in size → (place : ℕ) → least fresh_slot table ≡ Some place → IsFreeFor table size place
+  fresh-free table size some_slot place e =
+      let found = least-is fresh_slot table (λ number slot h. omega (arith, (fresh_slot-is (page_at table number) slot h).1)) place e in
+      let (free, first) = fresh_slot-is (page_at table (page_number place)) (slot_number place) found.gives in
+      let room : length (page_for {X = X} size None).slots ≡ slots_in size = length-replicate (slots_in size) None in
+      record {
+        inside = found.inside;
+        empty = ap (option_and_then (block_in (slot_number place))) free;
+        within = subst (λ p. slot_number place < length (page_for size p).slots) (sym free) (omega (arith, room));
+        of_class = subst (λ p. (page_for size p).class_size ≡ size) (sym free) refl;
+      }
+
+  dense-class : (size : ℕ) (page : Page X) → is_dense size page ≡ true → page.class_size ≡ size
+  dense-class size page e = eqb-true page.class_size size (and_parts (page.class_size == size) (not page.is_flagged) e).0
+
+  sparse-class : (size : ℕ) (page : Page X) → is_sparse size page ≡ true → page.class_size ≡ size
+  sparse-class size page e = eqb-true page.class_size size (and_parts (page.class_size == size) page.is_flagged e).0
+
+  -- What is found for a class is free for it
+  pub least_place-free : (table : Table X) (size : ℕ) → IsShaped table → 0 < slots_in size → (place : ℕ) → least_place table size ≡ Some place → IsFreeFor table size place
+  least_place-free table size shaped some_slot place e = go (least_dense_place table size) refl (least fresh_slot table) refl e
+    where
+      go : (dense : Option ℕ) → least_dense_place table size ≡ dense → (fresh : Option ℕ) → least fresh_slot table ≡ fresh → option_or dense (option_or fresh (least (open_slot (is_sparse size)) table)) ≡ Some place → IsFreeFor table size place
+      go (Some q) is fresh is' h = open-free (is_dense size) table size (dense-class size) shaped place (is ∙ h)
+      go None is (Some q) is' h = fresh-free table size some_slot place (is' ∙ h)
+      go None is None is' h = open-free (is_sparse size) table size (sparse-class size) shaped place h
+
+  -- A place is found where there is a free page
+  pub least_place-free_page : (table : Table X) (size number : ℕ) → number < length table → page_at table number ≡ None → IsSome (least_place table size)
+  least_place-free_page table size number inside free =
+      option_or-right (least_dense_place table size) _ (option_or-left (least fresh_slot table) _ (least-some fresh_slot table number inside (ap (λ p. is_some (fresh_slot p)) free)))
+
+  open-some : (test : Page X → Bool) (table : Table X) (number slot : ℕ) (page : Page X) → page_at table number ≡ Some page → test page ≡ true → slot < length page.slots → get_or page.slots slot None ≡ None → IsSome (least (open_slot test) table)
+  open-some test table number slot page at passes within empty =
+      least-some (open_slot test) table number (below_length table number page at) (ap (λ p. is_some (open_slot test p)) at ∙ ap (λ b. is_some (if b then empty_slot page.slots else None)) passes ∙ empty_slot-some page.slots slot within empty)
+
+  -- and where a page of the class has a slot without a block
+  pub least_place-open_slot : (table : Table X) (size number slot : ℕ) (page : Page X) → page_at table number ≡ Some page → page.class_size ≡ size → slot < length page.slots → get_or page.slots slot None ≡ None → IsSome (least_place table size)
+  least_place-open_slot table size number slot page at of_class within empty = by_flag page.is_flagged refl
+    where
+      by_flag : (flag : Bool) → page.is_flagged ≡ flag → IsSome (least_place table size)
+      by_flag false e =
+          let passes : is_dense size page ≡ true = rw (e, eq-eqb page.class_size size of_class) refl in
+          option_or-left (least_dense_place table size) _ (open-some (is_dense size) table number slot page at passes within empty)
+      by_flag true e =
+          let passes : is_sparse size page ≡ true = rw (e, eq-eqb page.class_size size of_class) refl in
+          option_or-right (least_dense_place table size) _ (option_or-right (least fresh_slot table) _ (open-some (is_sparse size) table number slot page at passes within empty))
+
+  -- A place is found for a class exactly where it has room
+  pub least_place-has_room : (table : Table X) (size : ℕ) → HasRoom table size → IsSome (least_place table size)
+  least_place-has_room table size (inl (number, inside, free)) = least_place-free_page table size number inside free
+  least_place-has_room table size (inr (number, slot, page, at, of_class, within, empty)) = least_place-open_slot table size number slot page at of_class within empty
+
+  free-has_room : (table : Table X) (size place : ℕ) → IsFreeFor table size place → HasRoom table size
+  free-has_room table size place free = go (page_at table (page_number place)) refl free.of_class free.within
+    where
+      go : (content : Option (Page X)) → page_at table (page_number place) ≡ content → (page_for size content).class_size ≡ size → slot_number place < length (page_for size content).slots → HasRoom table size
+      go None at of_class within = inl (page_number place, free.inside, at)
+      go (Some page) at of_class within = inr (page_number place, slot_number place, page, at, of_class, within, sym (ap (option_and_then (block_in (slot_number place))) at) ∙ free.empty)
+
+  pub has_room-least_place : (table : Table X) (size : ℕ) → IsShaped table → 0 < slots_in size → IsSome (least_place table size) → HasRoom table size
+  has_room-least_place table size shaped some_slot found = let (place, is) = from_some (least_place table size) found in free-has_room table size place (least_place-free table size shaped some_slot place is)
+
+  -- The least place is the least of the first tier that gives one
+  pub least_place-least : (table : Table X) (size : ℕ) → IsShaped table → (place : ℕ) → least_place table size ≡ Some place → IsLeastOfItsTier table size place
+  least_place-least table size shaped place e = go (least_dense_place table size) refl (least fresh_slot table) refl e
+    where
+      go : (dense : Option ℕ) → least_dense_place table size ≡ dense → (fresh : Option ℕ) → least fresh_slot table ≡ fresh → option_or dense (option_or fresh (least (open_slot (is_sparse size)) table)) ≡ Some place → IsLeastOfItsTier table size place
+      go (Some q) is fresh is' h = inl (least_open-is (is_dense size) table shaped place (is ∙ h))
+      go None is (Some q) is' h = inr (inl (least-none (open_slot (is_dense size)) table is, least-is fresh_slot table (λ number slot k. omega (arith, (fresh_slot-is (page_at table number) slot k).1)) place (is' ∙ h)))
+      go None is None is' h = inr (inr (least-none (open_slot (is_dense size)) table is, least-none fresh_slot table is', least_open-is (is_sparse size) table shaped place h))
+
+  -- Taking and giving back -----------------------------------------------------------------------
+
+  -- what is there after a place was taken
+  pub block_at-with_taken_same : (table : Table X) (size place : ℕ) (block : X) → IsFreeFor table size place → block_at (with_taken table size place block) place ≡ Some block
+  block_at-with_taken_same table size place block free =
+      ap (option_and_then (block_in (slot_number place))) (get_or-set_same table (page_number place) _ None free.inside)
+      ∙ get_or-set_same (page_for size (page_at table (page_number place))).slots (slot_number place) (Some block) None free.within
+
+  pub block_in-page_for : (content : Option (Page X)) (size slot : ℕ) → block_in slot (page_for size content) ≡ option_and_then (block_in slot) content
+  block_in-page_for None size slot = none_at (slots_in size) slot
+  block_in-page_for (Some page) size slot = refl
+
+  taken-other_slot : (table : Table X) (number size slot other : ℕ) (block : X) → other ≢ slot
+      → option_and_then (block_in other) (page_at (set table number (Some (page_with slot (Some block) (page_for size (page_at table number))))) number) ≡ option_and_then (block_in other) (page_at table number)
+  taken-other_slot [] number size slot other block apart = refl
+  taken-other_slot (page ∷ table) zero size slot other block apart = get_or-set_other (page_for size page).slots slot other (Some block) None apart ∙ block_in-page_for page size other
+  taken-other_slot (page ∷ table) (suc number) size slot other block apart = taken-other_slot table number size slot other block apart
+
+  pub block_at-with_taken_other : (table : Table X) (size place other : ℕ) (block : X) → other ≢ place → block_at (with_taken table size place block) other ≡ block_at table other
+  block_at-with_taken_other table size place other block apart = elim (cases_eq (page_number other) (page_number place)) [
+    | inl same ↦
+        let slots_apart : slot_number other ≢ slot_number place = λ k. apart (omega arith) in
+        rw same (taken-other_slot table (page_number place) size (slot_number place) (slot_number other) block slots_apart)
+    | inr pages_apart ↦ ap (option_and_then (block_in (slot_number other))) (get_or-set_other table (page_number place) (page_number other) _ None pages_apart)
+  ]
+
+  -- A place taken in a free page and given back with it leaves the table
+  pub with_released-fresh : (table : Table X) (size place : ℕ) (block : X) → page_at table (page_number place) ≡ None → with_released (with_taken table size place block) place true ≡ table
+  with_released-fresh table size place block free = set_back table (page_number place) _ free
+
+  page_back : (page : Page X) (slot : ℕ) (content : Option X) → block_in slot page ≡ None → page_with slot None (page_with slot content page) ≡ page
+  page_back page slot content e = ap (λ slots. record page { slots = slots }) (set_back page.slots slot content e)
+
+  -- and so does one taken in a page in use and given back alone
+  pub with_released-taken : (table : Table X) (size place : ℕ) (block : X) (page : Page X) → page_at table (page_number place) ≡ Some page → block_at table place ≡ None → with_released (with_taken table size place block) place false ≡ table
+  with_released-taken table size place block page at empty = go table (page_number place) at (sym (ap (option_and_then (block_in (slot_number place))) at) ∙ empty)
+    where
+      go : (pages : Table X) (number : ℕ) → page_at pages number ≡ Some page → block_in (slot_number place) page ≡ None
+          → set (set pages number (Some (page_with (slot_number place) (Some block) (page_for size (page_at pages number))))) number
+          (option_map (page_with (slot_number place) None) (page_at (set pages number (Some (page_with (slot_number place) (Some block) (page_for size (page_at pages number))))) number)) ≡ pages
+      go [] number e e' = refl
+      go (None ∷ pages) zero e e' = absurd (none-some page e)
+      go (Some p ∷ pages) zero e e' = ap (λ q. Some q ∷ pages) (page_back p (slot_number place) (Some block) (ap (block_in (slot_number place)) (same_Some p page e) ∙ e'))
+      go (p ∷ pages) (suc number) e e' = ap (λ ps. p ∷ ps) (go pages number e e')
+
+  -- A place taken and given back, its page with it where that was free, leaves the table
+  pub with_released-with_taken : (table : Table X) (size place : ℕ) (block : X) → block_at table place ≡ None → with_released (with_taken table size place block) place (is_none (page_at table (page_number place))) ≡ table
+  with_released-with_taken table size place block empty = go (page_at table (page_number place)) refl
+    where
+      go : (content : Option (Page X)) → page_at table (page_number place) ≡ content → with_released (with_taken table size place block) place (is_none content) ≡ table
+      go None at = with_released-fresh table size place block at
+      go (Some page) at = with_released-taken table size place block page at empty
+
+  -- A page has one block less after one that is taken away
+  pub block_count-removed : (slots : List (Option X)) (slot : ℕ) → IsSome (get_or slots slot None) → block_count (set slots slot None) + 1 ≡ block_count slots
+  block_count-removed [] slot e = absurd (false≢true e)
+  block_count-removed (None ∷ slots) zero e = absurd (false≢true e)
+  block_count-removed (Some block ∷ slots) zero e = omega arith
+  block_count-removed (None ∷ slots) (suc slot) e = block_count-removed slots slot e
+  block_count-removed (Some block ∷ slots) (suc slot) e = omega (arith, block_count-removed slots slot e)
