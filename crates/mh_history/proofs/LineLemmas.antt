@@ -1,6 +1,5 @@
 -- Lines that are entries, one after another.
 use Rattle.std.proofs.Common.{◌≡◌, ℕ, suc, ◌+◌, Option, Some, None, IsSome, List, [], ◌∷◌, ◌++◌, length, take, ap, sym, refl, ◌∙◌, append_assoc, arith}
-use Rattle.std.specs.Prelude.{Err, IsErrOf}
 use Rattle.std.proofs.lemmas.List.{append-nil, length-append}
 use Rattle.std.proofs.Math.Seq.{take-append-add}
 use Rattle.mh_model.specs.Bytes.{Text}
@@ -88,10 +87,6 @@ walked_end read old mid entries done end = walked_whole read old mid entries don
 pub walked_refused : {X : Type 0} (read : Text → Option X) (old mid : Lines) (entries : List X) (error : TextError) → Walked read old mid entries → Refuses (entries_left read mid) error → Refuses (entries_left read old) error
 walked_refused read old mid entries (Line bad) done refused = walked_whole read old mid entries done ∙ ap (with_entries entries) refused
 walked_refused read old mid entries NoMemory done refused = tt
-
--- an error in a result of another type
-pub same_error : {X Y E : Type 0} (error other : E) → IsErrOf {T = X} (Err error) other → IsErrOf {T = Y} (Err error) other
-same_error error other is = let same : error ≡ other = cc in rw same refl
 
 -- Memory -----------------------------------------------------------------------------------------
 

@@ -8,3 +8,4 @@ pub mod LineLemmas
 pub mod NameLemmas
 pub mod ScriptLemmas
 pub mod ReplyLemmas
+pub mod ErrorLemmas

@@ -1,5 +1,6 @@
 use Rattle.std.proofs.lemmas.Result.{err_from_is_err_and}
-use Rattle.mh_history.proofs.LineLemmas.{same_error, taken_entry, walked_entry, walked_more}
+use Rattle.mh_text.proofs.ErrorLemmas.{same_error}
+use Rattle.mh_history.proofs.LineLemmas.{taken_entry, walked_entry, walked_more}
 use Rattle.mh_history.proofs.lines.entries_from.Goals as goal
 
 pub returns-in_err-entry-clause-memory : goal.returns-in_err-entry-clause-memory

@@ -1,5 +1,5 @@
 use Rattle.std.proofs.lemmas.Result.{err_from_is_err_and}
-use Rattle.mh_history.proofs.LineLemmas.{same_error}
+use Rattle.mh_text.proofs.ErrorLemmas.{same_error}
 use Rattle.mh_script.specs.Texts.{ForBytes}
 use Rattle.mh_script.proofs.AddedLines.{on_err}
 use Rattle.mh_judging.proofs.JudgedLemmas.{checked_by, begins_to_judge_nothing, begins_to_judge_reads, judges_reads}

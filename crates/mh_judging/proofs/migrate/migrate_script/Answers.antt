@@ -1,5 +1,5 @@
 use Rattle.std.proofs.lemmas.Result.{IfOk-weaker, err_from_is_err_and, on_err_weaker}
-use Rattle.mh_history.proofs.LineLemmas.{same_error}
+use Rattle.mh_text.proofs.ErrorLemmas.{same_error}
 use Rattle.mh_script.specs.Texts.{ForBytes}
 use Rattle.mh_script.proofs.AddedLines.{on_err}
 use Rattle.mh_judging.proofs.MigratedLemmas.{begins_to_migrate_nothing, begins_to_migrate_reads, migrates_reads, takes_short}

@@ -1,7 +1,7 @@
 use Rattle.std.proofs.Common.{sym, ap, ◌∙◌}
 use Rattle.std.proofs.Common.{inl, inr}
 use Rattle.std.proofs.lemmas.Result.{err_from_is_err_and}
-use Rattle.mh_history.proofs.LineLemmas.{same_error}
+use Rattle.mh_text.proofs.ErrorLemmas.{same_error}
 use Rattle.mh_model.specs.Script.{BadLine}
 use Rattle.mh_script.specs.Texts.{ForBytes}
 use Rattle.mh_script.proofs.AddedLines.{on_err}
