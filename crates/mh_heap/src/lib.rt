@@ -4,5 +4,6 @@
 pub mod heap;
 pub mod perform;
 pub mod plain;
+pub mod slots;
 #[cfg(test)]
 mod tests;

@@ -5,11 +5,12 @@ ghost use Rattle.mh_model.specs.declared.command.Command.TheVariants as command;
 ghost use Rattle.mh_heap.specs.Outcome.{done_or, number_or, same_or, shape_or};
 ghost use Rattle.mh_paged.specs.Kept.{Steps};
 
-use crate::kept::{KeptHeap, board_slot, field_below, own_slot, parts_of};
+use crate::kept::{KeptHeap, field_below, parts_of};
 use crate::lent::{
     clear_roots, loaded, make_parts, number, place_of, root, write_number, write_reference,
     write_root,
 };
+use mh_heap::slots::{board_slot, own_slot};
 use mh_laws::barriers::objects_made_keep_the_snapshot;
 use mh_laws::bounds::collectors_stay_in_bounds;
 use mh_laws::commands::commands_are_answered;

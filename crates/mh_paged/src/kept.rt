@@ -1,6 +1,6 @@
 //! A heap that keeps what its sessions may reach.
 ghost use Rattle.std.specs.Prelude.{◌≡◌, ◌<◌, [], ◌∷◌, true, false, get_or, nat_le, nat_lt, ◌+◌, ◌≤◌, IfOk, MatchResult, Some, None};
-ghost use Rattle.mh_model.specs.World.{is_bad, own_slot, board_slot, most_fields};
+ghost use Rattle.mh_model.specs.World.{most_fields};
 ghost use Rattle.mh_model.specs.Classes.{parts};
 ghost use Rattle.mh_model.specs.Pages.{free_pages};
 ghost use Rattle.mh_model.specs.declared.birth.TheConstants.{LIFE};
@@ -8,7 +8,7 @@ ghost use Rattle.mh_model.specs.Collector.{quantum};
 ghost use Rattle.mh_model.specs.Machine.{dump_pages, quanta_left, stat_reply};
 ghost use Rattle.mh_model.specs.Mutator.{first_heap, root_at, shape_at};
 ghost use Rattle.mh_model.specs.Invariant.{IsObjectAt};
-ghost use Rattle.mh_model.specs.declared.reply.Refusal.TheVariants.{BadSlot, Null, NoField, TooLarge, Ended, TooManySessions};
+ghost use Rattle.mh_model.specs.declared.reply.Refusal.TheVariants.{Null, NoField, TooLarge, Ended, TooManySessions};
 ghost use Rattle.mh_heap.specs.Checks.{tested};
 ghost use Rattle.mh_paged.specs.Told.{IsTold};
 
@@ -24,7 +24,7 @@ use mh_laws::snapshots::{collectors_stay_steady, heaps_stay_kept};
 use mh_model::config::Config;
 use mh_model::cycle::{Phase, Spent};
 use mh_model::dump::Dump;
-use mh_model::limits::{SESSION_SLOTS, SESSIONS};
+use mh_model::limits::SESSIONS;
 use mh_model::memory::NoMemory;
 use mh_model::place::Place;
 use mh_model::reply::{Refusal, Reply};
@@ -61,31 +61,6 @@ impl Model for KeptHeap {
 pub(crate) struct Found {
     pub(crate) place: Place,
     pub(crate) shape: Shape,
-}
-
-/// The root of a session's slot.
-pub(crate) fn own_slot(session: usize, slot: u32) -> Result<usize, Refusal>
-    requires { session < 8 }
-    ensures step { result ≡ tested ((is_bad slot, BadSlot) ∷ []) (own_slot session slot) }
-    ensures within { IfOk result (λ root. root < 144) }
-{
-    let slot = slot as usize;
-    if slot >= SESSION_SLOTS {
-        return Err(Refusal::BadSlot);
-    }
-    Ok(session * SESSION_SLOTS + slot)
-}
-
-/// The root of a slot of the board.
-pub(crate) fn board_slot(board: u32) -> Result<usize, Refusal>
-    ensures step { result ≡ tested ((is_bad board, BadSlot) ∷ []) (board_slot board) }
-    ensures within { IfOk result (λ root. root < 144) }
-{
-    let board = board as usize;
-    if board >= SESSION_SLOTS {
-        return Err(Refusal::BadSlot);
-    }
-    Ok(SESSIONS * SESSION_SLOTS + board)
 }
 
 /// The parts of an object of so many references and numbers.

@@ -1,5 +1,5 @@
 -- What was read of a source tells how its whole text reads.
-use Rattle.std.proofs.Common.{◌≡◌, ℕ, List, ◌<◌, ◌≤◌, Bool, true, false, if◌then◌else◌, cond, nat_lt, [], ◌++◌, length, Option, Some, None, refl, subst, ap, sym, ◌∙◌, append-nil, length-append, arith}
+use Rattle.std.proofs.Common.{◌≡◌, ℕ, List, ◌<◌, ◌≤◌, Bool, true, false, if◌then◌else◌, cond, nat_lt, inl, inr, [], ◌++◌, length, Option, Some, None, refl, subst, ap, sym, ◌∙◌, append-nil, length-append, arith}
 use Rattle.std.proofs.KnownBytes.{Appends-nil}
 use Rattle.std.proofs.lemmas.Bool.Decides.{nat_tests}
 use Rattle.std.specs.Io.KnownBytes.{Appends, Consumes, IsAtEnd}
@@ -11,7 +11,7 @@ use Rattle.mh_model.specs.Output.{Ending, Done, HistoryFull, Refused, output, ou
 use Rattle.mh_model.specs.Script.{Reading, Meaning, Means, BadLine, reading}
 use Rattle.mh_model.proofs.ScriptLemmas.{reading-long}
 use Rattle.mh_text.specs.Stream.{AppendsBeginning}
-use Rattle.mh_script.specs.Run.{Outputs, WritesBeginning}
+use Rattle.mh_script.specs.Run.{Outputs, TakesToRun, WritesBeginning}
 use Rattle.mh_script.specs.Texts.{IsTextOf, WantsMemory, ForText}
 
 -- Texts ------------------------------------------------------------------------------------------
@@ -75,6 +75,18 @@ reads_slice read most bounded known rest items text same consumed whole = subst 
 pub wants_text : (Begins : Text → Type 0) (most : ℕ) (known rest : Option Text) (items text : Text) → text ≡ items → Consumes known rest items → (length items ≤ most → IsAtEnd rest) → length text ≤ most → Begins text
     → WantsMemory Begins known rest
 wants_text Begins most known rest items text same consumed whole short begins = ForText items consumed (whole (omega (arith, ap length same, short))) (subst Begins same begins)
+
+-- a text for which a run takes memory is not too long
+pub runs_short : (text : Text) → TakesToRun text → length text ≤ 67108864
+runs_short text (inl begins) = begins.short
+runs_short text (inr script) = go (nat_lt 67108864 (length text)) refl where
+  go : (b : Bool) → nat_lt 67108864 (length text) ≡ b → length text ≤ 67108864
+  go true is =
+      let long : 67108864 < length text = grind (arith, nat_tests) in
+      let refused : reading text ≡ BadLine 0 = reading-long text long in
+      let other : BadLine 0 ≡ Means script.0 = sym refused ∙ script.1 in
+      cc
+  go false is = grind (arith, nat_tests)
 
 -- a source has some text
 pub some_text : (known : Option Text) → (text : Text) × IsTextOf known text

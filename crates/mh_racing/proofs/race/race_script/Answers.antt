@@ -1,11 +1,15 @@
 use Rattle.std.proofs.Common.{sym, ap, ◌∙◌}
+use Rattle.std.proofs.Common.{inl, inr}
+use Rattle.std.proofs.lemmas.Result.{err_from_is_err_and}
 use Rattle.std.specs.Prelude.{Err}
+use Rattle.mh_text.proofs.ErrorLemmas.{same_error}
+use Rattle.mh_script.specs.Texts.{ForBytes}
 use Rattle.mh_script.proofs.FaultLemmas.{passed_on}
 use Rattle.mh_model.specs.Races.{IsRaced, IsRacedFull}
 use Rattle.mh_model.specs.Script.{BadLine, Means}
 use Rattle.mh_script.proofs.AddedLines.{on_err}
 use Rattle.mh_racing.proofs.RacedLemmas.{begins_to_race_nothing, begins_to_race_reads, races_reads, refuses_reads}
-use Rattle.mh_script.proofs.SourceLemmas.{reads_slice, script_bounded}
+use Rattle.mh_script.proofs.SourceLemmas.{reads_slice, runs_short, script_bounded, wants_text}
 use Rattle.mh_racing.proofs.race.race_script.Goals as goal
 
 pub returns-in_err-text-clause-begun : goal.returns-in_err-text-clause-begun
@@ -40,3 +44,18 @@ returns-in-Err-Line-clause-begun g c =
 
 pub returns-clause-begun : goal.returns-clause-begun
 returns-clause-begun g c = begins_to_race_nothing _ _
+
+pub returns-in_err-text-clause-memory : goal.returns-in_err-text-clause-memory
+returns-in_err-text-clause-memory g c =
+    let p = err_from_is_err_and c.from_residual.result c.from_residual.ensures.1 in
+    rw (p.1, p.2) (λ is. ForBytes (c.in_err-text.ensures.took (same_error _ _ is)))
+
+pub returns-in_err-write_race-in-Ok-clause-memory : goal.returns-in_err-write_race-in-Ok-clause-memory
+returns-in_err-write_race-in-Ok-clause-memory g c =
+    let takes = inr (_, c.in-Ok.ensures.script) in
+    λ _. wants_text _ _ _ _ _ _ c.as_slice.ensures.value c.in_ok-text.ensures.read c.in_ok-text.ensures.whole (runs_short _ takes) takes
+
+pub returns-clause-memory : goal.returns-clause-memory
+returns-clause-memory g c =
+    let takes = inl (c.in-Err-NoMemory.ensures.memory refl) in
+    λ _. wants_text _ _ _ _ _ _ c.as_slice.ensures.value c.in_ok-text.ensures.read c.in_ok-text.ensures.whole (runs_short _ takes) takes
