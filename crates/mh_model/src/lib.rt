@@ -12,5 +12,3 @@ pub mod memory;
 pub mod place;
 pub mod reply;
 pub mod shape;
-#[cfg(test)]
-mod tests;

@@ -1,5 +1,5 @@
-use crate::roots::Roots;
 use mh_model::place::Place;
+use mh_roots::roots::Roots;
 
 #[test]
 fn slots_of_a_session(rt: HostRuntime) {

@@ -1,7 +1,7 @@
 ghost use Rattle.std.specs.Prelude.{◌≡◌, ◌≤◌, IfOk, length};
 
-use crate::counted::{Counted, Tally};
-use crate::page_sets::PageSets;
+use mh_bits::counted::{Counted, Tally};
+use mh_bits::page_sets::PageSets;
 use mh_model::memory::NoMemory;
 use std::alloc::Global;
 use std::test::Fail;
