@@ -3,15 +3,13 @@ ghost use Rattle.mh_model.specs.Table.{stamp_at, LeadsOn, LeadsHome};
 ghost use Rattle.mh_mark.specs.Walkable.{IsWalkable};
 ghost use Rattle.mh_mark.specs.Batched.{IsMarkable, AreMarkable};
 
-use crate::batch::mark_batch;
-use crate::mark::{first_grey, mark_block, mark_step};
-use crate::roots_step::roots_step;
+use crate::table::{fill, moved, small_part, store};
 use arrayvec::ArrayVec;
 use mh_blocks::blocks::Blocks;
-use mh_classes::parts::parts;
 use mh_grey::grey::Grey;
-use mh_model::birth::Birth;
-use mh_model::config::Rules;
+use mh_mark::batch::mark_batch;
+use mh_mark::mark::{first_grey, mark_block, mark_step};
+use mh_mark::roots_step::roots_step;
 use mh_model::memory::NoMemory;
 use mh_model::place::Place;
 use mh_roots::roots::Roots;
@@ -73,6 +71,7 @@ fn leads_home(blocks: &Blocks, reference: Option<Place>) -> bool
     }
 }
 
+/// Whether a block is at a place whose references lead to blocks that are no forwarders.
 fn is_markable(blocks: &Blocks, place: Place) -> bool
     ensures { IsTrue result → IsMarkable blocks.now place }
 {
@@ -87,19 +86,20 @@ fn is_markable(blocks: &Blocks, place: Place) -> bool
     true
 }
 
-fn is_walkable_at(blocks: &Blocks, cycle: u64, place: Place) -> bool
+fn is_marked_at(blocks: &Blocks, cycle: u64, place: Place) -> bool
     ensures markable { IsTrue result → IsMarkable blocks.now place }
     ensures marked { IsTrue result → stamp_at blocks.now place ≡ cycle }
 {
     is_markable(blocks, place) && blocks.stamp(place) == cycle
 }
 
-fn are_walkable(blocks: &Blocks, cycle: u64, batch: &[Place]) -> bool
+/// Whether all these blocks can be marked through, and are marked.
+fn are_marked(blocks: &Blocks, cycle: u64, batch: &[Place]) -> bool
     ensures markable { IsTrue result → AreMarkable blocks.now batch.now }
     ensures marked { IsTrue result → (index : ℕ) → index < length batch.now → stamp_at blocks.now (get_or batch.now index 0) ≡ cycle }
 {
     for place in batch {
-        if !is_walkable_at(blocks, cycle, *place) {
+        if !is_marked_at(blocks, cycle, *place) {
             return false;
         }
     }
@@ -115,39 +115,17 @@ fn is_walkable(blocks: &Blocks, cycle: u64, grey: &Grey) -> bool
         return false;
     }
     grey.front(count, &mut batch);
-    are_walkable(blocks, cycle, batch.as_slice())
-}
-
-fn store(rt: &impl Abort, blocks: &mut Blocks, place: Place, index: usize, target: Place) {
-    assert!(rt; blocks.is_taken(place));
-    assert!(rt; index < blocks.reference_count(place));
-    assert!(rt; blocks.is_taken(target));
-    blocks.store_ref(place, index, Some(target));
-}
-
-/// Moves a block of page 0.
-fn relocate(rt: &impl Abort, blocks: &mut Blocks, place: Place) -> Option<Place> {
-    assert!(rt; place.page() < blocks.len());
-    let class = blocks.class_at(place.page())?;
-    let to = blocks.place_dense(class)?;
-    assert!(rt; blocks.is_taken(place));
-    assert_eq!(rt; blocks.forward(place), None);
-    blocks.relocate(place, to);
-    Some(to)
+    are_marked(blocks, cycle, batch.as_slice())
 }
 
 /// One page with a parent of two children, of which the first has a child of its own and has moved.
 fn family(rt: &impl Abort, alloc: Global) -> Result<Blocks, Fail> {
     let mut blocks = Blocks::open(alloc, 1)?;
-    let all = parts(Rules::Second, 2, 0).ok_or("too large")?;
-    let _ = all.count();
-    for birth in 0..4 {
-        assert!(rt; blocks.make(all.get(0), 0, Birth(birth), 0).is_ok());
-    }
+    fill(rt, &mut blocks, small_part(2, 0)?, 4, 0);
     store(rt, &mut blocks, PARENT, 0, FORWARDER);
     store(rt, &mut blocks, PARENT, 1, SECOND);
     store(rt, &mut blocks, FORWARDER, 0, GRANDCHILD);
-    assert_eq!(rt; relocate(rt, &mut blocks, FORWARDER), Some(FIRST));
+    assert_eq!(rt; moved(rt, &mut blocks, FORWARDER)?, FIRST);
     Ok(blocks)
 }
 
@@ -248,16 +226,10 @@ fn mark_two<S: Scanner>(
 }
 
 #[test]
-fn marks_a_batch(rt: HostRuntime) -> Result<(), Fail> {
+fn marks_a_batch_with_and_with_no_memory_to_scan(rt: HostRuntime) -> Result<(), Fail> {
+    let wanted = (6, Some(FIRST), Some(SECOND), Some(GRANDCHILD));
     let mut scanner = OneScan::new(rt.alloc());
-    let marked = mark_two(&rt, rt.alloc(), &mut scanner)?;
-    assert_eq!(rt; marked, (6, Some(FIRST), Some(SECOND), Some(GRANDCHILD)));
-    Ok(())
-}
-
-#[test]
-fn marks_a_batch_with_no_memory_to_scan(rt: HostRuntime) -> Result<(), Fail> {
-    let marked = mark_two(&rt, rt.alloc(), &mut NoScan)?;
-    assert_eq!(rt; marked, (6, Some(FIRST), Some(SECOND), Some(GRANDCHILD)));
+    assert_eq!(rt; mark_two(&rt, rt.alloc(), &mut scanner)?, wanted);
+    assert_eq!(rt; mark_two(&rt, rt.alloc(), &mut NoScan)?, wanted);
     Ok(())
 }

@@ -7,7 +7,7 @@ use Rattle.mh_grey.specs.Queue.{is_in}
 use Rattle.mh_grey.proofs.QueueLemmas.{or_cases}
 use Rattle.mh_mark.specs.Walkable.{IsWalkable}
 use Rattle.mh_mark.specs.Batched.{AreMarkable}
-use Rattle.mh_mark.proofs.tests.is_walkable.Goals as goal
+use Rattle.collector_tests.proofs.mark_tests.is_walkable.Goals as goal
 
 -- where a place stands in a list
 record StandsAt (places : List ℕ) (place : ℕ) : Type 0 where
@@ -32,6 +32,6 @@ walkable table cycle places markable marked = record {
 pub returns : goal.returns
 returns c good =
     let all : c.as_slice.result.now ≡ c.args.grey.now.places = c.as_slice.ensures.value ∙ c.front.ensures ∙ ap (λ n. take n c.args.grey.now.places) c.len-count.ensures.count ∙ take_all (length c.args.grey.now.places) c.args.grey.now.places (omega arith) in
-    let markable = rw all at c.are_walkable.ensures.markable good in
-    let marked = rw all at c.are_walkable.ensures.marked good in
+    let markable = rw all at c.are_marked.ensures.markable good in
+    let marked = rw all at c.are_marked.ensures.marked good in
     walkable _ _ _ markable marked

@@ -2,7 +2,7 @@ use Rattle.std.proofs.Common.{ℕ, zero, suc, Option, Some, None, List, [], ◌�
 use Rattle.mh_model.specs.Pages.{Table, block_at}
 use Rattle.mh_model.specs.Table.{Block}
 use Rattle.mh_roots.specs.Roots.{SlotsLead}
-use Rattle.mh_defrag.proofs.tests.moves_a_block.Goals as goal
+use Rattle.collector_tests.proofs.defrag_tests.moves_a_block.Goals as goal
 
 none_leads : (table : Table Block) (count : ℕ) → SlotsLead table (replicate count None)
 none_leads table zero slot = tt

@@ -1,38 +1,28 @@
-use crate::defrag::{cost, next_target, step, unflagged_run};
+use crate::table::{fill, small_part};
 use mh_blocks::blocks::Blocks;
-use mh_classes::parts::parts;
+use mh_defrag::defrag::{cost, next_target, step, unflagged_run};
 use mh_model::birth::Birth;
-use mh_model::config::Rules;
 use mh_model::place::Place;
 use mh_roots::roots::Roots;
 use std::alloc::Global;
+use std::process::Abort;
 use std::test::Fail;
 
 /// Two pages of blocks of 64 words, four slots each: the first with its slot 0 free, the second flagged and with one block.
-fn two_pages(alloc: Global) -> Result<Blocks, Fail> {
+fn two_pages(rt: &impl Abort, alloc: Global) -> Result<Blocks, Fail> {
     let mut blocks = Blocks::open(alloc, 2)?;
-    let all = parts(Rules::Second, 60, 0).ok_or("not too large")?;
-    let _ = all.count();
-    let part = all.get(0);
-    for birth in 0..5 {
-        if blocks.make(part, 0, Birth(birth), 9).is_err() {
-            return Err("full")?;
-        }
-    }
-    if !blocks.is_taken(Place(0)) {
-        return Err("no block")?;
-    }
+    fill(rt, &mut blocks, small_part(60, 0)?, 5, 9);
+    assert!(rt; blocks.is_taken(Place(0)));
     blocks.unmake(Place(0), false);
-    if blocks.len() != 2 || blocks.class_at(1).is_none() {
-        return Err("no page")?;
-    }
+    assert_eq!(rt; blocks.len(), 2);
+    assert!(rt; blocks.class_at(1).is_some());
     blocks.flag(1);
     Ok(blocks)
 }
 
 #[test]
 fn moves_a_block(rt: HostRuntime) -> Result<(), Fail> {
-    let mut blocks = two_pages(rt.alloc())?;
+    let mut blocks = two_pages(&rt, rt.alloc())?;
     let mut roots = Roots::new();
     roots.set(3, Some(Place(64)));
     assert_eq!(rt; blocks.len(), 2);
@@ -53,7 +43,7 @@ fn moves_a_block(rt: HostRuntime) -> Result<(), Fail> {
 
 #[test]
 fn passes_unflagged_pages(rt: HostRuntime) -> Result<(), Fail> {
-    let blocks = two_pages(rt.alloc())?;
+    let blocks = two_pages(&rt, rt.alloc())?;
     assert_eq!(rt; blocks.len(), 2);
     assert_eq!(rt; unflagged_run(&blocks, 0, 9), 1);
     Ok(())

@@ -3,10 +3,10 @@ ghost use Rattle.mh_model.specs.Table.{references_at, forward_at};
 ghost use Rattle.mh_model.specs.Collector.{first_collector};
 ghost use Rattle.mh_model.specs.Invariant.{IsSteady};
 
-use crate::cycle::Cycle;
 use arrayvec::ArrayVec;
 use mh_blocks::blocks::Blocks;
 use mh_classes::parts::{Parts, parts};
+use mh_cycle::cycle::Cycle;
 use mh_groups::group::{PartPlaces, make_group};
 use mh_laws::barriers::{objects_made_keep_the_snapshot, roots_written_keep_the_snapshot};
 use mh_laws::snapshots::heaps_stay_kept;

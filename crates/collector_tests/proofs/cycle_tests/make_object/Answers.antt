@@ -7,7 +7,7 @@ use Rattle.mh_model.specs.Invariant.{IsSteady}
 use Rattle.mh_laws.specs.Barriers.{ObjectsMadeKeepTheSnapshot, RootsWrittenKeepTheSnapshot}
 use Rattle.mh_laws.specs.Snapshots.{HeapsStayKept}
 use Rattle.mh_cycle.proofs.FrameLemmas.{framed-long}
-use Rattle.mh_cycle.proofs.tests.make_object.Goals as goal
+use Rattle.collector_tests.proofs.cycle_tests.make_object.Goals as goal
 
 -- an object made in an empty table and held by a slot leaves a steady collector
 object-steady : HeapsStayKept → ObjectsMadeKeepTheSnapshot → RootsWrittenKeepTheSnapshot → (config : Config) (c : Collector) (list : List Part) (references numbers slot : ℕ) (made : Made) → c ≡ first_collector config → list ≡ parts references numbers
