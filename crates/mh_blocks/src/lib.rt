@@ -21,5 +21,3 @@
 
 pub mod blocks;
 mod packing;
-#[cfg(test)]
-mod tests;

@@ -4,5 +4,3 @@
 pub mod cycle;
 mod phases;
 mod steps;
-#[cfg(test)]
-mod tests;

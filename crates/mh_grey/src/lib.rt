@@ -2,5 +2,3 @@
 #![tactic(auto)]
 
 pub mod grey;
-#[cfg(test)]
-mod tests;

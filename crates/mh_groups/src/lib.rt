@@ -4,5 +4,3 @@
 pub mod field;
 pub mod group;
 mod position;
-#[cfg(test)]
-mod tests;

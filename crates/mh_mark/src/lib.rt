@@ -4,5 +4,3 @@
 pub mod batch;
 pub mod mark;
 pub mod roots_step;
-#[cfg(test)]
-mod tests;

@@ -13,5 +13,3 @@ pub mod memory;
 pub mod place;
 pub mod reply;
 pub mod shape;
-#[cfg(test)]
-mod tests;

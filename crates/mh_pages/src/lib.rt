@@ -5,5 +5,3 @@ pub mod address;
 pub mod header;
 mod index;
 pub mod pages;
-#[cfg(test)]
-mod tests;
