@@ -1,4 +1,6 @@
-use crate::claims::{Claims, DrawSeat};
+//! Claims and the seats that draw them.
+
+use mh_claims::claims::{Claims, DrawSeat};
 use mh_model::memory::NoMemory;
 use std::test::Fail;
 

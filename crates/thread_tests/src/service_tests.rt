@@ -1,12 +1,14 @@
+//! A service to its end.
 ghost use Rattle.std.specs.Prelude.{All, IfOk};
 ghost use Rattle.mh_service.specs.Services.{IsOf};
 
-use crate::seat::Seat;
-use crate::service::{Closed, MissingSeat, Service};
+use crate::calls::call_at;
 use mh_claims::gate::Open;
 use mh_model::command::{Command, Control, Event};
 use mh_model::config::Config;
 use mh_model::reply::Reply;
+use mh_service::seat::Seat;
+use mh_service::service::{Closed, MissingSeat, Service};
 use mh_state::machine::Stop;
 use std::alloc::{AllocError, Global};
 use std::sync::Wait;
@@ -29,23 +31,6 @@ const NEW: Event = Event::Session(
 const DUMP: Event = Event::Control(Control::Dump);
 
 const LATE: Event = Event::Session(9, Command::End);
-
-/// The answer to a call of the seat at an index, which is none where it doesn't own the event.
-fn call_at<R: Threads + Wait>(
-    rt: &R,
-    service: &Service<'_, Open>,
-    seats: &mut [Seat],
-    index: usize,
-    event: Event,
-) -> Option<Result<Reply, Stop>>
-    requires { All (IsOf service.now) seats.old }
-    ensures { All (IsOf service.now) seats.new }
-{
-    if index >= seats.len() || !seats[index].owns(&event) {
-        return None;
-    }
-    Some(service.call(rt, &mut seats[index], event))
-}
 
 /// A service of two workers over four pages, with its seats.
 fn opened(alloc: Global) -> Result<(Service<'static, Open>, Vec<Seat>), Fail>
@@ -80,21 +65,6 @@ fn a_service_closes_with_all_its_seats(rt: HostRuntime) -> Result<(), Fail> {
     let closed = closes_with_all_seats(service, seats)?.ok_or("not closed")?;
     assert_eq!(rt; closed.history.len(), 1);
     assert_eq!(rt; closed.free, 4);
-    Ok(())
-}
-
-#[test]
-fn a_seat_has_its_calls_in_its_log(rt: HostRuntime) -> Result<(), Fail> {
-    let (service, mut seats) = opened(rt.alloc())?;
-    let _ = call_at(&rt, &service, &mut seats, 7, NEW);
-    let _ = call_at(&rt, &service, &mut seats, 8, DUMP);
-    let desk = seats.pop().ok_or("no seat")?;
-    let told = format!(in rt.alloc(); "{} {:?}", desk.number(), desk.log())?;
-    assert_eq!(rt;
-        told.as_str(),
-        "8 [Entry { event: Control(Dump), reply: Dump(Dump { items: [\
-        Page { page: 0, class_size: 4, is_flagged: false }, Block { slot: 0, birth: 0, part: 0 }] }) }]"
-    );
     Ok(())
 }
 

@@ -1,25 +1,22 @@
+//! Batches that one thread and crews scan.
 ghost use Rattle.std.specs.Prelude.{◌<◌, ◌≤◌, IsTrue};
 ghost use Rattle.mh_model.specs.Pages.{Leads};
 ghost use Rattle.mh_scan.specs.Scanning.{IsScannable, AreScannable};
 
-use crate::crew;
-use crate::crew_scan::{CrewGate, CrewScan};
-use crate::scan::{OneScan, Scanner};
 use arrayvec::ArrayVec;
 use mh_blocks::blocks::Blocks;
-use mh_claims::gate::{Gate, Open};
 use mh_classes::parts::parts;
 use mh_model::birth::Birth;
 use mh_model::config::Rules;
 use mh_model::memory::NoMemory;
 use mh_model::place::Place;
+use mh_scan::crew_scan::{CrewGate, CrewScan};
+use mh_scan::scan::{OneScan, Scanner};
 use std::alloc::Global;
 use std::process::Abort;
-use std::sync::atomic::AtomicU64;
-use std::sync::atomic::Ordering::SeqCst;
 use std::test::Fail;
-use std::thread;
 use std::thread::Threads;
+use test_support::gates::{Hold, Seen, Watch};
 
 const FIRST: Place = Place(0);
 
@@ -79,16 +76,31 @@ fn relocate(rt: &impl Abort, blocks: &mut Blocks, place: Place) -> Option<Place>
     Some(to)
 }
 
+/// Makes blocks of so many references each, which are null.
+fn make_blocks(
+    alloc: Global,
+    blocks: &mut Blocks,
+    references: u32,
+    count: usize,
+) -> Result<Vec<Place>, Fail> {
+    let all = parts(Rules::Second, references, 0).ok_or("too large")?;
+    let _ = all.count();
+    let mut places = Vec::new(alloc);
+    for _ in 0..count {
+        let Ok(place) = blocks.make(all.get(0), 0, Birth(0), 0) else {
+            return Err(Fail::from("no place"));
+        };
+        places.push(place)?;
+    }
+    Ok(places)
+}
+
 /// The first block refers to the second's forwarder and to null, and the second, which stands at the third place, to
 /// null and to the first.
 #[test]
 fn finds_where_references_lead(rt: HostRuntime) -> Result<(), Fail> {
     let mut blocks = Blocks::open(rt.alloc(), 1)?;
-    let all = parts(Rules::Second, 2, 0).ok_or("too large")?;
-    let _ = all.count();
-    for birth in 0..2 {
-        assert!(rt; blocks.make(all.get(0), 0, Birth(birth), 0).is_ok());
-    }
+    let _ = make_blocks(rt.alloc(), &mut blocks, 2, 2)?;
     store(&rt, &mut blocks, FIRST, 0, SECOND);
     store(&rt, &mut blocks, SECOND, 1, FIRST);
     assert_eq!(rt; relocate(&rt, &mut blocks, SECOND), Some(THIRD));
@@ -103,25 +115,13 @@ fn finds_where_references_lead(rt: HostRuntime) -> Result<(), Fail> {
     Ok(())
 }
 
-/// Makes blocks of one reference each, which is null.
-fn make_blocks(alloc: Global, blocks: &mut Blocks, count: usize) -> Result<Vec<Place>, Fail> {
-    let all = parts(Rules::Second, 1, 0).ok_or("too large")?;
-    let _ = all.count();
-    let mut places = Vec::new(alloc);
-    for _ in 0..count {
-        let Ok(place) = blocks.make(all.get(0), 0, Birth(0), 0) else {
-            return Err(Fail::from("no place"));
-        };
-        places.push(place)?;
-    }
-    Ok(places)
-}
-
-/// Each block refers to the one before it.
-fn link(rt: &impl Abort, blocks: &mut Blocks, places: &[Place]) {
+/// Each of 61 blocks refers to the one before it.
+fn linked(rt: &impl Abort, alloc: Global, blocks: &mut Blocks) -> Result<Vec<Place>, Fail> {
+    let places = make_blocks(alloc, blocks, 1, 61)?;
     for pair in places.windows(2) {
         store(rt, blocks, pair[1], 0, pair[0]);
     }
+    Ok(places)
 }
 
 /// A batch that goes through the places again and again.
@@ -147,112 +147,67 @@ fn are_same(found: &Lists, wanted: &Lists) -> bool {
     true
 }
 
-/// Whether a crew finds what one thread finds.
-fn finds_the_same<R: Threads>(
+/// Whether a crew, which is alone only where it is of one, finds what one thread finds.
+fn finds_the_same<R: Threads, G: CrewGate>(
     rt: &R,
     alloc: Global,
     workers: usize,
+    gate: &G,
     blocks: &Blocks,
     batch: &[Place],
 ) -> Result<bool, NoMemory>
     requires workers { (0 < workers) × (workers ≤ 64) }
     requires scannable { AreScannable blocks.now batch.now }
 {
-    let found = CrewScan::new(rt, alloc, workers, &Open).scan(blocks, batch)?;
+    let mut crew = CrewScan::new(rt, alloc, workers, gate);
+    let found = crew.scan(blocks, batch)?;
     let wanted = OneScan::new(alloc).scan(blocks, batch)?;
-    Ok(are_same(&found, &wanted))
+    Ok(crew.is_alone() == (workers == 1) && are_same(&found, &wanted))
 }
 
+/// How many places a batch has, how many pieces, and by how many workers at most it is shared.
+const BATCHES: [(usize, u64, u32); 6] = [
+    (0, 0, 1),
+    (1, 1, 1),
+    (16, 1, 1),
+    (17, 2, 2),
+    (104, 7, 2),
+    (1_024, 64, 5),
+];
+
 #[test]
-fn a_crew_finds_what_one_thread_finds(rt: HostRuntime) -> Result<(), Fail> {
+fn each_piece_passes_the_gate_once(rt: HostRuntime) -> Result<(), Fail> {
     let alloc = rt.alloc();
     let mut blocks = Blocks::open(alloc, 4)?;
-    let places = make_blocks(alloc, &mut blocks, 61)?;
-    link(&rt, &mut blocks, &places);
-    for length in [0, 1, 16, 17, 104, 1_024] {
+    let places = linked(&rt, alloc, &mut blocks)?;
+    for (length, pieces, most) in BATCHES {
         let batch = batch_of(alloc, &places, length)?;
         assert!(rt; batch.len() == length && are_scannable(&blocks, &batch));
-        for workers in [1, 2, 7, 64] {
-            assert!(rt; finds_the_same(&rt, alloc, workers, &blocks, &batch)?);
+        let seen = Seen {
+            passed: pieces,
+            cut: u64::from(pieces > 1),
+            faults: 0,
+        };
+        for workers in [1, 2, 5, 7, 64] {
+            let gate = Watch::new(most.min(workers as u32));
+            assert!(rt; finds_the_same(&rt, alloc, workers, &gate, &blocks, &batch)?);
+            assert_eq!(rt; gate.seen(), seen, "{length} places, {workers} workers");
         }
     }
     Ok(())
 }
 
+/// One worker is held at the first piece, and the other goes on to the next, and on to the last of four.
 #[test]
-fn a_crew_of_one_is_alone(rt: HostRuntime) {
-    assert!(rt; CrewScan::new(&rt, rt.alloc(), 1, &Open).is_alone());
-    assert!(rt; !CrewScan::new(&rt, rt.alloc(), 2, &Open).is_alone());
-}
-
-/// For how many turns a gate holds a worker at most.
-const TURNS: u64 = 1_000_000;
-
-/// A gate that holds the worker of the first piece until another piece was begun.
-#[derive(Drop)]
-struct Hold {
-    until: u64,
-    begun: AtomicU64,
-    turns: AtomicU64,
-}
-
-impl Gate for Hold {
-    fn piece(&self, _worker: usize, piece: u64) {
-        if piece == self.until {
-            self.begun.store(1, SeqCst);
-        }
-        if piece != 0 {
-            return;
-        }
-        for _ in 0..TURNS {
-            if self.begun.load(SeqCst) == 1 {
-                return;
-            }
-            self.turns.fetch_add(1, SeqCst);
-            thread::yield_now();
-        }
-    }
-
-    fn session(&self, _who: u8) {}
-}
-
-impl CrewGate for Hold {
-    fn scan_by_crew<R: Threads>(
-        &self,
-        rt: &R,
-        alloc: Global,
-        workers: usize,
-        blocks: &Blocks,
-        batch: &[Place],
-    ) -> Result<Vec<ArrayVec<Option<Place>, 60>>, NoMemory> {
-        crew::scan(rt, alloc, workers, self, blocks, batch)
-    }
-}
-
-fn are_null(found: &Lists) -> bool {
-    for list in found {
-        if list.as_slice() != [None].as_slice() {
-            return false;
-        }
-    }
-    true
-}
-
-#[test]
-fn two_workers_scan_at_once(rt: HostRuntime) -> Result<(), Fail> {
+fn a_worker_draws_on_while_another_is_held(rt: HostRuntime) -> Result<(), Fail> {
     let alloc = rt.alloc();
     let mut blocks = Blocks::open(alloc, 4)?;
-    let batch = make_blocks(alloc, &mut blocks, 64)?;
+    let places = linked(&rt, alloc, &mut blocks)?;
+    let batch = batch_of(alloc, &places, 64)?;
     assert!(rt; are_scannable(&blocks, &batch));
     for until in [1, 3] {
-        let gate = Hold {
-            until,
-            begun: AtomicU64::new(0),
-            turns: AtomicU64::new(0),
-        };
-        let found = CrewScan::new(&rt, alloc, 2, &gate).scan(&blocks, &batch)?;
-        assert!(rt; gate.turns.load(SeqCst) < TURNS);
-        assert!(rt; found.len() == 64 && are_null(&found));
+        let gate = Hold::new(until);
+        assert!(rt; finds_the_same(&rt, alloc, 2, &gate, &blocks, &batch)?);
     }
     Ok(())
 }

@@ -1,9 +1,10 @@
+//! Locks over a list of marks.
 ghost use Rattle.std.specs.Prelude.{◌≡◌, ◌<◌, [], All, IsTrue, IfOk, length, vec_len};
 ghost use Rattle.mh_lock.specs.Seats.{IsOf};
 
-use crate::entries::{Entries, Owned, Work};
-use crate::lock::Lock;
-use crate::seat::LockSeat;
+use mh_lock::entries::{Entries, Owned, Work};
+use mh_lock::lock::Lock;
+use mh_lock::seat::LockSeat;
 use mh_model::memory::NoMemory;
 use std::alloc::{AllocError, Global};
 use std::sync::Wait;
@@ -12,6 +13,7 @@ use std::sync::atomic::Ordering::SeqCst;
 use std::test::Fail;
 use std::thread;
 use std::thread::Threads;
+use test_support::gates::wait_for;
 
 /// How many calls each seat makes, and for how many turns each holds the value.
 #[derive(Clone, Copy)]
@@ -226,32 +228,21 @@ fn are_in_order(marks: &Marks, by: u64, calls: Calls) -> bool {
     counts.next() == None
 }
 
-#[test]
-fn two_threads_call_at_once(rt: HostRuntime) -> Result<(), Fail> {
-    let alloc = rt.alloc();
-    let (lock, mut seats) = Lock::<Marks, Mark>::open(alloc, no_marks(alloc), 2)?;
-    call_by_threads(&rt, &lock, &mut seats, QUICK);
-    let Ok(marks) = lock.close(seats) else {
-        panic!(rt; "not closed")
-    };
-    assert_eq!(rt; marks.list.len(), 1_000);
-    assert!(rt; are_in_order(&marks, 0, QUICK));
-    assert!(rt; are_in_order(&marks, 1, QUICK));
-    Ok(())
-}
+/// How many threads call at once, and how often each. While one of three makes a slow call the others sleep, and each wake
+/// has to go on to the next.
+const CROWDS: [(u64, Calls); 2] = [(2, QUICK), (3, SLOW)];
 
-/// Two of three threads sleep while the third calls, and each wake has to go on to the next.
 #[test]
-fn each_thread_that_sleeps_is_woken(rt: HostRuntime) -> Result<(), Fail> {
+fn threads_that_call_at_once_are_served(rt: HostRuntime) -> Result<(), Fail> {
     let alloc = rt.alloc();
-    let (lock, mut seats) = Lock::<Marks, Mark>::open(alloc, no_marks(alloc), 3)?;
-    call_by_threads(&rt, &lock, &mut seats, SLOW);
-    let Ok(marks) = lock.close(seats) else {
-        panic!(rt; "not closed")
-    };
-    assert_eq!(rt; marks.list.len(), 24);
-    for by in 0..3 {
-        assert!(rt; are_in_order(&marks, by, SLOW));
+    for (threads, calls) in CROWDS {
+        let (lock, mut seats) = Lock::<Marks, Mark>::open(alloc, no_marks(alloc), threads)?;
+        call_by_threads(&rt, &lock, &mut seats, calls);
+        let Ok(marks) = lock.close(seats) else {
+            panic!(rt; "not closed")
+        };
+        assert_eq!(rt; marks.list.len() as u64, threads * calls.count);
+        assert!(rt; (0..threads).all(|by| are_in_order(&marks, by, calls)));
     }
     Ok(())
 }
@@ -263,15 +254,6 @@ const ROUNDS: u64 = 2_000;
 struct Rounds {
     arrived: AtomicU64,
     got: AtomicU64,
-}
-
-fn wait_for(counter: &AtomicU64, count: u64) {
-    for _ in 0..u64::MAX {
-        if counter.load(SeqCst) >= count {
-            return;
-        }
-        thread::yield_now();
-    }
 }
 
 impl Rounds {

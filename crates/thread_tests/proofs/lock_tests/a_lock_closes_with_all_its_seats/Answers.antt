@@ -1,7 +1,7 @@
 use Rattle.std.proofs.Common.{arith, All, ap, sym, subst}
 use Rattle.std.proofs.lemmas.List.Elements.{All-pop, All-push}
 use Rattle.mh_lock.specs.Seats.{IsOf}
-use Rattle.mh_lock.proofs.tests.a_lock_closes_with_all_its_seats.Goals as goal
+use Rattle.thread_tests.proofs.lock_tests.a_lock_closes_with_all_its_seats.Goals as goal
 
 pub close-requires-2 : goal.close-requires-2
 close-requires-2 g c =
