@@ -4,5 +4,3 @@
 pub mod heap;
 pub mod perform;
 pub mod plain;
-#[cfg(test)]
-mod tests;
