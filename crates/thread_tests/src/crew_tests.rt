@@ -10,38 +10,33 @@ use std::alloc::{AllocError, Global};
 use std::test::Fail;
 use test_support::gates::{Seen, Watch};
 
+/// How many workers a run has, how many pieces its batches have, and how many batches have more than one. One worker cuts
+/// none.
+const RUNS: [(usize, u64, u64); 4] = [
+    (1, 0, 0),
+    (2, CYCLES_PIECES, CYCLES_CUT),
+    (7, CYCLES_PIECES, CYCLES_CUT),
+    (64, CYCLES_PIECES, CYCLES_CUT),
+];
+
 #[test]
 fn two_workers_share_each_batch_of_a_run(rt: HostRuntime) -> Result<(), Fail> {
     let script = cycles_script(rt.alloc())?;
     let output = cycles_output(rt.alloc())?;
-    let seen = Seen {
-        passed: CYCLES_PIECES,
-        cut: CYCLES_CUT,
-        faults: 0,
-    };
-    for workers in [2, 7, 64] {
-        let gate = Watch::new(2);
+    for (workers, passed, cut) in RUNS {
+        let gate = Watch::new(workers.min(2) as u32);
         let mut source = StdSource::new(script.as_slice());
         let mut sink = StdSink::new(Vec::new(rt.alloc()));
         let ended = run_script(&rt, rt.alloc(), &mut source, &mut sink, workers, &gate);
         assert_eq!(rt; ended, Ok(End::Done));
         assert!(rt; sink.writer.as_slice() == output.as_slice());
+        let seen = Seen {
+            passed,
+            cut,
+            faults: 0,
+        };
         assert_eq!(rt; gate.seen(), seen, "with {workers} workers");
     }
-    Ok(())
-}
-
-#[test]
-fn one_worker_cuts_no_batch_of_a_run(rt: HostRuntime) -> Result<(), Fail> {
-    let script = cycles_script(rt.alloc())?;
-    let output = cycles_output(rt.alloc())?;
-    let gate = Watch::new(1);
-    let mut source = StdSource::new(script.as_slice());
-    let mut sink = StdSink::new(Vec::new(rt.alloc()));
-    let ended = run_script(&rt, rt.alloc(), &mut source, &mut sink, 1, &gate);
-    assert_eq!(rt; ended, Ok(End::Done));
-    assert!(rt; sink.writer.as_slice() == output.as_slice());
-    assert_eq!(rt; gate.seen().passed, 0);
     Ok(())
 }
 

@@ -165,6 +165,27 @@ fn finds_the_same<R: Threads, G: CrewGate>(
     Ok(crew.is_alone() == (workers == 1) && are_same(&found, &wanted))
 }
 
+/// With how many workers first a crew finds something else, or the gate sees something else.
+fn first_fault<R: Threads>(
+    rt: &R,
+    alloc: Global,
+    blocks: &Blocks,
+    batch: &[Place],
+    most: u32,
+    seen: Seen,
+) -> Result<Option<usize>, NoMemory>
+    requires { AreScannable blocks.now batch.now }
+{
+    for workers in [1, 2, 5, 7, 64] {
+        let gate = Watch::new(most.min(workers as u32));
+        let is_same = finds_the_same(rt, alloc, workers, &gate, blocks, batch)?;
+        if !is_same || gate.seen() != seen {
+            return Ok(Some(workers));
+        }
+    }
+    Ok(None)
+}
+
 /// How many places a batch has, how many pieces, and by how many workers at most it is shared.
 const BATCHES: [(usize, u64, u32); 6] = [
     (0, 0, 1),
@@ -188,11 +209,8 @@ fn each_piece_passes_the_gate_once(rt: HostRuntime) -> Result<(), Fail> {
             cut: u64::from(pieces > 1),
             faults: 0,
         };
-        for workers in [1, 2, 5, 7, 64] {
-            let gate = Watch::new(most.min(workers as u32));
-            assert!(rt; finds_the_same(&rt, alloc, workers, &gate, &blocks, &batch)?);
-            assert_eq!(rt; gate.seen(), seen, "{length} places, {workers} workers");
-        }
+        let fault = first_fault(&rt, alloc, &blocks, &batch, most, seen)?;
+        assert_eq!(rt; fault, None, "in a batch of {length}");
     }
     Ok(())
 }
