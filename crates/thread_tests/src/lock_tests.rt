@@ -228,20 +228,20 @@ fn are_in_order(marks: &Marks, by: u64, calls: Calls) -> bool {
     counts.next() == None
 }
 
-/// How many threads call at once, and how often each. While one of three makes a slow call the others sleep, and each wake
-/// has to go on to the next.
-const CROWDS: [(u64, Calls); 2] = [(2, QUICK), (3, SLOW)];
+/// How many threads call at once, how often each, and how many marks there are then. While one of three makes a slow call
+/// the others sleep, and each wake has to go on to the next.
+const CROWDS: [(u64, Calls, usize); 2] = [(2, QUICK, 1_000), (3, SLOW, 24)];
 
 #[test]
 fn threads_that_call_at_once_are_served(rt: HostRuntime) -> Result<(), Fail> {
     let alloc = rt.alloc();
-    for (threads, calls) in CROWDS {
+    for (threads, calls, count) in CROWDS {
         let (lock, mut seats) = Lock::<Marks, Mark>::open(alloc, no_marks(alloc), threads)?;
         call_by_threads(&rt, &lock, &mut seats, calls);
         let Ok(marks) = lock.close(seats) else {
             panic!(rt; "not closed")
         };
-        assert_eq!(rt; marks.list.len() as u64, threads * calls.count);
+        assert_eq!(rt; marks.list.len(), count);
         assert!(rt; (0..threads).all(|by| are_in_order(&marks, by, calls)));
     }
     Ok(())
