@@ -3,5 +3,3 @@
 
 pub mod claims;
 pub mod gate;
-#[cfg(test)]
-mod tests;

@@ -5,5 +5,3 @@ pub mod heap;
 pub mod perform;
 pub mod plain;
 pub mod slots;
-#[cfg(test)]
-mod tests;

@@ -5,5 +5,3 @@
 pub mod entries;
 pub mod lock;
 pub mod seat;
-#[cfg(test)]
-mod tests;

@@ -140,6 +140,11 @@ impl<T: Entries<E> + Drop, E: Owned> Lock<T, E> {
         Ok((lock, all))
     }
 
+    /// How many threads sleep until the value is back, or are about to. There may be others by the time it is told.
+    pub fn sleepers(&self) -> u64 {
+        self.sleepers.load(SeqCst)
+    }
+
     // Whether one of a few tries took the value.
     fn try_to_take<A: About<T::Origin>>(&self, seat: &mut Seat<T, SeatView<E, T::Origin>>) -> bool
         requires about { A.about ≡ Some (self.now.seats, self.now.origin) }
@@ -171,11 +176,6 @@ impl<T: Entries<E> + Drop, E: Owned> Lock<T, E> {
         if self.sleepers.load(SeqCst) != 0 {
             self.table.shared.wake_one(0);
         }
-    }
-
-    #[cfg(test)]
-    pub(crate) fn sleepers(&self) -> u64 {
-        self.sleepers.load(SeqCst)
     }
 
     // Waits until the value is at home, and takes it.

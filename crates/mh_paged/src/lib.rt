@@ -2,11 +2,7 @@
 #![tactic(auto)]
 
 mod commands;
-#[cfg(test)]
-mod crew_tests;
 pub mod kept;
 mod lent;
 pub mod paged;
 mod table;
-#[cfg(test)]
-mod tests;

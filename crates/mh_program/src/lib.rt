@@ -2,8 +2,6 @@
 #![tactic(auto)]
 
 mod command;
-#[cfg(test)]
-mod crew_tests;
 pub mod fault;
 pub mod launch;
 #[cfg(test)]

@@ -3,5 +3,3 @@
 
 pub mod race;
 mod racer;
-#[cfg(test)]
-mod tests;

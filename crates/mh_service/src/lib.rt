@@ -4,5 +4,3 @@
 mod job;
 pub mod seat;
 pub mod service;
-#[cfg(test)]
-mod tests;

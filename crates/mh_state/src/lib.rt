@@ -4,11 +4,7 @@
 pub mod copies;
 mod engine;
 pub mod judge;
-#[cfg(test)]
-mod judge_tests;
 pub mod machine;
 pub mod run;
 pub mod same;
 pub mod state;
-#[cfg(test)]
-mod tests;

@@ -2,46 +2,19 @@
 ghost use Rattle.std.specs.Prelude.{◌<◌, ◌≤◌, All};
 ghost use Rattle.mh_service.specs.Services.{IsOf};
 
+use crate::calls::{call_at, owner_of};
 use crate::graph::{CYCLES_CUT, CYCLES_PIECES, cycles_output, cycles_script};
-use crate::watch::{Seen, Watch};
 use mh_model::command::{Command, Control, Event};
 use mh_model::config::Config;
-use mh_model::reply::Reply;
-use mh_scan::crew_scan::CrewGate;
 use mh_service::seat::Seat;
 use mh_service::service::Service;
-use mh_state::machine::Stop;
 use mh_text::reply_text::ReplyText;
 use mh_text::script::parse;
 use std::alloc::Global;
 use std::sync::Wait;
 use std::test::Fail;
 use std::thread::Threads;
-
-/// The number of the seat that makes the call of an event.
-pub fn owner_of(event: &Event) -> usize {
-    match event {
-        Event::Session(who, _) => usize::from(*who).min(8),
-        Event::Control(_) => 8,
-    }
-}
-
-/// The answer to a call by its seat, which is none where there is no such seat.
-fn call<R: Threads + Wait>(
-    rt: &R,
-    service: &Service<'_, Watch>,
-    seats: &mut [Seat],
-    event: Event,
-) -> Option<Result<Reply, Stop>>
-    requires { All (IsOf service.now) seats.old }
-    ensures { All (IsOf service.now) seats.new }
-{
-    let index = owner_of(&event);
-    if index >= seats.len() || !seats[index].owns(&event) {
-        return None;
-    }
-    Some(service.call(rt, &mut seats[index], event))
-}
+use test_support::gates::{Seen, Watch};
 
 /// The lines of the answers to calls by their seats, none of which is refused.
 fn answers_to<R: Threads + Wait>(
@@ -56,7 +29,8 @@ fn answers_to<R: Threads + Wait>(
 {
     let mut answers = String::new(alloc);
     for event in events {
-        let reply = call(rt, service, seats, *event).ok_or("no seat")??;
+        let answer = call_at(rt, service, seats, owner_of(event), *event);
+        let reply = answer.ok_or("no seat")??;
         let line = format!(in alloc; "{}\n", ReplyText(&reply))?;
         answers.push_str(&line)?;
     }

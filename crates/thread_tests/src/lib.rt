@@ -1,21 +1,23 @@
-//! Tests of threads: crews that mark a heap, the sessions of a race, and the seats of a service.
+//! Tests of claims, locks, crews, services and races in several threads.
 #![tactic(auto)]
 
 #[cfg(test)]
-mod arrivals;
-#[cfg(test)]
 mod call_tests;
+#[cfg(test)]
+mod calls;
+#[cfg(test)]
+mod claim_tests;
 #[cfg(test)]
 mod crew_tests;
 #[cfg(test)]
 mod graph;
 #[cfg(test)]
-mod piece_tests;
+mod lock_tests;
 #[cfg(test)]
 mod race_tests;
 #[cfg(test)]
+mod scan_tests;
+#[cfg(test)]
 mod seat_tests;
 #[cfg(test)]
-mod tally;
-#[cfg(test)]
-mod watch;
+mod service_tests;

@@ -1,10 +1,8 @@
 //! Races whose sessions have to run at once, and one whose quanta are scanned by crews.
 
-use crate::arrivals::Arrivals;
 use crate::graph::{
     SCHEDULED_CUT, SCHEDULED_EVENTS, SCHEDULED_PIECES, SCHEDULED_QUANTA, scheduled_script,
 };
-use crate::watch::{Seen, Watch};
 use mh_model::history::Verdict;
 use mh_script::end::End;
 use mh_script::fault::ScriptFault;
@@ -14,6 +12,7 @@ use mh_text::sink::StdSink;
 use mh_text::source::StdSource;
 use std::alloc::Global;
 use std::test::Fail;
+use test_support::gates::{Arrivals, Seen, Watch};
 
 /// The verdict on a history of version 2.
 fn verdict_on(alloc: Global, history: &[u8]) -> Result<Verdict, ScriptFault> {
@@ -22,7 +21,8 @@ fn verdict_on(alloc: Global, history: &[u8]) -> Result<Verdict, ScriptFault> {
 }
 
 /// Scripts with how many sessions have events, the desk among them, and how many events.
-const SHARED: [(&[u8], u32, u64); 3] = [
+const SHARED: [(&[u8], u32, u64); 4] = [
+    (b"config 4 209 0 0\n", 0, 0),
     (b"config 4 209 0 0\na new 0 0 1\nb new 0 0 1\n", 2, 2),
     (
         b"config 4 353 4 3\na new 0 1 0\nb new 0 0 0\nb post 0 0\na take 1 0\na put 0 0 1\nc take 0 0\nc end\n",

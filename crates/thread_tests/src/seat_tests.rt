@@ -2,8 +2,7 @@
 ghost use Rattle.std.specs.Prelude.{All};
 ghost use Rattle.mh_service.specs.Services.{IsOf};
 
-use crate::call_tests::owner_of;
-use crate::tally::Tally;
+use crate::calls::owner_of;
 use mh_claims::gate::Open;
 use mh_model::command::{Command, Control, Event};
 use mh_model::config::Config;
@@ -18,6 +17,7 @@ use std::sync::atomic::Ordering::SeqCst;
 use std::test::Fail;
 use std::thread;
 use std::thread::Threads;
+use test_support::gates::{Tally, wait_for};
 
 const ROUNDS: u64 = 48;
 
@@ -40,13 +40,7 @@ impl Rounds {
     /// Waits until all nine have come to this round.
     fn wait_for(&self, round: u64) {
         self.arrived.fetch_add(1, SeqCst);
-        let all = round.saturating_add(1).saturating_mul(9);
-        for _ in 0..u64::MAX {
-            if self.arrived.load(SeqCst) >= all {
-                return;
-            }
-            thread::yield_now();
-        }
+        wait_for(&self.arrived, round.saturating_add(1).saturating_mul(9));
     }
 }
 

@@ -1,0 +1,4 @@
+//! What several crates of tests share.
+#![tactic(auto)]
+
+pub mod gates;
