@@ -1,5 +1,4 @@
 use crate::events::{DUMP, QUANTUM, STAT, chain, new, of_first, wide};
-use crate::famine::Famine;
 use crate::states::{PLENTY, STEP, after, answer, go_on, told};
 use arrayvec::ArrayVec;
 use mh_blocks::blocks::Blocks;
@@ -20,6 +19,7 @@ use std::sync::atomic::AtomicU64;
 use std::sync::atomic::Ordering::SeqCst;
 use std::test::Fail;
 use std::thread::Threads;
+use text_support::famine::Famine;
 
 const KIBIBYTE: usize = 1 << 10;
 

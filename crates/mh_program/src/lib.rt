@@ -6,18 +6,10 @@ mod command;
 mod crew_tests;
 pub mod fault;
 pub mod launch;
-#[cfg(test)]
-mod launch_tests;
 pub mod line;
 mod options;
 pub mod order;
-#[cfg(test)]
-mod order_tests;
 pub mod program;
-#[cfg(test)]
-mod program_tests;
 mod shown;
 pub mod status;
-#[cfg(test)]
-mod test_devices;
 pub mod words;

@@ -1,0 +1,14 @@
+//! What tests of texts share: devices that fail, a process without memory, and scripts with what they print.
+#![tactic(auto)]
+
+pub mod collector_rows;
+pub mod command_rows;
+pub mod devices;
+pub mod famine;
+pub mod generated;
+pub mod long_rows;
+pub mod measured_rows;
+pub mod named_rows;
+pub mod refused_rows;
+pub mod rows;
+pub mod troubled;
