@@ -1,7 +1,7 @@
 //! Cycles, timed.
 
 use crate::graph::{Graph, build};
-use mh_claims::gate::Open;
+use mh_scan::gate::Open;
 use mh_model::birth::LIFE;
 use mh_model::config::Config;
 use mh_model::cycle::{Phase, Spent};

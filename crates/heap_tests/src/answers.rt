@@ -1,7 +1,7 @@
 //! What is answered to the events of scripts.
 ghost use Rattle.std.specs.Prelude.{◌<◌, ◌≤◌};
 
-use mh_claims::gate::Open;
+use mh_scan::gate::Open;
 use mh_model::command::Event;
 use mh_model::config::{Config, Rules};
 use mh_model::memory::NoMemory;

@@ -1,6 +1,6 @@
 //! Machines and runs at their limits.
 
-use mh_claims::gate::Open;
+use mh_scan::gate::Open;
 use mh_model::command::{Command, Event};
 use mh_model::config::Config;
 use mh_model::reply::{Refusal, Reply};

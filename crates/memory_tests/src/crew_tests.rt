@@ -1,9 +1,8 @@
 use crate::events::{DUMP, QUANTUM, STAT, chain, new, of_first, wide};
-use crate::famine::Famine;
 use crate::states::{PLENTY, STEP, after, answer, go_on, told};
 use arrayvec::ArrayVec;
 use mh_blocks::blocks::Blocks;
-use mh_claims::gate::Gate;
+use mh_scan::gate::Gate;
 use mh_model::command::{Command, Event};
 use mh_model::config::Config;
 use mh_model::cycle::Phase;
@@ -20,6 +19,7 @@ use std::sync::atomic::AtomicU64;
 use std::sync::atomic::Ordering::SeqCst;
 use std::test::Fail;
 use std::thread::Threads;
+use test_support::famine::Famine;
 
 const KIBIBYTE: usize = 1 << 10;
 

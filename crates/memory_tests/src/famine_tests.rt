@@ -1,8 +1,8 @@
-use crate::famine::Famine;
 use std::alloc::{AllocError, Global};
 use std::test::Fail;
 use std::thread;
 use std::thread::Threads;
+use test_support::famine::Famine;
 
 const MEGABYTE: usize = 1 << 20;
 

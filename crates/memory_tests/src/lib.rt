@@ -5,7 +5,6 @@
 mod crew_tests;
 #[cfg(test)]
 mod events;
-pub mod famine;
 #[cfg(test)]
 mod famine_tests;
 #[cfg(test)]

@@ -1,9 +1,8 @@
 ghost use Rattle.std.specs.Prelude.{◌<◌, ◌≤◌};
 
 use crate::events::{DUMP, QUANTUM, every_kind, wide};
-use crate::famine::Famine;
 use crate::states::{MOST_STEPS, PLENTY, STEP};
-use mh_claims::gate::Open;
+use mh_scan::gate::Open;
 use mh_model::command::Event;
 use mh_model::config::Config;
 use mh_model::reply::Reply;
@@ -12,6 +11,7 @@ use mh_state::run::{Outcome, RunFault, run};
 use std::alloc::Global;
 use std::test::Fail;
 use std::thread::Threads;
+use test_support::famine::Famine;
 
 /// How many runs stopped before one did not, and the most replies that one of these had.
 #[derive(Clone, Copy)]

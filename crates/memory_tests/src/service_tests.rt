@@ -2,9 +2,8 @@ ghost use Rattle.std.specs.Prelude.{All, IfOk};
 ghost use Rattle.mh_service.specs.Services.{IsOf};
 
 use crate::events::{DUMP, STAT, every_kind};
-use crate::famine::Famine;
 use crate::states::{MOST_STEPS, PLENTY, STEP};
-use mh_claims::gate::Open;
+use mh_scan::gate::Open;
 use mh_model::command::Event;
 use mh_model::config::Config;
 use mh_model::reply::Reply;
@@ -15,6 +14,7 @@ use std::alloc::Global;
 use std::sync::Wait;
 use std::test::Fail;
 use std::thread::Threads;
+use test_support::famine::Famine;
 
 static OPEN: Open = Open;
 

@@ -1,5 +1,4 @@
 use crate::events::{DUMP, STAT, every_kind};
-use crate::famine::Famine;
 use crate::states::{MOST_STEPS, PLENTY, STEP, after, answer, go_on, is_last, opened, told};
 use mh_model::command::Event;
 use mh_model::config::Config;
@@ -9,6 +8,7 @@ use mh_state::machine::Stop;
 use mh_state::state::State;
 use std::alloc::Global;
 use std::test::Fail;
+use test_support::famine::Famine;
 
 /// The events before one, that one, and those after it.
 #[derive(Clone, Copy)]

@@ -1,5 +1,4 @@
-//! Numbers from 0 that seats draw from one word, each once, and the places at which a worker or a session can be held.
+//! Numbers from 0 that seats draw from one word, each once.
 #![tactic(auto)]
 
 pub mod claims;
-pub mod gate;

@@ -7,12 +7,8 @@ pub mod entry_text;
 mod event;
 mod header;
 pub mod history;
-#[cfg(test)]
-mod history_tests;
 mod keyed;
 pub mod lines;
 mod parts;
 pub mod record;
-#[cfg(test)]
-mod record_tests;
 mod reply;

@@ -1,6 +1,6 @@
 use crate::program::program;
 use crate::words::words;
-use mh_claims::gate::Open;
+use mh_scan::gate::Open;
 use mh_text::sink::StdSink;
 use mh_text::source::StdSource;
 use std::alloc::Global;

@@ -11,7 +11,7 @@ use crate::team::on_each;
 use arrayvec::ArrayVec;
 use mh_blocks::blocks::Blocks;
 use mh_claims::claims::{Claims, DrawSeat};
-use mh_claims::gate::Gate;
+use crate::gate::Gate;
 use mh_model::memory::NoMemory;
 use mh_model::place::Place;
 use std::alloc::Global;

@@ -7,7 +7,7 @@ use crate::crew;
 use crate::scan::Scanner;
 use arrayvec::ArrayVec;
 use mh_blocks::blocks::Blocks;
-use mh_claims::gate::{Gate, Open};
+use crate::gate::{Gate, Open};
 use mh_model::memory::NoMemory;
 use mh_model::place::Place;
 use std::alloc::Global;

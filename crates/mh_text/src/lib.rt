@@ -8,12 +8,8 @@ mod names;
 pub mod pieces;
 pub mod reply_text;
 pub mod script;
-#[cfg(test)]
-mod script_tests;
 pub mod sink;
 pub mod source;
 pub mod stream;
-#[cfg(test)]
-mod stream_tests;
 pub mod text_error;
 pub mod word;

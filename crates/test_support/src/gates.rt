@@ -2,7 +2,7 @@
 
 use arrayvec::ArrayVec;
 use mh_blocks::blocks::Blocks;
-use mh_claims::gate::Gate;
+use mh_scan::gate::Gate;
 use mh_model::memory::NoMemory;
 use mh_model::place::Place;
 use mh_scan::crew;

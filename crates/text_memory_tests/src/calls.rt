@@ -1,13 +1,13 @@
 //! Calls of the program that may be refused memory.
 use crate::comparing::Comparing;
 use crate::sweep::Outcome;
-use memory_tests::famine::Famine;
-use mh_claims::gate::Open;
+use mh_scan::gate::Open;
 use mh_program::program::program;
 use mh_text::source::StdSource;
 use std::alloc::{AllocError, Global};
 use std::sync::Wait;
 use std::thread::Threads;
+use test_support::famine::Famine;
 
 /// A command line, a text on standard input, and what is right for them.
 #[derive(Drop)]

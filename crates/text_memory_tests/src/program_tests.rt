@@ -5,7 +5,7 @@ use crate::texts::{
     ALONE, ALONE_HISTORY, BAD_HISTORY, COLLECTED, COLLECTED_OUTPUT, HISTORY, RECORD, REFUSED,
     REFUSED_OUTPUT, repeated,
 };
-use mh_claims::gate::Open;
+use mh_scan::gate::Open;
 use mh_program::program::program;
 use mh_text::source::StdSource;
 use std::alloc::{AllocError, Global};

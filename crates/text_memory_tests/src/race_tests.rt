@@ -2,10 +2,10 @@ use crate::races::Races;
 use crate::sweep::{Attempt, Outcome, check};
 use crate::texts::{ALONE, ALONE_HISTORY, repeated};
 use crate::work::{Answer, Task, Work};
-use memory_tests::famine::Famine;
 use mh_script::end::End;
 use std::test::Fail;
 use std::thread;
+use test_support::famine::Famine;
 
 /// A script of one session, whose history is known.
 fn alone<'a>(text: &'a [u8], output: &'a [u8]) -> Attempt<'a> {

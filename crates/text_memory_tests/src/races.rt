@@ -1,7 +1,7 @@
 //! Races whose histories are judged when there is memory again.
 use crate::sweep::{Outcome, Seen};
 use crate::texts::{SHARED, SHARED_EVENTS};
-use mh_claims::gate::Open;
+use mh_scan::gate::Open;
 use mh_model::history::Verdict;
 use mh_script::end::End;
 use mh_script::fault::ScriptFault;

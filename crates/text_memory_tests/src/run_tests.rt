@@ -1,11 +1,9 @@
 use crate::sweep::{Attempt, Outcome, check};
-use crate::texts::{
-    COLLECTED, COLLECTED_OUTPUT, REFUSED, REFUSED_OUTPUT, crowded, crowded_output, wide,
-    wide_output,
-};
+use crate::texts::{COLLECTED, COLLECTED_OUTPUT, REFUSED, REFUSED_OUTPUT, crowded, crowded_output};
 use crate::work::{Answer, Task, Work};
 use mh_script::end::End;
 use std::test::Fail;
+use test_support::long_rows::{LongText, wide};
 
 /// A script that is run to its end.
 fn run<'a>(task: Task, text: &'a [u8], output: &'a [u8]) -> Attempt<'a> {
@@ -27,11 +25,10 @@ fn a_script_with_a_collection(rt: HostRuntime) -> Result<(), Fail> {
 
 #[test]
 fn a_crew_without_threads(rt: HostRuntime) -> Result<(), Fail> {
-    let script = wide(rt.alloc())?;
-    let output = wide_output(rt.alloc())?;
-    let mut alone = run(Task::Run, script.as_bytes(), output.as_slice());
+    let LongText { script, output } = wide(rt.alloc())?;
+    let mut alone = run(Task::Run, script.as_slice(), output.as_slice());
     assert_eq!(rt; alone.outcome(&rt, rt.alloc()), Outcome::Right);
-    let mut work = run(Task::RunByCrewOfTwo, script.as_bytes(), output.as_slice());
+    let mut work = run(Task::RunByCrewOfTwo, script.as_slice(), output.as_slice());
     check(&rt, rt.alloc(), &mut work)?;
     assert_eq!(rt; work.outcome(&rt, rt.alloc()), Outcome::Right);
     Ok(())
@@ -40,9 +37,8 @@ fn a_crew_without_threads(rt: HostRuntime) -> Result<(), Fail> {
 // The C library keeps the stack of a thread that has ended for the next one.
 #[test]
 fn a_crew_whose_threads_have_stacks(rt: HostRuntime) -> Result<(), Fail> {
-    let script = wide(rt.alloc())?;
-    let output = wide_output(rt.alloc())?;
-    let mut work = run(Task::RunByCrewOfTwo, script.as_bytes(), output.as_slice());
+    let LongText { script, output } = wide(rt.alloc())?;
+    let mut work = run(Task::RunByCrewOfTwo, script.as_slice(), output.as_slice());
     assert_eq!(rt; work.outcome(&rt, rt.alloc()), Outcome::Right);
     check(&rt, rt.alloc(), &mut work)?;
     Ok(())

@@ -2,11 +2,11 @@
 use crate::calls::Call;
 use crate::races::{Races, judge_each};
 use crate::work::Work;
-use memory_tests::famine::Famine;
 use std::alloc::{AllocError, Global};
 use std::process::Abort;
 use std::sync::Wait;
 use std::thread::Threads;
+use test_support::famine::Famine;
 
 /// How work came out.
 #[derive(Clone, Copy, Debug, PartialEq, Eq)]

@@ -150,24 +150,6 @@ pub fn repeated(
     Ok(text)
 }
 
-/// An object that refers to 60 others, so that a crew has pieces to share, and a cycle over them.
-pub fn wide(alloc: Global) -> Result<String, AllocError> {
-    let mut script = String::new(alloc);
-    writeln!(script, "config 8 400 0 0\na new 0 60 0")?;
-    for field in 0..60u32 {
-        writeln!(script, "a new 1 1 0\na put 0 {field} 1")?;
-    }
-    writeln!(script, "a clear 1\n* start\n* quantum\n* quantum\n* stat")?;
-    Ok(script)
-}
-
-pub fn wide_output(alloc: Global) -> Result<Vec<u8>, AllocError> {
-    let mut output = repeated(alloc, b"", b"ok\n", 123)?;
-    output.extend_from_slice(b"spent 399 phase mark\nspent 239 phase idle\n")?;
-    output.extend_from_slice(b"free 5 live 61 old 0 phase idle cycle 1\n")?;
-    Ok(output)
-}
-
 /// Replies for several buffers, and then a dump of 64 full pages.
 pub fn crowded(alloc: Global) -> Result<Vec<u8>, AllocError> {
     let first = repeated(alloc, b"config 64 209 0 0\n", b"* stat\n", 1_800)?;

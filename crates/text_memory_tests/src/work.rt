@@ -3,7 +3,7 @@ ghost use Rattle.std.specs.Prelude.{◌<◌, ◌^◌};
 
 use crate::comparing::Comparing;
 use crate::sweep::Outcome;
-use mh_claims::gate::Open;
+use mh_scan::gate::Open;
 use mh_model::config::{Config, Rules};
 use mh_model::history::Verdict;
 use mh_script::end::End;

@@ -1,15 +1,15 @@
 use crate::answers::expect_audit;
-use crate::collector_rows::COLLECTOR_ROWS;
-use crate::command_rows::COMMAND_ROWS;
 use crate::entries::{EntryText, config_words, entries_of, record_text};
-use crate::long_rows::LEFT_ROW;
-use crate::measured_rows::{MEASURED_ROWS, MeasuredRow};
 use crate::replies::{COUNTS, NO_COUNTS, REPLIES, UNKNOWN, bad_at, refused_at, replaced};
-use crate::rows::Row;
 use mh_model::history::Verdict;
 use std::alloc::Global;
 use std::process::Abort;
 use std::test::Fail;
+use test_support::collector_rows::COLLECTOR_ROWS;
+use test_support::command_rows::COMMAND_ROWS;
+use test_support::long_rows::LEFT_ROW;
+use test_support::measured_rows::{MEASURED_ROWS, MeasuredRow};
+use test_support::rows::Row;
 
 /// A history of version 2 that is legal, in texts.
 #[derive(Clone, Copy)]
@@ -132,7 +132,7 @@ fn alter_row<R: Abort>(rt: &R, alloc: Global, row: &Row<'_>, from: usize) -> Res
 #[test]
 fn records_of_commands_are_altered(rt: HostRuntime) -> Result<(), Fail> {
     for row in COMMAND_ROWS {
-        alter_row(&rt, rt.alloc(), &row, 0)?;
+        alter_row(&rt, rt.alloc(), row, 0)?;
     }
     Ok(())
 }
@@ -140,21 +140,15 @@ fn records_of_commands_are_altered(rt: HostRuntime) -> Result<(), Fail> {
 #[test]
 fn records_of_cycles_are_altered(rt: HostRuntime) -> Result<(), Fail> {
     for row in COLLECTOR_ROWS {
-        alter_row(&rt, rt.alloc(), &row, 0)?;
+        alter_row(&rt, rt.alloc(), row, 0)?;
     }
     Ok(())
 }
 
 #[test]
 fn a_record_of_quanta_left_is_altered(rt: HostRuntime) -> Result<(), Fail> {
-    let script = LEFT_ROW.script(rt.alloc())?;
-    let output = LEFT_ROW.output(rt.alloc())?;
-    let row = Row {
-        script: script.as_slice(),
-        output: output.as_slice(),
-        refused: None,
-    };
-    alter_row(&rt, rt.alloc(), &row, 898)
+    let text = LEFT_ROW.text(rt.alloc())?;
+    alter_row(&rt, rt.alloc(), &text.row(), 898)
 }
 
 /// The entries of a row, with the units that are told of it.
@@ -172,7 +166,7 @@ fn measured_entries<'a>(
 #[test]
 fn records_of_the_second_rules_are_altered(rt: HostRuntime) -> Result<(), Fail> {
     for measured in MEASURED_ROWS {
-        let entries = measured_entries(rt.alloc(), &measured)?;
+        let entries = measured_entries(rt.alloc(), measured)?;
         let record = Record {
             rules: b'2',
             config: config_words(&measured.row)?,

@@ -1,18 +1,18 @@
 use crate::answers::{expect_check, expect_unmigrated};
-use crate::collector_rows::COLLECTOR_ROWS;
-use crate::command_rows::COMMAND_ROWS;
 use crate::entries::{EntryText, entries_of, first_config, history_text};
-use crate::long_rows::{LONG_ROWS, LongRow, wide_output, wide_script};
 use crate::replies::{REPLIES, UNKNOWN, bad_at, refused_at, replaced};
-use crate::rows::Row;
 use mh_model::config::Config;
 use mh_model::history::Verdict;
 use std::alloc::Global;
 use std::process::Abort;
 use std::test::Fail;
+use test_support::collector_rows::COLLECTOR_ROWS;
+use test_support::command_rows::COMMAND_ROWS;
+use test_support::long_rows::{LONG_ROWS, LongRow, wide};
+use test_support::rows::Row;
 
 /// Scripts whose replies are those of the first rules.
-const FIRST_ROWS: [Row; 4] = [
+const FIRST_ROWS: &[Row<'static>] = &[
     Row {
         script: b"config 4 353 0 2\na new 0 0 0\n* start\na shape 0\na shape 0\na shape 0\n* quantum\n* report 355\n* report 500\n",
         output: b"ok\nok\nshape 0 0\nshape 0 0\nshape 0 0\nspent 0 phase idle\nmutator 4 collector 360 quanta 2 greatest 353 window 355 least 2 floor 2\nmutator 4 collector 360 quanta 2 greatest 353 window 500 least none floor 2\n",
@@ -100,7 +100,7 @@ fn alter_history<R: Abort>(rt: &R, alloc: Global, row: &Row<'_>, from: usize) ->
 #[test]
 fn replies_to_commands_are_altered(rt: HostRuntime) -> Result<(), Fail> {
     for row in COMMAND_ROWS {
-        alter_history(&rt, rt.alloc(), &row, 0)?;
+        alter_history(&rt, rt.alloc(), row, 0)?;
     }
     Ok(())
 }
@@ -108,7 +108,7 @@ fn replies_to_commands_are_altered(rt: HostRuntime) -> Result<(), Fail> {
 #[test]
 fn replies_of_the_first_rules_are_altered(rt: HostRuntime) -> Result<(), Fail> {
     for row in FIRST_ROWS {
-        alter_history(&rt, rt.alloc(), &row, 0)?;
+        alter_history(&rt, rt.alloc(), row, 0)?;
     }
     Ok(())
 }
@@ -116,41 +116,29 @@ fn replies_of_the_first_rules_are_altered(rt: HostRuntime) -> Result<(), Fail> {
 #[test]
 fn replies_of_cycles_are_altered(rt: HostRuntime) -> Result<(), Fail> {
     for row in COLLECTOR_ROWS {
-        alter_history(&rt, rt.alloc(), &row, 0)?;
+        alter_history(&rt, rt.alloc(), row, 0)?;
     }
     Ok(())
 }
 
 /// The last replies of a longer script are altered.
 fn alter_last<R: Abort>(rt: &R, alloc: Global, long: &LongRow<'_>) -> Result<(), Fail> {
-    let script = long.script(alloc)?;
-    let output = long.output(alloc)?;
-    let row = Row {
-        script: script.as_slice(),
-        output: output.as_slice(),
-        refused: None,
-    };
-    alter_history(rt, alloc, &row, long.accepted.saturating_sub(3))
+    let text = long.text(alloc)?;
+    alter_history(rt, alloc, &text.row(), long.accepted.saturating_sub(3))
 }
 
 #[test]
 fn last_replies_are_altered(rt: HostRuntime) -> Result<(), Fail> {
     for long in LONG_ROWS {
-        alter_last(&rt, rt.alloc(), &long)?;
+        alter_last(&rt, rt.alloc(), long)?;
     }
     Ok(())
 }
 
 #[test]
 fn replies_about_a_wide_object_are_altered(rt: HostRuntime) -> Result<(), Fail> {
-    let script = wide_script(rt.alloc())?;
-    let output = wide_output(rt.alloc())?;
-    let row = Row {
-        script: script.as_slice(),
-        output: output.as_slice(),
-        refused: None,
-    };
-    alter_history(&rt, rt.alloc(), &row, 110)
+    let text = wide(rt.alloc())?;
+    alter_history(&rt, rt.alloc(), &text.row(), 110)
 }
 
 #[test]

@@ -1,5 +1,5 @@
 use crate::expected::{Answer, verdict_line};
-use mh_claims::gate::Open;
+use mh_scan::gate::Open;
 use mh_model::config::{Config, Rules};
 use mh_model::history::Verdict;
 use mh_script::end::End;

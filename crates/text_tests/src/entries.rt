@@ -1,12 +1,10 @@
 use crate::expected::says_something;
-use crate::rows::Row;
 use mh_model::config::Config;
 use mh_text::line::config_line;
 use std::alloc::Global;
 use std::test::Fail;
-
-/// The units of an entry, in digits: those of the mutator and those of the collector.
-pub type Units<'a> = (&'a [u8], &'a [u8]);
+use test_support::measured_rows::Units;
+use test_support::rows::Row;
 
 /// An entry of a history, in texts.
 #[derive(Clone, Copy)]

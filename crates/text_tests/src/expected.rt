@@ -1,7 +1,7 @@
-use crate::rows::Row;
 use mh_model::history::Verdict;
 use std::alloc::Global;
 use std::test::Fail;
+use test_support::rows::Row;
 
 /// The line of a text that is refused, where it is, and what is printed.
 #[derive(Drop)]

@@ -15,7 +15,7 @@ struct History<'a> {
     bad: Option<u64>,
 }
 
-const HISTORIES: [History; 14] = [
+const HISTORIES: &[History<'static>] = &[
     History {
         text: b"history 1\ns0 new 0 0 1 = ok\ns0 write 0 0 5 = ok\ns0 post 0 0 = ok\ns1 take 0 0 = ok\ns1 shape 0 = shape 0 1\n",
         pages: 4,
@@ -100,15 +100,29 @@ const HISTORIES: [History; 14] = [
         refused: Some(2),
         bad: None,
     },
+    History {
+        text: b"history 1\ns0 new 0 0 0 = yes\n",
+        pages: 4,
+        refused: None,
+        bad: Some(1),
+    },
+    History {
+        text: b"history 2 rules 1 4 209 0 0\ns0 new 0 0 3601 = refused 4 too large units 1 0\n",
+        pages: 4,
+        refused: Some(1),
+        bad: None,
+    },
 ];
 
-/// A history of version 1, cut after each byte, has the verdict that its lines decide.
+/// A history of version 1, cut after each byte, has the verdict that its lines decide, and is migrated only if it is legal.
 fn cut_history<R: Abort>(rt: &R, alloc: Global, history: &History<'_>) -> Result<(), Fail> {
     let config = Config::first(history.pages, 209, 0, 0).ok_or("within the limits")?;
     for end in 0..=history.text.len() {
         let cut = &history.text[..end];
-        let wanted = verdict_on_cut(history.refused, history.bad, cut);
-        expect_check(rt, alloc, config, cut, wanted)?;
+        match verdict_on_cut(history.refused, history.bad, cut) {
+            Verdict::Legal(count) => expect_check(rt, alloc, config, cut, Verdict::Legal(count))?,
+            verdict => expect_unmigrated(rt, alloc, config, cut, verdict)?,
+        }
     }
     Ok(())
 }
@@ -116,13 +130,13 @@ fn cut_history<R: Abort>(rt: &R, alloc: Global, history: &History<'_>) -> Result
 #[test]
 fn histories_are_cut(rt: HostRuntime) -> Result<(), Fail> {
     for history in HISTORIES {
-        cut_history(&rt, rt.alloc(), &history)?;
+        cut_history(&rt, rt.alloc(), history)?;
     }
     Ok(())
 }
 
-/// A text of version 1, its version 2, and its least bad line or first bad entry.
-const MIGRATED: [(&[u8], &[u8]); 2] = [
+/// Legal histories of version 1, and what they are in version 2.
+const MIGRATED: &[(&[u8], &[u8])] = &[
     (
         b"history 1\ns0 new 0 0 3601 = refused 4 too large\n",
         b"history 2 rules 1 4 209 0 0\ns0 new 0 0 3601 = refused 4 too large units 1 0\n",
@@ -162,30 +176,41 @@ fn histories_that_are_migrated_are_cut(rt: HostRuntime) -> Result<(), Fail> {
     Ok(())
 }
 
-/// Histories of version 2, each with its first bad entry.
-const RECORDS: [(&[u8], Option<u64>); 6] = [
+/// Histories of version 2, each with its least bad line and its first bad entry.
+const RECORDS: &[(&[u8], Option<u64>, Option<u64>)] = &[
+    (
+        b"history 1\ns0 new 0 0 3601 = refused 4 too large\n",
+        Some(1),
+        None,
+    ),
     (
         b"history 2 rules 1 4 209 0 0\ns0 new 0 0 3601 = refused 4 too large units 1 0\n",
+        None,
         None,
     ),
     (
         b"history 2 rules 2 4 209 0 0\ns0 new 0 0 3601 = refused 4 too large units 1 0\n",
+        None,
         Some(1),
     ),
     (
         b"history 2 rules 1 4 209 0 0\ns0 new 0 0 3601 = refused 4 too large units 2 0\n",
+        None,
         Some(1),
     ),
     (
         b"history 2 rules 2 4 353 0 0\ns0 new 0 0 0 = ok units 1 0\n* start = ok units 0 0\n* quantum = spent 353 phase sweep units 0 353\n",
         None,
+        None,
     ),
     (
         b"history 2 rules 2 4 353 0 0\n* left = left 0 units 0 0\ns0 new 0 0 0 = ok units 1 0\n* start = ok units 0 0\n* left = left 0 units 0 0\n* quantum = spent 353 phase sweep units 0 353\n* left = left 911 units 0 0\n* quantum = spent 7 phase idle units 0 7\n* left = left 0 units 0 0\n",
         None,
+        None,
     ),
     (
         b"history 2 rules 2 64 353 0 64\n* start = ok units 0 0\ns0 new 0 0 3601 = ok units 64 352\n* report 416 = mutator 64 collector 352 quanta 1 greatest 352 window 416 least 64 floor 63 units 0 0\n",
+        None,
         None,
     ),
 ];
@@ -195,19 +220,20 @@ fn cut_record<R: Abort>(
     rt: &R,
     alloc: Global,
     record: &[u8],
+    refused: Option<u64>,
     bad: Option<u64>,
 ) -> Result<(), Fail> {
     for end in 0..=record.len() {
         let cut = &record[..end];
-        expect_audit(rt, alloc, cut, verdict_on_cut(None, bad, cut))?;
+        expect_audit(rt, alloc, cut, verdict_on_cut(refused, bad, cut))?;
     }
     Ok(())
 }
 
 #[test]
 fn records_are_cut(rt: HostRuntime) -> Result<(), Fail> {
-    for (record, bad) in RECORDS {
-        cut_record(&rt, rt.alloc(), record, bad)?;
+    for (record, refused, bad) in RECORDS {
+        cut_record(&rt, rt.alloc(), record, *refused, *bad)?;
     }
     Ok(())
 }

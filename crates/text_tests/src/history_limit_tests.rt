@@ -1,5 +1,4 @@
 use crate::expected::verdict_line;
-use crate::generated::Generated;
 use mh_model::config::Config;
 use mh_model::history::Verdict;
 use mh_judging::judge::{audit_script, check_script};
@@ -7,6 +6,7 @@ use mh_text::sink::StdSink;
 use std::alloc::Global;
 use std::process::Abort;
 use std::test::Fail;
+use test_support::generated::Generated;
 
 /// The most bytes that a history of version 1 may have.
 const MOST: usize = 1_073_741_824;

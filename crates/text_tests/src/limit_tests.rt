@@ -1,6 +1,5 @@
 use crate::expected::{Answer, refusal};
-use crate::generated::Generated;
-use mh_claims::gate::Open;
+use mh_scan::gate::Open;
 use mh_script::end::End;
 use mh_script::run::run_script;
 use mh_text::script::SCRIPT_BYTES;
@@ -9,6 +8,7 @@ use std::alloc::Global;
 use std::process::Abort;
 use std::test::Fail;
 use std::thread::Threads;
+use test_support::generated::Generated;
 
 /// The most bytes that a script may have.
 const MOST: usize = 67_108_864;

@@ -3,7 +3,7 @@ ghost use Rattle.std.specs.Prelude.{All};
 ghost use Rattle.mh_service.specs.Services.{IsOf};
 
 use crate::calls::owner_of;
-use mh_claims::gate::Open;
+use mh_scan::gate::Open;
 use mh_model::command::{Command, Control, Event};
 use mh_model::config::Config;
 use mh_model::history::Entry;

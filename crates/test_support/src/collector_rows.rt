@@ -1,7 +1,7 @@
 //! Scripts of cycles, with what they print.
 use crate::rows::Row;
 
-pub const COLLECTOR_ROWS: [Row; 8] = [
+pub const COLLECTOR_ROWS: &[Row<'static>] = &[
     Row {
         script: b"config 4 353 0 0\na new 0 0 0\n* start\n* quantum\n* quantum\n",
         output: b"ok\nok\nspent 353 phase sweep\nspent 7 phase idle\n",

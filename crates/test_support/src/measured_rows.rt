@@ -1,7 +1,9 @@
 //! Scripts that only the second rules answer so, or whose quanta are run by a schedule, with what they print and the units of
 //! their events.
-use crate::entries::Units;
 use crate::rows::Row;
+
+/// The units of an event, in digits: those of the mutator and those of the collector.
+pub type Units<'a> = (&'a [u8], &'a [u8]);
 
 /// A script, what it prints, and the units of each of its events.
 #[derive(Clone, Copy)]
@@ -10,7 +12,7 @@ pub struct MeasuredRow<'a> {
     pub units: &'a [Units<'a>],
 }
 
-pub const MEASURED_ROWS: [MeasuredRow; 9] = [
+pub const MEASURED_ROWS: &[MeasuredRow<'static>] = &[
     MeasuredRow {
         row: Row {
             script: b"config 4 353 0 2\na new 0 0 0\n* start\na shape 0\na shape 0\na shape 0\n* quantum\n* report 355\n* report 500\n",

@@ -2,43 +2,27 @@ ghost use Rattle.std.specs.Prelude.{◌<◌, ◌^◌};
 
 use crate::cases;
 use crate::cases::{Case, Ended, Task};
-use crate::devices::{Interrupted, ShortSink, ShortSource};
-use mh_claims::gate::Open;
+use crate::words::texts;
+use mh_scan::gate::Open;
 use mh_program::program::program;
 use mh_text::sink::{Sink, StdSink};
 use mh_text::source::{Source, StdSource};
-use std::alloc::{AllocError, Global};
+use std::alloc::Global;
 use std::process::Abort;
 use std::sync::Wait;
 use std::test::Fail;
 use std::thread::Threads;
+use test_support::devices::{ShortSink, ShortSource};
+use test_support::troubled::Interrupted;
 
-fn words(alloc: Global, words: &[&str]) -> Result<Vec<String>, AllocError> {
-    let mut texts = Vec::new(alloc);
-    for word in words {
-        texts.push(word.to_string(alloc)?)?;
+fn line_of(task: Task) -> &'static str {
+    match task {
+        Task::Run => "metroheap run",
+        Task::Race => "metroheap race",
+        Task::Check => "metroheap check --pages=4 --quantum=353 --trigger=0 --every=0",
+        Task::Audit => "metroheap audit",
+        Task::Migrate => "metroheap migrate --pages=4 --quantum=353 --trigger=0 --every=0",
     }
-    Ok(texts)
-}
-
-fn words_of(alloc: Global, task: Task) -> Result<Vec<String>, AllocError> {
-    let subcommand = match task {
-        Task::Run => return words(alloc, &["metroheap", "run"]),
-        Task::Race => return words(alloc, &["metroheap", "race"]),
-        Task::Audit => return words(alloc, &["metroheap", "audit"]),
-        Task::Check => "check",
-        Task::Migrate => "migrate",
-    };
-    let [pages, quantum, trigger, every] = [
-        "--pages=4",
-        "--quantum=353",
-        "--trigger=0",
-        "--every=0",
-    ];
-    words(
-        alloc,
-        &["metroheap", subcommand, pages, quantum, trigger, every],
-    )
 }
 
 /// The status of the program on a task.
@@ -54,7 +38,7 @@ fn status_of<R: Threads + Wait + Sync + Abort, S: Source, W: Sink, E: Sink>(
     requires sink_count { W.failures sink.old < 2 ^ 62 }
     requires errors_count { E.failures errors.old < 2 ^ 62 }
 {
-    let words = words_of(alloc, task).expect(rt, "memory");
+    let words = texts(alloc, line_of(task)).expect(rt, "memory");
     program(rt, alloc, Ok(words), source, sink, errors, &Open)
 }
 
@@ -159,7 +143,7 @@ fn the_status_is_the_same_where_standard_error_fails(rt: HostRuntime) {
 #[test]
 fn refused_words_leave_both_devices(rt: HostRuntime) -> Result<(), Fail> {
     for fails_at in 1..4 {
-        let line = words(rt.alloc(), &["metroheap", "walk"])?;
+        let line = texts(rt.alloc(), "metroheap walk")?;
         let mut source = ShortSource::new(b"config 4 209 0 0\n", 7, 1);
         let mut sink = ShortSink::new(rt.alloc(), 7, 1);
         let mut errors = ShortSink::new(rt.alloc(), 2, fails_at);

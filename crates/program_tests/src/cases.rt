@@ -1,7 +1,7 @@
 //! Worked texts of the five subcommands.
 ghost use Rattle.std.specs.Prelude.{◌<◌, ◌^◌};
 
-use mh_claims::gate::Open;
+use mh_scan::gate::Open;
 use mh_model::config::Config;
 use mh_model::history::Verdict;
 use mh_script::end::End;

@@ -1,6 +1,5 @@
 use crate::cases;
 use crate::cases::Case;
-use crate::devices::{Interrupted, ShortSink, ShortSource, Trouble, Troubled};
 use mh_script::fault::ScriptFault;
 use mh_text::sink::StdSink;
 use mh_text::source::StdSource;
@@ -9,6 +8,8 @@ use std::io::ErrorKind;
 use std::process::Abort;
 use std::sync::Wait;
 use std::thread::Threads;
+use test_support::devices::{ShortSink, ShortSource};
+use test_support::troubled::{Interrupted, Trouble, Troubled};
 
 /// A reader and a writer that are interrupted so often in a row, and then take and give at most `most` bytes.
 fn interrupt_in_a_row<R: Threads + Wait + Sync + Abort>(

@@ -1,7 +1,7 @@
 //! Scripts of few commands, with what they print.
 use crate::rows::Row;
 
-pub const COMMAND_ROWS: [Row; 9] = [
+pub const COMMAND_ROWS: &[Row<'static>] = &[
     Row {
         script: b"config 4 209 0 0\n",
         output: b"",

@@ -1,5 +1,6 @@
-use std::alloc::Global;
-use std::test::Fail;
+//! Longer scripts, with what they print.
+use crate::rows::Row;
+use std::alloc::{AllocError, Global};
 
 /// A script in which some lines stand many times, and what running it prints: `ok` so often, and then the rest.
 #[derive(Clone, Copy)]
@@ -12,7 +13,7 @@ pub struct LongRow<'a> {
     pub output: &'a [u8],
 }
 
-pub const LONG_ROWS: [LongRow; 5] = [
+pub const LONG_ROWS: &[LongRow<'static>] = &[
     LongRow {
         first: b"config 1 209 0 0\n",
         repeated: b"a new 0 0 0\n",
@@ -56,7 +57,7 @@ pub const LONG_ROWS: [LongRow; 5] = [
 ];
 
 /// A script that asks how many quanta a cycle has left.
-pub const LEFT_ROW: LongRow = LongRow {
+pub const LEFT_ROW: LongRow<'static> = LongRow {
     first: b"config 8 400 0 0\na new 0 1 0\n",
     repeated: b"a new 1 1 0\na put 1 0 0\na copy 0 1\n",
     times: 299,
@@ -72,7 +73,7 @@ fn joined(
     repeated: &[u8],
     times: usize,
     last: &[u8],
-) -> Result<Vec<u8>, Fail> {
+) -> Result<Vec<u8>, AllocError> {
     let mut text = Vec::from_slice(alloc, first)?;
     for _ in 0..times {
         text.extend_from_slice(repeated)?;
@@ -81,18 +82,34 @@ fn joined(
     Ok(text)
 }
 
-impl LongRow<'_> {
-    pub fn script(&self, alloc: Global) -> Result<Vec<u8>, Fail> {
-        joined(alloc, self.first, self.repeated, self.times, self.last)
-    }
+/// A script and what it prints, as they are in memory.
+#[derive(Drop)]
+pub struct LongText {
+    pub script: Vec<u8>,
+    pub output: Vec<u8>,
+}
 
-    pub fn output(&self, alloc: Global) -> Result<Vec<u8>, Fail> {
-        joined(alloc, b"", b"ok\n", self.accepted, self.output)
+impl LongText {
+    pub fn row(&self) -> Row<'_> {
+        Row {
+            script: self.script.as_slice(),
+            output: self.output.as_slice(),
+            refused: None,
+        }
     }
 }
 
-/// An object that leads to sixty others, and a cycle.
-pub fn wide_script(alloc: Global) -> Result<Vec<u8>, Fail> {
+impl LongRow<'_> {
+    pub fn text(&self, alloc: Global) -> Result<LongText, AllocError> {
+        Ok(LongText {
+            script: joined(alloc, self.first, self.repeated, self.times, self.last)?,
+            output: joined(alloc, b"", b"ok\n", self.accepted, self.output)?,
+        })
+    }
+}
+
+/// A script of an object that leads to sixty others, and of a cycle that finds them.
+fn wide_script(alloc: Global) -> Result<Vec<u8>, AllocError> {
     let mut script = Vec::from_slice(alloc, b"config 8 400 0 0\na new 0 60 0\n")?;
     for field in 0..60u32 {
         let lines = format!(in alloc; "a new 1 1 0\na put 0 {field} 1\n")?;
@@ -102,9 +119,12 @@ pub fn wide_script(alloc: Global) -> Result<Vec<u8>, Fail> {
     Ok(script)
 }
 
-/// What `wide_script` prints.
-pub fn wide_output(alloc: Global) -> Result<Vec<u8>, Fail> {
+/// The script of a wide object, so that a crew has pieces to share.
+pub fn wide(alloc: Global) -> Result<LongText, AllocError> {
     let last =
         b"spent 399 phase mark\nspent 239 phase idle\nfree 5 live 61 old 0 phase idle cycle 1\n";
-    joined(alloc, b"", b"ok\n", 123, last)
+    Ok(LongText {
+        script: wide_script(alloc)?,
+        output: joined(alloc, b"", b"ok\n", 123, last)?,
+    })
 }

@@ -1,16 +1,16 @@
-use crate::end::End;
-use crate::fault::ScriptFault;
-use crate::judge::audit_script;
-use crate::race::race_script;
-use crate::test_devices::{ShortSink, ShortSource};
+//! Races of two sessions.
 use arrayvec::ArrayVec;
 use mh_blocks::blocks::Blocks;
-use mh_claims::gate::{Gate, Open};
+use mh_scan::gate::{Gate, Open};
 use mh_model::history::Verdict;
 use mh_model::memory::NoMemory;
 use mh_model::place::Place;
 use mh_scan::crew;
 use mh_scan::crew_scan::CrewGate;
+use mh_script::end::End;
+use mh_script::fault::ScriptFault;
+use mh_judging::judge::audit_script;
+use mh_racing::race::race_script;
 use mh_text::sink::StdSink;
 use mh_text::source::StdSource;
 use std::alloc::Global;
@@ -113,29 +113,4 @@ fn two_sessions_run_at_once(rt: HostRuntime) {
     assert!(rt; gate.turns.load(SeqCst) < TURNS);
     let found = verdict_on(alloc, sink.writer.as_slice());
     assert_eq!(rt; found, Ok(Verdict::Legal(5)));
-}
-
-#[test]
-fn a_refused_script_is_no_race(rt: HostRuntime) {
-    let alloc = rt.alloc();
-    let mut sink = StdSink::new(Vec::new(alloc));
-    let mut source = StdSource::new(b"config 4 209 0 0\na walk\n".as_slice());
-    let ended = race_script(&rt, alloc, &mut source, &mut sink, 1, &Open);
-    assert_eq!(rt; ended, Ok(End::Refused(2)));
-    assert_eq!(rt; sink.writer.as_slice(), b"refused 10 line 2\n".as_slice());
-}
-
-#[test]
-fn a_race_and_devices_that_fail(rt: HostRuntime) {
-    let alloc = rt.alloc();
-    let mut sink = StdSink::new(Vec::new(alloc));
-    let mut source = ShortSource::new(SHARED, 2);
-    let ended = race_script(&rt, alloc, &mut source, &mut sink, 1, &Open);
-    assert_eq!(rt; ended, Err(ScriptFault::Read));
-    assert!(rt; sink.writer.is_empty());
-    let mut sink = ShortSink::new(alloc, 20, 2);
-    let mut source = StdSource::new(SHARED);
-    let ended = race_script(&rt, alloc, &mut source, &mut sink, 1, &Open);
-    assert_eq!(rt; ended, Err(ScriptFault::Write));
-    assert_eq!(rt; sink.written.as_slice(), b"history 2 rules 2 4 ".as_slice());
 }

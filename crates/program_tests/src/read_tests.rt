@@ -1,11 +1,11 @@
 use crate::cases;
 use crate::cases::{Case, Ended, Task};
-use crate::devices::{Endless, ShortSink, ShortSource};
 use mh_script::fault::ScriptFault;
 use std::alloc::Global;
 use std::process::Abort;
 use std::sync::Wait;
 use std::thread::Threads;
+use test_support::devices::{Endless, ShortSink, ShortSource};
 
 /// A source that gives at most `most` bytes at a time fails at each read in turn, until none does.
 fn fail_each_read<R: Threads + Wait + Sync + Abort>(
