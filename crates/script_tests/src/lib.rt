@@ -14,8 +14,6 @@ mod race_tests;
 #[cfg(test)]
 mod record_tests;
 #[cfg(test)]
-mod reply_tests;
-#[cfg(test)]
 mod row_tests;
 #[cfg(test)]
 mod stream_tests;

@@ -133,30 +133,40 @@ fn reads_each_name(rt: HostRuntime) -> Result<(), Fail> {
     Ok(())
 }
 
-const READS: &[u8] = b"a read 0 1\n\na read 0 2\n# between\na read 0 3\n";
+/// Lines of several events, and these in their order. Names have numbers as they are seen.
+const IN_ORDER: &[(&[u8], &[Event])] = &[
+    (b"a read 0 1\n\na read 0 2\n# between\na read 0 3\n", READS),
+    (
+        b"a end\nb end\nc end\nd end\ne end\nf end\ng end\nh end\ni end\nj end\nb end\n",
+        ENDS,
+    ),
+];
+
+const READS: &[Event] = &[
+    Event::Session(0, Command::Read { slot: 0, index: 1 }),
+    Event::Session(0, Command::Read { slot: 0, index: 2 }),
+    Event::Session(0, Command::Read { slot: 0, index: 3 }),
+];
+
+const ENDS: &[Event] = &[
+    Event::Session(0, Command::End),
+    Event::Session(1, Command::End),
+    Event::Session(2, Command::End),
+    Event::Session(3, Command::End),
+    Event::Session(4, Command::End),
+    Event::Session(5, Command::End),
+    Event::Session(6, Command::End),
+    Event::Session(7, Command::End),
+    Event::Session(8, Command::End),
+    Event::Session(8, Command::End),
+    Event::Session(1, Command::End),
+];
 
 #[test]
 fn keeps_the_order_of_events(rt: HostRuntime) -> Result<(), Fail> {
-    let script = parse(rt.alloc(), &script_of(rt.alloc(), READS)?)?;
-    assert_eq!(rt; script.events().len(), 3);
-    for (event, index) in script.events().iter().zip([1, 2, 3]) {
-        assert_eq!(rt; *event, Event::Session(0, Command::Read { slot: 0, index }));
-    }
-    Ok(())
-}
-
-const ENDS: &[u8] =
-    b"a end\nb end\nc end\nd end\ne end\nf end\ng end\nh end\ni end\nj end\nb end\n";
-
-/// The sessions of these lines.
-const SESSIONS: &[u8] = &[0, 1, 2, 3, 4, 5, 6, 7, 8, 8, 1];
-
-#[test]
-fn numbers_names_as_they_are_seen(rt: HostRuntime) -> Result<(), Fail> {
-    let script = parse(rt.alloc(), &script_of(rt.alloc(), ENDS)?)?;
-    assert_eq!(rt; script.events().len(), SESSIONS.len());
-    for (event, who) in script.events().iter().zip(SESSIONS) {
-        assert_eq!(rt; *event, Event::Session(*who, Command::End));
+    for (lines, events) in IN_ORDER {
+        let script = parse(rt.alloc(), &script_of(rt.alloc(), lines)?)?;
+        assert_eq!(rt; script.events(), *events);
     }
     Ok(())
 }

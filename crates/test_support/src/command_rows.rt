@@ -8,6 +8,11 @@ pub const COMMAND_ROWS: &[Row<'static>] = &[
         refused: None,
     },
     Row {
+        script: b"config 4 209 0 0\n* dump\n",
+        output: b"dump\n",
+        refused: None,
+    },
+    Row {
         script: b"config 4 209 0 0\na new 0 0 0\n* stat\n",
         output: b"ok\nfree 3 live 1 old 0 phase idle cycle 0\n",
         refused: None,

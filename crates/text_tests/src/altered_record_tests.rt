@@ -42,7 +42,7 @@ fn alter_reply<R: Abort>(
     entry: EntryText<'_>,
 ) -> Result<(), Fail> {
     for reply in REPLIES {
-        if reply != entry.reply {
+        if *reply != entry.reply {
             let altered = EntryText { reply, ..entry };
             expect_altered(rt, alloc, record, index, altered, bad_at(index))?;
         }
@@ -68,13 +68,13 @@ fn alter_units<R: Abort>(
 ) -> Result<(), Fail> {
     let (mutator, collector) = entry.units;
     for count in COUNTS {
-        if count != mutator {
-            let units = (count, collector);
+        if *count != mutator {
+            let units = (*count, collector);
             let altered = EntryText { units, ..entry };
             expect_altered(rt, alloc, record, index, altered, bad_at(index))?;
         }
-        if count != collector {
-            let units = (mutator, count);
+        if *count != collector {
+            let units = (mutator, *count);
             let altered = EntryText { units, ..entry };
             expect_altered(rt, alloc, record, index, altered, bad_at(index))?;
         }
@@ -92,10 +92,12 @@ fn spoil_units<R: Abort>(
 ) -> Result<(), Fail> {
     let (mutator, collector) = entry.units;
     for word in NO_COUNTS {
-        for units in [(word, collector), (mutator, word)] {
-            let altered = EntryText { units, ..entry };
-            expect_altered(rt, alloc, record, index, altered, refused_at(index))?;
-        }
+        let units = (*word, collector);
+        let altered = EntryText { units, ..entry };
+        expect_altered(rt, alloc, record, index, altered, refused_at(index))?;
+        let units = (mutator, *word);
+        let altered = EntryText { units, ..entry };
+        expect_altered(rt, alloc, record, index, altered, refused_at(index))?;
     }
     Ok(())
 }

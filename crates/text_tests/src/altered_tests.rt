@@ -65,7 +65,7 @@ fn alter_entry<R: Abort>(
     entry: EntryText<'_>,
 ) -> Result<(), Fail> {
     for reply in REPLIES {
-        if reply != entry.reply {
+        if *reply != entry.reply {
             let altered = EntryText { reply, ..entry };
             expect_altered(rt, alloc, history, index, altered, bad_at(index))?;
         }

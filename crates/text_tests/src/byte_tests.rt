@@ -6,6 +6,7 @@ use std::alloc::Global;
 use std::process::Abort;
 use std::test::Fail;
 use std::thread::Threads;
+use text_support::rows::Row;
 
 const SCRIPT: &[u8] =
     b"config 4 209 0 0\na new 0 1 2\nab7 write 0 1 90\n* report 18\n* dump\nz9z9z9z9z9z9z9z9 end\n* stat\n";
@@ -88,24 +89,50 @@ fn comments_have_any_bytes(rt: HostRuntime) -> Result<(), Fail> {
     Ok(())
 }
 
+/// Scripts with a comment whose end becomes another byte, so that it takes the next line, and their answers then.
+const GOING_ON: &[(usize, Row<'static>)] = &[
+    (
+        20,
+        Row {
+            script: b"config 4 209 0 0\n# a\na walk\n* left\n",
+            output: b"left 0\n",
+            refused: None,
+        },
+    ),
+    (
+        3,
+        Row {
+            script: b"# a\nconfig 4 209 0 0\n\na clear 0\n",
+            output: b"refused 10 line 3\n",
+            refused: Some(3),
+        },
+    ),
+    (
+        20,
+        Row {
+            script: b"config 4 209 0 0\n# a\n",
+            output: b"refused 10 line 2\n",
+            refused: Some(2),
+        },
+    ),
+];
+
+fn go_on<R: Threads + Abort>(rt: &R, alloc: Global, byte: u8) -> Result<(), Fail> {
+    for (at, row) in GOING_ON {
+        let altered = with_byte(alloc, row.script, *at, byte)?;
+        let wanted = Answer {
+            refused: row.refused,
+            output: Vec::from_slice(alloc, row.output)?,
+        };
+        expect_run(rt, alloc, altered.as_slice(), &wanted);
+    }
+    Ok(())
+}
+
 #[test]
 fn a_comment_that_goes_on_takes_the_next_line(rt: HostRuntime) -> Result<(), Fail> {
     for byte in [0, 13, 255] {
-        let script = b"config 4 209 0 0\n# a\na walk\n* left\n";
-        let altered = with_byte(rt.alloc(), script, 20, byte)?;
-        let wanted = Answer {
-            refused: None,
-            output: Vec::from_slice(rt.alloc(), b"left 0\n")?,
-        };
-        expect_run(&rt, rt.alloc(), altered.as_slice(), &wanted);
-        let script = b"# a\nconfig 4 209 0 0\n\na clear 0\n";
-        let altered = with_byte(rt.alloc(), script, 3, byte)?;
-        let wanted = refusal(rt.alloc(), 3)?;
-        expect_run(&rt, rt.alloc(), altered.as_slice(), &wanted);
-        let script = b"config 4 209 0 0\n# a\n";
-        let altered = with_byte(rt.alloc(), script, 20, byte)?;
-        let wanted = refusal(rt.alloc(), 2)?;
-        expect_run(&rt, rt.alloc(), altered.as_slice(), &wanted);
+        go_on(&rt, rt.alloc(), byte)?;
     }
     Ok(())
 }

@@ -24,138 +24,133 @@ fn expect_entry<R: Abort>(
     expect_audit(rt, alloc, record.as_slice(), wanted)
 }
 
-#[test]
-fn numbers_of_entries(rt: HostRuntime) -> Result<(), Fail> {
-    let alloc = rt.alloc();
-    for (before, after, reply) in SMALL_PLACES {
-        let entry = [b"s0 ", before, MOST_SMALL, after, b" = ", reply];
-        expect_entry(&rt, alloc, &entry, Verdict::Legal(2))?;
-        for number in REFUSED {
-            let entry = [b"s0 ", before, number, after, b" = ", reply];
-            expect_entry(&rt, alloc, &entry, Verdict::Refused(3))?;
-        }
-        for number in LARGE {
-            let entry = [b"s0 ", before, number, after, b" = ", reply];
-            expect_entry(&rt, alloc, &entry, Verdict::Refused(3))?;
-        }
+/// A history of one object and an entry around each of these words has this verdict.
+fn expect_each<R: Abort>(
+    rt: &R,
+    alloc: Global,
+    place: (&[u8], &[u8]),
+    words: &[&[u8]],
+    wanted: Verdict,
+) -> Result<(), Fail> {
+    for word in words {
+        expect_entry(rt, alloc, &[place.0, word, place.1], wanted)?;
     }
     Ok(())
 }
 
-/// Replies around a number of 64 bits.
-const LARGE_PLACES: [(&[u8], &[u8]); 19] = [
-    (b"number ", b""),
-    (b"spent ", b" phase idle"),
-    (b"free ", b" live 1 old 0 phase idle cycle 0"),
-    (b"free 3 live ", b" old 0 phase idle cycle 0"),
-    (b"free 3 live 1 old ", b" phase idle cycle 0"),
-    (b"free 3 live 1 old 0 phase idle cycle ", b""),
-    (b"dump P", b" C4 -"),
-    (b"dump P0 C", b" -"),
-    (b"dump P0 C4 - ", b"=0.0"),
-    (b"dump P0 C4 - 0=", b".0"),
-    (b"dump P0 C4 - 0=0.", b""),
-    (b"dump P0 C4 - ", b">0.0"),
-    (b"dump P0 C4 - 0>0.", b""),
+#[test]
+fn numbers_of_entries(rt: HostRuntime) -> Result<(), Fail> {
+    let alloc = rt.alloc();
+    for (before, after, reply) in SMALL_PLACES {
+        let before = joined(alloc, &[b"s0 ", before])?;
+        let after = joined(alloc, &[after, b" = ", reply])?;
+        let place = (before.as_slice(), after.as_slice());
+        expect_each(&rt, alloc, place, &[MOST_SMALL], Verdict::Legal(2))?;
+        expect_each(&rt, alloc, place, REFUSED, Verdict::Refused(3))?;
+        expect_each(&rt, alloc, place, LARGE, Verdict::Refused(3))?;
+    }
+    Ok(())
+}
+
+/// Entries around a number of 64 bits in their reply.
+const LARGE_PLACES: &[(&[u8], &[u8])] = &[
+    (b"s0 clear 0 = number ", b""),
+    (b"s0 clear 0 = spent ", b" phase idle"),
+    (b"s0 clear 0 = free ", b" live 1 old 0 phase idle cycle 0"),
+    (b"s0 clear 0 = free 3 live ", b" old 0 phase idle cycle 0"),
+    (b"s0 clear 0 = free 3 live 1 old ", b" phase idle cycle 0"),
+    (b"s0 clear 0 = free 3 live 1 old 0 phase idle cycle ", b""),
+    (b"s0 clear 0 = dump P", b" C4 -"),
+    (b"s0 clear 0 = dump P0 C", b" -"),
+    (b"s0 clear 0 = dump P0 C4 - ", b"=0.0"),
+    (b"s0 clear 0 = dump P0 C4 - 0=", b".0"),
+    (b"s0 clear 0 = dump P0 C4 - 0=0.", b""),
+    (b"s0 clear 0 = dump P0 C4 - ", b">0.0"),
+    (b"s0 clear 0 = dump P0 C4 - 0>0.", b""),
     (
-        b"mutator ",
+        b"s0 clear 0 = mutator ",
         b" collector 1 quanta 1 greatest 1 window 1 least 1 floor 1",
     ),
     (
-        b"mutator 1 collector ",
+        b"s0 clear 0 = mutator 1 collector ",
         b" quanta 1 greatest 1 window 1 least 1 floor 1",
     ),
     (
-        b"mutator 1 collector 1 quanta ",
+        b"s0 clear 0 = mutator 1 collector 1 quanta ",
         b" greatest 1 window 1 least 1 floor 1",
     ),
     (
-        b"mutator 1 collector 1 quanta 1 greatest 1 window ",
+        b"s0 clear 0 = mutator 1 collector 1 quanta 1 greatest 1 window ",
         b" least 1 floor 1",
     ),
     (
-        b"mutator 1 collector 1 quanta 1 greatest 1 window 1 least ",
+        b"s0 clear 0 = mutator 1 collector 1 quanta 1 greatest 1 window 1 least ",
         b" floor 1",
     ),
     (
-        b"mutator 1 collector 1 quanta 1 greatest 1 window 1 least 1 floor ",
+        b"s0 clear 0 = mutator 1 collector 1 quanta 1 greatest 1 window 1 least 1 floor ",
         b"",
     ),
 ];
 
 #[test]
 fn numbers_of_64_bits_in_replies(rt: HostRuntime) -> Result<(), Fail> {
-    for (before, after) in LARGE_PLACES {
-        for number in LARGE {
-            let entry = [b"s0 clear 0 = ", before, number, after];
-            expect_entry(&rt, rt.alloc(), &entry, Verdict::FirstBad(2))?;
-        }
-        for number in REFUSED {
-            let entry = [b"s0 clear 0 = ", before, number, after];
-            expect_entry(&rt, rt.alloc(), &entry, Verdict::Refused(3))?;
-        }
+    for place in LARGE_PLACES {
+        expect_each(&rt, rt.alloc(), *place, LARGE, Verdict::FirstBad(2))?;
+        expect_each(&rt, rt.alloc(), *place, REFUSED, Verdict::Refused(3))?;
     }
     Ok(())
 }
 
+/// Entries around a number of 32 bits in their reply.
+const SHAPES: &[(&[u8], &[u8])] = &[
+    (b"s0 clear 0 = shape ", b" 1"),
+    (b"s0 clear 0 = shape 1 ", b""),
+];
+
 #[test]
 fn numbers_of_32_bits_in_replies(rt: HostRuntime) -> Result<(), Fail> {
-    for (before, after) in [(b"shape ".as_slice(), b" 1".as_slice()), (b"shape 1 ", b"")] {
-        let entry = [b"s0 clear 0 = ", before, MOST_SMALL, after];
-        expect_entry(&rt, rt.alloc(), &entry, Verdict::FirstBad(2))?;
-        for number in LARGE {
-            let entry = [b"s0 clear 0 = ", before, number, after];
-            expect_entry(&rt, rt.alloc(), &entry, Verdict::Refused(3))?;
-        }
-        for number in REFUSED {
-            let entry = [b"s0 clear 0 = ", before, number, after];
-            expect_entry(&rt, rt.alloc(), &entry, Verdict::Refused(3))?;
-        }
+    for place in SHAPES {
+        expect_each(&rt, rt.alloc(), *place, &[MOST_SMALL], Verdict::FirstBad(2))?;
+        expect_each(&rt, rt.alloc(), *place, LARGE, Verdict::Refused(3))?;
+        expect_each(&rt, rt.alloc(), *place, REFUSED, Verdict::Refused(3))?;
     }
     Ok(())
 }
 
 #[test]
 fn a_number_that_is_written(rt: HostRuntime) -> Result<(), Fail> {
-    let alloc = rt.alloc();
-    let entry = [b"s0 write 0 0 ", MOST_LARGE, b" = ok"];
-    expect_entry(&rt, alloc, &entry, Verdict::Legal(2))?;
-    for number in REFUSED {
-        let entry = [b"s0 write 0 0 ", number, b" = ok"];
-        expect_entry(&rt, alloc, &entry, Verdict::Refused(3))?;
-    }
-    Ok(())
+    let place = (b"s0 write 0 0 ".as_slice(), b" = ok".as_slice());
+    expect_each(&rt, rt.alloc(), place, &[MOST_LARGE], Verdict::Legal(2))?;
+    expect_each(&rt, rt.alloc(), place, REFUSED, Verdict::Refused(3))
 }
+
+const SESSIONS: &[&[u8]] = &[b"0", b"1", b"7"];
+
+const NO_SESSIONS: &[&[u8]] = &[
+    b"9",
+    b"",
+    b"00",
+    b"01",
+    b"10",
+    b"256",
+    b"4294967296",
+    b"18446744073709551616",
+    b"a",
+    b"-1",
+];
 
 #[test]
 fn numbers_of_sessions(rt: HostRuntime) -> Result<(), Fail> {
-    let alloc = rt.alloc();
-    for session in [b"0", b"1", b"7"] {
-        let entry = [b"s".as_slice(), session, b" clear 0 = ok"];
-        expect_entry(&rt, alloc, &entry, Verdict::Legal(2))?;
-    }
-    let entry = b"s8 clear 0 = refused 7 too many sessions".as_slice();
-    expect_entry(&rt, alloc, &[entry], Verdict::Legal(2))?;
-    for session in [
-        b"9".as_slice(),
-        b"",
-        b"00",
-        b"01",
-        b"10",
-        b"256",
-        b"4294967296",
-        b"18446744073709551616",
-        b"a",
-        b"-1",
-    ] {
-        let entry = [b"s".as_slice(), session, b" clear 0 = ok"];
-        expect_entry(&rt, alloc, &entry, Verdict::Refused(3))?;
-    }
-    Ok(())
+    let place = (b"s".as_slice(), b" clear 0 = ok".as_slice());
+    expect_each(&rt, rt.alloc(), place, SESSIONS, Verdict::Legal(2))?;
+    expect_each(&rt, rt.alloc(), place, NO_SESSIONS, Verdict::Refused(3))?;
+    let ninth = b"s8 clear 0 = refused 7 too many sessions".as_slice();
+    expect_entry(&rt, rt.alloc(), &[ninth], Verdict::Legal(2))
 }
 
 /// First lines of version 2 that are refused.
-const HEADERS: [&[u8]; 22] = [
+const NO_HEADERS: &[&[u8]] = &[
     b"history 2",
     b"history 2 rules",
     b"history 2 rules 0 4 209 0 0",
@@ -180,45 +175,61 @@ const HEADERS: [&[u8]; 22] = [
     b"history 3 rules 1 4 209 0 0",
 ];
 
-#[test]
-fn first_lines_of_version_2(rt: HostRuntime) -> Result<(), Fail> {
-    let alloc = rt.alloc();
-    for header in HEADERS {
+const HEADERS: &[&[u8]] = &[
+    b"history 2 rules 1 4 209 0 0",
+    b"history 2 rules 2 1 209 1 1000000",
+    b"history 2 rules 2 4096 1000000 4096 0",
+];
+
+/// Histories of version 2 with each of these first lines have this verdict.
+fn expect_headers<R: Abort>(
+    rt: &R,
+    alloc: Global,
+    headers: &[&[u8]],
+    wanted: Verdict,
+) -> Result<(), Fail> {
+    for header in headers {
         let record = joined(alloc, &[header, b"\n* left = left 0 units 0 0\n"])?;
-        expect_audit(&rt, alloc, record.as_slice(), Verdict::Refused(1))?;
-    }
-    for header in [
-        b"history 2 rules 1 4 209 0 0".as_slice(),
-        b"history 2 rules 2 1 209 1 1000000",
-        b"history 2 rules 2 4096 1000000 4096 0",
-    ] {
-        let record = joined(alloc, &[header, b"\n* left = left 0 units 0 0\n"])?;
-        expect_audit(&rt, alloc, record.as_slice(), Verdict::Legal(1))?;
+        expect_audit(rt, alloc, record.as_slice(), wanted)?;
     }
     Ok(())
 }
 
 #[test]
+fn first_lines_of_version_2(rt: HostRuntime) -> Result<(), Fail> {
+    expect_headers(&rt, rt.alloc(), NO_HEADERS, Verdict::Refused(1))?;
+    expect_headers(&rt, rt.alloc(), HEADERS, Verdict::Legal(1))
+}
+
+/// First lines of version 1 that are refused.
+const NO_FIRST_LINES: &[&[u8]] = &[
+    b"",
+    b"history",
+    b"history ",
+    b"history 0",
+    b"history 01",
+    b"history 1 ",
+    b" history 1",
+    b"history  1",
+    b"History 1",
+    b"history 1\r",
+    b"history 2",
+    b"history 4294967297",
+    b"# history 1",
+];
+
+#[test]
 fn first_lines_of_version_1(rt: HostRuntime) -> Result<(), Fail> {
-    let alloc = rt.alloc();
     let config = Config::first(4, 209, 0, 0).ok_or("within the limits")?;
-    for header in [
-        b"".as_slice(),
-        b"history",
-        b"history ",
-        b"history 0",
-        b"history 01",
-        b"history 1 ",
-        b" history 1",
-        b"history  1",
-        b"History 1",
-        b"history 1\r",
-        b"history 2",
-        b"history 4294967297",
-        b"# history 1",
-    ] {
-        let history = joined(alloc, &[header, b"\ns0 clear 0 = ok\n"])?;
-        expect_check(&rt, alloc, config, history.as_slice(), Verdict::Refused(1))?;
+    for header in NO_FIRST_LINES {
+        let history = joined(rt.alloc(), &[header, b"\ns0 clear 0 = ok\n"])?;
+        expect_check(
+            &rt,
+            rt.alloc(),
+            config,
+            history.as_slice(),
+            Verdict::Refused(1),
+        )?;
     }
     Ok(())
 }

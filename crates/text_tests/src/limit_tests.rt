@@ -48,55 +48,72 @@ fn small_answer(alloc: Global) -> Result<Answer, Fail> {
     })
 }
 
+/// A first text, a byte that is repeated, and a last text.
+type Text = (&'static [u8], u8, &'static [u8]);
+
+const ANSWERED: &[Text] = &[
+    (SMALL_WITH_COMMENT, b'x', b"\n"),
+    (SMALL, b'\n', b""),
+    (b"#", b'#', b"\nconfig 4 209 0 0\na new 0 0 0\n* stat\n"),
+    (b"", b'\n', SMALL),
+];
+
 #[test]
 fn a_script_of_the_most_bytes_is_answered(rt: HostRuntime) -> Result<(), Fail> {
     assert_eq!(rt; SCRIPT_BYTES, MOST);
-    for text in [
-        (SMALL_WITH_COMMENT, b'x', b"\n".as_slice()),
-        (SMALL, b'\n', b""),
-        (b"#", b'#', b"\nconfig 4 209 0 0\na new 0 0 0\n* stat\n"),
-        (b"", b'\n', SMALL),
-    ] {
-        expect_long(&rt, rt.alloc(), MOST, text, &small_answer(rt.alloc())?);
+    for text in ANSWERED {
+        expect_long(&rt, rt.alloc(), MOST, *text, &small_answer(rt.alloc())?);
     }
     Ok(())
 }
 
+const TOO_LONG: &[Text] = &[
+    (SMALL_WITH_COMMENT, b'x', b"\n"),
+    (SMALL, b'\n', b""),
+    (SMALL, b'?', b""),
+    (b"", 0, b""),
+];
+
 #[test]
 fn a_script_of_one_byte_more_is_refused(rt: HostRuntime) -> Result<(), Fail> {
-    for text in [
-        (SMALL_WITH_COMMENT, b'x', b"\n".as_slice()),
-        (SMALL, b'\n', b""),
-        (SMALL, b'?', b""),
-        (b"", 0, b""),
-    ] {
-        expect_long(&rt, rt.alloc(), MOST + 1, text, &refusal(rt.alloc(), 0)?);
+    for text in TOO_LONG {
+        expect_long(&rt, rt.alloc(), MOST + 1, *text, &refusal(rt.alloc(), 0)?);
+    }
+    Ok(())
+}
+
+/// Long scripts, each with its least bad line.
+const REFUSED: &[(Text, u64)] = &[
+    ((SMALL, b'?', b"\n"), 4),
+    ((SMALL_WITH_COMMENT, b'x', b""), 4),
+    ((b"", b'\n', b""), 67_108_865),
+    ((b"", b'\n', b"a"), 67_108_864),
+];
+
+const LONG_WORDS: &[(Text, u64)] = &[
+    ((b"config ", b'4', b" 209 0 0\n"), 1),
+    ((b"config 4 209 0 0\na read 0 ", b'9', b"\n"), 2),
+    ((b"config 4 209 0 0\n", b'a', b" end\n"), 2),
+    ((b"config 4 209 0 0\na end", b' ', b"\n"), 2),
+];
+
+fn refuse_each<R: Threads + Abort>(
+    rt: &R,
+    alloc: Global,
+    texts: &[(Text, u64)],
+) -> Result<(), Fail> {
+    for (text, line) in texts {
+        expect_long(rt, alloc, MOST, *text, &refusal(alloc, *line)?);
     }
     Ok(())
 }
 
 #[test]
 fn a_long_script_is_refused_at_its_last_line(rt: HostRuntime) -> Result<(), Fail> {
-    for (text, line) in [
-        ((SMALL, b'?', b"\n".as_slice()), 4),
-        ((SMALL_WITH_COMMENT, b'x', b""), 4),
-        ((b"", b'\n', b""), 67_108_865),
-        ((b"", b'\n', b"a"), 67_108_864),
-    ] {
-        expect_long(&rt, rt.alloc(), MOST, text, &refusal(rt.alloc(), line)?);
-    }
-    Ok(())
+    refuse_each(&rt, rt.alloc(), REFUSED)
 }
 
 #[test]
 fn long_words_are_refused(rt: HostRuntime) -> Result<(), Fail> {
-    for (text, line) in [
-        ((b"config ".as_slice(), b'4', b" 209 0 0\n".as_slice()), 1),
-        ((b"config 4 209 0 0\na read 0 ", b'9', b"\n"), 2),
-        ((b"config 4 209 0 0\n", b'a', b" end\n"), 2),
-        ((b"config 4 209 0 0\na end", b' ', b"\n"), 2),
-    ] {
-        expect_long(&rt, rt.alloc(), MOST, text, &refusal(rt.alloc(), line)?);
-    }
-    Ok(())
+    refuse_each(&rt, rt.alloc(), LONG_WORDS)
 }

@@ -10,7 +10,7 @@ pub const MOST_SMALL: &[u8] = b"4294967295";
 pub const MOST_LARGE: &[u8] = b"18446744073709551615";
 
 /// Numbers that no place takes. Some of them are 0, 1 or 4 where they are cut to 32 or 64 bits.
-pub const REFUSED: [&[u8]; 13] = [
+pub const REFUSED: &[&[u8]] = &[
     b"",
     b"00",
     b"01",
@@ -27,7 +27,7 @@ pub const REFUSED: [&[u8]; 13] = [
 ];
 
 /// Numbers that only a place of 64 bits takes.
-pub const LARGE: [&[u8]; 5] = [
+pub const LARGE: &[&[u8]] = &[
     b"4294967296",
     b"4294967297",
     b"4294967300",
@@ -37,7 +37,7 @@ pub const LARGE: [&[u8]; 5] = [
 
 /// A line around a number of 32 bits, and its reply with the greatest one: slot 0 has an object of one reference and one
 /// number.
-pub const SMALL_PLACES: [(&[u8], &[u8], &[u8]); 24] = [
+pub const SMALL_PLACES: &[(&[u8], &[u8], &[u8])] = &[
     (b"new ", b" 0 0", b"refused 1 bad slot"),
     (b"new 0 ", b" 0", b"refused 4 too large"),
     (b"new 0 0 ", b"", b"refused 4 too large"),
@@ -91,34 +91,52 @@ fn answer_line<R: Threads + Abort>(
     Ok(())
 }
 
-#[test]
-fn numbers_of_commands(rt: HostRuntime) -> Result<(), Fail> {
-    for (before, after, reply) in SMALL_PLACES {
-        let line = [b"a ", before, MOST_SMALL, after];
-        answer_line(&rt, rt.alloc(), &line, reply)?;
-        for number in REFUSED {
-            refuse_line(&rt, rt.alloc(), &[b"a ", before, number, after])?;
-        }
-        for number in LARGE {
-            refuse_line(&rt, rt.alloc(), &[b"a ", before, number, after])?;
-        }
+/// A script of one object, then a line around each of these words, is refused at it.
+fn refuse_each<R: Threads + Abort>(
+    rt: &R,
+    alloc: Global,
+    before: &[u8],
+    words: &[&[u8]],
+    after: &[u8],
+) -> Result<(), Fail> {
+    for word in words {
+        refuse_line(rt, alloc, &[before, word, after])?;
     }
     Ok(())
 }
 
 #[test]
-fn numbers_of_64_bits(rt: HostRuntime) -> Result<(), Fail> {
-    let report =
-        b"mutator 1 collector 0 quanta 0 greatest 0 window 18446744073709551615 least none floor none";
-    for (before, reply) in [
-        (b"a write 0 0 ".as_slice(), b"ok".as_slice()),
-        (b"* report ".as_slice(), report.as_slice()),
-    ] {
-        answer_line(&rt, rt.alloc(), &[before, MOST_LARGE], reply)?;
-        for number in REFUSED {
-            refuse_line(&rt, rt.alloc(), &[before, number])?;
-        }
+fn numbers_of_commands(rt: HostRuntime) -> Result<(), Fail> {
+    for (before, after, reply) in SMALL_PLACES {
+        let before = joined(rt.alloc(), &[b"a ", before])?;
+        let before = before.as_slice();
+        answer_line(&rt, rt.alloc(), &[before, MOST_SMALL, after], reply)?;
+        refuse_each(&rt, rt.alloc(), before, REFUSED, after)?;
+        refuse_each(&rt, rt.alloc(), before, LARGE, after)?;
     }
+    Ok(())
+}
+
+/// Lines before a number of 64 bits, and their reply with the greatest one.
+const LARGE_PLACES: &[(&[u8], &[u8])] = &[
+    (b"a write 0 0 ", b"ok"),
+    (
+        b"* report ",
+        b"mutator 1 collector 0 quanta 0 greatest 0 window 18446744073709551615 least none floor none",
+    ),
+];
+
+#[test]
+fn numbers_of_64_bits(rt: HostRuntime) -> Result<(), Fail> {
+    for (before, reply) in LARGE_PLACES {
+        answer_line(&rt, rt.alloc(), &[before, MOST_LARGE], reply)?;
+        refuse_each(&rt, rt.alloc(), before, REFUSED, b"")?;
+    }
+    Ok(())
+}
+
+#[test]
+fn numbers_that_are_written(rt: HostRuntime) -> Result<(), Fail> {
     for number in LARGE {
         answer_line(&rt, rt.alloc(), &[b"a write 0 0 ", number], b"ok")?;
     }
@@ -146,106 +164,130 @@ fn configure<R: Threads + Abort>(
     Ok(())
 }
 
-/// Places of a configuration, each with its least and greatest number and the numbers beside them.
-const LIMITS: [(&[u8], &[u8], [&[u8]; 2], [&[u8]; 2]); 5] = [
-    (b"", b" 209 0 0", [b"1", b"4096"], [b"0", b"4097"]),
-    (b"4 ", b" 0 0", [b"209", b"1000000"], [b"208", b"1000001"]),
-    (b"4 209 ", b" 0", [b"0", b"4"], [b"5", b"4096"]),
-    (b"4096 209 ", b" 0", [b"0", b"4096"], [b"4097", b"1000000"]),
-    (
-        b"4 209 0 ",
-        b"",
-        [b"0", b"1000000"],
-        [b"1000001", b"4294967295"],
-    ),
+/// Scripts of a first line with each of these numbers in one place have no output, or are refused.
+fn configure_each<R: Threads + Abort>(
+    rt: &R,
+    alloc: Global,
+    place: (&[u8], &[u8]),
+    numbers: &[&[u8]],
+    is_lawful: bool,
+) -> Result<(), Fail> {
+    for number in numbers {
+        configure(rt, alloc, [place.0, number, place.1], is_lawful)?;
+    }
+    Ok(())
+}
+
+/// A place of a configuration, with its least and greatest number and the numbers beside them.
+#[derive(Clone, Copy)]
+struct Limits<'a> {
+    place: (&'a [u8], &'a [u8]),
+    lawful: &'a [&'a [u8]],
+    others: &'a [&'a [u8]],
+}
+
+const LIMITS: &[Limits<'static>] = &[
+    Limits {
+        place: (b"", b" 209 0 0"),
+        lawful: &[b"1", b"4096"],
+        others: &[b"0", b"4097"],
+    },
+    Limits {
+        place: (b"4 ", b" 0 0"),
+        lawful: &[b"209", b"1000000"],
+        others: &[b"208", b"1000001"],
+    },
+    Limits {
+        place: (b"4 209 ", b" 0"),
+        lawful: &[b"0", b"4"],
+        others: &[b"5", b"4096"],
+    },
+    Limits {
+        place: (b"4096 209 ", b" 0"),
+        lawful: &[b"0", b"4096"],
+        others: &[b"4097", b"1000000"],
+    },
+    Limits {
+        place: (b"4 209 0 ", b""),
+        lawful: &[b"0", b"1000000"],
+        others: &[b"1000001", b"4294967295"],
+    },
 ];
 
 #[test]
 fn numbers_of_a_configuration(rt: HostRuntime) -> Result<(), Fail> {
-    for (before, after, lawful, others) in LIMITS {
-        for number in lawful {
-            configure(&rt, rt.alloc(), [before, number, after], true)?;
-        }
-        for number in others {
-            configure(&rt, rt.alloc(), [before, number, after], false)?;
-        }
-        for number in REFUSED {
-            configure(&rt, rt.alloc(), [before, number, after], false)?;
-        }
-        for number in LARGE {
-            configure(&rt, rt.alloc(), [before, number, after], false)?;
-        }
+    for limits in LIMITS {
+        configure_each(&rt, rt.alloc(), limits.place, limits.lawful, true)?;
+        configure_each(&rt, rt.alloc(), limits.place, limits.others, false)?;
+        configure_each(&rt, rt.alloc(), limits.place, REFUSED, false)?;
+        configure_each(&rt, rt.alloc(), limits.place, LARGE, false)?;
     }
     Ok(())
 }
+
+const NAMES: &[&[u8]] = &[b"a", b"z9", b"a123456789012345", b"abcdefghijklmnop"];
 
 #[test]
 fn names(rt: HostRuntime) -> Result<(), Fail> {
-    for name in [
-        b"a".as_slice(),
-        b"z9",
-        b"a123456789012345",
-        b"abcdefghijklmnop",
-    ] {
+    for name in NAMES {
         answer_line(&rt, rt.alloc(), &[name, b" clear 0"], b"ok")?;
-    }
-    for name in [
-        b"".as_slice(),
-        b"0",
-        b"9a",
-        b"A",
-        b"aB",
-        b"a_b",
-        b"a-",
-        b"a*",
-        b"**",
-        b"*",
-        b"a#",
-        b"a\t",
-        b"\xc3\xa4",
-        b"abcdefghijklmnopq",
-        b"a1234567890123456",
-        b"aaaaaaaaaaaaaaaaaaaaaaaaaaaaaaaaaaaaaaaaaaaaaaaaaaaaaaaaaaaaaaaaa",
-    ] {
-        refuse_line(&rt, rt.alloc(), &[name, b" clear 0"])?;
     }
     Ok(())
 }
 
+const NO_NAMES: &[&[u8]] = &[
+    b"",
+    b"0",
+    b"9a",
+    b"A",
+    b"aB",
+    b"a_b",
+    b"a-",
+    b"a*",
+    b"**",
+    b"*",
+    b"a#",
+    b"a\t",
+    b"\xc3\xa4",
+    b"abcdefghijklmnopq",
+    b"a1234567890123456",
+    b"aaaaaaaaaaaaaaaaaaaaaaaaaaaaaaaaaaaaaaaaaaaaaaaaaaaaaaaaaaaaaaaaa",
+];
+
+const NO_LINES: &[&[u8]] = &[
+    b" ",
+    b" # a",
+    b"a",
+    b"a ",
+    b" a end",
+    b"a end ",
+    b"a  end",
+    b"a end 0",
+    b"a\tend",
+    b"a End",
+    b"a ends",
+    b"a clear",
+    b"a clear 0 0",
+    b"a clear 0 # b",
+    b"a quantum",
+    b"a history 1",
+    b"a new 0 0",
+    b"a new 0 0 0 0",
+    b"*",
+    b"* ",
+    b"* clear 0",
+    b"*stat",
+    b"* Stat",
+    b"* quantum 1",
+    b"* report",
+    b"* report 1 1",
+    b"* end",
+    b"config 4 209 0 0",
+    b"config",
+];
+
 #[test]
 fn lines_that_are_none_of_the_forms(rt: HostRuntime) -> Result<(), Fail> {
-    for line in [
-        b" ".as_slice(),
-        b" # a",
-        b"a",
-        b"a ",
-        b" a end",
-        b"a end ",
-        b"a  end",
-        b"a end 0",
-        b"a\tend",
-        b"a End",
-        b"a ends",
-        b"a clear",
-        b"a clear 0 0",
-        b"a clear 0 # b",
-        b"a quantum",
-        b"a history 1",
-        b"a new 0 0",
-        b"a new 0 0 0 0",
-        b"*",
-        b"* ",
-        b"* clear 0",
-        b"*stat",
-        b"* Stat",
-        b"* quantum 1",
-        b"* report",
-        b"* report 1 1",
-        b"* end",
-        b"config 4 209 0 0",
-        b"config",
-    ] {
-        refuse_line(&rt, rt.alloc(), &[line])?;
-    }
-    Ok(())
+    refuse_each(&rt, rt.alloc(), b"", NO_NAMES, b" clear 0")?;
+    refuse_each(&rt, rt.alloc(), b"", NO_LINES, b"")
 }

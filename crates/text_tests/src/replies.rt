@@ -4,7 +4,7 @@ use std::alloc::Global;
 use std::test::Fail;
 
 /// Replies that are well formed in both versions.
-pub const REPLIES: [&[u8]; 24] = [
+pub const REPLIES: &[&[u8]] = &[
     b"ok",
     b"yes",
     b"no",
@@ -32,7 +32,7 @@ pub const REPLIES: [&[u8]; 24] = [
 ];
 
 /// Replies that neither version knows.
-pub const UNKNOWN: [&[u8]; 24] = [
+pub const UNKNOWN: &[&[u8]] = &[
     b"",
     b"Ok",
     b"ok ok",
@@ -60,10 +60,10 @@ pub const UNKNOWN: [&[u8]; 24] = [
 ];
 
 /// Numbers that units are replaced by.
-pub const COUNTS: [&[u8]; 6] = [b"0", b"1", b"2", b"64", b"353", b"18446744073709551615"];
+pub const COUNTS: &[&[u8]] = &[b"0", b"1", b"2", b"64", b"353", b"18446744073709551615"];
 
 /// Words that are no units.
-pub const NO_COUNTS: [&[u8]; 5] = [b"", b"01", b"-1", b"none", b"18446744073709551616"];
+pub const NO_COUNTS: &[&[u8]] = &[b"", b"01", b"-1", b"none", b"18446744073709551616"];
 
 /// The entries, one of which has become another.
 pub fn replaced<'a>(
