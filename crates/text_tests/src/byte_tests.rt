@@ -6,7 +6,7 @@ use std::alloc::Global;
 use std::process::Abort;
 use std::test::Fail;
 use std::thread::Threads;
-use text_support::rows::Row;
+use test_support::rows::Row;
 
 const SCRIPT: &[u8] =
     b"config 4 209 0 0\na new 0 1 2\nab7 write 0 1 90\n* report 18\n* dump\nz9z9z9z9z9z9z9z9 end\n* stat\n";
