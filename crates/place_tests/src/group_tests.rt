@@ -137,12 +137,18 @@ fn index_of(rt: &impl Abort, blocks: &Blocks, place: Place, field: usize) -> usi
     position(blocks, place, field).index
 }
 
-/// How many pages there are, an object, and a reference and a number of it that are written before a block moves.
-type Written = (usize, u32, u32, usize, usize);
-
-fn written(rt: &impl Abort, alloc: Global, case: Written) -> Result<(Blocks, Place), Fail> {
-    let (pages, references, numbers, reference, number) = case;
-    assert!(rt; pages <= 4096);
+/// An object of so many references and numbers in so many pages, with a reference to itself and a number written.
+fn written(
+    rt: &impl Abort,
+    alloc: Global,
+    pages: usize,
+    references: u32,
+    numbers: u32,
+    reference: usize,
+    number: usize,
+) -> Result<(Blocks, Place), Fail>
+    requires { pages ≤ 4096 }
+{
     let (mut blocks, made) = made_in(alloc, pages, references, numbers)?;
     let object = made.map_err(|_| "no place")?;
     write_reference(rt, &mut blocks, object, reference, object);
@@ -150,31 +156,40 @@ fn written(rt: &impl Abort, alloc: Global, case: Written) -> Result<(Blocks, Pla
     Ok((blocks, object))
 }
 
+/// The fields that were written are found, the number at an index of its block.
+fn expect_found(
+    rt: &impl Abort,
+    blocks: &Blocks,
+    object: Place,
+    reference: usize,
+    number: usize,
+    index: usize,
+) {
+    assert_eq!(rt; reference_in(rt, blocks, object, reference), Some(object));
+    assert_eq!(rt; number_in(rt, blocks, object, number), 7);
+    assert_eq!(rt; index_of(rt, blocks, object, number), index);
+}
+
 /// The spine has page 0, and the arraylets of 60 fields and of one have pages 1 and 2.
-const ARRAYLETS: Written = (8, 30, 31, 5, 35);
+#[test]
+fn finds_fields_that_moved(rt: HostRuntime) -> Result<(), Fail> {
+    let (mut blocks, object) = written(&rt, rt.alloc(), 8, 30, 31, 5, 35)?;
+    assert_eq!(rt; moved(&rt, &mut blocks, Place(64))?, Place(65));
+    expect_found(&rt, &blocks, object, 5, 35, 35);
+    assert_eq!(rt; number_in(&rt, &blocks, object, 60), 0);
+    Ok(())
+}
 
 /// The first part has page 0. Of its middle spines that of 60 arraylets has page 1, with three of these, and that of one
 /// page 2. The last arraylet has a reference, field 3,600, and nine numbers.
-const MIDDLE_SPINES: Written = (20, 3_601, 9, 3_600, 3_609);
-
-/// Where a block moves from and to, the index of the number, a number that is 0 and a reference that is null.
-const MOVES: [(Written, Place, Place, usize, usize, usize); 3] = [
-    (ARRAYLETS, Place(64), Place(65), 35, 60, 6),
-    (MIDDLE_SPINES, Place(128), Place(129), 9, 3_601, 3_599),
-    (MIDDLE_SPINES, Place(128), Place(129), 9, 3_601, 0),
-];
-
 #[test]
-fn finds_fields_that_moved(rt: HostRuntime) -> Result<(), Fail> {
-    for (case, from, to, index, zero, null) in MOVES {
-        let (mut blocks, object) = written(&rt, rt.alloc(), case)?;
-        assert_eq!(rt; moved(&rt, &mut blocks, from)?, to);
-        assert_eq!(rt; reference_in(&rt, &blocks, object, case.3), Some(object));
-        assert_eq!(rt; reference_in(&rt, &blocks, object, null), None);
-        assert_eq!(rt; number_in(&rt, &blocks, object, case.4), 7);
-        assert_eq!(rt; number_in(&rt, &blocks, object, zero), 0);
-        assert_eq!(rt; index_of(&rt, &blocks, object, case.4), index);
-    }
+fn finds_fields_behind_middle_spines(rt: HostRuntime) -> Result<(), Fail> {
+    let (mut blocks, object) = written(&rt, rt.alloc(), 20, 3_601, 9, 3_600, 3_609)?;
+    assert_eq!(rt; moved(&rt, &mut blocks, Place(128))?, Place(129));
+    expect_found(&rt, &blocks, object, 3_600, 3_609, 9);
+    assert_eq!(rt; number_in(&rt, &blocks, object, 3_601), 0);
+    assert_eq!(rt; reference_in(&rt, &blocks, object, 3_599), None);
+    assert_eq!(rt; reference_in(&rt, &blocks, object, 0), None);
     Ok(())
 }
 
@@ -187,7 +202,7 @@ fn reference_at(rt: &impl Abort, blocks: &Blocks, place: Place, index: usize) ->
 
 #[test]
 fn writes_fields_where_they_moved(rt: HostRuntime) -> Result<(), Fail> {
-    let (mut blocks, object) = written(&rt, rt.alloc(), ARRAYLETS)?;
+    let (mut blocks, object) = written(&rt, rt.alloc(), 8, 30, 31, 5, 35)?;
     let there = moved(&rt, &mut blocks, Place(64))?;
     write_number(&rt, &mut blocks, object, 35, 8);
     write_reference(&rt, &mut blocks, object, 6, object);
