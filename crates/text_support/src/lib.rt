@@ -4,6 +4,8 @@
 pub mod collector_rows;
 pub mod command_rows;
 pub mod devices;
+pub mod entries;
+pub mod expected;
 pub mod famine;
 pub mod generated;
 pub mod long_rows;

@@ -1,5 +1,4 @@
 use crate::answers::{expect_audit, expect_run};
-use crate::expected::{answer_to_cut, line_count};
 use mh_claims::gate::Open;
 use mh_model::history::Verdict;
 use mh_script::end::End;
@@ -13,6 +12,7 @@ use std::test::Fail;
 use std::thread::Threads;
 use text_support::collector_rows::COLLECTOR_ROWS;
 use text_support::command_rows::COMMAND_ROWS;
+use text_support::expected::{answer_to_cut, line_count};
 use text_support::long_rows::{LEFT_ROW, LONG_ROWS, wide};
 use text_support::measured_rows::MEASURED_ROWS;
 use text_support::named_rows::NAMED_ROWS;
