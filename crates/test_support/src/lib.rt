@@ -5,6 +5,8 @@
 pub mod collector_rows;
 pub mod command_rows;
 pub mod devices;
+pub mod entries;
+pub mod expected;
 pub mod famine;
 pub mod gates;
 pub mod generated;

@@ -1,5 +1,5 @@
 use crate::answers::expect_audit;
-use crate::entries::{EntryText, config_words, entries_of, record_text};
+use crate::entries::{config_words, entries_of};
 use crate::replies::{COUNTS, NO_COUNTS, REPLIES, UNKNOWN, bad_at, refused_at, replaced};
 use mh_model::history::Verdict;
 use std::alloc::Global;
@@ -7,6 +7,7 @@ use std::process::Abort;
 use std::test::Fail;
 use test_support::collector_rows::COLLECTOR_ROWS;
 use test_support::command_rows::COMMAND_ROWS;
+use test_support::entries::{EntryText, record_text};
 use test_support::long_rows::LEFT_ROW;
 use test_support::measured_rows::{MEASURED_ROWS, MeasuredRow};
 use test_support::rows::Row;

@@ -1,5 +1,5 @@
 use crate::answers::{expect_check, expect_unmigrated};
-use crate::entries::{EntryText, entries_of, first_config, history_text};
+use crate::entries::{entries_of, first_config};
 use crate::replies::{REPLIES, UNKNOWN, bad_at, refused_at, replaced};
 use mh_model::config::Config;
 use mh_model::history::Verdict;
@@ -8,6 +8,7 @@ use std::process::Abort;
 use std::test::Fail;
 use test_support::collector_rows::COLLECTOR_ROWS;
 use test_support::command_rows::COMMAND_ROWS;
+use test_support::entries::{EntryText, history_text};
 use test_support::long_rows::{LONG_ROWS, LongRow, wide};
 use test_support::rows::Row;
 

@@ -1,4 +1,3 @@
-use crate::expected::{Answer, verdict_line};
 use mh_scan::gate::Open;
 use mh_model::config::{Config, Rules};
 use mh_model::history::Verdict;
@@ -12,6 +11,7 @@ use std::alloc::Global;
 use std::process::Abort;
 use std::test::Fail;
 use std::thread::Threads;
+use test_support::expected::{Answer, verdict_line};
 
 /// A script has this answer.
 pub fn expect_run<R: Threads + Abort>(rt: &R, alloc: Global, script: &[u8], wanted: &Answer) {

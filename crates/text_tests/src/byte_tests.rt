@@ -1,11 +1,11 @@
 use crate::answers::{expect_audit, expect_check, expect_run, expect_unmigrated};
-use crate::expected::{Answer, refusal};
 use mh_model::config::Config;
 use mh_model::history::Verdict;
-use std::alloc::Global;
+use std::alloc::{AllocError, Global};
 use std::process::Abort;
 use std::test::Fail;
 use std::thread::Threads;
+use test_support::expected::{Answer, refusal};
 use test_support::rows::Row;
 
 const SCRIPT: &[u8] =
@@ -64,7 +64,7 @@ fn bytes_that_no_script_has(rt: HostRuntime) -> Result<(), Fail> {
 
 /// What a script of comments answers with a byte that no line has in this place: as before inside a comment, and also where
 /// a comment goes on over an empty line or a comment; else its line is refused.
-fn commented_answer(alloc: Global, at: usize) -> Result<Answer, Fail> {
+fn commented_answer(alloc: Global, at: usize) -> Result<Answer, AllocError> {
     let before = &COMMENTED[..at.min(COMMENTED.len())];
     let begun = before.split(|byte| *byte == b'\n').next_back();
     if begun.unwrap_or(b"").starts_with(b"#") {

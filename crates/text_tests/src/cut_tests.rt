@@ -1,5 +1,4 @@
 use crate::answers::{expect_audit, expect_run};
-use crate::expected::{answer_to_cut, line_count};
 use mh_scan::gate::Open;
 use mh_model::history::Verdict;
 use mh_script::end::End;
@@ -13,6 +12,7 @@ use std::test::Fail;
 use std::thread::Threads;
 use test_support::collector_rows::COLLECTOR_ROWS;
 use test_support::command_rows::COMMAND_ROWS;
+use test_support::expected::{answer_to_cut, line_count};
 use test_support::long_rows::{LEFT_ROW, LONG_ROWS, wide};
 use test_support::measured_rows::MEASURED_ROWS;
 use test_support::named_rows::NAMED_ROWS;

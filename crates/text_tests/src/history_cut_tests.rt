@@ -1,10 +1,10 @@
 use crate::answers::{expect_audit, expect_check, expect_migration, expect_unmigrated};
-use crate::expected::{first_lines, line_count, verdict_on_cut};
 use mh_model::config::Config;
 use mh_model::history::Verdict;
 use std::alloc::Global;
 use std::process::Abort;
 use std::test::Fail;
+use test_support::expected::{first_lines, line_count, verdict_on_cut};
 
 /// A history of version 1, the pages of its heap, and its least bad line or its first bad entry.
 #[derive(Clone, Copy)]

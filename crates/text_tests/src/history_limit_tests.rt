@@ -1,4 +1,3 @@
-use crate::expected::verdict_line;
 use mh_model::config::Config;
 use mh_model::history::Verdict;
 use mh_judging::judge::{audit_script, check_script};
@@ -6,6 +5,7 @@ use mh_text::sink::StdSink;
 use std::alloc::Global;
 use std::process::Abort;
 use std::test::Fail;
+use test_support::expected::verdict_line;
 use test_support::generated::Generated;
 
 /// The most bytes that a history of version 1 may have.

@@ -1,11 +1,11 @@
 use crate::answers::{expect_audit, expect_check};
-use crate::expected::joined;
 use crate::number_tests::{LARGE, MOST_LARGE, MOST_SMALL, REFUSED, SMALL_PLACES};
 use mh_model::config::Config;
 use mh_model::history::Verdict;
 use std::alloc::Global;
 use std::process::Abort;
 use std::test::Fail;
+use test_support::expected::joined;
 
 /// A history of one object and this entry has this verdict, in both versions.
 fn expect_entry<R: Abort>(

@@ -1,14 +1,14 @@
 //! Texts whose first fault comes late, and a dump of many blocks.
 
 use crate::answers::{expect_audit, expect_check, expect_run, expect_unmigrated};
-use crate::entries::{EntryText, history_text, record_text};
-use crate::expected::refusal;
 use crate::replies::{bad_at, refused_at, replaced};
 use mh_model::config::Config;
 use mh_model::history::Verdict;
 use std::alloc::Global;
 use std::process::Abort;
 use std::test::Fail;
+use test_support::entries::{EntryText, history_text, record_text};
+use test_support::expected::refusal;
 
 const NEW: EntryText = EntryText {
     session: Some(b'0'),

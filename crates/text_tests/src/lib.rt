@@ -14,8 +14,6 @@ mod cut_tests;
 #[cfg(test)]
 mod entries;
 #[cfg(test)]
-mod expected;
-#[cfg(test)]
 mod history_cut_tests;
 #[cfg(test)]
 mod history_limit_tests;

@@ -1,4 +1,3 @@
-use crate::expected::{Answer, refusal};
 use mh_scan::gate::Open;
 use mh_script::end::End;
 use mh_script::run::run_script;
@@ -8,6 +7,7 @@ use std::alloc::Global;
 use std::process::Abort;
 use std::test::Fail;
 use std::thread::Threads;
+use test_support::expected::{Answer, refusal};
 use test_support::generated::Generated;
 
 /// The most bytes that a script may have.

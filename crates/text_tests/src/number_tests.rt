@@ -1,9 +1,9 @@
 use crate::answers::expect_run;
-use crate::expected::{Answer, joined, refusal};
 use std::alloc::Global;
 use std::process::Abort;
 use std::test::Fail;
 use std::thread::Threads;
+use test_support::expected::{Answer, joined, refusal};
 
 pub const MOST_SMALL: &[u8] = b"4294967295";
 

@@ -1,7 +1,7 @@
-use crate::entries::EntryText;
 use mh_model::history::Verdict;
 use std::alloc::Global;
 use std::test::Fail;
+use test_support::entries::EntryText;
 
 /// Replies that are well formed in both versions.
 pub const REPLIES: &[&[u8]] = &[

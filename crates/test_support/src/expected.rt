@@ -1,7 +1,7 @@
+//! What is right for texts, told by their lines.
+use crate::rows::Row;
 use mh_model::history::Verdict;
-use std::alloc::Global;
-use std::test::Fail;
-use test_support::rows::Row;
+use std::alloc::{AllocError, Global};
 
 /// The line of a text that is refused, where it is, and what is printed.
 #[derive(Drop)]
@@ -29,7 +29,7 @@ pub fn says_something(line: &[u8]) -> bool {
 }
 
 /// The first lines of a text.
-pub fn first_lines(alloc: Global, text: &[u8], count: usize) -> Result<Vec<u8>, Fail> {
+pub fn first_lines(alloc: Global, text: &[u8], count: usize) -> Result<Vec<u8>, AllocError> {
     let mut lines = Vec::new(alloc);
     for line in text.split_inclusive(|byte| *byte == b'\n').take(count) {
         lines.extend_from_slice(line)?;
@@ -38,17 +38,17 @@ pub fn first_lines(alloc: Global, text: &[u8], count: usize) -> Result<Vec<u8>, 
 }
 
 /// The line that tells a verdict.
-pub fn verdict_line(alloc: Global, verdict: Verdict) -> Result<Vec<u8>, Fail> {
+pub fn verdict_line(alloc: Global, verdict: Verdict) -> Result<Vec<u8>, AllocError> {
     let line = match verdict {
         Verdict::Refused(line) => format!(in alloc; "refused 10 line {line}\n")?,
         Verdict::Legal(count) => format!(in alloc; "legal {count}\n")?,
         Verdict::FirstBad(number) => format!(in alloc; "first bad {number}\n")?,
     };
-    Ok(Vec::from_slice(alloc, line.as_bytes())?)
+    Vec::from_slice(alloc, line.as_bytes())
 }
 
 /// The answer to a script that is refused at this line.
-pub fn refusal(alloc: Global, line: u64) -> Result<Answer, Fail> {
+pub fn refusal(alloc: Global, line: u64) -> Result<Answer, AllocError> {
     Ok(Answer {
         refused: Some(line),
         output: verdict_line(alloc, Verdict::Refused(line))?,
@@ -56,7 +56,7 @@ pub fn refusal(alloc: Global, line: u64) -> Result<Answer, Fail> {
 }
 
 /// The answer to a row that is cut, which the lines that are left decide.
-pub fn answer_to_cut(alloc: Global, row: &Row<'_>, cut: &[u8]) -> Result<Answer, Fail> {
+pub fn answer_to_cut(alloc: Global, row: &Row<'_>, cut: &[u8]) -> Result<Answer, AllocError> {
     let lines = line_count(cut);
     match row.refused {
         Some(line) if line <= lines => return refusal(alloc, line),
@@ -93,7 +93,7 @@ pub fn verdict_on_cut(refused: Option<u64>, bad: Option<u64>, cut: &[u8]) -> Ver
 }
 
 /// The texts one after the other.
-pub fn joined(alloc: Global, texts: &[&[u8]]) -> Result<Vec<u8>, Fail> {
+pub fn joined(alloc: Global, texts: &[&[u8]]) -> Result<Vec<u8>, AllocError> {
     let mut whole = Vec::new(alloc);
     for text in texts {
         whole.extend_from_slice(text)?;

@@ -1,10 +1,6 @@
-use crate::expected::says_something;
-use mh_model::config::Config;
-use mh_text::line::config_line;
-use std::alloc::Global;
-use std::test::Fail;
-use test_support::measured_rows::Units;
-use test_support::rows::Row;
+//! Entries of histories, in texts.
+use crate::measured_rows::Units;
+use std::alloc::{AllocError, Global};
 
 /// An entry of a history, in texts.
 #[derive(Clone, Copy)]
@@ -29,7 +25,7 @@ fn units_of(is_command: bool, reply: &[u8]) -> Units<'_> {
 }
 
 /// The entry of a script's line and its reply. Names are single letters, in the order of the alphabet.
-fn entry_of<'a>(line: &'a [u8], reply: &'a [u8]) -> Option<EntryText<'a>> {
+pub fn entry_of<'a>(line: &'a [u8], reply: &'a [u8]) -> Option<EntryText<'a>> {
     let [name, _, event @ ..] = line else {
         return None;
     };
@@ -45,44 +41,8 @@ fn entry_of<'a>(line: &'a [u8], reply: &'a [u8]) -> Option<EntryText<'a>> {
     })
 }
 
-/// The entries of a script and the replies to its events.
-pub fn entries_of<'a>(alloc: Global, row: &Row<'a>) -> Result<Vec<EntryText<'a>>, Fail> {
-    let mut entries = Vec::new(alloc);
-    let events = row
-        .script
-        .split(|byte| *byte == b'\n')
-        .filter(|line| says_something(line))
-        .skip(1);
-    let replies = row.output.split(|byte| *byte == b'\n');
-    for (line, reply) in events.zip(replies) {
-        entries.push(entry_of(line, reply).ok_or("an event")?)?;
-    }
-    Ok(entries)
-}
-
-/// The first line of a script.
-fn first_line<'a>(row: &Row<'a>) -> Result<&'a [u8], Fail> {
-    let mut lines = row.script.split(|byte| *byte == b'\n');
-    Ok(lines.next().ok_or("a line")?)
-}
-
-/// The words after `config` in a script that begins with it.
-pub fn config_words<'a>(row: &Row<'a>) -> Result<&'a [u8], Fail> {
-    let [b'c', b'o', b'n', b'f', b'i', b'g', b' ', words @ ..] = first_line(row)? else {
-        return Err("a configuration")?;
-    };
-    Ok(words)
-}
-
-/// The configuration of a script that begins with it, under the first rules.
-pub fn first_config(row: &Row<'_>) -> Result<Config, Fail> {
-    let config = config_line(first_line(row)?).ok_or("a configuration")?;
-    let first = Config::first(config.pages, config.quantum, config.trigger, config.every);
-    Ok(first.ok_or("within the limits")?)
-}
-
 /// Adds an entry, without units and without the end of its line.
-fn push_entry(text: &mut Vec<u8>, entry: &EntryText<'_>) -> Result<(), Fail> {
+fn push_entry(text: &mut Vec<u8>, entry: &EntryText<'_>) -> Result<(), AllocError> {
     match entry.session {
         Some(digit) => text.extend_from_slice(&[b's', digit])?,
         None => text.extend_from_slice(b"*")?,
@@ -95,7 +55,7 @@ fn push_entry(text: &mut Vec<u8>, entry: &EntryText<'_>) -> Result<(), Fail> {
 }
 
 /// Adds the units and the end of a line of version 2.
-fn push_units(text: &mut Vec<u8>, units: Units<'_>) -> Result<(), Fail> {
+fn push_units(text: &mut Vec<u8>, units: Units<'_>) -> Result<(), AllocError> {
     text.extend_from_slice(b" units ")?;
     text.extend_from_slice(units.0)?;
     text.extend_from_slice(b" ")?;
@@ -105,7 +65,7 @@ fn push_units(text: &mut Vec<u8>, units: Units<'_>) -> Result<(), Fail> {
 }
 
 /// The history of version 1 of these entries.
-pub fn history_text(alloc: Global, entries: &[EntryText<'_>]) -> Result<Vec<u8>, Fail> {
+pub fn history_text(alloc: Global, entries: &[EntryText<'_>]) -> Result<Vec<u8>, AllocError> {
     let mut text = Vec::from_slice(alloc, b"history 1\n")?;
     for entry in entries {
         push_entry(&mut text, entry)?;
@@ -120,7 +80,7 @@ pub fn record_text(
     rules: u8,
     config: &[u8],
     entries: &[EntryText<'_>],
-) -> Result<Vec<u8>, Fail> {
+) -> Result<Vec<u8>, AllocError> {
     let mut text = Vec::from_slice(alloc, b"history 2 rules ")?;
     text.extend_from_slice(&[rules, b' '])?;
     text.extend_from_slice(config)?;
