@@ -23,7 +23,8 @@ use Rattle.mh_pages.proofs.WriteLemmas.{shown-block, shown-word, slots-released,
 use Rattle.mh_pages.proofs.CleanLemmas.{LosesClean, clean-set, clean-block, loses-released, clean-used, clean-free}
 use Rattle.mh_pages.proofs.IndexLemmas.{indexed-set, indexed-after, pages-set, length-indexed_again, length-indexed_after}
 use Rattle.mh_pages.proofs.CountLemmas.{free_pages-taken, free_pages-same, free_pages-freed, free_pages-some, free_pages-few}
-use Rattle.mh_pages.proofs.TableLemmas.{all_empty, block_twice, page_of_block}
+use Rattle.mh_table_laws.proofs.placing.Places.{with_block-twice}
+use Rattle.mh_pages.proofs.TableLemmas.{all_empty}
 
 -- a bit that isn't set isn't set after another is cleared
 has_bit-less : (n k i : ℕ) → has_bit n i ≡ false → has_bit (without_bit n k) i ≡ false
@@ -407,4 +408,4 @@ module _ (heads frees words new : List ℕ) (sets : List Bool) (free : ℕ) (kep
   given_back_shown =
       released_shown heads frees new sets free cleared place is
       ∙ (ap (λ t. with_block t place None) (shown-block heads frees words place kept.pages new is (zeroed_inside words new _ _ zeroed))
-      ∙ block_twice (shown_table heads frees words) place _ None (page_of_block _ place (ap is_some (block_at-shown heads frees words place is))))
+      ∙ with_block-twice (shown_table heads frees words) place _ None)

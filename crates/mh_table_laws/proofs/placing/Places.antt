@@ -43,6 +43,10 @@ module _ {X : Type 0} where
       ap (option_and_then (block_in (slot_number place))) (get_or-set_same table number new None inside ∙ ap (option_map (page_with (slot_number place) content)) slot.in_use)
       ∙ get_or-set_same slot.page.slots (slot_number place) content None slot.within
 
+  -- where a block is, it is exchanged
+  pub block_at-with_block_there : (table : Table X) (place : ℕ) (content : Option X) → IsSome (block_at table place) → block_at (with_block table place content) place ≡ content
+  block_at-with_block_there table place content there = let (block, is) = from_some (block_at table place) there in block_at-with_block_same table place content (block-slot table place block is)
+
   -- a page's own change, read at another slot
   page-other : (table : Table X) (number slot other : ℕ) (content : Option X) → other ≢ slot
       → option_and_then (block_in other) (page_at (set table number (option_map (page_with slot content) (page_at table number))) number) ≡ option_and_then (block_in other) (page_at table number)
