@@ -1,5 +1,5 @@
 -- Each change of a table changes how many blocks and forwarders it has by what it puts and takes.
-use Rattle.std.proofs.Common.{◌≡◌, ℕ, suc, ◌+◌, ◌-◌, ◌≤◌, Bool, true, false, if◌then◌else◌, List, [], ◌∷◌, length, set, replicate, Option, Some, None, option_map, option_and_then, is_some, IsSome, refl, sym, ap, ◌∙◌, subst, arith}
+use Rattle.std.proofs.Common.{◌≡◌, ℕ, suc, ◌+◌, ◌-◌, ◌≤◌, Bool, true, false, if◌then◌else◌, List, [], ◌∷◌, length, set, replicate, Option, Some, None, option_map, option_and_then, is_some, IsSome, refl, ap, ◌∙◌, arith}
 use mir.Val.{bool_byte}
 use Rattle.std.proofs.lemmas.Bool.{false≢true}
 use Rattle.mh_model.specs.Pages.{Table, page_number, block_at, count_at, with_block, with_taken, with_released, with_flag, HaveTheirSlots, IsFreeFor}

@@ -1,6 +1,5 @@
 -- Blocks moved.
-use Rattle.std.proofs.Common.{◌≡◌, ◌≢◌, ℕ, ◌<◌, ◌^◌, List, [], length, Some, is_some, option_map, unwrap_or, IsSome, IfSome, sym, ap, ◌∙◌, subst, arith}
-use Rattle.std.proofs.lemmas.Bool.{false≢true}
+use Rattle.std.proofs.Common.{◌≡◌, ℕ, ◌<◌, ◌^◌, List, [], length, Some, is_some, option_map, unwrap_or, IsSome, IfSome, sym, ap, ◌∙◌, subst, arith}
 use Rattle.std.proofs.lemmas.Option.{same_Some}
 use Rattle.mh_model.specs.Pages.{Table, page_number, block_at, class_at, with_block, with_taken, IsFreeFor}
 use Rattle.mh_model.specs.Table.{Block}

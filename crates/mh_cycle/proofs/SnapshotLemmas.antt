@@ -1,9 +1,6 @@
 -- What barriers and a start keep for each snapshot.
 use Rattle.std.proofs.Common.{◌≡◌, ℕ, ◌<◌, true, [], length, get_or, Option, Some, None, option_map, option_and_then, unwrap_or, sym, ap, ◌∙◌, subst}
-use Rattle.std.proofs.lemmas.Bool.{false≢true}
 use Rattle.std.proofs.lemmas.Option.{same_Some}
-use Rattle.mh_model.specs.declared.cycle.Phase.{Phase}
-use Rattle.mh_model.specs.declared.cycle.Phase.TheVariants.{Idle, Roots, Mark, Sweep, Defrag}
 use Rattle.mh_model.specs.Pages.{block_at}
 use Rattle.mh_model.specs.Table.{Block, resolve, reference_at, references_at, LeadsHome, forward_at}
 use Rattle.mh_model.specs.Collector.{Collector, with_shade, is_start_due, quantum}

@@ -1,11 +1,12 @@
 -- Parts made one after the other: what is left to be made, and how those that are made are taken back.
-use Rattle.std.proofs.Common.{◌≡◌, ◌≢◌, ℕ, zero, suc, ◌<◌, ◌≤◌, Bool, true, false, inl, inr, List, [], ◌∷◌, ◌++◌, length, get_or, set, take, drop, slice_get, Option, Some, None, is_none, option_map, option_and_then, refl, sym, ap, ◌∙◌, arith}
+use Rattle.std.proofs.Common.{unwrap_or, replicate, ◌≡◌, ◌≢◌, ℕ, zero, suc, ◌<◌, ◌≤◌, Bool, true, false, inl, inr, List, [], ◌∷◌, ◌++◌, length, get_or, set, take, drop, slice_get, Option, Some, None, is_none, option_map, option_and_then, refl, sym, ap, ◌∙◌, arith}
 use Rattle.std.proofs.Math.Seq.{take-suc-set, drop-length}
 use Rattle.std.proofs.lemmas.Bool.{cases_eq, false≢true}
 use Rattle.std.proofs.lemmas.Option.{none-some, same_Some, slice_get_within}
-use Rattle.std.proofs.lemmas.List.{get_or-set_same, get_or-set_other, append_assoc, append-nil}
-use Rattle.mh_model.specs.Classes.{Part, class_of, part_words}
-use Rattle.mh_model.specs.Pages.{Page, Table, page_number, page_at, block_at, class_at, least_place, with_taken, with_released, IsFreeFor}
+use Rattle.std.proofs.lemmas.List.{get_or-set_same, get_or-set_other, append_assoc, append-nil, length-replicate}
+use Rattle.mh_table_laws.proofs.objects.RefusedObjects.{none-part}
+use Rattle.mh_model.specs.Classes.{Part, class_of, part_words, slots_in}
+use Rattle.mh_model.specs.Pages.{Page, Table, page_number, page_at, block_at, class_at, least_place, with_taken, with_released, IsFreeFor, slot_number, block_count, live_in, count_at, page_with, page_for}
 use Rattle.mh_model.specs.Table.{Block, Made, MadeParts, new_block, made_in_class, made_part, made_parts}
 use Rattle.mh_groups.specs.Making.{without_parts, CanBeUnmade, AllCanBeUnmade, AreUnlinked}
 use Rattle.mh_table_laws.proofs.Lists.{to_some}
@@ -116,11 +117,6 @@ made_part-at table birth stamp index size place part class least =
     ap (option_and_then (made_in_class table (new_block birth stamp index part))) class
     ∙ ap (option_map (λ p. record { place = p; table = with_taken table size p (new_block birth stamp index part) })) least
 
-made_part-full : (table : Table Block) (birth stamp index size : ℕ) (part : Part) → class_of (part_words part) ≡ Some size → least_place table size ≡ None → made_part table birth stamp index part ≡ None
-made_part-full table birth stamp index size part class least =
-    ap (option_and_then (made_in_class table (new_block birth stamp index part))) class
-    ∙ ap (option_map (λ p. record { place = p; table = with_taken table size p (new_block birth stamp index part) })) least
-
 -- So many parts of an object are made: what is left of the book's making, and how to take them back
 pub record AreMadeSoFar (old : Table Block) (birth stamp : ℕ) (list : List Part) (table : Table Block) (places : List ℕ) (fresh : List Bool) (count : ℕ) : Type 0 where
   pub left : made_parts old birth stamp 0 list ≡ option_map (made_after (take count places)) (made_parts table birth stamp count (drop count list))
@@ -164,7 +160,7 @@ pub full_so_far : (old : Table Block) (birth stamp : ℕ) (list : List Part) (ta
 full_so_far old birth stamp list table places fresh count part size so_far at class least =
     so_far.left
     ∙ ap (λ parts. option_map (made_after (take count places)) (made_parts table birth stamp count parts)) (drop-slice list count part at)
-    ∙ ap (option_map (made_after (take count places))) (made_parts-none table birth stamp count part (drop (suc count) list) (made_part-full table birth stamp count size part class least))
+    ∙ ap (option_map (made_after (take count places))) (made_parts-none table birth stamp count part (drop (suc count) list) (none-part table birth stamp count part size class least))
 
 -- all parts are made
 pub all_so_far : (old : Table Block) (birth stamp : ℕ) (list : List Part) (table : Table Block) (places : List ℕ) (fresh : List Bool) → AreMadeSoFar old birth stamp list table places fresh (length list)

@@ -1,11 +1,11 @@
 -- One reference written and shaded, and what that keeps.
-use Rattle.std.proofs.Common.{◌≡◌, ◌≢◌, ℕ, zero, suc, ◌+◌, ◌<◌, ◌≤◌, ◌⊎◌, Bool, true, false, inl, inr, List, [], ◌∷◌, length, get_or, set, drop, map, Option, Some, None, option_map, unwrap_or, is_some, IsSome, if◌then◌else◌, refl, sym, ap, ◌∙◌, subst, arith}
+use Rattle.std.proofs.Common.{◌≡◌, ◌≢◌, ℕ, zero, suc, ◌+◌, ◌<◌, ◌≤◌, ◌⊎◌, Bool, true, false, inl, inr, List, [], ◌∷◌, length, get_or, set, drop, map, Option, Some, None, option_map, unwrap_or, is_some, IsSome, refl, sym, ap, ◌∙◌, subst, arith}
 use Rattle.std.proofs.lemmas.Bool.{cases_eq, false≢true}
 use Rattle.std.proofs.lemmas.List.{get_or-set_other, get_or-set_same, length-set, drop_more, get_or-map, length-map}
 use Rattle.arrayvec.specs.ArrayVec.{ArrayVec}
 use Rattle.mh_model.specs.Pages.{Table, block_at}
 use Rattle.mh_model.specs.Table.{Block, resolve, references_at, reference_at, with_reference_at, target_of, found_in, stamp_at, forward_at, LeadsHome}
-use Rattle.mh_model.specs.Collector.{Marking, is_marked, with_grey, shade_block, shade, mark_reference, mark_references}
+use Rattle.mh_model.specs.Collector.{Marking, shade, mark_reference, mark_references}
 use Rattle.mh_model.specs.Batches.{written_back, batch_written}
 use Rattle.mh_table_laws.proofs.placing.Places.{block_at-with_block_other}
 use Rattle.mh_table_laws.proofs.marking.GreyList.{cycle-mark_references, cycle-written_back}
@@ -19,7 +19,8 @@ use Rattle.mh_mark.specs.Batched.{IsMarkable, blocks_marked}
 use Rattle.mh_mark.specs.Walkable.{IsAtHome, LeadHome}
 use Rattle.mh_mark.specs.Kept.{IsKept}
 use Rattle.mh_mark.proofs.MarkLemmas.{IsMarkingOn}
-use Rattle.mh_mark.proofs.ReferenceLemmas.{home-leads, leads_of, at_home-leads, target-at_home, at_home-like, references_written, class-with_block, class-shaded, marked-written, write}
+use Rattle.mh_table_laws.proofs.marking.BatchMarking.{leads_of}
+use Rattle.mh_mark.proofs.ReferenceLemmas.{home-leads, at_home-leads, target-at_home, at_home-like, references_written, class-with_block, class-shaded, marked-written, write}
 
 pub kept-refl : (m : Marking) → IsKept m m
 kept-refl m = record { there = λ q. refl; forwards = λ q. refl; classes = λ page. refl; long = refl; counts = λ q. refl; lead = λ q home. home; cycle = refl; marked = λ marked. marked; grey = λ q is. inl is }

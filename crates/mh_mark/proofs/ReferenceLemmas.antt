@@ -1,9 +1,9 @@
 -- One reference of a block: where it leads, and what writing it back and shading it are.
-use Rattle.std.proofs.Common.{◌≡◌, ℕ, zero, suc, ◌+◌, ◌*◌, Bool, true, false, not, inl, inr, List, [], ◌∷◌, get_or, set, Option, Some, None, option_map, option_and_then, unwrap_or, is_some, IsSome, refl, sym, ap, ◌∙◌, subst}
+use Rattle.std.proofs.Common.{◌≡◌, ℕ, zero, suc, ◌+◌, ◌*◌, Bool, true, false, not, inl, inr, List, [], ◌∷◌, get_or, set, Option, Some, None, option_map, option_and_then, unwrap_or, IsSome, refl, sym, ap, ◌∙◌, subst}
 use Rattle.std.specs.Option.{option_eq}
 use Rattle.std.proofs.lemmas.Bool.{false≢true}
 use Rattle.std.proofs.lemmas.List.{set-get_or}
-use Rattle.mh_model.specs.Pages.{Table, Leads, page_number, slot_number, page_at, block_in, block_at, class_at, page_with, with_block}
+use Rattle.mh_model.specs.Pages.{Table, page_number, slot_number, page_at, block_in, block_at, class_at, page_with, with_block}
 use Rattle.mh_model.specs.Table.{Block, resolve, target_of, references_at, reference_at, with_reference_at, forward_at, LeadsOn, LeadsHome}
 use Rattle.mh_model.specs.Collector.{Marking, shade_place, shade, mark_reference}
 use Rattle.mh_pages.specs.Addresses.{Address, address_in}
@@ -20,10 +20,6 @@ use Rattle.mh_mark.specs.Walkable.{IsAtHome}
 pub home-leads : (table : Table Block) (reference : Option ℕ) → LeadsHome table reference → LeadsOn table reference
 home-leads table None home = tt
 home-leads table (Some place) home = (there_before table place home.0, home.0)
-
-pub leads_of : (table : Table Block) (reference : Option ℕ) → LeadsOn table reference → Leads table reference
-leads_of table None leads = tt
-leads_of table (Some place) leads = leads.0
 
 -- what a reference to a block that is no forwarder leads to is that block
 pub at_home-leads : (table : Table Block) (reference : Option ℕ) → IsAtHome table reference → LeadsHome table reference

@@ -1,18 +1,11 @@
 -- What tables of any blocks do: one block less, and the classes of pages where a place is taken.
-use Rattle.std.proofs.Common.{◌≡◌, ℕ, zero, suc, ◌+◌, ◌<◌, inl, inr, Option, Some, None, is_some, IsSome, option_map, option_and_then, unwrap_or, List, [], ◌∷◌, length, get_or, refl, ap, ◌∙◌, sym, arith, get_or-set_same, get_or-set_other}
+use Rattle.std.proofs.Common.{◌≡◌, ℕ, ◌+◌, ◌<◌, inl, inr, Option, Some, None, is_some, IsSome, option_map, option_and_then, unwrap_or, length, refl, ap, ◌∙◌, sym, arith, get_or-set_same, get_or-set_other}
 use Rattle.std.proofs.lemmas.Bool.{cases_eq, false≢true}
 use Rattle.mh_table_laws.proofs.Lists.{there_below}
 use Rattle.mh_table_laws.proofs.placing.Places.{taken_page, block_count-removed}
-use Rattle.mh_model.specs.Pages.{Page, Table, page_number, slot_number, page_at, block_in, block_at, block_count, live_in, count_at, class_at, page_with, page_for, with_block, with_taken, IsFreeFor}
+use Rattle.mh_model.specs.Pages.{Page, Table, page_number, slot_number, page_at, block_in, block_at, live_in, count_at, class_at, page_with, page_for, with_block, with_taken, IsFreeFor}
 
 module _ {X : Type 0} where
-  -- where no slot has a block each is empty
-  pub all_empty : (slots : List (Option X)) (slot : ℕ) → block_count slots ≡ 0 → get_or slots slot None ≡ None
-  all_empty [] slot none = refl
-  all_empty (None ∷ slots) zero none = refl
-  all_empty (None ∷ slots) (suc slot) none = all_empty slots slot none
-  all_empty (Some block ∷ slots) slot none = absurd (omega arith)
-
   -- Places ---------------------------------------------------------------------------------------
 
   -- a place with a block is in a page in use

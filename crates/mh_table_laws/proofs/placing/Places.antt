@@ -380,3 +380,10 @@ module _ {X : Type 0} where
   block_count-removed (Some block ∷ slots) zero e = omega arith
   block_count-removed (None ∷ slots) (suc slot) e = block_count-removed slots slot e
   block_count-removed (Some block ∷ slots) (suc slot) e = omega (arith, block_count-removed slots slot e)
+
+  -- and where none has a block each slot is empty
+  pub block_count-none : (slots : List (Option X)) (slot : ℕ) → block_count slots ≡ 0 → get_or slots slot None ≡ None
+  block_count-none [] slot none = refl
+  block_count-none (None ∷ slots) zero none = refl
+  block_count-none (None ∷ slots) (suc slot) none = block_count-none slots slot none
+  block_count-none (Some block ∷ slots) slot none = absurd (omega arith)
