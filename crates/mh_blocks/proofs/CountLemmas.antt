@@ -8,7 +8,8 @@ use Rattle.mh_model.specs.Pages.{Page, Table, page_number, slot_number, page_at,
 use Rattle.mh_model.specs.Table.{Block}
 use Rattle.mh_model.specs.Machine.{blocks_in, blocks_of}
 use Rattle.mh_classes.proofs.ClassLemmas.{class_is}
-use Rattle.mh_blocks.proofs.ChangeLemmas.{block_in-page_for}
+use Rattle.mh_table_laws.proofs.Lists.{below_length}
+use Rattle.mh_table_laws.proofs.placing.Places.{block_in-page_for}
 
 -- Lists --------------------------------------------------------------------------------------------
 
@@ -67,11 +68,6 @@ in_page-with test page slot content within = slots-set test page.slots slot cont
 
 -- Where a block is ---------------------------------------------------------------------------------
 
-inside : {A : Type 0} (xs : List (Option A)) (i : ℕ) (x : A) → get_or xs i None ≡ Some x → i < length xs
-inside [] i x is = absurd (none-some x is)
-inside (y ∷ xs) zero x is = omega arith
-inside (y ∷ xs) (suc i) x is = let below : i < length xs = inside xs i x is in omega arith
-
 -- the page of a block, and its slot there
 record IsIn (table : Table Block) (place : ℕ) (block : Block) : Type 0 where
   pub page : Page Block
@@ -88,9 +84,9 @@ is_in table place block is = go (page_at table (page_number place)) refl is
     go (Some page) at there = record {
       page = page;
       page_is = at;
-      page_inside = inside table (page_number place) page at;
+      page_inside = below_length table (page_number place) page at;
       block_is = there;
-      slot_inside = inside page.slots (slot_number place) block there;
+      slot_inside = below_length page.slots (slot_number place) block there;
     }
 
 -- Changes ------------------------------------------------------------------------------------------

@@ -1,5 +1,5 @@
 -- Each change of a table changes how many blocks and forwarders it has by what it puts and takes.
-use Rattle.std.proofs.Common.{◌≡◌, ℕ, suc, ◌+◌, ◌-◌, ◌≤◌, Bool, true, false, if◌then◌else◌, List, [], ◌∷◌, length, set, replicate, Option, Some, None, option_map, option_and_then, is_some, IsSome, refl, sym, ap, ◌∙◌, subst, arith}
+use Rattle.std.proofs.Common.{◌≡◌, ℕ, suc, ◌+◌, ◌-◌, ◌≤◌, Bool, true, false, if◌then◌else◌, List, [], ◌∷◌, length, set, replicate, Option, Some, None, option_map, option_and_then, is_some, IsSome, refl, ap, ◌∙◌, arith}
 use mir.Val.{bool_byte}
 use Rattle.std.proofs.lemmas.Bool.{false≢true}
 use Rattle.mh_model.specs.Pages.{Table, page_number, block_at, count_at, with_block, with_taken, with_released, with_flag, HaveTheirSlots, IsFreeFor}
@@ -7,7 +7,7 @@ use Rattle.mh_model.specs.Table.{Block, is_forwarder, forward_at, with_block_cha
 use Rattle.mh_model.specs.Collector.{Move, moved_table}
 use Rattle.mh_model.specs.Machine.{blocks_of}
 use Rattle.mh_blocks.specs.Counted.{HasCounts}
-use Rattle.mh_blocks.proofs.ChangeLemmas.{block_at-taken_other}
+use Rattle.mh_table_laws.proofs.placing.Places.{block_at-with_taken_there}
 use Rattle.mh_blocks.proofs.CountLemmas.{passing, one, in_table, in_table-with_block, in_table-with_taken, in_table-with_flag, in_table-with_released, in_table-freed, in_table-empty, few-in_table}
 
 -- Every block counted ------------------------------------------------------------------------------
@@ -105,7 +105,7 @@ changed_counts table place change blocks forwarders there same counts = go (bloc
 pub moved_counts : (table : Table Block) (place : ℕ) (move : Move) (blocks forwarders : ℕ) → block_at table place ≡ Some move.block → move.block.forward ≡ None → IsFreeFor table move.class_size move.target → HasCounts table blocks forwarders → HasCounts (moved_table table place move) (blocks + 1) (forwarders + 1)
 moved_counts table place move blocks forwarders at original free counts =
     let put = with_taken table move.class_size move.target move.block in
-    let still : block_at put place ≡ Some move.block = block_at-taken_other table move.class_size move.target place move.block (λ same. false≢true (sym (ap is_some free.empty) ∙ subst (λ q. is_some (block_at table q) ≡ true) same (ap is_some at))) ∙ at in
+    let still : block_at put place ≡ Some move.block = block_at-with_taken_there table move.class_size move.target place move.block free (ap is_some at) ∙ at in
     let none : one is_forwarder (Some move.block) ≡ 0 = ap (λ forward. if is_some forward then 1 else 0) original in
     let copy = taken_counts table move.class_size move.target move.block blocks forwarders free original counts in
     let marked : Block = record (move.block) { forward = Some move.target } in

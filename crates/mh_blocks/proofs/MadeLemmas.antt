@@ -16,7 +16,7 @@ use Rattle.mh_blocks.specs.Words.{place_in, header_in, block_of, blocks_of}
 use Rattle.mh_blocks.specs.Packed.{IsPacked, ArePacked}
 use Rattle.mh_blocks.specs.Headers.{IsNewHeader}
 use Rattle.mh_blocks.proofs.TableMapLemmas.{with_taken-table_map}
-use Rattle.mh_blocks.proofs.ChangeLemmas.{block_at-taken, with_block-taken}
+use Rattle.mh_table_laws.proofs.placing.Places.{block_at-with_taken_same, with_block-with_taken}
 use Rattle.mh_blocks.proofs.PackedLemmas.{taken_packed}
 use Rattle.mh_blocks.proofs.FreeLemmas.{at_some}
 
@@ -52,8 +52,8 @@ set_header words header = set (set (set (set words 0 header.birth) 1 header.coun
 
 with_word-taken : (table : Table (List ℕ)) (size place index word : ℕ) (words : List ℕ) → IsFreeFor table size place → with_word (with_taken table size place words) place index word ≡ with_taken table size place (set words index word)
 with_word-taken table size place index word words free =
-    ap (λ content. with_block (with_taken table size place words) place (option_map (λ ws. set ws index word) content)) (block_at-taken table size place words free)
-    ∙ with_block-taken table size place words (set words index word) free
+    ap (λ content. with_block (with_taken table size place words) place (option_map (λ ws. set ws index word) content)) (block_at-with_taken_same table size place words free)
+    ∙ with_block-with_taken table size place words (set words index word) free
 
 -- a header written to a block that was just put
 pub with_header-taken : (table : Table (List ℕ)) (size place : ℕ) (words : List ℕ) (header : Header) → IsFreeFor table size place → with_header (with_taken table size place words) place header ≡ with_taken table size place (set_header words header)

@@ -1,6 +1,5 @@
 -- Blocks moved.
-use Rattle.std.proofs.Common.{◌≡◌, ◌≢◌, ℕ, ◌<◌, ◌^◌, List, [], length, Some, is_some, option_map, unwrap_or, IsSome, IfSome, sym, ap, ◌∙◌, subst, arith}
-use Rattle.std.proofs.lemmas.Bool.{false≢true}
+use Rattle.std.proofs.Common.{◌≡◌, ℕ, ◌<◌, ◌^◌, List, [], length, Some, is_some, option_map, unwrap_or, IsSome, IfSome, sym, ap, ◌∙◌, subst, arith}
 use Rattle.std.proofs.lemmas.Option.{same_Some}
 use Rattle.mh_model.specs.Pages.{Table, page_number, block_at, class_at, with_block, with_taken, IsFreeFor}
 use Rattle.mh_model.specs.Table.{Block}
@@ -10,15 +9,11 @@ use Rattle.mh_blocks.specs.Words.{place_in, block_of, blocks_of}
 use Rattle.mh_blocks.specs.Packed.{ArePacked}
 use Rattle.mh_blocks.proofs.TableMapLemmas.{block_at-table_map, with_taken-table_map}
 use Rattle.mh_blocks.proofs.PageMapLemmas.{class_at-table_map, free_above}
-use Rattle.mh_blocks.proofs.ChangeLemmas.{block_at-taken_other}
+use Rattle.mh_table_laws.proofs.placing.Places.{block_at-with_taken_there}
 use Rattle.mh_blocks.proofs.ReadLemmas.{words_there, header_within, small_place}
 use Rattle.mh_blocks.proofs.WriteLemmas.{with_word-forward}
 use Rattle.mh_blocks.proofs.PackedLemmas.{taken_packed, word_packed}
 use Rattle.mh_blocks.proofs.FreeLemmas.{if_some, at_some, free_for_class}
-
--- a free place isn't that of a block
-free_apart : (table : Table (List ℕ)) (size place target : ℕ) → IsFreeFor table size target → IsSome (block_at table place) → place ≢ target
-free_apart table size place target free there same = false≢true (sym (ap is_some free.empty) ∙ subst (λ q. IsSome (block_at table q)) same there)
 
 -- the table with the words of a block copied to another place
 abbrev pub copied : Table (List ℕ) → ℕ → ℕ → ℕ → Table (List ℕ)
@@ -39,7 +34,7 @@ moves_below table size place target packed there free class =
     let words = words_there table place packed there in
     let all : ArePacked (copied table size place target) = taken_packed table size target (words_at table place) words.packed packed in
     let still : block_at (copied table size place target) place ≡ Some (words_at table place)
-    = block_at-taken_other table size target place (words_at table place) (free_apart table size place target free (ap is_some words.is)) ∙ words.is in
+    = block_at-with_taken_there table size target place (words_at table place) free (ap is_some words.is) ∙ words.is in
     record {
       free = free;
       small = small_place table target packed (free_above block_of table size target free).inside;

@@ -1,42 +1,13 @@
--- The parts of an object: how many there are, which part stands at which number, and what each is.
-use Rattle.std.proofs.Common.{◌≡◌, ℕ, zero, suc, ◌+◌, ◌-◌, ◌*◌, ◌<◌, ◌≤◌, ◌==◌, min, nat_le, nat_lt, if◌then◌else◌, Bool, true, false, ◌⊎◌, inl, inr, List, [], ◌∷◌, ◌++◌, length, slice_get, Some, None, IsSome, find, refl, sym, ap, ◌∙◌, subst, arith}
-use Rattle.std.proofs.lemmas.Bool.{cases_Bool, eqb-true, false≢true, le-leb, lt-leb, leb-true, leb-false, ltb-true, ltb-false}
-use Rattle.std.proofs.lemmas.Option.{none-some, same_Some, slice_get_within}
-use Rattle.std.proofs.lemmas.List.{length-append}
-use Rattle.mh_model.specs.Classes.{Part, class_sizes, class_of, tabulate, plain_part, spine_part, middle_spine, arraylet, run_count, middle_count, child_count, spine_parts, parts}
+-- The parts of an object: which part stands at which number, and what each is.
+use Rattle.std.proofs.Common.{◌≡◌, ℕ, zero, suc, ◌+◌, ◌-◌, ◌*◌, ◌<◌, ◌≤◌, min, nat_le, nat_lt, if◌then◌else◌, inl, inr, [], ◌∷◌, length, slice_get, Some, sym, ap, ◌∙◌, subst, arith}
+use Rattle.std.proofs.lemmas.Bool.{cases_Bool, le-leb, lt-leb, leb-true, leb-false, ltb-true, ltb-false}
+use Rattle.std.proofs.lemmas.Option.{same_Some, slice_get_within}
+use Rattle.mh_model.specs.Classes.{Part, tabulate, plain_part, spine_part, middle_spine, arraylet, run_count, middle_count, child_count, spine_parts, parts}
 use Rattle.mh_model.proofs.TabulateLemmas.{length-tabulate}
+use Rattle.mh_table_laws.proofs.objects.Parts.{slice-tabulate, slice-right, counts, length-one, length-parts, middle_at}
 use Rattle.mh_classes.specs.Fits.{IsPart}
 
--- Lists ------------------------------------------------------------------------------------------
-
-slice-tabulate : (f : ℕ → Part) (first count i : ℕ) → i < count → slice_get (tabulate f first count) i ≡ Some (f (first + i))
-slice-tabulate f first zero i below = absurd (omega arith)
-slice-tabulate f first (suc count) zero below = let k : first ≡ first + 0 = omega arith in ap (λ j. Some (f j)) k
-slice-tabulate f first (suc count) (suc i) below = let k : suc first + i ≡ first + suc i = omega arith in slice-tabulate f (suc first) count i (omega arith) ∙ ap (λ j. Some (f j)) k
-
-slice-left : (xs ys : List Part) (i : ℕ) → i < length xs → slice_get (xs ++ ys) i ≡ slice_get xs i
-slice-left [] ys i below = absurd (omega arith)
-slice-left (x ∷ xs) ys zero below = refl
-slice-left (x ∷ xs) ys (suc i) below = slice-left xs ys i (omega arith)
-
-slice-right : (xs ys : List Part) (i j : ℕ) → i ≡ length xs + j → slice_get (xs ++ ys) i ≡ slice_get ys j
-slice-right [] ys i j e = ap (slice_get ys) (omega arith)
-slice-right (x ∷ xs) ys zero j e = absurd (omega arith)
-slice-right (x ∷ xs) ys (suc i) j e = slice-right xs ys i j (omega arith)
-
--- Counts -----------------------------------------------------------------------------------------
-
--- without middle spines, or with them
-pub record HasCounts (fields : ℕ) : Type 0 where
-  pub case : ((fields ≤ 3600) × (middle_count fields ≡ 0) × (child_count fields ≡ run_count fields)) ⊎ ((3600 < fields) × (middle_count fields ≡ run_count (run_count fields)) × (child_count fields ≡ run_count (run_count fields)))
-
-pub counts : (fields : ℕ) → HasCounts fields
-counts fields = record {
-  case = elim (cases_Bool (nat_le fields 3600)) [
-    | inl few ↦ inl (leb-true fields 3600 few, ap (λ b. if b then 0 else run_count (run_count fields)) few, ap (λ b. if b then run_count fields else run_count (run_count fields)) few)
-    | inr many ↦ inr (omega (arith, leb-false fields 3600 many), ap (λ b. if b then 0 else run_count (run_count fields)) many, ap (λ b. if b then run_count fields else run_count (run_count fields)) many)
-  ];
-}
+-- Parts by size --------------------------------------------------------------------------------
 
 parts_small : (r n : ℕ) → r + n ≤ 60 → parts r n ≡ plain_part r n ∷ []
 parts_small r n few = ap (λ b. if b then plain_part r n ∷ [] else spine_parts r n) (le-leb _ _ few)
@@ -44,41 +15,15 @@ parts_small r n few = ap (λ b. if b then plain_part r n ∷ [] else spine_parts
 parts_large : (r n : ℕ) → 60 < r + n → parts r n ≡ spine_parts r n
 parts_large r n many = ap (λ b. if b then plain_part r n ∷ [] else spine_parts r n) (lt-leb _ _ many)
 
-pub count_small : (r n : ℕ) → r + n ≤ 60 → length (parts r n) ≡ 1
-count_small r n few = ap length (parts_small r n few)
-
-pub count_large : (r n : ℕ) → 60 < r + n → length (parts r n) ≡ 1 + middle_count (r + n) + run_count (r + n)
-count_large r n many =
-    let all = length-append (tabulate (middle_spine (r + n)) 0 (middle_count (r + n))) (tabulate (arraylet r n) 0 (run_count (r + n))) in
-    let one = length-tabulate (middle_spine (r + n)) 0 (middle_count (r + n)) in
-    let two = length-tabulate (arraylet r n) 0 (run_count (r + n)) in
-    ap length (parts_large r n many) ∙ omega (arith, all, one, two)
-
-pub parts_few : (r n : ℕ) → r + n ≤ 216000 → length (parts r n) ≤ 3661
-parts_few r n most = elim (cases_Bool (nat_le (r + n) 60)) [
-  | inl few ↦ omega (arith, count_small r n (leb-true (r + n) 60 few))
-  | inr past ↦
-      let all = count_large r n (omega (arith, leb-false (r + n) 60 past)) in
-      elim (counts (r + n)).case [ inl k ↦ let (small, none, runs) = k in omega (arith, all, none, small) | inr k ↦ let (large, some, runs) = k in omega (arith, all, some, most) ]
-]
-
 -- Parts by number --------------------------------------------------------------------------------
 
 pub small_at : (r n i : ℕ) → r + n ≤ 60 → i < length (parts r n) → slice_get (parts r n) i ≡ Some (plain_part r n)
 small_at r n i few inside =
-    let first : i ≡ 0 = omega (arith, count_small r n few) in
+    let first : i ≡ 0 = omega (arith, length-one r n few) in
     rw first (ap (λ ps. slice_get ps 0) (parts_small r n few))
 
 pub first_at : (r n : ℕ) → 60 < r + n → slice_get (parts r n) 0 ≡ Some (spine_part (record { references = r; numbers = n }) (child_count (r + n)) 1)
 first_at r n many = ap (λ ps. slice_get ps 0) (parts_large r n many)
-
-pub middle_at : (r n i run : ℕ) → 60 < r + n → run < middle_count (r + n) → i ≡ suc run → slice_get (parts r n) i ≡ Some (middle_spine (r + n) run)
-middle_at r n i run many below is =
-    let size = length-tabulate (middle_spine (r + n)) 0 (middle_count (r + n)) in
-    let k : 0 + run ≡ run = omega arith in
-    ap (slice_get (parts r n)) is ∙ ap (λ ps. slice_get ps (suc run)) (parts_large r n many)
-    ∙ slice-left (tabulate (middle_spine (r + n)) 0 (middle_count (r + n))) (tabulate (arraylet r n) 0 (run_count (r + n))) run (omega (arith, below, size))
-    ∙ slice-tabulate (middle_spine (r + n)) 0 (middle_count (r + n)) run below ∙ ap (λ j. Some (middle_spine (r + n) j)) k
 
 pub arraylet_at : (r n i run : ℕ) → 60 < r + n → run < run_count (r + n) → i ≡ suc (middle_count (r + n) + run) → slice_get (parts r n) i ≡ Some (arraylet r n run)
 arraylet_at r n i run many below is =
@@ -145,30 +90,11 @@ part_is r n i part most e = elim (cases_Bool (nat_le (r + n) 60)) [
     large : (i : ℕ) → slice_get (parts r n) i ≡ Some part → 60 < r + n → IsPart part
     large zero at many = subst IsPart (same_Some _ part (sym (first_at r n many) ∙ at)) (first_is r n many most)
     large (suc i) at many = elim (cases_Bool (nat_lt i (middle_count (r + n)))) [
-      | inl below ↦ subst IsPart (same_Some _ part (sym (middle_at r n (suc i) i many (ltb-true i (middle_count (r + n)) below) refl) ∙ at)) (middle_is (r + n) i)
+      | inl below ↦ subst IsPart (same_Some _ part (sym (middle_at r n i many (ltb-true i (middle_count (r + n)) below)) ∙ at)) (middle_is (r + n) i)
       | inr past ↦
           let after : middle_count (r + n) ≤ i = ltb-false i (middle_count (r + n)) past in
-          let all = count_large r n many in
+          let all = length-parts r n many in
           let less : suc i < length (parts r n) = slice_get_within (parts r n) (suc i) part at in
           let run : ℕ = i - middle_count (r + n) in
           subst IsPart (same_Some _ part (sym (arraylet_at r n (suc i) (i - middle_count (r + n)) many (omega (arith, after, all, less)) (omega (arith, after))) ∙ at)) (arraylet_is r n (i - middle_count (r + n)))
     ]
-
--- Classes ----------------------------------------------------------------------------------------
-
-find_has : (test : ℕ → Bool) (xs : List ℕ) (i x : ℕ) → slice_get xs i ≡ Some x → test x ≡ true → IsSome (find test xs)
-find_has test [] i x e passes = absurd (none-some x e)
-find_has test (y ∷ xs) i x e passes = go (test y) refl i e (λ j f. find_has test xs j x f passes)
-  where
-    go : (b : Bool) → test y ≡ b → (i : ℕ) → slice_get (y ∷ xs) i ≡ Some x → ((j : ℕ) → slice_get xs j ≡ Some x → IsSome (find test xs)) → IsSome (if b then Some y else find test xs)
-    go true is i e more = refl
-    go false is zero e more = absurd (false≢true (sym is ∙ ap test (same_Some y x e) ∙ passes))
-    go false is (suc i) e more = more i e
-
--- up to 64 words have a class
-pub class_of-some : (words : ℕ) → 0 < words → words ≤ 64 → IsSome (class_of words)
-class_of-some words some few = go (words == 0) refl
-  where
-    go : (b : Bool) → (words == 0) ≡ b → IsSome (if b then None else find (λ size. nat_le words size) class_sizes)
-    go true is = absurd (omega (arith, some, eqb-true words 0 is))
-    go false is = find_has (λ size. nat_le words size) class_sizes 19 64 refl (le-leb words 64 few)

@@ -1,5 +1,6 @@
 -- A batch of marking is one stride.
 use Rattle.std.proofs.Common.{◌≡◌, ℕ, ◌+◌, ◌<◌, ◌≤◌, ◌==◌, ◌⊎◌, inl, inr, Bool, false, if◌then◌else◌, List, [], ◌∷◌, ◌++◌, length, drop, refl, sym, ap, ◌∙◌, subst, arith}
+use Rattle.std.proofs.Math.Seq.{drop-append_seam}
 use Rattle.std.proofs.lemmas.List.Sums.{sum_by-cons}
 use Rattle.mh_model.specs.declared.config.Config.{Config}
 use Rattle.mh_model.specs.declared.cycle.Phase.{Phase}
@@ -15,10 +16,6 @@ use Rattle.mh_cycle.specs.State.{IsFramed}
 use Rattle.mh_cycle.specs.Advance.{IsStride, IsRun}
 use Rattle.mh_cycle.proofs.StepLemmas.{cost-is, after-mark}
 use Rattle.mh_cycle.proofs.StrideLemmas.{stride-none, over}
-
-drop_front : (front rest : List ℕ) → drop (length front) (front ++ rest) ≡ rest
-drop_front [] rest = refl
-drop_front (x ∷ front) rest = drop_front front rest
 
 some_batch : (table : Table Block) (batch : List ℕ) → 0 < batch_cost table batch → 0 < length batch
 some_batch table [] some = absurd (omega arith)
@@ -37,7 +34,7 @@ batch-goes : AnyCutIntoBatchesIsTheSame → (left : ℕ) (c : Collector) → c.p
 batch-goes law left c phase once some moved more fits =
     let batch : List ℕ = longest_front 1024 c.table left c.grey in
     let is = law.longest 1024 c.table left c.grey in
-    let rest : rest_of left c ≡ is.rest = ap (drop (length batch)) is.is_front ∙ drop_front batch is.rest in
+    let rest : rest_of left c ≡ is.rest = ap (drop (length batch)) is.is_front ∙ drop-append_seam batch is.rest in
     law.begins c batch (rest_of left c) more moved phase (is.is_front ∙ ap (λ r. batch ++ r) (sym rest)) once (some_batch c.table batch some) fits
 
 batch-stops : AnyCutIntoBatchesIsTheSame → (left : ℕ) (c : Collector) → c.phase ≡ Mark → 0 < length c.grey → batch_cost c.table (front_of left (marking_of c)) ≡ 0 → (moved : Bool) → left < step_cost c moved

@@ -1,18 +1,15 @@
 -- What the next step of a steady collector asks for.
 use Rattle.std.proofs.Common.{◌≡◌, ℕ, ◌<◌, ◌==◌, inl, inr, true, List, [], ◌∷◌, length, Option, Some, None, option_map, option_and_then, unwrap_or, is_some, refl, sym, ap, ◌∙◌, subst, arith}
-use Rattle.std.proofs.lemmas.Bool.{false≢true, eqb-true}
-use Rattle.mh_model.specs.declared.cycle.Phase.{Phase}
-use Rattle.mh_model.specs.declared.cycle.Phase.TheVariants.{Idle, Roots, Mark, Sweep, Defrag}
+use Rattle.std.proofs.lemmas.Bool.{false≢true, eqb-true, or_cases}
 use Rattle.mh_model.specs.Pages.{block_at}
 use Rattle.mh_model.specs.Table.{Block, references_at, reference_at, forward_at, LeadsOn, LeadsHome}
 use Rattle.mh_model.specs.Collector.{Collector}
 use Rattle.mh_model.specs.Mutator.{in_roots_or_mark}
-use Rattle.mh_model.specs.View.{in_sweep}
 use Rattle.mh_model.specs.Invariant.{IsIn, IsPlainAt, IsSteady}
 use Rattle.mh_laws.specs.Fields.{ReferencesLeadOn}
+use Rattle.mh_laws.proofs.marking.BlockChanges.{not_sweep}
 use Rattle.mh_grey.specs.Queue.{is_in}
 use Rattle.mh_grey.specs.Shading.{AreMarked}
-use Rattle.mh_grey.proofs.QueueLemmas.{or_cases}
 use Rattle.mh_mark.specs.Walkable.{IsWalkable}
 
 listed : (grey : List ℕ) (place : ℕ) → is_in place grey ≡ true → IsIn place grey
@@ -35,13 +32,6 @@ walkable law c steady = record {
 
 -- While blocks are marked ---------------------------------------------------------------------------
 
-no_sweep : (phase : Phase) → in_roots_or_mark phase ≡ true → in_sweep phase ≡ true → ⊥
-no_sweep Idle a b = false≢true a
-no_sweep Roots a b = false≢true b
-no_sweep Mark a b = false≢true b
-no_sweep Sweep a b = false≢true a
-no_sweep Defrag a b = false≢true a
-
 -- a block with references that is no forwarder is plain
 plain-at : (c : Collector) (place index : ℕ) → in_roots_or_mark c.phase ≡ true → index < length (references_at c.table place) → forward_at c.table place ≡ None → (block : Block) × IsPlainAt c place block
 plain-at c place index marks there original = go (block_at c.table place) refl
@@ -51,7 +41,7 @@ plain-at c place index marks there original = go (block_at c.table place) refl
       where
         none : index < 0 → ⊥
         none h = omega arith
-    go (Some block) is = (block, record { there = is; original = sym (ap (option_and_then (λ (b : Block). b.forward)) is) ∙ original; surviving = λ s. absurd (no_sweep c.phase marks s) })
+    go (Some block) is = (block, record { there = is; original = sym (ap (option_and_then (λ (b : Block). b.forward)) is) ∙ original; surviving = λ s. absurd (not_sweep c.phase marks s) })
 
 -- so its references lead to blocks that are no forwarders
 pub reference-leads : ReferencesLeadOn → (c : Collector) → IsSteady c → (place index : ℕ) → in_roots_or_mark c.phase ≡ true → index < length (references_at c.table place) → forward_at c.table place ≡ None

@@ -1,9 +1,6 @@
 -- What barriers and a start keep for each snapshot.
 use Rattle.std.proofs.Common.{◌≡◌, ℕ, ◌<◌, true, [], length, get_or, Option, Some, None, option_map, option_and_then, unwrap_or, sym, ap, ◌∙◌, subst}
-use Rattle.std.proofs.lemmas.Bool.{false≢true}
 use Rattle.std.proofs.lemmas.Option.{same_Some}
-use Rattle.mh_model.specs.declared.cycle.Phase.{Phase}
-use Rattle.mh_model.specs.declared.cycle.Phase.TheVariants.{Idle, Roots, Mark, Sweep, Defrag}
 use Rattle.mh_model.specs.Pages.{block_at}
 use Rattle.mh_model.specs.Table.{Block, resolve, reference_at, references_at, LeadsHome, forward_at}
 use Rattle.mh_model.specs.Collector.{Collector, with_shade, is_start_due, quantum}
@@ -14,6 +11,7 @@ use Rattle.mh_model.specs.Invariant.{IsSound, Continues, IsSteady}
 use Rattle.mh_laws.specs.Barriers.{BarriersKeepTheSnapshot}
 use Rattle.mh_laws.specs.Snapshots.{ShadingKeepsTheSnapshot, CyclesStartFromTheView}
 use Rattle.mh_laws.specs.Fields.{ReferencesLeadOn}
+use Rattle.mh_laws.proofs.marking.BlockChanges.{roots_mark}
 use Rattle.mh_laws.proofs.snapshots.CycleSteps.{snapshot-counted}
 use Rattle.mh_cycle.specs.State.{CycleState}
 use Rattle.mh_cycle.specs.Snapshots.{KeepsEach, KeepsEachBehind, StartsFromTheView}
@@ -26,15 +24,8 @@ kept-steady old new kept (snapshot, n, keeps) = (snapshot, n, kept snapshot n ke
 pub asked-kept : (c : Collector) → KeepsEach c (record c { is_asked = true })
 asked-kept c snapshot n keeps = snapshot-counted snapshot n c true c.quanta keeps
 
-marks_in_roots : (phase : Phase) → in_roots phase ≡ true → in_roots_or_mark phase ≡ true
-marks_in_roots Idle is = is
-marks_in_roots Roots is = is
-marks_in_roots Mark is = absurd (false≢true is)
-marks_in_roots Sweep is = is
-marks_in_roots Defrag is = is
-
 pub root-kept : ShadingKeepsTheSnapshot → (c : Collector) (slot : ℕ) → in_roots c.phase ≡ true → KeepsEach c (with_shade c (get_or c.slots slot None))
-root-kept law c slot roots snapshot n keeps = law snapshot n c (marks_in_roots c.phase roots) slot keeps
+root-kept law c slot roots snapshot n keeps = law snapshot n c (roots_mark c.phase roots) slot keeps
 
 -- a reference that leads home leads to no forwarder
 no-forwarder : (c : Collector) (reference : Option ℕ) → LeadsHome c.table reference → (place : ℕ) (block : Block) → reference ≡ Some place → block_at c.table (resolve c.table place) ≡ Some block → block.forward ≡ None

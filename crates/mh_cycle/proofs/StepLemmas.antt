@@ -1,14 +1,12 @@
 -- A step of each phase, by what was done.
-use Rattle.std.proofs.Common.{◌≡◌, ℕ, suc, ◌+◌, ◌/◌, ◌<◌, ◌≤◌, ◌≢◌, ◌==◌, ◌||◌, Bool, true, false, nat_le, if◌then◌else◌, List, [], ◌∷◌, length, Option, Some, None, is_some, option_map, slice_get, eq-eqb, refl, sym, ap, ◌∙◌, arith}
-use Rattle.std.proofs.lemmas.Bool.Decides.{nat_tests}
+use Rattle.std.proofs.Common.{◌≡◌, ℕ, suc, ◌+◌, ◌/◌, ◌<◌, ◌≤◌, ◌≢◌, ◌==◌, Bool, false, if◌then◌else◌, List, [], ◌∷◌, length, Option, Some, None, is_some, option_map, slice_get, eq-eqb, refl, sym, ap, ◌∙◌, arith}
+use Rattle.std.proofs.lemmas.Bool.{le-leb, lt-leb, ne_eqb}
 use Rattle.std.proofs.lemmas.Option.{same_Some}
 use Rattle.mh_model.specs.declared.cycle.Phase.{Phase}
 use Rattle.mh_model.specs.declared.cycle.Phase.TheVariants.{Roots, Mark, Sweep, Defrag}
 use Rattle.mh_model.specs.Pages.{Table}
 use Rattle.mh_model.specs.Table.{Block, references_at}
 use Rattle.mh_model.specs.Collector.{Collector, Move, cycle_end, next_move, next_place, flagged_page, with_move, moved_table, forwarded_slots, is_moving, is_moving_in, is_past, roots_step, mark_step, sweep_step, defrag_step, with_phase, with_marking, marking_of, after_mark, phase_after, step_in, cost_in, first_mark_cost, step_cost, collector_step}
-use Rattle.mh_grey.specs.Queue.{is_in}
-use Rattle.mh_grey.proofs.ShadeLemmas.{not_same}
 use Rattle.mh_defrag.specs.Moves.{IsTarget, moved, slots_moved}
 
 pub step-is : (c : Collector) (phase : Phase) → c.phase ≡ phase → collector_step c ≡ phase_after phase (step_in phase c)
@@ -29,7 +27,7 @@ first-cost table (first ∷ grey) place is = let same : first ≡ place = same_S
 pub after-mark : (r : Collector) (phase : Phase) (grey : List ℕ) → phase ≡ (if length grey == 0 then Sweep else Mark) → after_mark r grey ≡ with_phase r phase 0
 after-mark r phase [] next = rw next refl
 after-mark r phase (place ∷ grey) next =
-    let some : (length (place ∷ grey) == 0) ≡ false = not_same (length (place ∷ grey)) 0 (λ e. never grey e) in
+    let some : (length (place ∷ grey) == 0) ≡ false = ne_eqb (length (place ∷ grey)) 0 (λ e. never grey e) in
     rw (next, some) refl
   where
     never : (grey : List ℕ) → suc (length grey) ≡ 0 → ⊥
@@ -40,7 +38,7 @@ roots-after c phase in_roots last next =
     step-is c Roots in_roots ∙ ap (λ b. if b then after_mark (roots_step c) (roots_step c).grey else roots_step c) (eq-eqb (c.cursor + 1) 144 last) ∙ after-mark (roots_step c) phase (roots_step c).grey next
 
 pub roots-stay : (c : Collector) → c.phase ≡ Roots → c.cursor + 1 ≢ 144 → collector_step c ≡ roots_step c
-roots-stay c in_roots more = step-is c Roots in_roots ∙ ap (λ b. if b then after_mark (roots_step c) (roots_step c).grey else roots_step c) (not_same (c.cursor + 1) 144 more)
+roots-stay c in_roots more = step-is c Roots in_roots ∙ ap (λ b. if b then after_mark (roots_step c) (roots_step c).grey else roots_step c) (ne_eqb (c.cursor + 1) 144 more)
 
 pub mark-after : (c : Collector) (phase : Phase) → c.phase ≡ Mark → phase ≡ (if length (mark_step (marking_of c)).grey == 0 then Sweep else Mark)
     → collector_step c ≡ with_phase (with_marking c (mark_step (marking_of c))) phase 0
@@ -48,17 +46,11 @@ mark-after c phase in_mark next = step-is c Mark in_mark ∙ after-mark (with_ma
 
 -- Sweep --------------------------------------------------------------------------------------------
 
-le-yes : (a b : ℕ) → a ≤ b → nat_le a b ≡ true
-le-yes a b h = grind (arith, nat_tests)
-
-le-no : (a b : ℕ) → b < a → nat_le a b ≡ false
-le-no a b h = grind (arith, nat_tests)
-
 pub sweep-past : (c : Collector) → c.phase ≡ Sweep → length (sweep_step c).table ≤ (sweep_step c).cursor / 64 → collector_step c ≡ with_phase (sweep_step c) Defrag 0
-sweep-past c phase past = step-is c Sweep phase ∙ ap (λ b. if b then with_phase (sweep_step c) Defrag 0 else sweep_step c) (le-yes (length (sweep_step c).table) ((sweep_step c).cursor / 64) past)
+sweep-past c phase past = step-is c Sweep phase ∙ ap (λ b. if b then with_phase (sweep_step c) Defrag 0 else sweep_step c) (le-leb (length (sweep_step c).table) ((sweep_step c).cursor / 64) past)
 
 pub sweep-stays : (c : Collector) → c.phase ≡ Sweep → (sweep_step c).cursor / 64 < length (sweep_step c).table → collector_step c ≡ sweep_step c
-sweep-stays c phase inside = step-is c Sweep phase ∙ ap (λ b. if b then with_phase (sweep_step c) Defrag 0 else sweep_step c) (le-no (length (sweep_step c).table) ((sweep_step c).cursor / 64) inside)
+sweep-stays c phase inside = step-is c Sweep phase ∙ ap (λ b. if b then with_phase (sweep_step c) Defrag 0 else sweep_step c) (lt-leb (length (sweep_step c).table) ((sweep_step c).cursor / 64) inside)
 
 -- Defragmentation ----------------------------------------------------------------------------------
 
@@ -85,7 +77,7 @@ pub defrag-ends : (c : Collector) (table : Table Block) (slots : List (Option �
 defrag-ends c table slots cursor phase a b d past =
     let r : Collector = shifted c table slots cursor in
     let is : r ≡ defrag_step c = rw (a, b, d) (sym (defrag-parts c phase)) in
-    sym (defrag-is c phase ∙ ap (λ x. defrag_next x (is_past x.table x.cursor)) (sym is) ∙ ap (defrag_next r) (le-yes (length table) (cursor / 64) past))
+    sym (defrag-is c phase ∙ ap (λ x. defrag_next x (is_past x.table x.cursor)) (sym is) ∙ ap (defrag_next r) (le-leb (length table) (cursor / 64) past))
 
 pub defrag-goes : (c : Collector) (table : Table Block) (slots : List (Option ℕ)) (cursor : ℕ) → c.phase ≡ Defrag
     → table ≡ moved c.table c.cursor (next_move c.table c.cursor) → slots ≡ slots_moved c.table c.cursor c.slots (next_move c.table c.cursor) → cursor ≡ next_place c.cursor (flagged_page c.table c.cursor)
@@ -93,7 +85,7 @@ pub defrag-goes : (c : Collector) (table : Table Block) (slots : List (Option �
 defrag-goes c table slots cursor phase a b d inside =
     let r : Collector = shifted c table slots cursor in
     let is : r ≡ defrag_step c = rw (a, b, d) (sym (defrag-parts c phase)) in
-    sym (defrag-is c phase ∙ ap (λ x. defrag_next x (is_past x.table x.cursor)) (sym is) ∙ ap (defrag_next r) (le-no (length table) (cursor / 64) inside))
+    sym (defrag-is c phase ∙ ap (λ x. defrag_next x (is_past x.table x.cursor)) (sym is) ∙ ap (defrag_next r) (lt-leb (length table) (cursor / 64) inside))
 
 pub moving-defrag : (c : Collector) (target : Option ℕ) → c.phase ≡ Defrag → IsTarget c.table c.cursor target → is_some target ≡ is_moving c
 moving-defrag c target phase of = ap is_some of.is ∙ go (next_move c.table c.cursor) ∙ sym (ap (λ p. is_moving_in p c) phase)

@@ -1,28 +1,18 @@
 -- Steps one after the other: strides, what they keep, and how a quantum is made of them.
 use Rattle.std.proofs.Common.{◌≡◌, ℕ, zero, suc, ◌+◌, ◌-◌, ◌*◌, ◌<◌, ◌≤◌, ◌||◌, ◌⊎◌, inl, inr, Bool, true, false, nat_lt, if◌then◌else◌, List, [], ◌∷◌, refl, sym, ap, ◌∙◌, subst, arith}
-use Rattle.std.proofs.lemmas.Bool.{cases_Bool, or_parts}
-use Rattle.std.proofs.lemmas.Bool.Decides.{nat_tests}
+use Rattle.std.proofs.lemmas.Bool.{cases_Bool, or_parts, or_right, lt-ltb, le-ltb}
 use Rattle.mh_model.specs.declared.cycle.Phase.{Phase}
 use Rattle.mh_model.specs.declared.cycle.Phase.TheVariants.{Idle, Roots, Mark, Sweep, Defrag}
 use Rattle.mh_model.specs.Collector.{Collector, Spending, after_mark, is_past, with_phase, cycle_end, phase_after, step_in, is_idle, is_moving, is_moving_in, step_cost, collector_step, with_units, steps, quantum_start, quantum}
 use Rattle.mh_model.specs.Invariant.{IsSteady}
 use Rattle.mh_laws.specs.Snapshots.{CollectorsStaySteady}
+use Rattle.mh_laws.proofs.marking.BatchSteps.{with_units-twice}
 use Rattle.mh_laws.proofs.costs.Quanta.{steps-stop, steps-go, steps-enough, step_cost-positive}
-use Rattle.mh_grey.proofs.QueueLemmas.{or_right}
 use Rattle.mh_cycle.specs.State.{CycleState, with_collector}
 use Rattle.mh_cycle.specs.Advance.{is_over, order, IsFrom, IsStride, IsRun, IsAdvance, IsRest}
 
-more-units : (a b : ℕ) (s : Spending) → with_units a (with_units b s) ≡ with_units (a + b) s
-more-units a b s = ap (λ u. record s { units = u }) (omega arith)
-
 no-units : (s : Spending) → with_units 0 s ≡ s
 no-units s = ap (λ u. record s { units = u }) (omega arith)
-
-not-below : (left cost : ℕ) → cost ≤ left → nat_lt left cost ≡ false
-not-below left cost fits = grind (arith, nat_tests)
-
-below : (left cost : ℕ) → left < cost → nat_lt left cost ≡ true
-below left cost less = grind (arith, nat_tests)
 
 -- Strides ------------------------------------------------------------------------------------------
 
@@ -33,7 +23,7 @@ stride-none moved c left fits = let a : left - 0 ≡ left = omega arith in rw a 
 pub stride-then : (a b : ℕ) (m1 m2 m3 : Bool) (c1 c2 c3 : Collector) → IsStride a m1 c1 m2 c2 → IsStride b m2 c2 m3 c3 → IsStride (a + b) m1 c1 m3 c3
 stride-then a b m1 m2 m3 c1 c2 c3 first second left fits =
     let e : left - a - b ≡ left - (a + b) = omega arith in
-    first left (omega arith) ∙ ap (with_units a) (second (left - a) (omega arith)) ∙ more-units a b (steps (left - a - b) (left - a - b) m3 c3) ∙ ap (λ n. with_units (a + b) (steps n n m3 c3)) e
+    first left (omega arith) ∙ ap (with_units a) (second (left - a) (omega arith)) ∙ with_units-twice a b (steps (left - a - b) (left - a - b) m3 c3) ∙ ap (λ n. with_units (a + b) (steps n n m3 c3)) e
 
 -- a step is a stride
 pub stride-step : (moved : Bool) (c : Collector) → is_idle c.phase ≡ false → IsStride (step_cost c moved) moved c (moved || is_moving c) (collector_step c)
@@ -42,7 +32,7 @@ stride-step moved c runs left fits = go left fits
     go : (n : ℕ) → step_cost c moved ≤ n → steps n n moved c ≡ with_units (step_cost c moved) (steps (n - step_cost c moved) (n - step_cost c moved) (moved || is_moving c) (collector_step c))
     go zero h = absurd (omega (arith, step_cost-positive c moved runs))
     go (suc n) h =
-        let goes : (is_idle c.phase || nat_lt (suc n) (step_cost c moved)) ≡ false = rw runs (not-below (suc n) (step_cost c moved) h) in
+        let goes : (is_idle c.phase || nat_lt (suc n) (step_cost c moved)) ≡ false = rw runs (le-ltb (suc n) (step_cost c moved) h) in
         steps-go n (suc n) moved c goes ∙ ap (with_units (step_cost c moved)) (steps-enough n (suc n - step_cost c moved) (suc n - step_cost c moved) (moved || is_moving c) (collector_step c) (omega (arith, step_cost-positive c moved runs)) (omega arith))
 
 -- the same by what the step costs, moves and leaves
@@ -122,7 +112,7 @@ pub from-stride : (phase : Phase) (left units : ℕ) (moved moves : Bool) (old n
 from-stride phase left units moved moves old new is stride = inl (subst (λ p. order p ≤ order new.phase) is (stride-later units moved moves old new stride))
 
 pub over : (left cost : ℕ) (moved : Bool) (c : Collector) → cost ≡ step_cost c moved → left < cost → is_over left moved c ≡ true
-over left cost moved c price less = or_right (is_idle c.phase) (nat_lt left (step_cost c moved)) (rw (← price) (below left cost less))
+over left cost moved c price less = or_right (is_idle c.phase) (nat_lt left (step_cost c moved)) (rw (← price) (lt-ltb left cost less))
 
 pub over-nothing : (left : ℕ) (moved : Bool) (c : Collector) → left ≡ 0 → is_over left moved c ≡ true
 over-nothing left moved c none = elim (cases_Bool (is_idle c.phase)) [
@@ -149,7 +139,7 @@ advance-on left units cost all m1 m2 old mid new before sum fits config steady s
       let e : left - units - cost ≡ left - all = omega arith in
       before.goes
       ∙ ap (with_units units) (stride (left - units) fits)
-      ∙ more-units units cost (steps (left - units - cost) (left - units - cost) m2 new.collector)
+      ∙ with_units-twice units cost (steps (left - units - cost) (left - units - cost) m2 new.collector)
       ∙ ap (λ u. with_units u (steps (left - units - cost) (left - units - cost) m2 new.collector)) (sym sum)
       ∙ ap (λ n. with_units all (steps n n m2 new.collector)) e;
 }

@@ -1,13 +1,12 @@
 -- The next move, and what it leaves.
-use Rattle.std.proofs.Common.{◌≡◌, ◌≢◌, ℕ, zero, suc, inl, inr, Bool, true, false, if◌then◌else◌, List, [], ◌∷◌, get_or, set, Option, Some, None, option_map, option_and_then, is_some, IsSome, refl, sym, ap, ◌∙◌, subst, arith}
+use Rattle.std.proofs.Common.{◌≡◌, ℕ, inl, inr, Bool, true, false, if◌then◌else◌, List, get_or, Option, Some, None, option_map, option_and_then, is_some, IsSome, refl, sym, ap, ◌∙◌, subst}
 use Rattle.std.specs.Prelude.{IfSome}
 use Rattle.std.proofs.lemmas.Bool.{cases_eq}
 use Rattle.std.proofs.lemmas.Option.{none-some, same_Some}
-use Rattle.std.proofs.lemmas.List.{get_or-set_other}
-use Rattle.mh_model.specs.Pages.{Page, Table, page_number, slot_number, page_at, block_in, block_at, class_at, Leads, least_dense_place, page_with, with_block, with_taken, IsFreeFor}
+use Rattle.mh_model.specs.Pages.{Page, Table, page_number, slot_number, page_at, block_in, block_at, class_at, Leads, least_dense_place, with_block, with_taken, IsFreeFor}
 use Rattle.mh_model.specs.Table.{Block, is_forwarder}
 use Rattle.mh_model.specs.Collector.{Move, if_flagged, move_of, next_move, moved_table}
-use Rattle.mh_pages.proofs.TableLemmas.{page_of_block, block_after, other_block}
+use Rattle.mh_table_laws.proofs.placing.Places.{block_at-with_block_there, block_at-with_block_other, block_at-with_taken_there}
 use Rattle.mh_roots.specs.Roots.{SlotsLead}
 use Rattle.mh_defrag.specs.Moves.{IsTarget, moved}
 
@@ -75,32 +74,16 @@ moved-by table new place target of is =
     = subst (λ class. IfSome class (λ size. new ≡ moved_table table place (record { block = move.block; class_size = size; target = target }))) m.class block in
     done ∙ ap (λ t. moved_table table place (record move { target = t })) m.target_is ∙ sym (ap (moved table place) m.next)
 
-module _ {X : Type 0} where
-  page_other : (table : Table X) (number slot other : ℕ) (content : Option X) → other ≢ slot
-      → option_and_then (block_in other) (page_at (set table number (option_map (page_with slot content) (page_at table number))) number) ≡ option_and_then (block_in other) (page_at table number)
-  page_other [] number slot other content apart = refl
-  page_other (None ∷ table) zero slot other content apart = refl
-  page_other (Some page ∷ table) zero slot other content apart = get_or-set_other page.slots slot other content None apart
-  page_other (page ∷ table) (suc number) slot other content apart = page_other table number slot other content apart
-
-  block_at-other : (table : Table X) (place other : ℕ) (content : Option X) → other ≢ place → block_at (with_block table place content) other ≡ block_at table other
-  block_at-other table place other content apart = elim (cases_eq (page_number other) (page_number place)) [
-    | inl same ↦
-        let slots_apart : slot_number other ≢ slot_number place = λ k. apart (omega arith) in
-        rw same (page_other table (page_number place) (slot_number place) (slot_number other) content slots_apart)
-    | inr pages_apart ↦ ap (option_and_then (block_in (slot_number other))) (get_or-set_other table (page_number place) (page_number other) _ None pages_apart)
-  ]
-
 -- where a block was, one is
 leads-moved : (table : Table Block) (place size target : ℕ) (block forwarder : Block) (q : ℕ) → IsFreeFor table size target → block_at table place ≡ Some block → IsSome (block_at table q)
     → IsSome (block_at (with_block (with_taken table size target block) place (Some forwarder)) q)
 leads-moved table place size target block forwarder q free at there = elim (cases_eq q place) [
-  | inl same ↦ rw same (ap is_some (block_after (with_taken table size target block) place (Some forwarder) (page_of_block (with_taken table size target block) place (still place (ap is_some at)))))
-  | inr apart ↦ ap is_some (block_at-other (with_taken table size target block) place q (Some forwarder) apart) ∙ still q there
+  | inl same ↦ rw same (ap is_some (block_at-with_block_there (with_taken table size target block) place (Some forwarder) (still place (ap is_some at))))
+  | inr apart ↦ ap is_some (block_at-with_block_other (with_taken table size target block) place q (Some forwarder) apart) ∙ still q there
 ]
   where
     still : (other : ℕ) → IsSome (block_at table other) → IsSome (block_at (with_taken table size target block) other)
-    still other is = ap is_some (other_block table size target block other free is) ∙ is
+    still other is = ap is_some (block_at-with_taken_there table size target other block free is) ∙ is
 
 -- slots lead on
 pub slots-lead : (table : Table Block) (place target : ℕ) (slots : List (Option ℕ)) → IsTarget table place (Some target) → SlotsLead table slots → SlotsLead (moved table place (next_move table place)) slots

@@ -1,16 +1,11 @@
 -- Shading by cases.
-use Rattle.std.proofs.Common.{◌≡◌, ◌≢◌, ℕ, ◌*◌, ◌<◌, ◌==◌, ◌⊎◌, Bool, true, false, inl, inr, List, [], ◌∷◌, ◌++◌, length, Option, Some, None, option_map, unwrap_or, IsSome, refl, arith, eq-eqb}
-use Rattle.std.proofs.lemmas.Bool.{cases_eq, false≢true}
-use Rattle.std.proofs.lemmas.Bool.Decides.{eqb_tells}
-use Rattle.mh_model.specs.Pages.{Table, block_at, page_number}
+use Rattle.std.proofs.Common.{◌≡◌, ◌≢◌, ℕ, ◌⊎◌, Bool, true, false, inl, inr, List, [], ◌∷◌, ◌++◌, Option, Some, None, option_map, unwrap_or, IsSome, refl, eq-eqb}
+use Rattle.std.proofs.lemmas.Bool.{cases_eq, false≢true, ne_eqb}
+use Rattle.mh_model.specs.Pages.{Table, block_at}
 use Rattle.mh_model.specs.Table.{Block, resolve, stamp_at, with_stamp_at, LeadsOn}
 use Rattle.mh_model.specs.Collector.{Marking, shade_block, shade_place, shade}
-use Rattle.mh_blocks.proofs.ReadLemmas.{page_there}
 use Rattle.mh_grey.specs.Queue.{is_in}
 use Rattle.mh_grey.specs.Shading.{IsApart, AreMarked}
-
-pub not_same : (a b : ℕ) → a ≢ b → (a == b) ≡ false
-not_same a b apart = elim (eqb_tells a b) [ inl same ↦ absurd (apart same.1) | inr other ↦ other.0 ]
 
 -- a marked block stays as it is
 same_block : (m : Marking) (place : ℕ) (content : Option Block) → IsSome content → unwrap_or (option_map (λ b. b.stamp) content) 0 ≡ m.cycle → shade_block m place content ≡ m
@@ -27,7 +22,7 @@ shade-marked m reference there is = place-marked m (resolve m.table reference) t
 new_block : (m : Marking) (place : ℕ) (content : Option Block) → block_at m.table place ≡ content → IsSome content → unwrap_or (option_map (λ b. b.stamp) content) 0 ≢ m.cycle
     → shade_block m place content ≡ record m { table = with_stamp_at m.table place m.cycle; grey = m.grey ++ place ∷ [] }
 new_block m place None at there apart = absurd (false≢true there)
-new_block m place (Some block) at there apart = rw (not_same block.stamp m.cycle apart, at) refl
+new_block m place (Some block) at there apart = rw (ne_eqb block.stamp m.cycle apart, at) refl
 
 pub place-new : (m : Marking) (place : ℕ) → IsSome (block_at m.table place) → stamp_at m.table place ≢ m.cycle
     → shade_place m place ≡ record m { table = with_stamp_at m.table place m.cycle; grey = m.grey ++ place ∷ [] }

@@ -1,62 +1,19 @@
 -- What shading keeps.
-use Rattle.std.proofs.Common.{◌≡◌, ◌≢◌, ℕ, zero, suc, ◌⊎◌, inl, inr, List, [], ◌∷◌, ◌++◌, length, get_or, set, Option, Some, None, option_map, option_and_then, unwrap_or, is_some, IsSome, refl, sym, ap, ◌∙◌, subst, arith}
+use Rattle.std.proofs.Common.{◌≡◌, ◌≢◌, ℕ, inl, inr, [], ◌∷◌, ◌++◌, length, set, Option, Some, None, option_map, option_and_then, unwrap_or, is_some, IsSome, refl, sym, ap, ◌∙◌, subst}
 use Rattle.std.proofs.lemmas.Bool.{cases_eq, false≢true}
-use Rattle.std.proofs.lemmas.List.{get_or-set_other, length-set}
-use Rattle.mh_model.specs.Pages.{Table, page_number, slot_number, page_at, block_in, block_at, page_with, with_block}
+use Rattle.std.proofs.lemmas.List.{length-set}
+use Rattle.mh_model.specs.Pages.{Table, page_number, slot_number, page_at, block_at, page_with, with_block}
 use Rattle.mh_model.specs.Table.{Block, resolve, references_at, with_reference_at, stamp_at, with_stamp_at, forward_at, LeadsOn, LeadsHome}
 use Rattle.mh_model.specs.Collector.{Marking, shade_place, shade}
+use Rattle.mh_table_laws.proofs.Lists.{to_some}
+use Rattle.mh_table_laws.proofs.placing.Places.{block_at-with_block_there, block_at-with_block_other, with_block-self}
 use Rattle.mh_grey.specs.Shading.{AreMarked}
 use Rattle.mh_grey.proofs.QueueLemmas.{in-push}
 use Rattle.mh_grey.proofs.ShadeLemmas.{place-cases}
 
 -- One block exchanged ----------------------------------------------------------------------------
 
-set_either : {A : Type 0} (xs : List A) (i : ℕ) (x d : A) → (get_or (set xs i x) i d ≡ x) ⊎ (get_or (set xs i x) i d ≡ get_or xs i d)
-set_either [] i x d = inr refl
-set_either (y ∷ xs) zero x d = inl refl
-set_either (y ∷ xs) (suc i) x d = set_either xs i x d
-
 module _ {X : Type 0} where
-  page_other : (table : Table X) (number slot other : ℕ) (content : Option X) → other ≢ slot
-      → option_and_then (block_in other) (page_at (set table number (option_map (page_with slot content) (page_at table number))) number) ≡ option_and_then (block_in other) (page_at table number)
-  page_other [] number slot other content apart = refl
-  page_other (None ∷ table) zero slot other content apart = refl
-  page_other (Some page ∷ table) zero slot other content apart = get_or-set_other page.slots slot other content None apart
-  page_other (page ∷ table) (suc number) slot other content apart = page_other table number slot other content apart
-
-  page_same : (table : Table X) (number slot : ℕ) (content : Option X)
-      → (option_and_then (block_in slot) (page_at (set table number (option_map (page_with slot content) (page_at table number))) number) ≡ content)
-      ⊎ (option_and_then (block_in slot) (page_at (set table number (option_map (page_with slot content) (page_at table number))) number) ≡ option_and_then (block_in slot) (page_at table number))
-  page_same [] number slot content = inr refl
-  page_same (None ∷ table) zero slot content = inr refl
-  page_same (Some page ∷ table) zero slot content = set_either page.slots slot content None
-  page_same (page ∷ table) (suc number) slot content = page_same table number slot content
-
-  -- the blocks at other places stay
-  pub block_at-other : (table : Table X) (place other : ℕ) (content : Option X) → other ≢ place → block_at (with_block table place content) other ≡ block_at table other
-  block_at-other table place other content apart = elim (cases_eq (page_number other) (page_number place)) [
-    | inl same ↦
-        let slots_apart : slot_number other ≢ slot_number place = λ k. apart (omega arith) in
-        rw same (page_other table (page_number place) (slot_number place) (slot_number other) content slots_apart)
-    | inr pages_apart ↦ ap (option_and_then (block_in (slot_number other))) (get_or-set_other table (page_number place) (page_number other) _ None pages_apart)
-  ]
-
-  slot_same : (slots : List (Option X)) (slot : ℕ) (content : Option X) → IsSome (get_or slots slot None) → get_or (set slots slot content) slot None ≡ content
-  slot_same [] slot content there = absurd (false≢true there)
-  slot_same (s ∷ slots) zero content there = refl
-  slot_same (s ∷ slots) (suc slot) content there = slot_same slots slot content there
-
-  exchanged : (table : Table X) (number slot : ℕ) (content : Option X) → IsSome (option_and_then (block_in slot) (page_at table number))
-      → option_and_then (block_in slot) (page_at (set table number (option_map (page_with slot content) (page_at table number))) number) ≡ content
-  exchanged [] number slot content there = absurd (false≢true there)
-  exchanged (None ∷ table) zero slot content there = absurd (false≢true there)
-  exchanged (Some page ∷ table) zero slot content there = slot_same page.slots slot content there
-  exchanged (page ∷ table) (suc number) slot content there = exchanged table number slot content there
-
-  -- where a block is, it is exchanged
-  pub block_at-same : (table : Table X) (place : ℕ) (content : Option X) → IsSome (block_at table place) → block_at (with_block table place content) place ≡ content
-  block_at-same table place content there = exchanged table (page_number place) (slot_number place) content there
-
   kept_view : {A : Type 0} (see : Option X → A) (g : X → X) → ((x : X) → see (Some (g x)) ≡ see (Some x)) → (content : Option X) → see (option_map g content) ≡ see content
   kept_view see g keeps None = refl
   kept_view see g keeps (Some x) = keeps x
@@ -64,14 +21,13 @@ module _ {X : Type 0} where
   -- what is seen of the block at any place stays, where the change keeps it
   pub change-view : {A : Type 0} (see : Option X → A) (g : X → X) → ((x : X) → see (Some (g x)) ≡ see (Some x)) → (table : Table X) (place q : ℕ) → see (block_at (with_block table place (option_map g (block_at table place))) q) ≡ see (block_at table q)
   change-view see g keeps table place q = elim (cases_eq q place) [
-    | inr apart ↦ ap see (block_at-other table place q (option_map g (block_at table place)) apart)
-    | inl same ↦ rw same (at_place (page_same table (page_number place) (slot_number place) (option_map g (block_at table place))))
+    | inr apart ↦ ap see (block_at-with_block_other table place q (option_map g (block_at table place)) apart)
+    | inl same ↦ rw same (at_place (block_at table place) refl)
   ]
     where
-      at_place : (block_at (with_block table place (option_map g (block_at table place))) place ≡ option_map g (block_at table place)) ⊎ (block_at (with_block table place (option_map g (block_at table place))) place ≡ block_at table place)
-          → see (block_at (with_block table place (option_map g (block_at table place))) place) ≡ see (block_at table place)
-      at_place (inl new) = ap see new ∙ kept_view see g keeps (block_at table place)
-      at_place (inr old) = ap see old
+      at_place : (content : Option X) → block_at table place ≡ content → see (block_at (with_block table place (option_map g (block_at table place))) place) ≡ see (block_at table place)
+      at_place None at = ap see (ap (λ c. block_at (with_block table place c) place) (ap (option_map g) at ∙ sym at) ∙ ap (λ t. block_at t place) (with_block-self table place))
+      at_place (Some x) at = ap see (block_at-with_block_there table place (option_map g (block_at table place)) (to_some _ x at)) ∙ kept_view see g keeps (block_at table place)
 
   -- as many pages as before
   pub length-with_block : (table : Table X) (place : ℕ) (content : Option X) → length (with_block table place content) ≡ length table
@@ -127,7 +83,7 @@ pub record IsShaded (m new : Marking) : Type 0 where
 
 stamp_here : (table : Table Block) (place stamp : ℕ) → IsSome (block_at table place) → stamp_at (with_stamp_at table place stamp) place ≡ stamp
 stamp_here table place stamp there =
-    ap (λ (o : Option Block). unwrap_or (option_map (λ b. b.stamp) o) 0) (block_at-same table place (option_map (λ (b : Block). record b { stamp = stamp }) (block_at table place)) there)
+    ap (λ (o : Option Block). unwrap_or (option_map (λ b. b.stamp) o) 0) (block_at-with_block_there table place (option_map (λ (b : Block). record b { stamp = stamp }) (block_at table place)) there)
     ∙ of (block_at table place) there
   where
     of : (o : Option Block) → IsSome o → unwrap_or (option_map (λ (b : Block). b.stamp) (option_map (λ (b : Block). record b { stamp = stamp }) o)) 0 ≡ stamp
@@ -137,7 +93,7 @@ stamp_here table place stamp there =
 stamp_kept : (table : Table Block) (place stamp other : ℕ) → IsSome (block_at table place) → stamp_at table other ≡ stamp → stamp_at (with_stamp_at table place stamp) other ≡ stamp
 stamp_kept table place stamp other there is = elim (cases_eq other place) [
   | inl same ↦ rw same (stamp_here table place stamp there)
-  | inr apart ↦ ap (λ (o : Option Block). unwrap_or (option_map (λ b. b.stamp) o) 0) (block_at-other table place other _ apart) ∙ is
+  | inr apart ↦ ap (λ (o : Option Block). unwrap_or (option_map (λ b. b.stamp) o) 0) (block_at-with_block_other table place other _ apart) ∙ is
 ]
 
 pub stamped-shaded : (m : Marking) (place : ℕ) → IsSome (block_at m.table place) → IsShaded m (record m { table = with_stamp_at m.table place m.cycle; grey = m.grey ++ place ∷ [] })

@@ -3,7 +3,8 @@ use Rattle.std.proofs.Common.{◌≡◌, ℕ, zero, suc, ◌+◌, ◌-◌, ◌*�
 use Rattle.std.proofs.lemmas.Bool.{cases_Bool, leb-true, leb-false, ltb-true, ltb-false}
 use Rattle.std.proofs.lemmas.Option.{none-some, same_Some, slice_get_within}
 use Rattle.mh_model.specs.Classes.{Part, parts, run_count, middle_count}
-use Rattle.mh_classes.proofs.PartLemmas.{counts, count_large, small_at, first_at, middle_at, arraylet_at}
+use Rattle.mh_table_laws.proofs.objects.Parts.{counts, length-parts, middle_at}
+use Rattle.mh_classes.proofs.PartLemmas.{small_at, first_at, arraylet_at}
 use Rattle.mh_classes.specs.Fits.{AreParts}
 use Rattle.mh_groups.specs.Making.{HaveTheirChildren}
 
@@ -26,17 +27,17 @@ part_at r n index part at = elim (cases_Bool (nat_le (r + n) 60)) [
   where
     large : (i : ℕ) → slice_get (parts r n) i ≡ Some part → 60 < r + n → HasChildren r n i part
     large zero e many =
-        let all = count_large r n many in
+        let all = length-parts r n many in
         spine r n zero part _ 1 e (first_at r n many) refl (elim (counts (r + n)).case [ inl k ↦ let (small, none, runs) = k in omega (arith, all, none, runs) | inr k ↦ let (large, some, runs) = k in omega (arith, all, some, runs) ]) many (omega arith)
     large (suc i) e many = elim (cases_Bool (nat_lt i (middle_count (r + n)))) [
       | inl below ↦
           let inside : i < middle_count (r + n) = ltb-true i (middle_count (r + n)) below in
-          let all = count_large r n many in
-          spine r n (suc i) part _ (1 + middle_count (r + n) + 60 * i) e (middle_at r n (suc i) i many inside refl) refl
+          let all = length-parts r n many in
+          spine r n (suc i) part _ (1 + middle_count (r + n) + 60 * i) e (middle_at r n i many inside) refl
           (elim (counts (r + n)).case [ inl k ↦ let (small, none, runs) = k in absurd (omega (arith, inside, none)) | inr k ↦ let (large, some, runs) = k in omega (arith, all, some, inside) ]) many (omega arith)
       | inr past ↦
           let after : middle_count (r + n) ≤ i = ltb-false i (middle_count (r + n)) past in
-          let run : i - middle_count (r + n) < run_count (r + n) = omega (arith, slice_get_within (parts r n) (suc i) part e, count_large r n many) in
+          let run : i - middle_count (r + n) < run_count (r + n) = omega (arith, slice_get_within (parts r n) (suc i) part e, length-parts r n many) in
           childless r n (suc i) part _ e (arraylet_at r n (suc i) (i - middle_count (r + n)) many run (omega arith)) refl (λ _. omega arith)
     ]
 
@@ -65,5 +66,5 @@ have_children list are = subst HaveTheirChildren (sym are.3) (parts-have_childre
 pub only_part : (list : List Part) (part : Part) → AreParts list → length list ≡ 1 → slice_get list 0 ≡ Some part → part.children ≡ None
 only_part list part are one at = elim (part_at are.0 are.1 0 part (sym (ap (λ ps. slice_get ps 0) are.3) ∙ at)).case [
   | inr k ↦ k.0
-  | inl k ↦ let same : length list ≡ length (parts are.0 are.1) = ap length are.3 in let all = count_large are.0 are.1 k.3 in absurd (omega (arith, all, k.3))
+  | inl k ↦ let same : length list ≡ length (parts are.0 are.1) = ap length are.3 in let all = length-parts are.0 are.1 k.3 in absurd (omega (arith, all, k.3))
 ]

@@ -4,10 +4,10 @@ use Rattle.std.proofs.lemmas.Option.{none-some, same_Some, slice_get_within}
 use Rattle.std.proofs.lemmas.List.{get_or-take, get_or_append_left}
 use Rattle.mh_model.specs.Classes.{Part, class_of, part_words}
 use Rattle.mh_model.specs.Pages.{Table, page_number, slot_number, page_at, block_in, block_at, least_place, page_with, page_for, with_block, with_taken}
-use Rattle.mh_model.specs.Table.{Block, Made, MadeParts, new_block, made_in_class, made_part, made_parts, with_block_change, linked_block, group_of, linked_parts, made_group, words_of}
+use Rattle.mh_model.specs.Table.{Block, Made, MadeParts, new_block, made_in_class, made_part, with_block_change, linked_block, group_of, made_group, words_of}
 use Rattle.mh_groups.specs.Making.{AreUnlinked}
 use Rattle.mh_groups.proofs.MadeLemmas.{made_parts-more, made_parts-none}
-use Rattle.mh_groups.proofs.LinkLemmas.{with_block-self}
+use Rattle.mh_table_laws.proofs.placing.Places.{with_block-self}
 
 -- What is read where something was written is that, or nothing past the end ------------------------
 

@@ -1,4 +1,3 @@
-mod PlaceLemmas
 mod MadeLemmas
 mod LinkLemmas
 mod ChildLemmas

@@ -1,41 +1,23 @@
 -- Parts linked to their children: a block changed, the references of one part written in turn, and the parts in order.
-use Rattle.std.proofs.Common.{◌≡◌, ◌≢◌, ℕ, zero, suc, ◌+◌, ◌<◌, ◌≤◌, inl, inr, List, [], ◌∷◌, ◌++◌, length, get_or, set, take, drop, map, slice_get, Option, Some, None, option_map, option_and_then, unwrap_or, IsSome, refl, sym, ap, ◌∙◌, subst, arith}
-use Rattle.std.proofs.Math.Seq.{drop-cons}
+use Rattle.std.proofs.Common.{◌≡◌, ◌≢◌, ℕ, zero, suc, ◌+◌, ◌<◌, ◌≤◌, inl, inr, List, [], ◌∷◌, ◌++◌, length, get_or, set, take, drop, map, slice_get, Option, Some, None, option_map, unwrap_or, IsSome, refl, sym, ap, ◌∙◌, subst, arith}
+use Rattle.std.proofs.Math.Seq.{drop-cons, drop-length}
 use Rattle.std.proofs.lemmas.Bool.{cases_eq}
 use Rattle.std.proofs.lemmas.Option.{same_Some, slice_get_within}
-use Rattle.std.proofs.lemmas.List.{set-get_or, set-set, length-take, length-drop, length-replicate}
+use Rattle.std.proofs.lemmas.List.{length-take, length-drop, length-replicate}
 use Rattle.mh_model.specs.Classes.{Part}
-use Rattle.mh_model.specs.Pages.{Table, page_number, slot_number, page_at, block_in, block_at, page_with, with_block}
+use Rattle.mh_model.specs.Pages.{Table, block_at, with_block}
 use Rattle.mh_model.specs.Table.{Block, references_at, with_reference_at, with_block_change, words_of, linked_block, linked_parts}
 use Rattle.mh_groups.specs.Making.{HaveTheirChildren, IsUnlinked, AreUnlinked}
-use Rattle.mh_groups.proofs.PlaceLemmas.{from_some, to_some, block_at-with_block_same, block_at-with_block_other}
+use Rattle.mh_table_laws.proofs.Lists.{from_some, to_some}
+use Rattle.mh_table_laws.proofs.placing.Places.{block_at-with_block_there, block_at-with_block_other, with_block-twice, with_block-self}
+use Rattle.mh_table_laws.proofs.objects.Parts.{slice_there}
 use Rattle.mh_groups.proofs.MadeLemmas.{drop-slice}
 
 -- A block changed --------------------------------------------------------------------------------
 
-with_block-twice : (table : Table Block) (place : ℕ) (first second : Option Block) → with_block (with_block table place first) place second ≡ with_block table place second
-with_block-twice table place first second = go table (page_number place)
-  where
-    go : (pages : Table Block) (number : ℕ)
-        → set (set pages number (option_map (page_with (slot_number place) first) (page_at pages number))) number (option_map (page_with (slot_number place) second) (page_at (set pages number (option_map (page_with (slot_number place) first) (page_at pages number))) number))
-        ≡ set pages number (option_map (page_with (slot_number place) second) (page_at pages number))
-    go [] number = refl
-    go (None ∷ pages) zero = refl
-    go (Some page ∷ pages) zero = ap (λ slots. Some (record page { slots = slots }) ∷ pages) (set-set page.slots (slot_number place) first second)
-    go (page ∷ pages) (suc number) = ap (λ rest. page ∷ rest) (go pages number)
-
-pub with_block-self : (table : Table Block) (place : ℕ) → with_block table place (block_at table place) ≡ table
-with_block-self table place = go table (page_number place)
-  where
-    go : (pages : Table Block) (number : ℕ) → set pages number (option_map (page_with (slot_number place) (option_and_then (block_in (slot_number place)) (page_at pages number))) (page_at pages number)) ≡ pages
-    go [] number = refl
-    go (None ∷ pages) zero = refl
-    go (Some page ∷ pages) zero = ap (λ slots. Some (record page { slots = slots }) ∷ pages) (set-get_or page.slots (slot_number place) None)
-    go (page ∷ pages) (suc number) = ap (λ rest. page ∷ rest) (go pages number)
-
 module _ (table : Table Block) (place : ℕ) (block : Block) (there : block_at table place ≡ Some block) where
   pub changed_here : (change : Block → Block) → block_at (with_block_change table place change) place ≡ Some (change block)
-  changed_here change = block_at-with_block_same table place block (option_map change (block_at table place)) there ∙ ap (option_map change) there
+  changed_here change = block_at-with_block_there table place (option_map change (block_at table place)) (to_some _ block there) ∙ ap (option_map change) there
 
   -- two changes that make the same of the block that is there
   pub changed_alike : (change other : Block → Block) → change block ≡ other block → with_block_change table place change ≡ with_block_change table place other
@@ -133,11 +115,6 @@ pub record AreLinkedSoFar (old : Table Block) (list : List Part) (places : List 
   pub unlinked : AreUnlinked table places list count
   pub there : (number : ℕ) → number < length list → IsSome (block_at table (get_or places number 0))
 
-slice_there : {X : Type 0} (xs : List X) (i : ℕ) → i < length xs → (x : X) × (slice_get xs i ≡ Some x)
-slice_there [] i below = absurd (omega arith)
-slice_there (x ∷ xs) zero below = (x, refl)
-slice_there (x ∷ xs) (suc i) below = slice_there xs i (omega arith)
-
 pub none_linked : (old : Table Block) (list : List Part) (places : List ℕ) → AreUnlinked old places list 0 → AreLinkedSoFar old list places old 0
 none_linked old list places unlinked = record {
   left = refl;
@@ -191,13 +168,9 @@ module _ (old : Table Block) (list : List Part) (places : List ℕ) (table : Tab
       let words : length (references_at table (get_or places count 0)) ≡ part.references = ap length (references-length table (get_or places count 0) here.block here.there) ∙ ap length here.references ∙ length-replicate part.references None in
       words ∙ omega (arith, have.within count part child at some, length-take {A = ℕ}, length-drop {A = ℕ})
 
-drop-all : {X : Type 0} (xs : List X) → drop (length xs) xs ≡ []
-drop-all [] = refl
-drop-all (x ∷ xs) = drop-all xs
-
 pub all_linked : (old : Table Block) (list : List Part) (places : List ℕ) (table : Table Block) → length places ≡ length list → AreLinkedSoFar old list places table (length list) → table ≡ linked_parts places old places list
 all_linked old list places table same so_far =
-    let none : drop (length list) places ≡ [] = ap (λ n. drop n places) (sym same) ∙ drop-all places in
+    let none : drop (length list) places ≡ [] = ap (λ n. drop n places) (sym same) ∙ drop-length places in
     sym (so_far.left ∙ ap (λ rest. linked_parts places table rest (drop (length list) list)) none)
 
 -- nothing is left to do from a part without children on

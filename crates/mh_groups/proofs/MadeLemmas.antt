@@ -1,14 +1,16 @@
 -- Parts made one after the other: what is left to be made, and how those that are made are taken back.
-use Rattle.std.proofs.Common.{◌≡◌, ◌≢◌, ℕ, zero, suc, ◌<◌, ◌≤◌, Bool, true, false, inl, inr, List, [], ◌∷◌, ◌++◌, length, get_or, set, take, drop, slice_get, Option, Some, None, is_none, option_map, option_and_then, refl, sym, ap, ◌∙◌, arith}
-use Rattle.std.proofs.Math.Seq.{take-suc-set}
+use Rattle.std.proofs.Common.{unwrap_or, replicate, ◌≡◌, ◌≢◌, ℕ, zero, suc, ◌<◌, ◌≤◌, Bool, true, false, inl, inr, List, [], ◌∷◌, ◌++◌, length, get_or, set, take, drop, slice_get, Option, Some, None, is_none, option_map, option_and_then, refl, sym, ap, ◌∙◌, arith}
+use Rattle.std.proofs.Math.Seq.{take-suc-set, drop-length}
 use Rattle.std.proofs.lemmas.Bool.{cases_eq, false≢true}
 use Rattle.std.proofs.lemmas.Option.{none-some, same_Some, slice_get_within}
-use Rattle.std.proofs.lemmas.List.{get_or-set_same, get_or-set_other, append_assoc, append-nil}
-use Rattle.mh_model.specs.Classes.{Part, class_of, part_words}
-use Rattle.mh_model.specs.Pages.{Page, Table, page_number, page_at, block_at, class_at, least_place, with_taken, with_released, IsFreeFor}
+use Rattle.std.proofs.lemmas.List.{get_or-set_same, get_or-set_other, append_assoc, append-nil, length-replicate}
+use Rattle.mh_table_laws.proofs.objects.RefusedObjects.{none-part}
+use Rattle.mh_model.specs.Classes.{Part, class_of, part_words, slots_in}
+use Rattle.mh_model.specs.Pages.{Page, Table, page_number, page_at, block_at, class_at, least_place, with_taken, with_released, IsFreeFor, slot_number, block_count, live_in, count_at, page_with, page_for}
 use Rattle.mh_model.specs.Table.{Block, Made, MadeParts, new_block, made_in_class, made_part, made_parts}
 use Rattle.mh_groups.specs.Making.{without_parts, CanBeUnmade, AllCanBeUnmade, AreUnlinked}
-use Rattle.mh_groups.proofs.PlaceLemmas.{to_some, block_at-with_taken_same, with_taken-keeps, with_released-with_taken, count_at-fresh}
+use Rattle.mh_table_laws.proofs.Lists.{to_some}
+use Rattle.mh_table_laws.proofs.placing.Places.{taken_page, block_at-with_taken_same, block_at-with_taken_there, with_released-with_taken}
 
 -- Lists ------------------------------------------------------------------------------------------
 
@@ -30,6 +32,28 @@ all_can_be_unmade-set zero table places fresh at place is_fresh past can = tt
 all_can_be_unmade-set (suc count) table places fresh at place is_fresh past can =
     let apart : count ≢ at = λ same. absurd (omega arith) in
     rw (get_or-set_other places at count place 0 apart, get_or-set_other fresh at count is_fresh false apart) (can.0, all_can_be_unmade-set count _ places fresh at place is_fresh (omega arith) can.1)
+
+-- A block in a fresh page -------------------------------------------------------------------------
+
+no_block : (X : Type 0) (count : ℕ) → block_count {X = X} (replicate count None) ≡ 0
+no_block X zero = refl
+no_block X (suc count) = no_block X count
+
+module _ {X : Type 0} where
+  one_block : (count slot : ℕ) (block : X) → slot < count → block_count (set (replicate count None) slot (Some block)) ≡ 1
+  one_block zero slot block within = absurd (omega arith)
+  one_block (suc count) zero block within = ap suc (no_block X count)
+  one_block (suc count) (suc slot) block within = one_block count slot block (omega arith)
+
+  -- a block put in a page that was free is alone there
+  count_at-fresh : (table : Table X) (size place : ℕ) (block : X) → IsFreeFor table size place → page_at table (page_number place) ≡ None → count_at (with_taken table size place block) (page_number place) ≡ 1
+  count_at-fresh table size place block free at =
+      let written : page_at (with_taken table size place block) (page_number place) ≡ Some (page_with (slot_number place) (Some block) (page_for size (page_at table (page_number place)))) = taken_page table size place block free in
+      ap (λ page. unwrap_or (option_map live_in page) 0) written ∙ go (page_at table (page_number place)) at free.within
+    where
+      go : (content : Option (Page X)) → content ≡ None → slot_number place < length (page_for size content).slots → live_in (page_with (slot_number place) (Some block) (page_for size content)) ≡ 1
+      go None is within = one_block (slots_in size) (slot_number place) block (omega (arith, length-replicate {A = Option X} (slots_in size) None))
+      go (Some page) is within = absurd (none-some page (sym is))
 
 -- One part more ----------------------------------------------------------------------------------
 
@@ -93,11 +117,6 @@ made_part-at table birth stamp index size place part class least =
     ap (option_and_then (made_in_class table (new_block birth stamp index part))) class
     ∙ ap (option_map (λ p. record { place = p; table = with_taken table size p (new_block birth stamp index part) })) least
 
-made_part-full : (table : Table Block) (birth stamp index size : ℕ) (part : Part) → class_of (part_words part) ≡ Some size → least_place table size ≡ None → made_part table birth stamp index part ≡ None
-made_part-full table birth stamp index size part class least =
-    ap (option_and_then (made_in_class table (new_block birth stamp index part))) class
-    ∙ ap (option_map (λ p. record { place = p; table = with_taken table size p (new_block birth stamp index part) })) least
-
 -- So many parts of an object are made: what is left of the book's making, and how to take them back
 pub record AreMadeSoFar (old : Table Block) (birth stamp : ℕ) (list : List Part) (table : Table Block) (places : List ℕ) (fresh : List Bool) (count : ℕ) : Type 0 where
   pub left : made_parts old birth stamp 0 list ≡ option_map (made_after (take count places)) (made_parts table birth stamp count (drop count list))
@@ -132,7 +151,7 @@ one_so_far old birth stamp list table places fresh count part size place is_fres
           let part_is : part ≡ p = same_Some part p (sym at ∙ ap (slice_get list) (sym same) ∙ is) in
           rw (same, get_or-set_same places count place 0 room, ← part_is) (block_at-with_taken_same table size place block free)
       | inr apart ↦
-          rw (get_or-set_other places count number place 0 apart) (with_taken-keeps table size place (get_or places number 0) block (new_block birth stamp number p) free (so_far.born number p (omega arith) is))
+          rw (get_or-set_other places count number place 0 apart) (block_at-with_taken_there table size place (get_or places number 0) block free (to_some _ _ (so_far.born number p (omega arith) is)) ∙ so_far.born number p (omega arith) is)
     ]
 
 -- a part without a place leaves none made
@@ -141,18 +160,14 @@ pub full_so_far : (old : Table Block) (birth stamp : ℕ) (list : List Part) (ta
 full_so_far old birth stamp list table places fresh count part size so_far at class least =
     so_far.left
     ∙ ap (λ parts. option_map (made_after (take count places)) (made_parts table birth stamp count parts)) (drop-slice list count part at)
-    ∙ ap (option_map (made_after (take count places))) (made_parts-none table birth stamp count part (drop (suc count) list) (made_part-full table birth stamp count size part class least))
-
-drop-all : {X : Type 0} (xs : List X) → drop (length xs) xs ≡ []
-drop-all [] = refl
-drop-all (x ∷ xs) = drop-all xs
+    ∙ ap (option_map (made_after (take count places))) (made_parts-none table birth stamp count part (drop (suc count) list) (none-part table birth stamp count part size class least))
 
 -- all parts are made
 pub all_so_far : (old : Table Block) (birth stamp : ℕ) (list : List Part) (table : Table Block) (places : List ℕ) (fresh : List Bool) → AreMadeSoFar old birth stamp list table places fresh (length list)
     → made_parts old birth stamp 0 list ≡ Some (record { places = take (length list) places; table = table })
 all_so_far old birth stamp list table places fresh so_far =
     so_far.left
-    ∙ ap (λ parts. option_map (made_after (take (length list) places)) (made_parts table birth stamp (length list) parts)) (drop-all list)
+    ∙ ap (λ parts. option_map (made_after (take (length list) places)) (made_parts table birth stamp (length list) parts)) (drop-length list)
     ∙ ap (λ all. Some (record { places = all; table = table })) (append-nil (take (length list) places))
 
 pub unlinked_so_far : (old : Table Block) (birth stamp : ℕ) (list : List Part) (table : Table Block) (places : List ℕ) (fresh : List Bool) → AreMadeSoFar old birth stamp list table places fresh (length list) → AreUnlinked table places list 0

@@ -5,12 +5,8 @@ use Rattle.std.proofs.lemmas.Option.{same_Some}
 use Rattle.mh_model.specs.declared.config.Config.{Config}
 use Rattle.mh_model.specs.World.{Object, World, IsClosed, reference_of, slot_at, object_in, blank, with_reference, with_number, cleared}
 use Rattle.mh_heap.specs.PlainWorld.{plain_world}
+use Rattle.mh_table_laws.proofs.Lists.{there_below}
 use Rattle.mh_heap.proofs.ClosedLemmas.{named_there, closed_slot, closed_exchanged, closed_added, there_last, at_set}
-
-there_below : {A : Type 0} (items : List (Option A)) (at : ℕ) → IsSome (get_or items at None) → at < length items
-there_below [] at there = cc
-there_below (x ∷ xs) zero there = omega arith
-there_below (x ∷ xs) (suc at) there = let below : at < length xs = there_below xs at there in omega arith
 
 -- a birth that a slot names is below the count of births
 pub named_below : (config : Config) (objects : List Object) (slots : List (Option ℕ)) (ended : List Bool) (slot birth : ℕ) → IsClosed (plain_world config objects slots ended) → get_or slots slot None ≡ Some birth

@@ -6,6 +6,7 @@ use Rattle.mh_model.specs.declared.command.Event.TheVariants as event
 use Rattle.mh_model.specs.declared.reply.Reply.{Reply}
 use Rattle.mh_model.specs.declared.reply.Reply.TheVariants as reply
 use Rattle.mh_model.specs.declared.history.Measured.{Measured}
+use Rattle.mh_model.proofs.TextLemmas.{joined-append}
 use Rattle.mh_model.specs.Bytes.{Text, joined}
 use Rattle.mh_model.specs.Replies.{reply_words, reply_text}
 use Rattle.mh_model.specs.HistoryTexts.{event_words, measured_words}
@@ -33,13 +34,8 @@ full_event : (e : Event) → Full (event_words e)
 full_event (event.Session who command) = record { first = _; more = _; words_are = refl }
 full_event (event.Control control) = record { first = _; more = _; words_are = refl }
 
-joined_more : (first : Text) (more : List Text) (next : Text) (words : List Text) → joined ((first ∷ more) ++ next ∷ words) ≡ joined (first ∷ more) ++ 32 ∷ joined (next ∷ words)
-joined_more first [] next words = refl
-joined_more first (second ∷ more) next words =
-    ap (λ (text : Text). first ++ 32 ∷ text) (joined_more second more next words) ∙ rw append_assoc refl
-
 joined_full : (words : List Text) (next : Text) (more : List Text) → Full words → joined (words ++ next ∷ more) ≡ joined words ++ 32 ∷ joined (next ∷ more)
-joined_full words next more full = rw full.words_are (joined_more full.first full.more next more)
+joined_full words next more full = rw full.words_are (joined-append full.first full.more next more)
 
 equals_part : (words : List Text) → Full words → joined (codes "=" ∷ words) ≡ 61 ∷ 32 ∷ joined words
 equals_part words full = rw full.words_are refl

@@ -5,12 +5,10 @@ use Rattle.std.proofs.lemmas.Bool.Decides.{nat_tests}
 use Rattle.mh_model.specs.declared.config.Config.{Config}
 use Rattle.mh_model.specs.Bytes.{Text, cut_after, words, is_text}
 use Rattle.mh_model.specs.Script.{BadLine}
+use Rattle.mh_model.proofs.ScriptLemmas.{history_reading-short, recorded_reading-short}
 use Rattle.mh_model.specs.HistoryTexts.{header_of, entries_from, history_of, history_reading, recorded_by, recorded_of, recorded_reading}
 use Rattle.mh_text.specs.Pieces.{Lines, TakesLine, lines_from}
 use Rattle.mh_text.specs.Reading.{first_lines}
-use Rattle.mh_text.specs.TextErrors.{Refuses}
-use Rattle.mh_text.specs.declared.text_error.TextError.{TextError}
-use Rattle.mh_text.specs.declared.text_error.TextError.TheVariants.{Line, NoMemory}
 use Rattle.mh_history.specs.Beginnings.{entry_line, measured_line, entries_left, with_header, HasEntry, BeginsWithEntry, BeginsWithMeasured}
 
 -- the pieces of a cut that is one line and what a reader of lines has left
@@ -29,20 +27,17 @@ history_by is text same = rw same refl
 pub history_long : (text : Text) → 1073741824 < length text → history_reading text ≡ BadLine 0
 history_long text long = history_by true text (grind (arith, nat_tests))
 
-history_short : (text : Text) → length text ≤ 1073741824 → history_reading text ≡ history_of (cut_after 10 text)
-history_short text short = history_by false text (grind (arith, nat_tests))
-
 none_of_pieces : (pieces : List Text) (rest : Text) → pieces ≡ [] → history_of (record { pieces = pieces; rest = rest }) ≡ BadLine 1
 none_of_pieces pieces rest none = ap (λ (pieces : List Text). history_of (record { pieces = pieces; rest = rest })) none
 
 pub history_empty : (text : Text) → length text ≤ 1073741824 → (lines_from 1 text).lines ≡ [] → history_reading text ≡ BadLine 1
-history_empty text short none = history_short text short ∙ none_of_pieces (cut_after 10 text).pieces (cut_after 10 text).rest none
+history_empty text short none = history_reading-short text short ∙ none_of_pieces (cut_after 10 text).pieces (cut_after 10 text).rest none
 
 wrong_first : (line : Text) (lines : List Text) (rest : Text) → is_text line (codes "history 1") ≡ false → history_of (record { pieces = line ∷ lines; rest = rest }) ≡ BadLine 1
 wrong_first line lines rest other = rw other refl
 
 pub history_wrong : (text : Text) (new : Lines) (n : ℕ) (line : Text) → length text ≤ 1073741824 → TakesLine (lines_from 1 text) new n line → is_text line (codes "history 1") ≡ false → history_reading text ≡ BadLine 1
-history_wrong text new n line short takes other = history_short text short ∙ (ap history_of (taken text new n line takes) ∙ wrong_first line new.lines new.rest other)
+history_wrong text new n line short takes other = history_reading-short text short ∙ (ap history_of (taken text new n line takes) ∙ wrong_first line new.lines new.rest other)
 
 right_first : (line : Text) (lines : List Text) (rest : Text) → is_text line (codes "history 1") ≡ true → history_of (record { pieces = line ∷ lines; rest = rest }) ≡ entries_from entry_line 2 lines rest
 right_first line lines rest is = rw is refl
@@ -52,7 +47,7 @@ counted text new n line takes = sym takes.counted
 
 pub history_first : (text : Text) (new : Lines) (n : ℕ) (line : Text) → length text ≤ 1073741824 → TakesLine (lines_from 1 text) new n line → is_text line (codes "history 1") ≡ true → history_reading text ≡ entries_left entry_line new
 history_first text new n line short takes is =
-    history_short text short
+    history_reading-short text short
     ∙ (ap history_of (taken text new n line takes) ∙ (right_first line new.lines new.rest is ∙ ap (λ (n : ℕ). entries_from entry_line n new.lines new.rest) (counted text new n line takes)))
 
 front_lines : (text : Text) (new : Lines) (n : ℕ) (line : Text) (count : ℕ) → TakesLine (lines_from 1 text) new n line → first_lines (suc count) (cut_after 10 text) ≡ record { pieces = line ∷ take count new.lines; rest = [] }
@@ -78,14 +73,11 @@ record_by is text same = rw same refl
 pub record_long : (text : Text) → 2147483648 < length text → recorded_reading text ≡ BadLine 0
 record_long text long = record_by true text (grind (arith, nat_tests))
 
-record_short : (text : Text) → length text ≤ 2147483648 → recorded_reading text ≡ recorded_of (cut_after 10 text)
-record_short text short = record_by false text (grind (arith, nat_tests))
-
 no_header : (pieces : List Text) (rest : Text) → pieces ≡ [] → recorded_of (record { pieces = pieces; rest = rest }) ≡ BadLine 1
 no_header pieces rest none = ap (λ (pieces : List Text). recorded_of (record { pieces = pieces; rest = rest })) none
 
 pub record_empty : (text : Text) → length text ≤ 2147483648 → (lines_from 1 text).lines ≡ [] → recorded_reading text ≡ BadLine 1
-record_empty text short none = record_short text short ∙ no_header (cut_after 10 text).pieces (cut_after 10 text).rest none
+record_empty text short none = recorded_reading-short text short ∙ no_header (cut_after 10 text).pieces (cut_after 10 text).rest none
 
 header_line : (line : Text) (lines : List Text) (rest : Text) (config : Option Config) → header_of (words line) ≡ config → recorded_of (record { pieces = line ∷ lines; rest = rest }) ≡ recorded_by config lines rest
 header_line line lines rest config is = ap (λ (config : Option Config). recorded_by config lines rest) is
@@ -93,7 +85,7 @@ header_line line lines rest config is = ap (λ (config : Option Config). recorde
 record_lines : (text : Text) (new : Lines) (n : ℕ) (line : Text) (config : Option Config) → length text ≤ 2147483648 → TakesLine (lines_from 1 text) new n line → header_of (words line) ≡ config
     → recorded_reading text ≡ recorded_by config new.lines new.rest
 record_lines text new n line config short takes is =
-    record_short text short ∙ (ap recorded_of (taken text new n line takes) ∙ header_line line new.lines new.rest config is)
+    recorded_reading-short text short ∙ (ap recorded_of (taken text new n line takes) ∙ header_line line new.lines new.rest config is)
 
 pub record_wrong : (text : Text) (new : Lines) (n : ℕ) (line : Text) → length text ≤ 2147483648 → TakesLine (lines_from 1 text) new n line → header_of (words line) ≡ None → recorded_reading text ≡ BadLine 1
 record_wrong text new n line short takes is = record_lines text new n line None short takes is

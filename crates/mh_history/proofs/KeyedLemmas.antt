@@ -1,11 +1,11 @@
 -- Words between keys.
-use Rattle.std.proofs.Common.{◌≡◌, ℕ, zero, suc, ◌+◌, ◌<◌, ◌≤◌, Bool, true, false, if◌then◌else◌, Option, Some, None, option_map, option_and_then, List, [], ◌∷◌, ◌++◌, length, get_or, drop, refl, ap, sym, ◌∙◌, append_assoc, length-append, arith}
+use Rattle.std.proofs.Common.{◌≡◌, ℕ, zero, suc, ◌+◌, ◌<◌, Bool, true, false, if◌then◌else◌, Option, Some, None, option_map, option_and_then, List, [], ◌∷◌, ◌++◌, length, get_or, drop, refl, ap, sym, ◌∙◌, append_assoc, arith}
 use Rattle.std.proofs.lemmas.List.{map-append}
 use Rattle.std.specs.Borrow.{Bor}
 use Rattle.mh_model.specs.Bytes.{Text, is_text}
 use Rattle.mh_model.specs.Replies.{values, stat_of}
 use Rattle.mh_text.specs.Names.{names_shown}
-use Rattle.mh_history.proofs.PartLemmas.{shown_next, no_more}
+use Rattle.mh_history.proofs.PartLemmas.{shown_next}
 
 pub values_empty : (keys : List Text) → values keys [] ≡ None
 values_empty [] = refl
@@ -15,10 +15,6 @@ values_empty (key ∷ keys) = refl
 pub record Valued (all : Option (List Text)) (keys : List (Bor (List ℕ))) (i : ℕ) (found : List (Bor (List ℕ))) (value : Text) (words : List Text) : Type 0 where
   pub reads : option_map (λ more. names_shown found ++ more) (values (names_shown (drop i keys)) (value ∷ words)) ≡ all
   pub count : length found ≡ i
-
-none_before : (all : Option (List Text)) → all ≡ option_map (λ (more : List Text). more) all
-none_before None = refl
-none_before (Some more) = refl
 
 kept_by : (is : Bool) (found : List Text) (value : Text) (rest : Option (List Text)) → is ≡ true
     → option_map (λ more. found ++ more) (if is then option_map (λ more. value ∷ more) rest else None) ≡ option_map (λ more. (found ++ value ∷ []) ++ more) rest

@@ -6,9 +6,6 @@ use Rattle.mh_model.specs.Bytes.{Text}
 use Rattle.mh_model.specs.Script.{Reading, BadLine, Means, reading_map, at_end}
 use Rattle.mh_model.specs.HistoryTexts.{entries_from}
 use Rattle.mh_text.specs.Pieces.{Lines, TakesLine}
-use Rattle.mh_text.specs.TextErrors.{Refuses}
-use Rattle.mh_text.specs.declared.text_error.TextError.{TextError}
-use Rattle.mh_text.specs.declared.text_error.TextError.TheVariants.{Line, NoMemory}
 use Rattle.mh_history.specs.Beginnings.{entries_left, entry_before, HasEntry, TakesEntry}
 
 -- One line ---------------------------------------------------------------------------------------
@@ -83,10 +80,6 @@ walked_whole read old mid entries done = rw (done.lines, ← done.after) (done.r
 
 pub walked_end : {X : Type 0} (read : Text → Option X) (old mid : Lines) (entries : List X) → Walked read old mid entries → entries_left read mid ≡ Means [] → entries_left read old ≡ Means entries
 walked_end read old mid entries done end = walked_whole read old mid entries done ∙ (ap (with_entries entries) end ∙ ap Means (append-nil entries))
-
-pub walked_refused : {X : Type 0} (read : Text → Option X) (old mid : Lines) (entries : List X) (error : TextError) → Walked read old mid entries → Refuses (entries_left read mid) error → Refuses (entries_left read old) error
-walked_refused read old mid entries (Line bad) done refused = walked_whole read old mid entries done ∙ ap (with_entries entries) refused
-walked_refused read old mid entries NoMemory done refused = tt
 
 -- Memory -----------------------------------------------------------------------------------------
 

@@ -2,7 +2,6 @@
 use Rattle.std.proofs.Common.{◌≡◌, ℕ, zero, suc, ◌+◌, ◌^◌, ◌<◌, ◌≤◌, nat_lt, ◌&&◌, Bool, true, false, if◌then◌else◌, Option, Some, None, option_and_then, List, [], ◌∷◌, length, get_or, drop, refl, ap, sym, ◌∙◌, arith}
 use Rattle.std.specs.Prelude.{codes}
 use Rattle.std.proofs.lemmas.Bool.Decides.{nat_tests}
-use Rattle.std.proofs.lemmas.Grind.{common_steps}
 use Rattle.std.specs.Borrow.{Bor}
 use Rattle.mh_model.specs.Bytes.{Text, is_text, is_numeral, value_after, number, numbers}
 use Rattle.mh_model.specs.Forms.{within, formed, numbered, are_below, at, u32, u64}
@@ -12,7 +11,9 @@ use Rattle.mh_model.specs.Replies.{are_texts, refusal_forms}
 use Rattle.mh_text.specs.Names.{names_shown}
 use Rattle.mh_text.specs.Words.{few_numbers}
 use Rattle.mh_text.proofs.WordLemmas.{few_same, none_of, length_numbers}
-use Rattle.mh_text.proofs.RowLemmas.{below_other, text_same}
+use Rattle.std.proofs.Math.Bool.{and-false}
+use Rattle.mh_model.proofs.TextLemmas.{text_is}
+use Rattle.mh_text.proofs.RowLemmas.{below_other}
 use Rattle.mh_text.proofs.FormLemmas.{small_same}
 
 -- Numbers ----------------------------------------------------------------------------------------
@@ -73,10 +74,6 @@ within_none : (is : Bool) (n : ℕ) → within {X = ℕ} is n ≡ None → is �
 within_none true n is = cc
 within_none false n is = refl
 
-and_false : (b : Bool) → (b && false) ≡ false
-and_false true = refl
-and_false false = refl
-
 shape_by : (ns : List ℕ) (references numbers : ℕ) → length ns ≡ 2 → within (nat_lt (get_or ns 0 0) u32) (get_or ns 0 0) ≡ Some references → within (nat_lt (get_or ns 1 0) u32) (get_or ns 1 0) ≡ Some numbers
     → within (are_below (u32 ∷ u32 ∷ []) ns) (shape_made ns) ≡ Some (record { references = references; numbers = numbers })
 shape_by [] references numbers two a b = absurd (omega arith)
@@ -95,7 +92,7 @@ large_by : (ns : List ℕ) (i : ℕ) → within {X = ℕ} (nat_lt (get_or ns i 0
 large_by [] i none two below = absurd (omega arith)
 large_by (x ∷ []) i none two below = absurd (omega arith)
 large_by (x ∷ y ∷ []) zero none two below = rw (within_none (nat_lt x u32) x none) refl
-large_by (x ∷ y ∷ []) (suc zero) none two below = rw (within_none (nat_lt y u32) y none) (rw (and_false (nat_lt x u32)) refl)
+large_by (x ∷ y ∷ []) (suc zero) none two below = rw (within_none (nat_lt y u32) y none) (rw (and-false (nat_lt x u32)) refl)
 large_by (x ∷ y ∷ []) (suc (suc i)) none two below = absurd (omega arith)
 large_by (x ∷ y ∷ z ∷ ns) i none two below = absurd (omega arith)
 
@@ -109,9 +106,6 @@ pub shown_next : (items : List (Bor (List ℕ))) (i : ℕ) (text : Text) (none :
 shown_next [] i text none below is = absurd (omega arith)
 shown_next (item ∷ items) zero text none below is = rw is refl
 shown_next (item ∷ items) (suc i) text none below is = let one : suc i + 1 ≡ suc (i + 1) = omega arith in rw one (shown_next items i text none (omega arith) is)
-
-pub no_more : (items : List (Bor (List ℕ))) (i : ℕ) → length items ≤ i → names_shown (drop i items) ≡ []
-no_more items i past = let none : drop i items ≡ [] = grind (arith, common_steps) in rw none refl
 
 -- the words are the texts where the words left are the texts left
 wrong_by : (word text : Text) (words texts : List Text) → is_text word text ≡ false → are_texts (word ∷ words) (text ∷ texts) ≡ false
@@ -140,4 +134,4 @@ texts_next words items i all word text none rest done below at is same =
 
 pub sessions_refused : (number : Text) (words : List Text) → is_text number (codes "7") ≡ true
     → formed refusal_forms (number ∷ words) ≡ within (are_texts words (codes "too" ∷ codes "many" ∷ codes "sessions" ∷ [])) TooManySessions
-sessions_refused number words is = rw (text_same number (codes "7") is) refl
+sessions_refused number words is = rw (text_is number (codes "7") is) refl

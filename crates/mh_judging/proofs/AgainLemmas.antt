@@ -1,6 +1,7 @@
 -- A history that was read, and is read once more, entry by entry, and written as a record.
 use Rattle.std.proofs.Common.{◌≡◌, ◌∙◌, ℕ, zero, suc, ◌+◌, ◌<◌, ◌≤◌, List, [], ◌∷◌, ◌++◌, length, take, drop, Option, Some, None, IfNone, refl, ap, sym, subst, arith}
 use Rattle.std.specs.Io.KnownBytes.{Appends}
+use Rattle.std.proofs.lemmas.List.{length-drop}
 use Rattle.mh_model.specs.declared.config.Config.{Config}
 use Rattle.mh_model.specs.declared.history.Entry.{Entry}
 use Rattle.mh_model.specs.Bytes.{Text}
@@ -32,11 +33,6 @@ next_of (y ∷ ys) zero x more is =
 next_of (y ∷ ys) (suc i) x more is =
     let next = next_of ys i x more is in
     record { below = omega (arith, next.below); cut = ap (λ zs. y ∷ zs) next.cut; left = next.left }
-
-drop_none : {X : Type 0} (xs : List X) (i : ℕ) → drop i xs ≡ [] → length xs ≤ i
-drop_none [] i is = omega arith
-drop_none (x ∷ xs) zero is = cc
-drop_none (x ∷ xs) (suc i) is = omega (arith, drop_none xs i is)
 
 -- Entries ----------------------------------------------------------------------------------------
 
@@ -101,7 +97,7 @@ module _ {config : Config} {all left : Reading (List Entry)} {running : Running}
     again_all now end written =
         let none : drop running.done again.entries ≡ [] = same_entries left (drop running.done again.entries) [] again.left_is end in
         let P : List Entry → Type 0 = λ es. Appends old now (recorded_text (migrated config es)) in
-        subst P same (added_all again.added now (drop_none again.entries running.done none) written)
+        subst P same (added_all again.added now (omega (arith, ap length none, length-drop running.done again.entries)) written)
 
   pub again_fails : (now : Option Text) → AppendsBeginning new now buffer → (entries : List Entry) → all ≡ Means entries → AppendsBeginning old now (recorded_text (migrated config entries))
   again_fails now begun entries is = subst (λ es. AppendsBeginning old now (recorded_text (migrated config es))) (same entries is) (added_fails again.added (records_add config) now begun)

@@ -1,6 +1,5 @@
 -- Entries that are shown to a judge as they are read.
 use Rattle.std.proofs.Common.{◌≡◌, ◌∙◌, Option, List, [], ◌∷◌, ◌++◌, ap, refl}
-use Rattle.std.specs.Prelude.{Result, Ok, Err, IfOk, IfErr}
 use Rattle.mh_model.specs.declared.config.Config.{Config}
 use Rattle.mh_model.specs.declared.history.Entry.{Entry}
 use Rattle.mh_model.specs.declared.history.Measured.{Measured}
@@ -17,18 +16,10 @@ use Rattle.mh_text.specs.TextErrors.{Refuses}
 use Rattle.mh_text.specs.declared.text_error.TextError.{TextError}
 use Rattle.mh_text.specs.declared.text_error.TextError.TheVariants.{Line, NoMemory}
 use Rattle.mh_history.specs.Beginnings.{TakesEntry, entries_left, entry_before}
-use Rattle.mh_history.proofs.LineLemmas.{Walked, entry_taken, walked_end, walked_more, walked_refused, walked_start}
+use Rattle.mh_history.proofs.LineLemmas.{Walked, entry_taken, walked_end, walked_more, walked_start}
 use Rattle.mh_judging.specs.Judged.{IsVerdictOn}
 
 -- what follows from a result's value, and from its error
-pub if_ok_by : {T E : Type 0} {P Q : T → Type 0} (r : Result T E) → ((value : T) → P value → Q value) → IfOk r P → IfOk r Q
-if_ok_by (Ok value) by h = by value h
-if_ok_by (Err error) by h = tt
-
-pub if_err_by : {T E : Type 0} {P Q : E → Type 0} (r : Result T E) → ((error : E) → P error → Q error) → IfErr r P → IfErr r Q
-if_err_by (Ok value) by h = tt
-if_err_by (Err error) by h = by error h
-
 -- a judge has seen an entry, and then the entries that were read
 pub record HasShown {X : Type 0} (read : Text → Option X) (HasSeen : List X → Judging → Type 0) (first : X) (old new : Lines) (judging : Judging) : Type 0 where
   pub seen : List X

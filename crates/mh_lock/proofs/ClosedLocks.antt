@@ -12,7 +12,8 @@ use Rattle.mh_seat_laws.proofs.TotalLemmas.{total-set}
 use Rattle.mh_seat_laws.proofs.lock.ShownLocks.{shown_lock}
 use Rattle.mh_lock.specs.Seats.{LockView, LockSeatView, IsKeptAtHome}
 use Rattle.mh_lock.specs.Steps.{seat_view}
-use Rattle.mh_lock.proofs.SeatNumbers.{two_parts-of_total, is, one-below, ones-below, ones-weigh_length, views-none}
+use Rattle.mh_seat_laws.proofs.lock.ShownLocks.{is}
+use Rattle.mh_lock.proofs.SeatNumbers.{two_parts-of_total, one-below, ones-below, ones-weigh_length, views-none}
 
 module _ {X E : Type 0} (seat_of : X → LockSeatView E) where
   -- the numbers and the logs of seats, in their order

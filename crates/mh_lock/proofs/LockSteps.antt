@@ -15,7 +15,8 @@ use Rattle.mh_seat_laws.specs.declared.seat_view.SeatView.{SeatView}
 use Rattle.mh_seat_laws.proofs.lock.ShownLocks.{shown_lock}
 use Rattle.mh_seat_laws.proofs.TotalLemmas.{total-set, total-append_one}
 use Rattle.mh_lock.specs.Steps.{seat_view, empty_logs, all_seats, alone, holding, found_of, Grows, WasAtHome, Takes, Gives}
-use Rattle.mh_lock.proofs.SeatNumbers.{part-of_total, two_parts-of_total, is, is-same, none-above, at_most-one, weigh-append, weigh-cut, weigh-all}
+use Rattle.mh_seat_laws.proofs.lock.ShownLocks.{part-of_total, is, none_above}
+use Rattle.mh_lock.proofs.SeatNumbers.{two_parts-of_total, is-same, at_most-one, weigh-append, weigh-cut, weigh-all}
 
 set-there : {A : Type 0} (l : List A) (i : ℕ) (v w : A) → get_elem? l i ≡ some v → get_elem? (set l i w) i ≡ some w
 set-there [] i v w there = absurd (some-ne-none v (sym there))
@@ -104,7 +105,7 @@ module _ {T E O : Type 0} (owner : E → ℕ) (entries : T → List E) (origin :
         kept = ⊎_elim (λ (at_home : IsAtHome owner state). at_home) (λ (out : IsOut owner state). let one = out.word in absurd (omega arith)) shown.1;
         home = shows.home home.value word home.at_home;
         many = shows.many;
-        inside = grind (arith, none-above number seats, part-of_total (λ view. weigh_numbers (is number) view.logs) table.views id view there, mine, rule.numbers (is number));
+        inside = grind (arith, none_above number seats, part-of_total (λ view. weigh_numbers (is number) view.logs) table.views id view there, mine, rule.numbers (is number));
         there = (shows.logs id view there).0;
       }
 
@@ -167,7 +168,7 @@ module _ {T E O : Type 0} (owner : E → ℕ) (entries : T → List E) (origin :
       let same_history : out.history ≡ found.history = cc in
       let same_start : about.1 ≡ found.origin = cc in
       let more : Grows owner number out.history (entries value) = subst (λ h. Grows owner number h (entries value)) (sym same_history) grows in
-      let low : number < seats = grind (arith, none-above number seats, part-of_total (λ view. weigh_numbers (is number) view.logs) table.views id before there, mine, rule.numbers (is number)) in record {
+      let low : number < seats = grind (arith, none_above number seats, part-of_total (λ view. weigh_numbers (is number) view.logs) table.views id before there, mine, rule.numbers (is number)) in record {
         words = length-set table.words 0 0 ∙ rule.words;
         slots = length-set table.homes 0 (some value) ∙ rule.slots;
         numbers = λ h. omega (arith, total-set (λ view. weigh_numbers h view.logs) table.views id before after there, rule.numbers h);

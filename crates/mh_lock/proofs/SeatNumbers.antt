@@ -1,44 +1,32 @@
 -- The numbers of seats, weighed.
-use Rattle.std.proofs.Common.{arith, ◌≡◌, ◌≢◌, ℕ, zero, suc, ◌+◌, ◌<◌, ◌≤◌, cond, eqb, List, [], ◌∷◌, ◌++◌, length, take, drop, refl, sym, ap}
+use Rattle.std.proofs.Common.{arith, ◌≡◌, ◌≢◌, ℕ, zero, suc, ◌+◌, ◌<◌, ◌≤◌, List, [], ◌∷◌, ◌++◌, length, take, drop, refl, sym, ap}
 use Rattle.std.proofs.lemmas.Bool.Decides.{nat_tests}
 use mathlib.Core.Option.{some, some-injective, some-ne-none}
 use lib.ListN.{get_elem?}
 use Rattle.mh_seat_laws.specs.Weights.{weigh_below, total}
 use Rattle.mh_seat_laws.specs.Lock.{Logs, weigh_numbers}
 use Rattle.mh_seat_laws.specs.declared.seat_view.SeatView.{SeatView}
+use Rattle.mh_seat_laws.proofs.lock.ShownLocks.{is, none_above, part-of_total}
 use Rattle.mh_lock.specs.Steps.{empty_logs}
 
 module _ {A : Type 0} (f : A → ℕ) where
-  pub part-of_total : (l : List A) (i : ℕ) (v : A) → get_elem? l i ≡ some v → f v ≤ total f l
-  part-of_total [] i v there = absurd (some-ne-none v (sym there))
-  part-of_total (x ∷ xs) zero v there = let same : f x ≡ f v = ap f (some-injective x v there) in omega arith
-  part-of_total (x ∷ xs) (suc i) v there = omega (arith, part-of_total xs i v there)
-
   pub two_parts-of_total : (l : List A) (i j : ℕ) (v w : A) → i ≢ j → get_elem? l i ≡ some v → get_elem? l j ≡ some w → f v + f w ≤ total f l
   two_parts-of_total [] i j v w apart there other = absurd (some-ne-none v (sym there))
   two_parts-of_total (x ∷ xs) zero zero v w apart there other = absurd (apart refl)
-  two_parts-of_total (x ∷ xs) zero (suc j) v w apart there other = let same : f x ≡ f v = ap f (some-injective x v there) in omega (arith, part-of_total xs j w other)
-  two_parts-of_total (x ∷ xs) (suc i) zero v w apart there other = let same : f x ≡ f w = ap f (some-injective x w other) in omega (arith, part-of_total xs i v there)
+  two_parts-of_total (x ∷ xs) zero (suc j) v w apart there other = let same : f x ≡ f v = ap f (some-injective x v there) in omega (arith, part-of_total f xs j w other)
+  two_parts-of_total (x ∷ xs) (suc i) zero v w apart there other = let same : f x ≡ f w = ap f (some-injective x w other) in omega (arith, part-of_total f xs i v there)
   two_parts-of_total (x ∷ xs) (suc i) (suc j) v w apart there other = omega (arith, two_parts-of_total xs i j v w (λ same. apart (ap suc same)) there other)
-
--- 1 for the number n
-abbrev pub is : ℕ → ℕ → ℕ
-is n k = cond (eqb k n) 1 0
 
 pub is-same : (n k : ℕ) → k ≡ n → is n k ≡ 1
 is-same n k same = grind (arith, nat_tests)
 
-pub none-above : (n m : ℕ) → m ≤ n → weigh_below (is n) m ≡ 0
-none-above n zero le = refl
-none-above n (suc m) le = let r = none-above n m (omega arith) in grind (arith, nat_tests)
-
 pub at_most-one : (n m : ℕ) → weigh_below (is n) m ≤ 1
 at_most-one n zero = omega arith
-at_most-one n (suc m) = let r = at_most-one n m in let z = none-above n m in grind (arith, nat_tests)
+at_most-one n (suc m) = let r = at_most-one n m in let z = none_above n m in grind (arith, nat_tests)
 
 pub one-below : (n m : ℕ) → n < m → weigh_below (is n) m ≡ 1
 one-below n zero below = absurd (omega arith)
-one-below n (suc m) below = let r = one-below n m in let z = none-above n m in grind (arith, nat_tests)
+one-below n (suc m) below = let r = one-below n m in let z = none_above n m in grind (arith, nat_tests)
 
 pub ones-below : (m : ℕ) → weigh_below (λ _. 1) m ≡ m
 ones-below zero = refl

@@ -1,6 +1,8 @@
 -- The longest front taken off place by place, and the batch that it is marked as.
-use Rattle.std.proofs.Common.{◌≡◌, ℕ, zero, suc, ◌+◌, ◌-◌, ◌<◌, ◌≤◌, ◌==◌, ◌||◌, true, false, nat_le, if◌then◌else◌, List, [], ◌∷◌, ◌++◌, length, get_or, slice_get, drop, Some, IsSome, refl, sym, ap, ◌∙◌, subst, arith, append_assoc, eq-eqb}
-use Rattle.std.specs.List.{IsDistinct, AllByRecursion}
+use Rattle.std.proofs.Common.{◌≡◌, ℕ, zero, suc, ◌+◌, ◌-◌, ◌<◌, ◌≤◌, ◌==◌, ◌||◌, true, if◌then◌else◌, List, [], ◌∷◌, ◌++◌, length, get_or, slice_get, drop, Some, IsSome, refl, sym, ap, ◌∙◌, subst, arith, append_assoc, eq-eqb}
+use Rattle.std.specs.List.{IsDistinct}
+use Rattle.std.proofs.Math.Seq.{drop-append_seam}
+use Rattle.std.proofs.lemmas.Bool.{le-leb, lt-leb, or_right}
 use Rattle.std.proofs.lemmas.Bool.Decides.{nat_tests}
 use Rattle.std.proofs.lemmas.List.{append-nil}
 use Rattle.std.proofs.lemmas.List.Sums.{sum_by-append, sum_by-cons}
@@ -9,27 +11,20 @@ use Rattle.mh_model.specs.Pages.{Table, block_at}
 use Rattle.mh_model.specs.Table.{Block, references_at, found_in}
 use Rattle.mh_model.specs.Collector.{Marking, mark_cost}
 use Rattle.mh_model.specs.Batches.{longest_front, batch_cost, batch_written, batch_marked, NoneTwice}
-use Rattle.mh_table_laws.proofs.marking.BatchMarking.{first_marked, mark_step-front, batch_written-first}
+use Rattle.mh_table_laws.proofs.marking.BatchMarking.{none_twice-front, first_marked, mark_step-front, batch_written-first}
 use Rattle.mh_grey.specs.Queue.{Queue, is_in}
 use Rattle.mh_grey.specs.Shading.{marking}
-use Rattle.mh_grey.proofs.QueueLemmas.{or_right}
 use Rattle.mh_mark.specs.Walkable.{IsWalkable}
 use Rattle.mh_mark.specs.Batched.{AreMarkable, blocks_marked, front_marked}
 
-le_yes : (a b : ℕ) → a ≤ b → nat_le a b ≡ true
-le_yes a b h = grind (arith, nat_tests)
-
-le_no : (a b : ℕ) → b < a → nat_le a b ≡ false
-le_no a b h = grind (arith, nat_tests)
-
 front-more : (table : Table Block) (more left place : ℕ) (grey : List ℕ) → mark_cost table place ≤ left → longest_front (suc more) table left (place ∷ grey) ≡ place ∷ longest_front more table (left - mark_cost table place) grey
 unfolding longest_front
-front-more table more left place grey fits = ap (λ b. if b then place ∷ longest_front more table (left - mark_cost table place) grey else []) (le_yes (mark_cost table place) left fits)
+front-more table more left place grey fits = ap (λ b. if b then place ∷ longest_front more table (left - mark_cost table place) grey else []) (le-leb (mark_cost table place) left fits)
 
 front-dear : (table : Table Block) (more left place : ℕ) (grey : List ℕ) → left < mark_cost table place → longest_front more table left (place ∷ grey) ≡ []
 unfolding longest_front
 front-dear table zero left place grey dear = refl
-front-dear table (suc more) left place grey dear = ap (λ b. if b then place ∷ longest_front more table (left - mark_cost table place) grey else []) (le_no (mark_cost table place) left dear)
+front-dear table (suc more) left place grey dear = ap (λ b. if b then place ∷ longest_front more table (left - mark_cost table place) grey else []) (lt-leb (mark_cost table place) left dear)
 
 front-none : (table : Table Block) (more left : ℕ) → longest_front more table left [] ≡ []
 unfolding longest_front
@@ -111,19 +106,6 @@ blocks-batch [] m once = refl
 blocks-batch (place ∷ batch) m (apart, once) =
     ap (λ x. blocks_marked x batch) (mark_step-front place [] m) ∙ blocks-batch batch (first_marked m place) once ∙ batch_written-first place batch m apart
 
-all_front : (P : ℕ → Type 0) (front rest : List ℕ) → AllByRecursion P (front ++ rest) → AllByRecursion P front
-all_front P [] rest all = tt
-all_front P (x ∷ front) rest (here, after) = (here, all_front P front rest after)
-
-once_front : (front rest : List ℕ) → NoneTwice (front ++ rest) → NoneTwice front
-unfolding IsDistinct
-once_front [] rest once = tt
-once_front (x ∷ front) rest (here, after) = (all_front (λ y. (x == y) ≡ false) front rest here, once_front front rest after)
-
-drop_front : (front rest : List ℕ) → drop (length front) (front ++ rest) ≡ rest
-drop_front [] rest = refl
-drop_front (x ∷ front) rest = drop_front front rest
-
 -- what is marked once the front is off the list
 pub record IsFront (table : Table Block) (cycle left : ℕ) (old batch rest : List ℕ) : Type 0 where
   pub is : batch ≡ longest_front 1024 table left old
@@ -131,11 +113,11 @@ pub record IsFront (table : Table Block) (cycle left : ℕ) (old batch rest : Li
 
 pub front-batch : (table : Table Block) (cycle left : ℕ) (old batch rest : List ℕ) → IsFront table cycle left old batch rest → batch_written (marking table rest cycle) batch (found_in table batch) ≡ front_marked left (marking table old cycle)
 front-batch table cycle left old batch rest f =
-    ap (λ r. batch_written (marking table r cycle) batch (found_in table batch)) (sym (ap (drop (length batch)) f.parts ∙ drop_front batch rest))
+    ap (λ r. batch_written (marking table r cycle) batch (found_in table batch)) (sym (ap (drop (length batch)) f.parts ∙ drop-append_seam batch rest))
     ∙ ap (λ b. batch_marked (marking table old cycle) b (drop (length b) old)) f.is
 
 pub front-blocks : (table : Table Block) (cycle left : ℕ) (old batch rest : List ℕ) → IsFront table cycle left old batch rest → NoneTwice old → blocks_marked (marking table rest cycle) batch ≡ front_marked left (marking table old cycle)
-front-blocks table cycle left old batch rest f once = blocks-batch batch (marking table rest cycle) (once_front batch rest (subst NoneTwice f.parts once)) ∙ front-batch table cycle left old batch rest f
+front-blocks table cycle left old batch rest f once = blocks-batch batch (marking table rest cycle) (none_twice-front batch rest (subst NoneTwice f.parts once)) ∙ front-batch table cycle left old batch rest f
 
 in_front : (batch rest : List ℕ) (index : ℕ) → index < length batch → is_in (get_or batch index 0) (batch ++ rest) ≡ true
 in_front [] rest index below = absurd (omega arith)

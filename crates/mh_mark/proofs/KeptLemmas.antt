@@ -1,23 +1,26 @@
 -- One reference written and shaded, and what that keeps.
-use Rattle.std.proofs.Common.{◌≡◌, ◌≢◌, ℕ, zero, suc, ◌+◌, ◌<◌, ◌≤◌, ◌⊎◌, Bool, true, false, inl, inr, List, [], ◌∷◌, length, get_or, set, drop, map, Option, Some, None, option_map, unwrap_or, is_some, IsSome, if◌then◌else◌, refl, sym, ap, ◌∙◌, subst, arith}
+use Rattle.std.proofs.Common.{◌≡◌, ◌≢◌, ℕ, zero, suc, ◌+◌, ◌<◌, ◌≤◌, ◌⊎◌, Bool, true, false, inl, inr, List, [], ◌∷◌, length, get_or, set, drop, map, Option, Some, None, option_map, unwrap_or, is_some, IsSome, refl, sym, ap, ◌∙◌, subst, arith}
 use Rattle.std.proofs.lemmas.Bool.{cases_eq, false≢true}
 use Rattle.std.proofs.lemmas.List.{get_or-set_other, get_or-set_same, length-set, drop_more, get_or-map, length-map}
 use Rattle.arrayvec.specs.ArrayVec.{ArrayVec}
 use Rattle.mh_model.specs.Pages.{Table, block_at}
 use Rattle.mh_model.specs.Table.{Block, resolve, references_at, reference_at, with_reference_at, target_of, found_in, stamp_at, forward_at, LeadsHome}
-use Rattle.mh_model.specs.Collector.{Marking, is_marked, with_grey, shade_block, shade, mark_reference, mark_references}
+use Rattle.mh_model.specs.Collector.{Marking, shade, mark_reference, mark_references}
 use Rattle.mh_model.specs.Batches.{written_back, batch_written}
+use Rattle.mh_table_laws.proofs.placing.Places.{block_at-with_block_other}
+use Rattle.mh_table_laws.proofs.marking.GreyList.{cycle-mark_references, cycle-written_back}
 use Rattle.mh_grey.specs.Queue.{is_in}
 use Rattle.mh_grey.specs.Shading.{marking, AreMarked}
 use Rattle.mh_grey.proofs.QueueLemmas.{in-push}
 use Rattle.mh_grey.proofs.ShadeLemmas.{shade-marked, shade-new}
-use Rattle.mh_grey.proofs.StampLemmas.{change-view, block_at-other, IsLike, like-trans, like-reference, home-like, IsShaded, shaded}
+use Rattle.mh_grey.proofs.StampLemmas.{change-view, IsLike, like-trans, like-reference, home-like, IsShaded, shaded}
 use Rattle.mh_scan.specs.Scanning.{IsScannable, lists}
 use Rattle.mh_mark.specs.Batched.{IsMarkable, blocks_marked}
 use Rattle.mh_mark.specs.Walkable.{IsAtHome, LeadHome}
 use Rattle.mh_mark.specs.Kept.{IsKept}
 use Rattle.mh_mark.proofs.MarkLemmas.{IsMarkingOn}
-use Rattle.mh_mark.proofs.ReferenceLemmas.{home-leads, leads_of, at_home-leads, target-at_home, at_home-like, references_written, class-with_block, class-shaded, marked-written, write}
+use Rattle.mh_table_laws.proofs.marking.BatchMarking.{leads_of}
+use Rattle.mh_mark.proofs.ReferenceLemmas.{home-leads, at_home-leads, target-at_home, at_home-like, references_written, class-with_block, class-shaded, marked-written, write}
 
 pub kept-refl : (m : Marking) → IsKept m m
 kept-refl m = record { there = λ q. refl; forwards = λ q. refl; classes = λ page. refl; long = refl; counts = λ q. refl; lead = λ q home. home; cycle = refl; marked = λ marked. marked; grey = λ q is. inl is }
@@ -55,7 +58,7 @@ lead-written table place index target new like same home q long lead i below = e
 ]
   where
     other : q ≢ place → references_at (with_reference_at table place index target) q ≡ references_at table q
-    other apart = ap (λ (o : Option Block). unwrap_or (option_map (λ b. b.references) o) []) (block_at-other table place q _ apart)
+    other apart = ap (λ (o : Option Block). unwrap_or (option_map (λ b. b.references) o) []) (block_at-with_block_other table place q _ apart)
 
     none : (o : Option Block) → is_some o ≡ false → length (unwrap_or (option_map (λ (b : Block). b.references) o) []) ≡ 0
     none None e = refl
@@ -134,31 +137,6 @@ writing-goes start place found m index on below home =
 pub writing-home : (start m : Marking) (target : Option ℕ) → IsKept start m → IsAtHome start.table target → IsAtHome m.table target
 writing-home start m target kept home = at_home-like start.table m.table target (as-like start m kept) home
 
--- The cycle's number stays ---------------------------------------------------------------------------
-
-cycle-block : (m : Marking) (place : ℕ) (content : Option Block) → (shade_block m place content).cycle ≡ m.cycle
-cycle-block m place None = refl
-cycle-block m place (Some block) = go (is_marked m.cycle block)
-  where
-    go : (marked : Bool) → (if marked then m else with_grey m place block).cycle ≡ m.cycle
-    go true = refl
-    go false = refl
-
-cycle-shade : (m : Marking) (reference : Option ℕ) → (shade m reference).cycle ≡ m.cycle
-cycle-shade m None = refl
-cycle-shade m (Some place) = cycle-block m (resolve m.table place) (block_at m.table (resolve m.table place))
-
-cycle-write : (m : Marking) (place index : ℕ) (target : Option ℕ) → (write m place index target).cycle ≡ m.cycle
-cycle-write m place index target = cycle-shade (record m { table = with_reference_at m.table place index target }) target
-
-pub cycle-written : (found : List (Option ℕ)) (m : Marking) (place index : ℕ) → (written_back m place index found).cycle ≡ m.cycle
-cycle-written [] m place index = refl
-cycle-written (target ∷ found) m place index = cycle-written found (write m place index target) place (suc index) ∙ cycle-write m place index target
-
-pub cycle-references : (references : List (Option ℕ)) (m : Marking) (place index : ℕ) → (mark_references m place index references).cycle ≡ m.cycle
-cycle-references [] m place index = refl
-cycle-references (reference ∷ references) m place index = cycle-references references (mark_reference m place index reference) place (suc index) ∙ cycle-write m place index (target_of m.table reference)
-
 -- a marking by its parts
 pub marked-as : (m : Marking) (table : Table Block) (grey : List ℕ) (cycle : ℕ) → table ≡ m.table → grey ≡ m.grey → cycle ≡ m.cycle → marking table grey cycle ≡ m
 marked-as m table grey cycle a b d = rw (a, b, d) refl
@@ -217,7 +195,7 @@ pub blocks-goes : (start : Marking) (batch : List ℕ) (m : Marking) (table : Ta
     → IsKept m (marking table grey m.cycle) → IsBlocksOn start batch (marking table grey m.cycle) (index + 1)
 blocks-goes start batch m table grey index on below a b kept =
     let place = get_or batch index 0 in
-    let is : marking table grey m.cycle ≡ mark_references m place 0 (references_at m.table place) = marked-as (mark_references m place 0 (references_at m.table place)) table grey m.cycle a b (sym (cycle-references (references_at m.table place) m place 0)) in
+    let is : marking table grey m.cycle ≡ mark_references m place 0 (references_at m.table place) = marked-as (mark_references m place 0 (references_at m.table place)) table grey m.cycle a b (sym (cycle-mark_references m place 0 (references_at m.table place))) in
     record {
       same = ap (λ x. blocks_marked x (drop (index + 1) batch)) is ∙ sym (ap (blocks_marked m) (drop_more batch index 0 below)) ∙ on.same;
       kept = kept-trans start m (marking table grey m.cycle) on.kept kept;
@@ -230,4 +208,4 @@ found-goes start batch found m table grey index one items on is below at here a 
     let long : length (lists found) ≡ length batch = ap length is ∙ length-map batch (λ place. map (target_of start.table) (references_at start.table place)) in
     let same : items ≡ get_or (lists found) index [] = here ∙ at.items in
     batch-goes start batch (lists found) m (marking table grey m.cycle) index on below (omega arith)
-    (marked-as (written_back m (get_or batch index 0) 0 items) table grey m.cycle a b (sym (cycle-written items m (get_or batch index 0) 0)) ∙ ap (written_back m (get_or batch index 0) 0) same) kept
+    (marked-as (written_back m (get_or batch index 0) 0 items) table grey m.cycle a b (sym (cycle-written_back items m (get_or batch index 0) 0)) ∙ ap (written_back m (get_or batch index 0) 0) same) kept

@@ -1,34 +1,25 @@
 -- One reference of a block: where it leads, and what writing it back and shading it are.
-use Rattle.std.proofs.Common.{◌≡◌, ℕ, zero, suc, ◌+◌, ◌*◌, Bool, true, false, not, inl, inr, List, [], ◌∷◌, get_or, set, Option, Some, None, option_map, option_and_then, unwrap_or, is_some, IsSome, refl, sym, ap, ◌∙◌, subst}
+use Rattle.std.proofs.Common.{◌≡◌, ℕ, zero, suc, ◌+◌, ◌*◌, Bool, true, false, not, inl, inr, List, [], ◌∷◌, get_or, set, Option, Some, None, option_map, option_and_then, unwrap_or, IsSome, refl, sym, ap, ◌∙◌, subst}
 use Rattle.std.specs.Option.{option_eq}
 use Rattle.std.proofs.lemmas.Bool.{false≢true}
 use Rattle.std.proofs.lemmas.List.{set-get_or}
-use Rattle.mh_model.specs.Pages.{Table, Leads, page_number, slot_number, page_at, block_in, block_at, class_at, page_with, with_block}
+use Rattle.mh_model.specs.Pages.{Table, page_number, slot_number, page_at, block_in, block_at, class_at, page_with, with_block}
 use Rattle.mh_model.specs.Table.{Block, resolve, target_of, references_at, reference_at, with_reference_at, forward_at, LeadsOn, LeadsHome}
 use Rattle.mh_model.specs.Collector.{Marking, shade_place, shade, mark_reference}
 use Rattle.mh_pages.specs.Addresses.{Address, address_in}
+use Rattle.mh_table_laws.proofs.marking.BatchMarking.{there_before}
+use Rattle.mh_table_laws.proofs.placing.Places.{block_at-with_block_there}
 use Rattle.mh_grey.specs.Queue.{is_in}
 use Rattle.mh_grey.specs.Shading.{IsApartAt, AreMarked}
 use Rattle.mh_grey.proofs.ShadeLemmas.{shade-cases}
-use Rattle.mh_grey.proofs.StampLemmas.{change-view, block_at-same, IsLike, like-reference}
+use Rattle.mh_grey.proofs.StampLemmas.{change-view, IsLike, like-reference}
 use Rattle.mh_mark.specs.Walkable.{IsAtHome}
 
 -- Where references lead ------------------------------------------------------------------------------
 
-there_before : (table : Table Block) (place : ℕ) → IsSome (block_at table (resolve table place)) → IsSome (block_at table place)
-there_before table place leads = go (block_at table place) refl leads
-  where
-    go : (content : Option Block) → block_at table place ≡ content → IsSome (block_at table (unwrap_or (option_and_then (λ b. b.forward) content) place)) → IsSome (block_at table place)
-    go None at h = h
-    go (Some block) at h = ap is_some at
-
 pub home-leads : (table : Table Block) (reference : Option ℕ) → LeadsHome table reference → LeadsOn table reference
 home-leads table None home = tt
 home-leads table (Some place) home = (there_before table place home.0, home.0)
-
-pub leads_of : (table : Table Block) (reference : Option ℕ) → LeadsOn table reference → Leads table reference
-leads_of table None leads = tt
-leads_of table (Some place) leads = leads.0
 
 -- what a reference to a block that is no forwarder leads to is that block
 pub at_home-leads : (table : Table Block) (reference : Option ℕ) → IsAtHome table reference → LeadsHome table reference
@@ -68,7 +59,7 @@ same_reference table place index reference is =
 
 pub references_written : (table : Table Block) (place index : ℕ) (reference : Option ℕ) → IsSome (block_at table place) → references_at (with_reference_at table place index reference) place ≡ set (references_at table place) index reference
 references_written table place index reference there =
-    ap (λ (o : Option Block). unwrap_or (option_map (λ b. b.references) o) []) (block_at-same table place (option_map (λ (b : Block). record b { references = set b.references index reference }) (block_at table place)) there)
+    ap (λ (o : Option Block). unwrap_or (option_map (λ b. b.references) o) []) (block_at-with_block_there table place (option_map (λ (b : Block). record b { references = set b.references index reference }) (block_at table place)) there)
     ∙ of (block_at table place) there
   where
     of : (o : Option Block) → IsSome o → unwrap_or (option_map (λ (b : Block). b.references) (option_map (λ (b : Block). record b { references = set b.references index reference }) o)) [] ≡ set (unwrap_or (option_map (λ (b : Block). b.references) o) []) index reference

@@ -2,11 +2,12 @@
 use Rattle.std.proofs.Common.{◌≡◌, ℕ, Bool, true, false, if◌then◌else◌, [], Option, Some, None, option_map, unwrap_or, is_some, option_and_then, refl, ap, ◌∙◌, subst}
 use Rattle.mh_model.specs.Pages.{Table, block_at, with_block, Leads}
 use Rattle.mh_model.specs.declared.shape.Shape.{Shape}
-use Rattle.mh_model.specs.Table.{Block, Position, resolve, references_at, forward_at, position_of, reference_in, LeadsOn}
+use Rattle.mh_model.specs.Table.{Block, Position, resolve, references_at, forward_at, position_of, reference_in}
 use Rattle.mh_model.specs.Collector.{Collector, Marking, is_marked, with_grey, shade_block, shade, marking_of, with_shade}
 use Rattle.mh_model.specs.Mutator.{in_roots_or_mark, before_field}
 use Rattle.mh_model.specs.Invariant.{HasField, IsSteady}
 use Rattle.mh_laws.specs.Fields.{ReferencesLeadOn}
+use Rattle.mh_table_laws.proofs.marking.BatchMarking.{leads_of}
 use Rattle.mh_grey.proofs.StampLemmas.{change-view}
 
 -- blocks are where they were, with the references that they had
@@ -48,14 +49,10 @@ pub leads-stays : (old new : Table Block) (reference : Option ℕ) → StaysLaid
 leads-stays old new None stays leads = tt
 leads-stays old new (Some place) stays leads = stays.there place ∙ leads
 
-pub leads-on : (table : Table Block) (reference : Option ℕ) → LeadsOn table reference → Leads table reference
-leads-on table None on = tt
-leads-on table (Some place) on = on.0
-
 pub field-original : (c : Collector) (place : ℕ) (shape : Shape) (field : ℕ) → HasField c place shape field → forward_at c.table (position_of c.table place field).place ≡ None
 field-original c place shape field has = ap (option_and_then (λ (b : Block). b.forward)) has.has.plain.there ∙ has.has.plain.original
 
 pub field-leads : ReferencesLeadOn → (c : Collector) → IsSteady c → (place : ℕ) (shape : Shape) (field : ℕ) → HasField c place shape field → Leads c.table (reference_in c.table (position_of c.table place field))
 field-leads law c steady place shape field has =
     let at = position_of c.table place field in
-    leads-on c.table (reference_in c.table at) (law.words c steady at.place has.block has.has.plain at.index).on
+    leads_of c.table (reference_in c.table at) (law.words c steady at.place has.block has.has.plain at.index).on

@@ -1,14 +1,14 @@
 -- Words copied one after another, and a block copied to a place that was taken for it.
-use Rattle.std.proofs.Common.{◌≡◌, ℕ, suc, ◌+◌, ◌*◌, ◌/◌, ◌<◌, ◌≤◌, ◌⊎◌, Bool, inl, inr, Some, is_some, IsSome, unwrap_or, List, [], length, get_or, set, refl, ap, ◌∙◌, sym, subst, arith, get_or-set_same, get_or-set_other}
+use Rattle.std.proofs.Common.{◌≡◌, ℕ, suc, ◌+◌, ◌*◌, ◌/◌, ◌<◌, ◌≤◌, ◌⊎◌, Bool, inl, inr, Some, is_some, IsSome, unwrap_or, List, [], length, get_or, ap, ◌∙◌, sym, subst, arith}
 use Rattle.std.proofs.lemmas.Bool.{cases_eq, cases_lt, false≢true}
 use Rattle.std.proofs.lemmas.Option.{same_Some}
-use Rattle.std.proofs.lemmas.List.{length-set}
 use Rattle.std.proofs.Math.Nat.{mul-le-mul_right}
 use Rattle.mh_model.specs.Pages.{Table, page_number, slot_number, block_at, class_at, with_block, with_taken, IsFreeFor}
 use Rattle.mh_pages.specs.Shown.{words_from, shown_table}
 use Rattle.mh_pages.specs.Words.{words_at}
 use Rattle.mh_pages.specs.Kept.{IsCopied, AreApart, IsKept}
-use Rattle.mh_pages.proofs.TableLemmas.{page_of_block, block_taken, class_taken, taken_twice, other_block, other_class}
+use Rattle.mh_table_laws.proofs.placing.Places.{block_at-with_taken_same, block_at-with_taken_there, with_block-with_taken}
+use Rattle.mh_pages.proofs.TableLemmas.{page_of_block, class_taken, other_class}
 use Rattle.mh_pages.proofs.ShownLemmas.{IsTaken, block_at-shown}
 use Rattle.mh_pages.proofs.WriteLemmas.{block_fits, shown-copied}
 use Rattle.mh_pages.proofs.KeptLemmas.{start, block_of, class_shown, kept-block}
@@ -35,10 +35,10 @@ module _ (heads frees words : List ℕ) (sets : List Bool) (free : ℕ) (kept : 
     (shown : shown_table heads frees words ≡ table) (taken : table ≡ with_taken old size place zeros)
     (is : IsFreeFor old size place) (there : IsSome (block_at old source)) (class : class_at old (page_number source) ≡ Some size) where
   pub copy_taken : IsTaken heads frees place
-  copy_taken = block_of heads frees words sets free kept table place shown (ap (λ t. is_some (block_at t place)) taken ∙ ap is_some (block_taken old size place zeros is))
+  copy_taken = block_of heads frees words sets free kept table place shown (ap (λ t. is_some (block_at t place)) taken ∙ ap is_some (block_at-with_taken_same old size place zeros is))
 
   pub source_taken : IsTaken heads frees source
-  source_taken = block_of heads frees words sets free kept table source shown (ap (λ t. is_some (block_at t source)) taken ∙ (ap is_some (other_block old size place zeros source is there) ∙ there))
+  source_taken = block_of heads frees words sets free kept table source shown (ap (λ t. is_some (block_at t source)) taken ∙ (ap is_some (block_at-with_taken_there old size place source zeros is there) ∙ there))
 
   size_shown : (other : ℕ) → IsTaken heads frees other → class_at table (page_number other) ≡ Some size → get_or heads (page_number other) 0 / 2 ≡ size
   size_shown other its e =
@@ -83,10 +83,10 @@ module _ (heads frees words : List ℕ) (sets : List Bool) (free : ℕ) (kept : 
     block_copied =
         ap (λ s. Some (words_from words (256 * page_number source + slot_number source * (get_or heads (page_number source) 0 / 2)) s)) (copy_size ∙ sym source_size)
         ∙ (ap (λ o. Some (unwrap_or o [])) (sym (block_at-shown heads frees words source source_taken))
-        ∙ (ap (λ t. Some (words_at t source)) (shown ∙ taken) ∙ ap (λ o. Some (unwrap_or o [])) (other_block old size place zeros source is there)))
+        ∙ (ap (λ t. Some (words_at t source)) (shown ∙ taken) ∙ ap (λ o. Some (unwrap_or o [])) (block_at-with_taken_there old size place source zeros is there)))
 
     pub copied_shown : shown_table heads frees new ≡ with_taken old size place (words_at old source)
     copied_shown =
         shown-copied heads frees words place kept.pages new _ copy_taken of_its_size
         ∙ (ap (with_block (shown_table heads frees words) place) block_copied
-        ∙ (ap (λ t. with_block t place (Some (words_at old source))) (shown ∙ taken) ∙ taken_twice old size place zeros (words_at old source) is))
+        ∙ (ap (λ t. with_block t place (Some (words_at old source))) (shown ∙ taken) ∙ with_block-with_taken old size place zeros (words_at old source) is))

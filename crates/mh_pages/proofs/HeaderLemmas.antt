@@ -4,7 +4,7 @@ use Rattle.std.proofs.lemmas.Bool.{false≢true}
 use Rattle.std.proofs.lemmas.List.{length-set}
 use Rattle.mh_model.specs.Pages.{Table, block_at}
 use Rattle.mh_pages.specs.Words.{words_at, with_word}
-use Rattle.mh_pages.proofs.TableLemmas.{page_of_block, block_after}
+use Rattle.mh_table_laws.proofs.placing.Places.{block_at-with_block_there}
 
 -- a place has a block with the words of a header
 pub record HasHeader (table : Table (List ℕ)) (place : ℕ) : Type 0 where
@@ -13,7 +13,7 @@ pub record HasHeader (table : Table (List ℕ)) (place : ℕ) : Type 0 where
 
 pub header_after : (table new : Table (List ℕ)) (place index word : ℕ) → new ≡ with_word table place index word → HasHeader table place → HasHeader new place
 header_after table new place index word is has =
-    let after : block_at new place ≡ option_map (λ block. set block index word) (block_at table place) = ap (λ t. block_at t place) is ∙ block_after table place _ (page_of_block table place has.there) in
+    let after : block_at new place ≡ option_map (λ block. set block index word) (block_at table place) = ap (λ t. block_at t place) is ∙ block_at-with_block_there table place _ has.there in
     go (block_at table place) after has.there has.four
   where
     go : (o : Option (List ℕ)) → block_at new place ≡ option_map (λ block. set block index word) o → IsSome o → 4 ≤ length {A = ℕ} (unwrap_or o []) → HasHeader new place

@@ -1,7 +1,8 @@
 -- The sets of pages after one page is put in those to which it belongs.
-use Rattle.std.proofs.Common.{◌≡◌, ◌≢◌, ℕ, zero, suc, ◌+◌, ◌*◌, ◌/◌, ◌<◌, ◌≤◌, ◌==◌, ◌&&◌, ◌||◌, ◌⊎◌, not, Bool, true, false, if◌then◌else◌, inl, inr, List, [], ◌∷◌, length, get_or, set, refl, ap, ◌∙◌, sym, subst, arith, get_or-set_same, get_or-set_other}
+use Rattle.std.proofs.Common.{◌≡◌, ◌≢◌, ℕ, zero, suc, ◌+◌, ◌*◌, ◌/◌, ◌<◌, ◌≤◌, ◌==◌, ◌&&◌, ◌||◌, ◌⊎◌, not, Bool, true, false, if◌then◌else◌, inl, inr, List, length, get_or, set, refl, ap, ◌∙◌, sym, subst, arith, get_or-set_same, get_or-set_other}
 use Rattle.std.proofs.lemmas.Bool.{cases_eq, or_parts, ne_eqb, and_left}
 use Rattle.std.proofs.lemmas.List.{length-set, set-get_or}
+use Rattle.std.proofs.lemmas.List.{get_or_default}
 use Rattle.mh_model.specs.Classes.{is_class_size, slots_in}
 use Rattle.mh_bits.specs.Bits.{has_bit}
 use Rattle.mh_bits.specs.Sets.{has_member}
@@ -11,16 +12,6 @@ use Rattle.mh_pages.specs.Indexed.{belongs, IsIndexed, put_in, indexed_again, in
 use Rattle.mh_pages.specs.Kept.{is_head, ArePages}
 
 -- what is read within a list doesn't depend on the default
-pub either_default : {X : Type 0} (xs : List X) (i : ℕ) (d e : X) → i < length xs → get_or xs i d ≡ get_or xs i e
-either_default [] i d e h = absurd (omega arith)
-either_default (x ∷ xs) zero d e h = refl
-either_default (x ∷ xs) (suc i) d e h = either_default xs i d e (omega arith)
-
-pub past_default : {X : Type 0} (xs : List X) (i : ℕ) (d : X) → length xs ≤ i → get_or xs i d ≡ d
-past_default [] i d h = refl
-past_default (x ∷ xs) zero d h = absurd (omega arith)
-past_default (x ∷ xs) (suc i) d h = past_default xs i d (omega arith)
-
 put_same : (sets : List Bool) (row page : ℕ) (value : Bool) → 4096 * row + page < length sets → has_member (put_in sets row page value) row page ≡ value
 put_same sets row page value within = get_or-set_same sets (4096 * row + page) value false within
 
@@ -124,7 +115,7 @@ indexed-set heads frees sets page size head free so all within few sizes class o
         ap (λ n. has_member (indexed_again sets page size head free) (3 * class_number other + kind) n) here
         ∙ (again_other sets page size head free (3 * class_number other + kind) page small_page small_page (inl ((λ e. omega arith), (λ e. numbers_apart (omega arith)), (λ e. numbers_apart (omega arith)), (λ e. numbers_apart (omega arith))))
         ∙ (so.classes kind other page k is small_page
-        ∙ (ap (λ h. belongs kind h (get_or frees page 0) other) (either_default heads page 1 0 within)
+        ∙ (ap (λ h. belongs kind h (get_or frees page 0) other) (get_or_default heads page 1 0 within)
         ∙ (other_class kind (get_or heads page 0) (get_or frees page 0) size other old four apart
         ∙ (sym (other_class kind head free size other new four apart) ∙ sym (now_at_page kind other number here))))))
 

@@ -23,7 +23,7 @@ use Rattle.mh_pages.proofs.WriteLemmas.{shown-block, shown-word, slots-released,
 use Rattle.mh_pages.proofs.CleanLemmas.{LosesClean, clean-set, clean-block, loses-released, clean-used, clean-free}
 use Rattle.mh_pages.proofs.IndexLemmas.{indexed-set, indexed-after, pages-set, length-indexed_again, length-indexed_after}
 use Rattle.mh_pages.proofs.CountLemmas.{free_pages-taken, free_pages-same, free_pages-freed, free_pages-some, free_pages-few}
-use Rattle.mh_pages.proofs.TableLemmas.{all_empty, block_twice, page_of_block}
+use Rattle.mh_table_laws.proofs.placing.Places.{with_block-twice, block_count-none}
 
 -- a bit that isn't set isn't set after another is cleared
 has_bit-less : (n k i : ℕ) → has_bit n i ≡ false → has_bit (without_bit n k) i ≡ false
@@ -251,7 +251,7 @@ module _ (heads frees words : List ℕ) (sets : List Bool) (free : ℕ) (kept : 
   no_slot_taken : (page slot : ℕ) → IsUsed page → count_at (shown_table heads frees words) page ≡ 0 → slot < slots_in (get_or heads page 0 / 2) → has_bit (get_or frees page 0) slot ≢ false
   no_slot_taken page slot is none within taken =
       let empty : get_or (shown_slots (get_or frees page 0) words page (get_or heads page 0 / 2)) slot None ≡ None =
-      all_empty _ slot (sym (ap (λ p. unwrap_or (option_map live_in p) 0) (page_used page is)) ∙ none) in
+      block_count-none _ slot (sym (ap (λ p. unwrap_or (option_map live_in p) 0) (page_used page is)) ∙ none) in
       none-some _ (sym empty ∙ (slot_at (get_or frees page 0) words page (get_or heads page 0 / 2) slot within ∙ ap (λ b. if b then None else Some (words_from words (256 * page + slot * (get_or heads page 0 / 2)) (get_or heads page 0 / 2))) taken))
 
   pub kept-freed : (page : ℕ) → IsUsed page → count_at (shown_table heads frees words) page ≡ 0 → IsKept (set heads page 0) (set frees page 0) words (indexed_again sets page (get_or heads page 0 / 2) 0 0) (free + 1)
@@ -407,4 +407,4 @@ module _ (heads frees words new : List ℕ) (sets : List Bool) (free : ℕ) (kep
   given_back_shown =
       released_shown heads frees new sets free cleared place is
       ∙ (ap (λ t. with_block t place None) (shown-block heads frees words place kept.pages new is (zeroed_inside words new _ _ zeroed))
-      ∙ block_twice (shown_table heads frees words) place _ None (page_of_block _ place (ap is_some (block_at-shown heads frees words place is))))
+      ∙ with_block-twice (shown_table heads frees words) place _ None)

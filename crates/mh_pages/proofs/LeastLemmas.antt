@@ -16,7 +16,7 @@ use Rattle.mh_pages.specs.Shown.{shown_slot, shown_slots, page_of, shown_page, p
 use Rattle.mh_pages.specs.Indexed.{belongs, IsIndexed}
 use Rattle.mh_pages.specs.Kept.{ArePages}
 use Rattle.mh_pages.proofs.ShownLemmas.{length-shown, page_at-shown, free_page, used_page, empty-slot_shown, taken-slot_shown, slot_at}
-use Rattle.mh_pages.proofs.IndexLemmas.{either_default, past_default}
+use Rattle.std.proofs.lemmas.List.{get_or_default, get_or_past}
 
 -- Tables -----------------------------------------------------------------------------------------
 
@@ -157,7 +157,7 @@ module _ (heads frees words : List ℕ) (sets : List Bool) (few : length heads �
     pub class_inside : (kind size number : ℕ) → kind < 3 → is_class_size size ≡ true → number < 4096 → has_member sets (3 * class_number size + kind) number ≡ true → number < length heads
     class_inside kind size number k class within is = elim (cases_lt number (length heads)) [
       | inl inside ↦ inside
-      | inr past ↦ absurd (false≢true (sym (past_belongs kind) ∙ (ap (λ h. belongs kind h (get_or frees number 0) size) (sym (past_default heads number 1 past)) ∙ (sym (so.classes kind size number k class within) ∙ is))))
+      | inr past ↦ absurd (false≢true (sym (past_belongs kind) ∙ (ap (λ h. belongs kind h (get_or frees number 0) size) (sym (get_or_past heads number 1 past)) ∙ (sym (so.classes kind size number k class within) ∙ is))))
     ]
       where
         past_belongs : (n : ℕ) → belongs n 1 (get_or frees number 0) size ≡ false
@@ -168,12 +168,12 @@ module _ (heads frees words : List ℕ) (sets : List Bool) (few : length heads �
     free_inside : (number : ℕ) → number < 4096 → has_member sets 60 number ≡ true → number < length heads
     free_inside number within is = elim (cases_lt number (length heads)) [
       | inl inside ↦ inside
-      | inr past ↦ absurd (true≢false (sym is ∙ (so.free number within ∙ ap (λ h. h == 0) (past_default heads number 1 past))))
+      | inr past ↦ absurd (true≢false (sym is ∙ (so.free number within ∙ ap (λ h. h == 0) (get_or_past heads number 1 past))))
     ]
 
     pub class_member : (kind size number : ℕ) (b : Bool) → kind < 3 → is_class_size size ≡ true → number < length heads → has_member sets (3 * class_number size + kind) number ≡ b → belongs kind (get_or heads number 0) (get_or frees number 0) size ≡ b
     class_member kind size number b k class inside is =
-        ap (λ h. belongs kind h (get_or frees number 0) size) (either_default heads number 0 1 inside) ∙ (sym (so.classes kind size number k class (omega arith)) ∙ is)
+        ap (λ h. belongs kind h (get_or frees number 0) size) (get_or_default heads number 0 1 inside) ∙ (sym (so.classes kind size number k class (omega arith)) ∙ is)
 
     member_inside : (kind size page : ℕ) → kind < 3 → is_class_size size ≡ true → IsLeastMember sets (3 * class_number size + kind) page → page < length heads
     member_inside kind size page k class is = class_inside kind size page k class is.within is.is_member
@@ -207,7 +207,7 @@ module _ (heads frees words : List ℕ) (sets : List Bool) (few : length heads �
         (λ number l m. open-none (is_sparse size) (2 * size + 1) (sparse-tells size) _ _ words number (class_member 2 size number false (omega arith) class l m)) none
 
     free_head : (number : ℕ) (b : Bool) → number < length heads → has_member sets 60 number ≡ b → (get_or heads number 0 == 0) ≡ b
-    free_head number b inside is = ap (λ h. h == 0) (either_default heads number 0 1 inside) ∙ (sym (so.free number (omega arith)) ∙ is)
+    free_head number b inside is = ap (λ h. h == 0) (get_or_default heads number 0 1 inside) ∙ (sym (so.free number (omega arith)) ∙ is)
 
     pub fresh_found : (page : ℕ) → IsLeastMember sets 60 page → least fresh_slot (shown_table heads frees words) ≡ Some (64 * page + 0)
     fresh_found page is =

@@ -14,7 +14,7 @@ use Rattle.mh_pages.specs.Shown.{page_shown, shown_table}
 use Rattle.mh_pages.specs.Indexed.{belongs, AllFree}
 use Rattle.mh_pages.specs.Kept.{is_head, IsKept}
 use Rattle.mh_pages.proofs.ShownLemmas.{free_page}
-use Rattle.mh_pages.proofs.IndexLemmas.{past_default}
+use Rattle.std.proofs.lemmas.List.{get_or_past}
 use Rattle.mh_pages.proofs.CountLemmas.{free_pages-all}
 
 same_at : {X : Type 0} (n i : ℕ) (x : X) → get_or (replicate n x) i x ≡ x
@@ -76,13 +76,13 @@ kept-open sets pages few so = record {
     free_head : (number : ℕ) → (get_or (replicate pages 0) number 1 == 0) ≡ nat_lt number pages
     free_head number = elim (cases_lt number pages) [
       | inl below ↦ eq-eqb _ _ (get_or-replicate {A = ℕ} pages number 0 1 below) ∙ sym (lt-ltb number pages below)
-      | inr above ↦ ap (λ h. h == 0) (past_default {X = ℕ} (replicate pages 0) number 1 (omega (arith, length-replicate {A = ℕ} pages 0))) ∙ sym (le-ltb number pages above)
+      | inr above ↦ ap (λ h. h == 0) (get_or_past {X = ℕ} (replicate pages 0) number 1 (omega (arith, length-replicate {A = ℕ} pages 0))) ∙ sym (le-ltb number pages above)
     ]
 
     small_head : (number : ℕ) → get_or (replicate pages 0) number 1 ≤ 1
     small_head number = elim (cases_lt number pages) [
       | inl below ↦ omega (arith, get_or-replicate {A = ℕ} pages number 0 1 below)
-      | inr above ↦ omega (arith, past_default {X = ℕ} (replicate pages 0) number 1 (omega (arith, length-replicate {A = ℕ} pages 0)))
+      | inr above ↦ omega (arith, get_or_past {X = ℕ} (replicate pages 0) number 1 (omega (arith, length-replicate {A = ℕ} pages 0)))
     ]
 
     not_there : (kind size number : ℕ) → 4 ≤ size → belongs kind (get_or (replicate pages 0) number 1) 0 size ≡ false

@@ -1,5 +1,5 @@
 -- What `clap` finds in words that it takes for the program's: one of its subcommands, with what that one's options may be.
-use Rattle.std.proofs.Common.{◌≡◌, ◌∙◌, Bool, true, false, not, if◌then◌else◌, ◌&&◌, ◌||◌, List, [], ◌∷◌, Option, Some, None, is_some, option_map, refl, sym, ap, subst, inl, inr, codes}
+use Rattle.std.proofs.Common.{◌≡◌, ◌∙◌, Bool, true, false, not, if◌then◌else◌, ◌&&◌, List, [], ◌∷◌, Option, Some, None, is_some, option_map, refl, sym, ap, subst, inl, inr, codes}
 use Rattle.std.specs.Prelude.{IfSome, IsSomeAnd, find}
 use Rattle.std.specs.Option.{option_map_or}
 use Rattle.std.specs.List.{list_any}
@@ -15,6 +15,7 @@ use Rattle.clap.specs.Takes.{is_given}
 use Rattle.clap.specs.Walk.{Row, Text, Walk, answers_to, finished, nothing_held, rows_after, settled, walk_from}
 use Rattle.clap.specs.Walk as walk
 use Rattle.clap.specs.declared.parser.matches.ArgMatches.{ArgMatches}
+use Rattle.std.proofs.lemmas.Bool.{or_parts}
 use Rattle.mh_program.specs.declared.fault.LineFault.{LineFault}
 use Rattle.mh_program.specs.declared.fault.LineFault.TheVariants.{Words, NotText, Configuration, NoMemory}
 use Rattle.mh_program.specs.declared.line.Order.{Order}
@@ -27,10 +28,6 @@ use Rattle.mh_program.specs.Line.{IsAsked, NamesOne, Nothing, Numbers, TakesNumb
 use Rattle.mh_program.proofs.OptionLemmas.{AreRead, level-read, never, none_first, none_next, safe-help, safe-value, value-may, value-must}
 
 -- Required options -------------------------------------------------------------------------------
-
-both_false : (a b : Bool) → (a || b) ≡ false → (a ≡ false) × (b ≡ false)
-both_false true b e = absurd (false≢true (sym e))
-both_false false b e = (refl, e)
 
 is_there : (b : Bool) → (true && not b) ≡ false → b ≡ true
 is_there true e = refl
@@ -77,10 +74,10 @@ sound-numbers name is words e =
     let all : AreRead any_text refl rows =
     level-read any_text refl s words (safe (codes "pages"), (safe (codes "quantum"), (safe (codes "trigger"), (safe (codes "every"), (safe-help any_text refl 1, tt))))) e in
     let given : (option : Text) → is_given option rows ≡ true → _ = λ option there. value-must any_text refl option rows there all in
-    let pages = both_false _ _ (level-whole s words e) in
-    let quantum = both_false _ _ pages.1 in
-    let trigger = both_false _ _ quantum.1 in
-    let every = both_false _ _ trigger.1 in
+    let pages = or_parts _ _ (level-whole s words e) in
+    let quantum = or_parts _ _ pages.1 in
+    let trigger = or_parts _ _ quantum.1 in
+    let every = or_parts _ _ trigger.1 in
     Numbers is (given (codes "pages") (is_there _ pages.0), given (codes "quantum") (is_there _ quantum.0), given (codes "trigger") (is_there _ trigger.0), given (codes "every") (is_there _ every.0))
 
 AreSound-find : (test : Shape → Bool) (shapes : List Shape) → AreSound shapes → IfSome (find test shapes) IsSound

@@ -1,6 +1,5 @@
 -- What an event of a run was answered, and what its half step leaves.
-use Rattle.std.proofs.Common.{◌≡◌, ℕ, true, if◌then◌else◌, List, ◌∷◌, length, slice_get, refl, sym, ap, ◌∙◌}
-use Rattle.std.proofs.lemmas.Bool.{false≢true}
+use Rattle.std.proofs.Common.{◌≡◌, ℕ, List, ◌∷◌, length, slice_get, refl, sym, ap, ◌∙◌}
 use Rattle.std.proofs.lemmas.Option.{same_Some}
 use Rattle.mh_model.specs.declared.command.Command.{Command}
 use Rattle.mh_model.specs.declared.command.Control.{Control}
@@ -10,11 +9,10 @@ use Rattle.mh_model.specs.declared.command.Event.TheVariants as event
 use Rattle.mh_model.specs.declared.config.Config.{Config}
 use Rattle.mh_model.specs.declared.reply.Reply.{Reply}
 use Rattle.mh_model.specs.declared.reply.Reply.TheVariants as reply
-use Rattle.mh_model.specs.World.{Answer, World, says}
-use Rattle.mh_model.specs.Collector.{quantum}
+use Rattle.mh_model.specs.World.{Answer, World}
 use Rattle.mh_model.specs.Mutator.{mutator_step}
-use Rattle.mh_model.specs.Machine.{Machine, first_machine, quantum_run, command_step, control_step, half_step, event_step, machine_replies}
-use Rattle.mh_model.specs.Snapshot.{Moment, has_quantum, half_moment, world_beside}
+use Rattle.mh_model.specs.Machine.{Machine, first_machine, command_step, control_step, half_step, event_step, machine_replies}
+use Rattle.mh_model.specs.Snapshot.{Moment, half_moment, world_beside}
 use Rattle.mh_laws.specs.Bounds.{left_of, QuantaLeftEndTheCycle}
 use Rattle.mh_promise.specs.Runs.{IsAnswered, machine_at}
 use Rattle.mh_promise.proofs.RunsByEvents.{reply-at, beside-at}
@@ -52,14 +50,3 @@ half-machine moment event = refl
 -- who asks for the quanta left is told them
 pub told-left : QuantaLeftEndTheCycle → (machine : Machine) (given : Reply) → given ≡ (event_step machine (event.Control control.Left)).reply → given ≡ reply.Left (left_of machine)
 told-left law machine given same = same ∙ control-reply machine control.Left ∙ ap (λ (a : Answer Machine). a.reply) (law.told machine)
-
--- a quantum that an event runs is that of its half step
-pub run-quantum : (machine : Machine) (event : Event) → has_quantum machine event ≡ true → (event_step machine event).state.heap.collector ≡ (quantum (half_step machine event).heap.config (half_step machine event).heap.collector).collector
-unfolding event_step control_step quantum_run
-run-quantum machine (event.Session who command) due = let half : Machine = (command_step machine who command).state in ap (λ test. (if test then (quantum_run half).state else half).heap.collector) due
-run-quantum machine (event.Control control.Quantum) due = ap (λ test. (if test then quantum_run machine else says (reply.Spent 0 machine.heap.collector.phase) machine).state.heap.collector) due
-run-quantum machine (event.Control control.Start) due = absurd (false≢true due)
-run-quantum machine (event.Control control.Stat) due = absurd (false≢true due)
-run-quantum machine (event.Control control.Dump) due = absurd (false≢true due)
-run-quantum machine (event.Control control.Left) due = absurd (false≢true due)
-run-quantum machine (event.Control (control.Report window)) due = absurd (false≢true due)

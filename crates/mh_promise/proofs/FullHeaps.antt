@@ -7,9 +7,10 @@ use Rattle.mh_model.specs.declared.reply.Refusal.{Refusal}
 use Rattle.mh_model.specs.declared.reply.Refusal.TheVariants.{Ended, HeapFull, TooManySessions}
 use Rattle.mh_model.specs.declared.reply.Reply.TheVariants as reply
 use Rattle.mh_model.specs.declared.shape.Shape.{Shape}
-use Rattle.mh_model.specs.World.{Answer, own_slot, first_refusal, tests, names_same, yes_or_no, shape_reply, refusal, unless_refused}
+use Rattle.mh_model.specs.World.{Answer, own_slot, first_refusal, tests, names_same, refusal, unless_refused}
 use Rattle.mh_model.specs.Mutator.{HeapState, root_at, shape_at, heap_sight, heap_effect, mutator_step}
 use Rattle.mh_model.specs.Snapshot.{is_heap_full}
+use Rattle.mh_run_laws.proofs.worlds.FullHeaps.{yes_or_no-other, shape_reply-other}
 use Rattle.mh_promise.specs.Promise.{IsNew}
 
 -- no test is that of a full heap
@@ -28,14 +29,6 @@ none-full (test ∷ tests) none e = first-other test.0 test.1 (first_refusal tes
 other-answer : (refused : Option Refusal) (heap : HeapState) (answer : Answer HeapState) → ¬ (refused ≡ Some HeapFull) → is_heap_full answer.reply ≡ false → ¬ ((unless_refused refused heap answer).reply ≡ reply.Refused HeapFull)
 other-answer None heap answer other plain e = false≢true (sym plain ∙ ap is_heap_full e)
 other-answer (Some refused) heap answer other plain e = let same : refused ≡ HeapFull = cc in other (ap Some same)
-
-same-plain : (same : Bool) → is_heap_full (yes_or_no same) ≡ false
-same-plain true = refl
-same-plain false = refl
-
-shape-plain : (shape : Option Shape) → is_heap_full (shape_reply shape) ≡ false
-shape-plain None = refl
-shape-plain (Some shape) = refl
 
 module _ (heap : HeapState) (who : ℕ) where
   -- all tests of a command, in order
@@ -57,8 +50,8 @@ module _ (heap : HeapState) (who : ℕ) where
   new-alone (command.Clear slot) e = other-command (command.Clear slot) (refl, (refl, (refl, tt))) refl e
   new-alone (command.Read slot index) e = other-command (command.Read slot index) (refl, (refl, (refl, (refl, (refl, tt))))) refl e
   new-alone (command.Write slot index number) e = other-command (command.Write slot index number) (refl, (refl, (refl, (refl, (refl, tt))))) refl e
-  new-alone (command.Same left right) e = other-command (command.Same left right) (refl, (refl, (refl, (refl, tt)))) (same-plain (names_same (root_at heap (own_slot who left)) (root_at heap (own_slot who right)))) e
-  new-alone (command.Shape slot) e = other-command (command.Shape slot) (refl, (refl, (refl, (refl, tt)))) (shape-plain (shape_at heap (own_slot who slot))) e
+  new-alone (command.Same left right) e = other-command (command.Same left right) (refl, (refl, (refl, (refl, tt)))) (yes_or_no-other (names_same (root_at heap (own_slot who left)) (root_at heap (own_slot who right)))) e
+  new-alone (command.Shape slot) e = other-command (command.Shape slot) (refl, (refl, (refl, (refl, tt)))) (shape_reply-other (shape_at heap (own_slot who slot))) e
   new-alone (command.Post board slot) e = other-command (command.Post board slot) (refl, (refl, (refl, (refl, tt)))) refl e
   new-alone (command.Take slot board) e = other-command (command.Take slot board) (refl, (refl, (refl, (refl, tt)))) refl e
   new-alone command.End e = other-command command.End (refl, (refl, tt)) refl e

@@ -5,22 +5,14 @@ use Rattle.mh_model.specs.declared.config.Config.{Config}
 use Rattle.mh_model.specs.World.{World}
 use Rattle.mh_model.specs.Machine.{Machine, first_machine, event_step, machine_after, machine_replies}
 use Rattle.mh_model.specs.Snapshot.{world_beside, world_beside_event}
+use Rattle.mh_run_laws.proofs.forwarders.RunForwarders.{after-more, after-one}
 use Rattle.mh_promise.specs.Runs.{machine_at}
 use Rattle.mh_promise.specs.Replays.{MachineAfterMore, MachineRepliesMore}
 
-machine_after-more : (machine : Machine) (before more : List Event) → machine_after machine (before ++ more) ≡ machine_after (machine_after machine before) more
-unfolding machine_after
-machine_after-more machine [] more = refl
-machine_after-more machine (event ∷ before) more = machine_after-more (event_step machine event).state before more
-
-machine_after-one : (machine : Machine) (event : Event) → machine_after machine (event ∷ []) ≡ (event_step machine event).state
-unfolding machine_after
-machine_after-one machine event = refl
-
 pub after_more : MachineAfterMore
 after_more = record {
-  events = machine_after-more;
-  event = λ machine before event. machine_after-more machine before (event ∷ []) ∙ machine_after-one (machine_after machine before) event;
+  events = after-more;
+  event = λ machine before event. after-more machine before (event ∷ []) ∙ after-one (machine_after machine before) event;
 }
 
 machine_replies-more : (machine : Machine) (before more : List Event) → machine_replies machine (before ++ more) ≡ machine_replies machine before ++ machine_replies (machine_after machine before) more

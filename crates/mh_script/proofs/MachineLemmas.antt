@@ -12,14 +12,12 @@ use Rattle.mh_model.specs.HistoryTexts.{header_words, measured_line, measured_st
 use Rattle.mh_model.specs.Machine.{Machine, first_machine, event_step, machine_after, machine_replies}
 use Rattle.mh_model.specs.Replies.{replies_text}
 use Rattle.mh_promise.proofs.RunsByEvents.{after_more, replies_more}
+use Rattle.mh_state.proofs.JudgeLemmas.{record-more}
 use Rattle.mh_script.proofs.AddedLines.{AddsLines}
 
 -- one element more of a list
 pub take_item : {X : Type 0} (xs : List X) (i : ℕ) (x : X) → i < length xs → x ≡ get_or xs i x → take (i + 1) xs ≡ take i xs ++ x ∷ []
 take_item {X} xs i x below is = take_more xs i x below ∙ ap (λ (y : X). take i xs ++ y ∷ []) (sym is)
-
-pub take_event : (events : List Event) (i : ℕ) (d : Event) → i < length events → take (i + 1) events ≡ take i events ++ get_or events i d ∷ []
-take_event events i d below = take_more events i d below
 
 -- Replies ----------------------------------------------------------------------------------------
 
@@ -65,13 +63,6 @@ record_of_entries config entries = recorded_text (migrated config entries)
 abbrev pub entry_line : Machine → Entry → Text
 entry_line machine entry = lines_text (measured_line (measured_step machine entry.event (event_step machine entry.event)) ∷ [])
 
-machine_record-more : (machine : Machine) (before : List Event) (event : Event)
-    → machine_record machine (before ++ event ∷ []) ≡ machine_record machine before ++ measured_step (machine_after machine before) event (event_step (machine_after machine before) event) ∷ []
-unfolding machine_record machine_after
-machine_record-more machine [] event = refl
-machine_record-more machine (first ∷ before) event =
-    ap (λ (entries : List Measured). measured_step machine first (event_step machine first) ∷ entries) (machine_record-more (event_step machine first).state before event)
-
 pub record_of_entries-none : (config : Config) → line_text (joined (header_words config)) ++ [] ≡ record_of_entries config []
 unfolding machine_record
 record_of_entries-none config = refl
@@ -83,7 +74,7 @@ records_add config = record {
       let measured = machine_record (first_machine config) (events_of entries) in
       let event : Measured = measured_step (machine_of config entries) entry.event (event_step (machine_of config entries) entry.event) in
       let more : machine_record (first_machine config) (events_of (entries ++ entry ∷ [])) ≡ measured ++ event ∷ [] =
-      ap (machine_record (first_machine config)) (map-append _ entries (entry ∷ [])) ∙ machine_record-more (first_machine config) (events_of entries) entry.event in
+      ap (machine_record (first_machine config)) (map-append _ entries (entry ∷ [])) ∙ record-more (first_machine config) (events_of entries) entry.event in
       let header : Text = joined (header_words config) in
       ap (λ (found : List Measured). lines_text (header ∷ map measured_line found)) more
       ∙ (ap (λ (lines : List Text). lines_text (header ∷ lines)) (map-append measured_line measured (event ∷ []))

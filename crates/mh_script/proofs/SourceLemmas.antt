@@ -9,7 +9,7 @@ use Rattle.mh_model.specs.HistoryTexts.{history_of, history_reading, recorded_of
 use Rattle.mh_model.specs.Limits.{most_entries}
 use Rattle.mh_model.specs.Output.{Ending, Done, HistoryFull, Refused, output, output_of, ending, ending_of}
 use Rattle.mh_model.specs.Script.{Reading, Meaning, Means, BadLine, reading}
-use Rattle.mh_model.proofs.ScriptLemmas.{reading-long}
+use Rattle.mh_model.proofs.ScriptLemmas.{reading_long}
 use Rattle.mh_text.specs.Stream.{AppendsBeginning}
 use Rattle.mh_script.specs.Run.{Outputs, TakesToRun, WritesBeginning}
 use Rattle.mh_script.specs.Texts.{IsTextOf, WantsMemory, ForText}
@@ -22,7 +22,7 @@ pub record IsBounded {R : Type 0} (read : Text → R) (most : ℕ) : Type 0 wher
   pub long : (text : Text) → most < length text → read text ≡ refused
 
 pub script_bounded : IsBounded reading 67108864
-script_bounded = record { refused = BadLine 0; long = reading-long }
+script_bounded = record { refused = BadLine 0; long = reading_long }
 
 pub history_bounded : IsBounded history_reading 1073741824
 unfolding history_reading

@@ -154,7 +154,7 @@ legal_rule config = record {
 abbrev pub measured_event : Measured → Event
 measured_event measured = measured.entry.event
 
-record-more : (machine : Machine) (before : List Event) (event : Event)
+pub record-more : (machine : Machine) (before : List Event) (event : Event)
     → machine_record machine (before ++ event ∷ []) ≡ machine_record machine before ++ measured_step (machine_after machine before) event (event_step (machine_after machine before) event) ∷ []
 unfolding machine_record machine_after
 record-more machine [] event = refl

@@ -1,18 +1,15 @@
 -- A sweep step by its halves.
-use Rattle.std.proofs.Common.{◌≡◌, ◌≢◌, inl, inr, ℕ, zero, suc, ◌+◌, ◌*◌, ◌<◌, ◌≤◌, ◌==◌, ◌&&◌, nat_le, Bool, true, false, if◌then◌else◌, [], ◌∷◌, length, set, take, Option, Some, None, option_map, option_and_then, unwrap_or, is_some, refl, sym, ap, ◌∙◌, arith, eq-eqb}
+use Rattle.std.proofs.Common.{◌≡◌, ◌≢◌, ℕ, zero, suc, ◌+◌, ◌*◌, ◌<◌, ◌≤◌, ◌==◌, ◌&&◌, nat_le, Bool, true, false, if◌then◌else◌, [], ◌∷◌, length, set, take, Option, Some, None, option_map, option_and_then, unwrap_or, is_some, refl, sym, ap, ◌∙◌, arith, eq-eqb}
 use Rattle.std.specs.List.{list_any}
-use Rattle.std.proofs.lemmas.Bool.{false≢true, true≢false}
-use Rattle.std.proofs.lemmas.Bool.Decides.{eqb_tells, nat_tests}
+use Rattle.std.proofs.lemmas.Bool.{false≢true, true≢false, le-leb, lt-leb, ne_eqb}
 use Rattle.std.proofs.lemmas.Option.{none-some, same_Some}
 use Rattle.std.proofs.lemmas.List.{set-get_or, set-set, get_or-set_same, take-set, length-set}
 use Rattle.mh_model.specs.Classes.{slots_in}
 use Rattle.mh_model.specs.Pages.{Page, Table, page_number, slot_number, page_at, block_in, block_at, class_at, count_at, live_in, is_dense_page, has_denser, page_with, with_block, flagged_as, with_flag, HaveTheirSlots}
 use Rattle.mh_model.specs.Table.{Block, stamp_at, forward_at}
 use Rattle.mh_model.specs.Collector.{survivor, judged_page, swept_page, swept_table, is_last_slot, next_page, next_place}
+use Rattle.mh_table_laws.proofs.placing.Places.{with_block-self}
 use Rattle.mh_sweep.specs.Swept.{slot_swept, judged}
-
-not_same : (a b : ℕ) → a ≢ b → (a == b) ≡ false
-not_same a b apart = elim (eqb_tells a b) [ inl same ↦ absurd (apart same.1) | inr other ↦ other.0 ]
 
 -- how many slots the page of this number has: none where it is free
 abbrev pub slot_count_in : Table Block → ℕ → ℕ
@@ -36,15 +33,8 @@ slots-classed table number size all is = go (page_at table number) refl is
 
 -- What stands is written ---------------------------------------------------------------------------
 
-same_page : (slot : ℕ) (page : Option (Page Block)) → option_map (page_with slot (option_and_then (block_in slot) page)) page ≡ page
-same_page slot None = refl
-same_page slot (Some page) = ap (λ slots. Some (record page { slots = slots })) (set-get_or page.slots slot None)
-
-written-back : (table : Table Block) (place : ℕ) → with_block table place (block_at table place) ≡ table
-written-back table place = ap (set table (page_number place)) (same_page (slot_number place) (page_at table (page_number place))) ∙ set-get_or table (page_number place) None
-
 swept-as : (cycle : ℕ) (table : Table Block) (place : ℕ) → option_and_then (survivor cycle) (block_at table place) ≡ block_at table place → table ≡ slot_swept cycle table place
-swept-as cycle table place same = sym (ap (with_block table place) same ∙ written-back table place)
+swept-as cycle table place same = sym (ap (with_block table place) same ∙ with_block-self table place)
 
 no-block : (cycle : ℕ) (content : Option Block) → is_some content ≡ false → option_and_then (survivor cycle) content ≡ content
 no-block cycle None is = refl
@@ -65,7 +55,7 @@ swept-kept cycle table place original marked = swept-as cycle table place (survi
 judged-some : (table : Table Block) (number size slots : ℕ) (page : Option (Page Block)) → option_map (λ used. used.class_size) page ≡ Some size → unwrap_or (option_map (λ used. length used.slots) page) 0 ≡ slots → unwrap_or (option_map live_in page) 0 ≢ 0
     → option_map (flagged_as (nat_le (4 * unwrap_or (option_map live_in page) 0) slots && has_denser table number size)) page ≡ option_and_then (judged_page table number) page
 judged-some table number size slots None class long some = refl
-judged-some table number size slots (Some page) class long some = rw (not_same (live_in page) 0 some, ← long, ← same_Some page.class_size size class) refl
+judged-some table number size slots (Some page) class long some = rw (ne_eqb (live_in page) 0 some, ← long, ← same_Some page.class_size size class) refl
 
 pub judged-flagged : (table : Table Block) (number size live : ℕ) (flag : Bool) → HaveTheirSlots table → class_at table number ≡ Some size → live ≡ count_at table number → live ≢ 0 → flag ≡ (nat_le (4 * live) (slots_in size) && has_denser table number size)
     → with_flag table number flag ≡ judged table number
@@ -108,7 +98,7 @@ pub step-slot : (cycle : ℕ) (table : Table Block) (place : ℕ) → is_some (p
 step-slot cycle table place used more =
     let (page, at) = in_use (page_at table (page_number place)) used in
     let is = swept_page-is cycle table place page at in
-    let last : is_last_slot place page ≡ false = not_same (suc (slot_number place)) (length page.slots) (λ e. more (omega (arith, e, ap (λ p. unwrap_or (option_map (λ q. length q.slots) p) 0) at))) in
+    let last : is_last_slot place page ≡ false = ne_eqb (suc (slot_number place)) (length page.slots) (λ e. more (omega (arith, e, ap (λ p. unwrap_or (option_map (λ q. length q.slots) p) 0) at))) in
     let swept = page_with (slot_number place) (option_and_then (survivor cycle) (block_in (slot_number place) page)) page in (
       is.swept ∙ sym (ap (λ p. set table (page_number place) (option_and_then (swept_page cycle table place) p)) at ∙ ap (λ b. set table (page_number place) (if b then judged_page table (page_number place) swept else Some swept)) last),
       sym (ap (next_place place) at ∙ ap (λ b. if b then next_page place else place + 1) last),
@@ -162,17 +152,11 @@ pub none_of : (o : Option ℕ) → is_some o ≡ false → o ≡ None
 none_of None is = refl
 none_of (Some x) is = absurd (true≢false is)
 
-le-yes : (a b : ℕ) → a ≤ b → nat_le a b ≡ true
-le-yes a b h = grind (arith, nat_tests)
-
-le-no : (a b : ℕ) → b < a → nat_le a b ≡ false
-le-no a b h = grind (arith, nat_tests)
-
 pub sparse-yes : (live slots : ℕ) (denser : Bool) → 4 * live ≤ slots → denser ≡ true → true ≡ (nat_le (4 * live) slots && denser)
-sparse-yes live slots denser few is = rw (le-yes (4 * live) slots few, is) refl
+sparse-yes live slots denser few is = rw (le-leb (4 * live) slots few, is) refl
 
 pub sparse-no : (live slots : ℕ) (denser : Bool) → slots < 4 * live → false ≡ (nat_le (4 * live) slots && denser)
-sparse-no live slots denser many = rw (le-no (4 * live) slots many) refl
+sparse-no live slots denser many = rw (lt-leb (4 * live) slots many) refl
 
 pub dense-no : (live slots : ℕ) (denser : Bool) → denser ≡ false → false ≡ (nat_le (4 * live) slots && denser)
 dense-no live slots denser is = rw is (go (nat_le (4 * live) slots))

@@ -17,6 +17,11 @@ below_length [] i x e = absurd (none-some x e)
 below_length (y ∷ xs) zero x e = omega arith
 below_length (y ∷ xs) (suc i) x e = omega (arith, below_length xs i x e)
 
+pub there_below : {X : Type 0} (xs : List (Option X)) (i : ℕ) → IsSome (get_or xs i None) → i < length xs
+there_below [] i there = absurd (false≢true there)
+there_below (y ∷ xs) zero there = omega arith
+there_below (y ∷ xs) (suc i) there = omega (arith, there_below xs i there)
+
 -- what is read after a write is what was written or what was there
 pub get_or-set_either : {X : Type 0} (xs : List X) (i j : ℕ) (y d x : X) → get_or (set xs i y) j d ≡ x → (y ≡ x) ⊎ (get_or xs j d ≡ x)
 get_or-set_either [] i j y d x e = inr e

@@ -11,7 +11,8 @@ use Rattle.mh_model.specs.declared.history.Version.TheVariants.{One, Two}
 use Rattle.mh_text.specs.Words.{few_numbers}
 use Rattle.mh_text.specs.Rows.{said, with_count, three_rows, two_rows, one_rows, no_rows, plain_rows}
 use Rattle.mh_text.proofs.WordLemmas.{few_same, none_of}
-use Rattle.mh_text.proofs.RowLemmas.{text_same, are_distinct, are_short, formed_said, said_counted, said_long}
+use Rattle.mh_model.proofs.TextLemmas.{text_is}
+use Rattle.mh_text.proofs.RowLemmas.{are_distinct, are_short, formed_said, said_counted, said_long}
 
 -- Numbers of 32 bits -----------------------------------------------------------------------------
 
@@ -89,7 +90,7 @@ plain_said version verb (n ∷ ns) none = absurd (omega arith)
 
 -- the first version has no `left`, and this word is none of the others
 pub left_unknown : (version : Version) (verb : Text) → (version ≡ Two → ⊥) → is_text verb (codes "left") ≡ true → said (plain_rows version) verb [] ≡ None
-left_unknown One verb other is = rw (text_same verb (codes "left") is) refl
+left_unknown One verb other is = rw (text_is verb (codes "left") is) refl
 left_unknown Two verb other is = absurd (other refl)
 
 report_by : (version : Version) (verb : Text) (n : ℕ) → nat_lt n u64 ≡ true → is_text verb (codes "report") ≡ true → said (with_count 1 (control_rows version)) verb (n ∷ []) ≡ Some (control.Report n)

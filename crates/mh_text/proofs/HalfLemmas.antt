@@ -1,7 +1,7 @@
 -- The words before and after a mark, found by the bytes between spaces.
 use Rattle.std.proofs.Common.{◌≡◌, ℕ, suc, ◌+◌, ◌-◌, ◌==◌, cond, Bool, true, false, Option, Some, None, option_map, List, [], ◌∷◌, ◌++◌, length, take, refl, sym, ap, ◌∙◌, append_assoc, length-append, arith}
 use Rattle.std.proofs.lemmas.List.{append-nil}
-use Rattle.std.proofs.lemmas.Bool.Decides.{nat_tests}
+use Rattle.std.proofs.lemmas.Bool.{eq-eqb}
 use Rattle.mh_model.specs.Bytes.{Text, Cut, cut_after, with_byte, words, is_text}
 use Rattle.mh_model.specs.HistoryTexts.{Halves, halves_at}
 use Rattle.mh_text.specs.Pieces.{with_piece, words_left}
@@ -21,11 +21,8 @@ cut_then_by : (is : Bool) (byte : ℕ) (first next : Cut)
 cut_then_by true byte first next = refl
 cut_then_by false byte first next = then_byte byte first.pieces first.rest next
 
-same_byte : (byte : ℕ) → (byte == byte) ≡ true
-same_byte byte = grind (arith, nat_tests)
-
 cut_then : (end : ℕ) (first next : Text) → cut_after end (first ++ end ∷ next) ≡ then_cut (cut_after end first) (cut_after end next)
-cut_then end [] next = rw (same_byte end) refl
+cut_then end [] next = rw (eq-eqb end end refl) refl
 cut_then end (byte ∷ first) next = rw (cut_then end first next) (cut_then_by (byte == end) byte (cut_after end first) (cut_after end next))
 
 words_then : (first next : Text) → words (first ++ 32 ∷ next) ≡ words first ++ words next

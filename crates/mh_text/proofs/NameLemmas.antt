@@ -9,7 +9,7 @@ use Rattle.std.proofs.lemmas.Bool.Decides.{nat_tests}
 use Rattle.mh_model.specs.Bytes.{Text, is_text}
 use Rattle.mh_model.specs.Script.{session_number, with_name}
 use Rattle.mh_text.specs.Names.{names_shown, IsNumbered}
-use Rattle.mh_text.proofs.RowLemmas.{text_same}
+use Rattle.mh_model.proofs.TextLemmas.{text_is, text_itself}
 use Rattle.indexmap.specs.IndexSet.{insert_key}
 
 -- the place in the list that names show
@@ -93,9 +93,6 @@ inserted_name items new name absent is missing room =
 
 -- A name that was seen ---------------------------------------------------------------------------
 
-text_itself : (text : Text) → is_text text text ≡ true
-text_itself text = sym (same_text text text) ∙ nat_list_eq_equiv.refl text
-
 number_le : (names : List Text) (name : Text) → session_number names name ≤ length names
 number_le [] name = omega arith
 number_le (x ∷ names) name =
@@ -136,5 +133,5 @@ numbered_name names after name number is same =
 pub again : (names : List Text) (seen : Bor (List ℕ)) (number : ℕ) (name : Text) → IsNumbered names (Some (seen, number)) → is_text seen.now name ≡ true
     → (number ≡ session_number names name) × (names ≡ with_name names name)
 again names seen number name last is =
-    let same : seen.now ≡ name = text_same seen.now name is in
+    let same : seen.now ≡ name = text_is seen.now name is in
     (sym last.0 ∙ ap (session_number names) same, sym last.1 ∙ ap (with_name names) same)

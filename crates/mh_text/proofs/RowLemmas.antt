@@ -2,26 +2,12 @@
 use Rattle.std.proofs.Common.{◌≡◌, ℕ, suc, ◌<◌, ◌==◌, nat_lt, ◌&&◌, Bool, true, false, Option, Some, None, option_and_then, List, [], ◌∷◌, length, map, ap, sym, refl, ◌∙◌, arith}
 use Rattle.std.specs.Prelude.{if◌then◌else◌}
 use Rattle.std.proofs.lemmas.Bool.Decides.{nat_tests}
+use Rattle.std.proofs.Math.Bool.{and-false}
+use Rattle.std.proofs.lemmas.Bool.{and_parts}
+use Rattle.mh_model.proofs.TextLemmas.{text_is}
 use Rattle.mh_model.specs.Bytes.{Text, is_text, numbers}
 use Rattle.mh_model.specs.Forms.{Form, within, form_of, formed, are_below, Row, row_form}
 use Rattle.mh_text.specs.Rows.{said, with_count}
-
--- Texts ------------------------------------------------------------------------------------------
-
-same_after : (x y : ℕ) (xs ys : Text) (is more : Bool) → (x == y) ≡ is → (more ≡ true → xs ≡ ys) → (is && more) ≡ true → x ∷ xs ≡ y ∷ ys
-same_after x y xs ys true true first rest both =
-    let one : x ≡ y = grind (arith, nat_tests) in
-    let all : xs ≡ ys = rest refl in
-    cc
-same_after x y xs ys true false first rest both = cc
-same_after x y xs ys false more first rest both = cc
-
--- texts that pass the test are one text
-pub text_same : (x y : Text) → is_text x y ≡ true → x ≡ y
-text_same [] [] is = refl
-text_same [] (y ∷ ys) is = cc
-text_same (x ∷ xs) [] is = cc
-text_same (x ∷ xs) (y ∷ ys) is = same_after x y xs ys (x == y) (is_text xs ys) refl (text_same xs ys) is
 
 -- Words ------------------------------------------------------------------------------------------
 
@@ -72,16 +58,12 @@ counted-absent [] count verb none = refl
 counted-absent (r ∷ rs) count verb none =
     counted_by (length r.bounds == count) (is_text verb r.verb) r rs (with_count count rs) verb refl none (counted-absent rs count verb)
 
-pub and_false : (b : Bool) → (b && false) ≡ false
-and_false true = refl
-and_false false = refl
-
 -- so many numbers are not below so many other bounds
 pub below_other : (bounds ns : List ℕ) → (length bounds ≡ length ns → ⊥) → are_below bounds ns ≡ false
 below_other [] [] other = absurd (other refl)
 below_other [] (n ∷ ns) other = refl
 below_other (bound ∷ bounds) [] other = refl
-below_other (bound ∷ bounds) (n ∷ ns) other = rw (below_other bounds ns (λ same. other (ap (λ (k : ℕ). suc k) same))) (and_false (nat_lt n bound))
+below_other (bound ∷ bounds) (n ∷ ns) other = rw (below_other bounds ns (λ same. other (ap (λ (k : ℕ). suc k) same))) (and-false (nat_lt n bound))
 
 said_by : {X : Type 0} (fits is : Bool) (r : Row X) (rs : List (Row X)) (verb : Text) (ns : List ℕ) → (length r.bounds == length ns) ≡ fits → is_text verb r.verb ≡ is → is_absent r.verb rs ≡ true
     → said rs verb ns ≡ said (with_count (length ns) rs) verb ns
@@ -90,25 +72,17 @@ said_by true true r rs verb ns count same none rest = rw same refl
 said_by true false r rs verb ns count same none rest = rw same rest
 said_by false false r rs verb ns count same none rest = rest
 said_by false true r rs verb ns count same none rest =
-    let word : r.verb ≡ verb = sym (text_same verb r.verb same) in
+    let word : r.verb ≡ verb = sym (text_is verb r.verb same) in
     let other : length r.bounds ≡ length ns → ⊥ = λ e. grind (arith, nat_tests) in
     let absent : is_absent verb rs ≡ true = ap (λ (v : Text). is_absent v rs) (sym word) ∙ none in
     rw (below_other r.bounds ns other) (sym (said-absent (with_count (length ns) rs) verb ns (counted-absent rs (length ns) verb absent)))
-
-and_left : (a b : Bool) → (a && b) ≡ true → a ≡ true
-and_left true b both = refl
-and_left false b both = both
-
-and_right : (a b : Bool) → (a && b) ≡ true → b ≡ true
-and_right true b both = both
-and_right false b both = cc
 
 -- numbers are read by the rows with as many
 pub said_counted : {X : Type 0} (rows : List (Row X)) (verb : Text) (ns : List ℕ) → are_distinct rows ≡ true → said rows verb ns ≡ said (with_count (length ns) rows) verb ns
 said_counted [] verb ns distinct = refl
 said_counted (r ∷ rs) verb ns distinct =
-    said_by (length r.bounds == length ns) (is_text verb r.verb) r rs verb ns refl refl (and_left (is_absent r.verb rs) (are_distinct rs) distinct)
-    (said_counted rs verb ns (and_right (is_absent r.verb rs) (are_distinct rs) distinct))
+    said_by (length r.bounds == length ns) (is_text verb r.verb) r rs verb ns refl refl (and_parts (is_absent r.verb rs) (are_distinct rs) distinct).0
+    (said_counted rs verb ns (and_parts (is_absent r.verb rs) (are_distinct rs) distinct).1)
 
 -- Many numbers -----------------------------------------------------------------------------------
 
@@ -125,5 +99,5 @@ long_by false r rest ns short long none = none
 pub said_long : {X : Type 0} (rows : List (Row X)) (verb : Text) (ns : List ℕ) → are_short rows ≡ true → 3 < length ns → said rows verb ns ≡ None
 said_long [] verb ns short long = refl
 said_long (r ∷ rs) verb ns short long =
-    long_by (is_text verb r.verb) r (said rs verb ns) ns (and_left (nat_lt (length r.bounds) 4) (are_short rs) short) long
-    (said_long rs verb ns (and_right (nat_lt (length r.bounds) 4) (are_short rs) short) long)
+    long_by (is_text verb r.verb) r (said rs verb ns) ns (and_parts (nat_lt (length r.bounds) 4) (are_short rs) short).0 long
+    (said_long rs verb ns (and_parts (nat_lt (length r.bounds) 4) (are_short rs) short).1 long)

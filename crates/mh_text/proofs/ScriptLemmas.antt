@@ -1,5 +1,5 @@
 -- Reading the lines of a script one after another.
-use Rattle.std.proofs.Common.{◌≡◌, ℕ, suc, ◌+◌, ◌<◌, ◌≤◌, nat_lt, Bool, true, false, Some, Result, Ok, Err, List, [], ◌∷◌, ◌++◌, length, take, map, ap, sym, refl, ◌∙◌, append_assoc, arith}
+use Rattle.std.proofs.Common.{◌≡◌, ℕ, suc, ◌+◌, ◌≤◌, nat_lt, Bool, true, false, Some, Result, Ok, Err, List, [], ◌∷◌, ◌++◌, length, take, map, ap, sym, refl, ◌∙◌, append_assoc, arith}
 use Rattle.std.specs.Prelude.{if◌then◌else◌, IfOk}
 use Rattle.std.specs.Result.{result_ok}
 use Rattle.std.proofs.lemmas.Bool.Decides.{nat_tests}
@@ -146,9 +146,6 @@ walks_event old new names es e done =
 reading_by : (is : Bool) (text : Text) → nat_lt 67108864 (length text) ≡ is → reading text ≡ (if is then BadLine 0 else script_left (lines_from 1 text))
 unfolding reading
 reading_by is text same = rw same refl
-
-pub reading_long : (text : Text) → 67108864 < length text → reading text ≡ BadLine 0
-reading_long text long = reading_by true text (grind (arith, nat_tests))
 
 pub reading_left : (text : Text) → length text ≤ 67108864 → reading text ≡ script_left (lines_from 1 text)
 reading_left text short = reading_by false text (grind (arith, nat_tests))

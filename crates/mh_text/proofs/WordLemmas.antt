@@ -4,27 +4,20 @@ use Rattle.std.specs.List.{list_all}
 use Rattle.std.proofs.lemmas.List.{append-nil}
 use Rattle.std.proofs.lemmas.Bool.Decides.{nat_tests}
 use Rattle.std.proofs.lemmas.Grind.{common_steps}
+use Rattle.std.proofs.Math.Bool.{and-false, and-true}
 use Rattle.mh_model.specs.Bytes.{Text, is_digit, is_letter, is_numeral, is_name, value_after, number, numbers}
 use Rattle.mh_text.specs.Words.{few_numbers}
-
-and_true : (b : Bool) → (b && true) ≡ b
-and_true true = refl
-and_true false = refl
-
-and_false : (b : Bool) → (b && false) ≡ false
-and_false true = refl
-and_false false = refl
 
 -- a numeral of several digits begins with none that is 0
 pub numeral_digits : (word : Text) → 0 < length word → (get_or word 0 0 == 48) ≡ false → is_numeral word ≡ list_all is_digit word
 numeral_digits [] full other = absurd (omega arith)
-numeral_digits (byte ∷ []) full other = sym (and_true (is_digit byte))
+numeral_digits (byte ∷ []) full other = sym (and-true (is_digit byte))
 numeral_digits (byte ∷ next ∷ bytes) full other = rw other refl
 
 pub numeral_zero : (word : Text) → 1 < length word → (get_or word 0 0 == 48) ≡ true → is_numeral word ≡ false
 numeral_zero [] full zero = absurd (omega arith)
 numeral_zero (byte ∷ []) full zero = absurd (omega arith)
-numeral_zero (byte ∷ next ∷ bytes) full zero = rw zero (and_false (is_digit byte))
+numeral_zero (byte ∷ next ∷ bytes) full zero = rw zero (and-false (is_digit byte))
 
 sixteen : (n : ℕ) → nat_lt n 16 ≡ nat_le (suc n) 16
 sixteen n = grind (arith, nat_tests)

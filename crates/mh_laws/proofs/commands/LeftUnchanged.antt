@@ -24,6 +24,7 @@ use Rattle.mh_table_laws.specs.Tables.{KeepsItsPages}
 use Rattle.mh_laws.specs.Tables.{EventKeeps, TablesKeepTheirPages}
 use Rattle.mh_laws.specs.Commands.{IsOnCourse}
 use Rattle.mh_table_laws.proofs.Lists.{none_at}
+use Rattle.mh_table_laws.proofs.marking.StandingStill.{after_mark-table}
 use Rattle.mh_table_laws.proofs.tables.PageSlots.{IsSmallPage, class_of-class_size, judged_page-is, page_with-slots, page_with-small, small_page, small_block, same_limits, keeps_same, keeps_then, set-keeps, with_block-slots, with_block-limits, with_block-keeps, change-keeps, with_taken-keeps}
 use Rattle.mh_laws.proofs.runs.EveryMoment.{config-mutator_step, half_step-keeps, event_step-keeps, machine_after-keeps}
 use Rattle.mh_laws.proofs.costs.Quanta.{steps-stop, steps-go}
@@ -57,18 +58,14 @@ made_group-fields table birth stamp references numbers made e = by_parts (made_p
 -- Steps ------------------------------------------------------------------------------------------
 
 -- what follows a step leaves the table
-table-after_mark : (collector : Collector) (grey : List ℕ) → (after_mark collector grey).table ≡ collector.table
-table-after_mark collector [] = refl
-table-after_mark collector (place ∷ grey) = refl
-
 table-if : (test : Bool) (collector other : Collector) → other.table ≡ collector.table → (if test then other else collector).table ≡ collector.table
 table-if true collector other e = e
 table-if false collector other e = refl
 
 table-phase_after : (phase : Phase) (collector : Collector) → (phase_after phase collector).table ≡ collector.table
 table-phase_after Idle collector = refl
-table-phase_after Roots collector = table-if (collector.cursor == 144) collector (after_mark collector collector.grey) (table-after_mark collector collector.grey)
-table-phase_after Mark collector = table-after_mark collector collector.grey
+table-phase_after Roots collector = table-if (collector.cursor == 144) collector (after_mark collector collector.grey) (after_mark-table collector collector.grey)
+table-phase_after Mark collector = after_mark-table collector collector.grey
 table-phase_after Sweep collector = table-if (is_past collector.table collector.cursor) collector (with_phase collector Defrag 0) refl
 table-phase_after Defrag collector = table-if (is_past collector.table collector.cursor) collector (cycle_end collector) refl
 

@@ -3,13 +3,14 @@ use Rattle.std.proofs.Common.{◌≡◌, ℕ, zero, suc, ◌+◌, ◌/◌, ◌%�
 use Rattle.std.proofs.lemmas.Bool.{ltb-true}
 use Rattle.std.proofs.lemmas.Option.{none-some, same_Some}
 use Rattle.mh_model.specs.declared.shape.Shape.{Shape}
-use Rattle.mh_model.specs.Pages.{Table, block_at}
+use Rattle.mh_model.specs.Pages.{block_at}
 use Rattle.mh_model.specs.Table.{Block, reference_at, LeadsOn, references_at, numbers_at, resolve, target_of, is_spine, is_tall, is_at, spine_place, position_of, reference_in}
 use Rattle.mh_model.specs.Collector.{Collector}
 use Rattle.mh_model.specs.View.{field_blocks}
 use Rattle.mh_model.specs.Invariant.{IsPlainAt, LeadsToObject, IsSound, IsObjectAt, HasChild, IsFindable, HasField}
 use Rattle.mh_laws.specs.Fields.{LeadsThere, SlotsHoldObjects, FieldsAreFound, ReferencesLeadOn, CommandsWriteWhatTheyMay}
 use Rattle.mh_table_laws.proofs.Lists.{below_length}
+use Rattle.mh_table_laws.proofs.marking.BatchMarking.{there_before}
 use Rattle.mh_laws.proofs.marking.BlockChanges.{resolve-live}
 use Rattle.mh_laws.proofs.marking.MarkSteps.{leads}
 use Rattle.mh_table_laws.proofs.objects.Headers.{flat_of}
@@ -17,14 +18,6 @@ use Rattle.mh_table_laws.proofs.objects.JoinedFields.{IsRun, AreRuns, child_plac
 use Rattle.mh_table_laws.proofs.objects.Parts.{counts}
 use Rattle.mh_laws.proofs.snapshots.Barriers.{root_writable}
 use Rattle.mh_laws.proofs.snapshots.SessionCommands.{held_by, field_held, loaded_writable}
-
--- a place that leads to a block has one
-there_before : (table : Table Block) (place : ℕ) → IsSome (block_at table (resolve table place)) → IsSome (block_at table place)
-there_before table place leads_on = go (block_at table place) refl leads_on
-  where
-    go : (content : Option Block) → block_at table place ≡ content → IsSome (block_at table (unwrap_or (option_and_then (λ b. b.forward) content) place)) → IsSome (block_at table place)
-    go None at h = h
-    go (Some block) at h = ap is_some at
 
 leads_there : (c : Collector) (o : Option ℕ) → ((reference : ℕ) → o ≡ Some reference → (x : Block) × IsPlainAt c (resolve c.table reference) x) → LeadsThere c o
 leads_there c None led = record { on = tt; home = tt }

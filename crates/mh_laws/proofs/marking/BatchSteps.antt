@@ -12,23 +12,14 @@ use Rattle.mh_table_laws.specs.Marking.{mark_steps}
 use Rattle.mh_laws.specs.Batches.{IsLongestFront, AnyCutIntoBatchesIsTheSame}
 use Rattle.mh_model.specs.Batches.{longest_front, written_back, batch_written, batch_marked, after_batch, batch_cost, NoneTwice}
 use Rattle.mh_laws.proofs.costs.Quanta.{steps-stop, steps-go, steps-enough}
-use Rattle.mh_table_laws.proofs.marking.GreyList.{cycle-shade}
-use Rattle.mh_table_laws.proofs.marking.BatchMarking.{KeepsOthers, written_back-keeps, with_front, first_marked, mark_step-front, written_back-front, batch_written-first, front-marked}
+use Rattle.mh_table_laws.proofs.marking.GreyList.{cycle-written_back}
+use Rattle.mh_table_laws.proofs.marking.BatchMarking.{none_twice-front, KeepsOthers, written_back-keeps, with_front, first_marked, mark_step-front, written_back-front, batch_written-first, front-marked}
 
 -- Lists with none twice --------------------------------------------------------------------------
-
-all-front : (P : ℕ → Type 0) (front rest : List ℕ) → AllByRecursion P (front ++ rest) → AllByRecursion P front
-all-front P [] rest all = tt
-all-front P (x ∷ front) rest (here, after) = (here, all-front P front rest after)
 
 all-middle : (P : ℕ → Type 0) (front : List ℕ) (x : ℕ) (rest : List ℕ) → AllByRecursion P (front ++ x ∷ rest) → P x
 all-middle P [] x rest all = all.0
 all-middle P (y ∷ front) x rest (here, after) = all-middle P front x rest after
-
-none_twice-front : (front rest : List ℕ) → NoneTwice (front ++ rest) → NoneTwice front
-unfolding IsDistinct
-none_twice-front [] rest once = tt
-none_twice-front (x ∷ front) rest (here, after) = (all-front (λ y. (x == y) ≡ false) front rest here, none_twice-front front rest after)
 
 -- a place after a front is none of it
 apart-front : (front : List ℕ) (x : ℕ) (rest : List ℕ) → NoneTwice (front ++ x ∷ rest) → AllByRecursion (λ y. x ≢ y) front
@@ -50,10 +41,6 @@ batch_written-other [] all marking other apart = refl
 batch_written-other (place ∷ batch) [] marking other apart = refl
 batch_written-other (place ∷ batch) (found ∷ all) marking other (here, after) =
     batch_written-other batch all (written_back marking place 0 found) other after ∙ (written_back-keeps found marking place 0).references other here
-
-cycle-written_back : (found : List (Option ℕ)) (marking : Marking) (place index : ℕ) → (written_back marking place index found).cycle ≡ marking.cycle
-cycle-written_back [] marking place index = refl
-cycle-written_back (target ∷ found) marking place index = cycle-written_back found _ place (suc index) ∙ cycle-shade _ target
 
 -- a marking whose grey list has this front
 as_front : (marking : Marking) (batch rest : List ℕ) → marking.grey ≡ batch ++ rest → marking ≡ with_front batch (record marking { grey = rest })
@@ -86,7 +73,7 @@ moving-front collector marking has_moved phase = ap (λ p. has_moved || is_movin
     or_nothing true = refl
     or_nothing false = refl
 
-with_units-twice : (one two : ℕ) (spending : Spending) → with_units one (with_units two spending) ≡ with_units (one + two) spending
+pub with_units-twice : (one two : ℕ) (spending : Spending) → with_units one (with_units two spending) ≡ with_units (one + two) spending
 with_units-twice one two spending = let e : one + (two + spending.units) ≡ one + two + spending.units = omega arith in ap (λ n. record spending { units = n }) e
 
 after_mark-phase : (collector : Collector) (marking : Marking) (grey : List ℕ) → after_mark (with_marking (with_phase collector Mark 0) marking) grey ≡ after_mark (with_marking collector marking) grey

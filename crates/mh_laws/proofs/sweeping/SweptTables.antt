@@ -1,9 +1,10 @@
 -- The table after a sweep step: what is left in the slot that was swept, and every other block.
-use Rattle.std.proofs.Common.{◌≡◌, ◌≢◌, ℕ, zero, suc, ◌+◌, ◌/◌, ◌<◌, ◌==◌, if◌then◌else◌, Bool, true, false, not, ◌||◌, ◌⊎◌, inl, inr, List, [], ◌∷◌, length, get_or, set, Option, Some, None, option_and_then, refl, sym, ap, ◌∙◌, arith, eq-eqb, eqb-true}
+use Rattle.std.proofs.Common.{◌≡◌, ◌≢◌, ℕ, zero, suc, ◌+◌, ◌/◌, ◌<◌, ◌==◌, if◌then◌else◌, Bool, true, false, not, ◌||◌, ◌⊎◌, inl, inr, [], ◌∷◌, length, get_or, set, Option, Some, None, option_and_then, refl, sym, ap, ◌∙◌, arith, eq-eqb, eqb-true}
 use Rattle.std.proofs.lemmas.Bool.{cases_eq, cases_lt, cases_order}
 use Rattle.std.proofs.lemmas.Option.{none-some, same_Some}
 use Rattle.std.proofs.lemmas.List.{get_or-set_same, get_or-set_other, length-set}
-use Rattle.mh_model.specs.Pages.{Page, Table, page_number, slot_number, page_at, block_in, block_at, block_count, live_in, page_with}
+use Rattle.mh_table_laws.proofs.placing.Places.{block_count-none}
+use Rattle.mh_model.specs.Pages.{Page, Table, page_number, slot_number, page_at, block_in, block_at, live_in, page_with}
 use Rattle.mh_model.specs.Table.{Block, is_forwarder}
 use Rattle.mh_model.specs.Collector.{is_marked, next_page, is_last_slot, next_place, survivor, judged_page, swept_page, swept_table}
 use Rattle.mh_table_laws.proofs.tables.PageSlots.{judged_page-is}
@@ -17,18 +18,12 @@ pub record IsSwept (cycle : ℕ) (table : Table Block) (place : ℕ) (table' : T
   pub passed : (q : ℕ) (x : Block) → block_at table' q ≡ Some x → q < place' → (q < place) ⊎ (q ≡ place)
   pub narrow : (number : ℕ) (page : Page Block) → page_at table' number ≡ Some page → (old : Page Block) × (page_at table number ≡ Some old) × (length page.slots ≡ length old.slots)
 
-none_left : (slots : List (Option Block)) (slot : ℕ) → block_count slots ≡ 0 → get_or slots slot None ≡ None
-none_left [] slot e = refl
-none_left (None ∷ slots) zero e = refl
-none_left (None ∷ slots) (suc slot) e = none_left slots slot e
-none_left (Some x ∷ slots) slot e = absurd (omega arith)
-
 -- a page that is judged keeps its blocks
 judged-reads : (table : Table Block) (number : ℕ) (page : Page Block) (slot : ℕ) → option_and_then (block_in slot) (judged_page table number page) ≡ get_or page.slots slot None
 judged-reads table number page slot = go (live_in page == 0) _ refl
   where
     go : (empty flag : Bool) → (live_in page == 0) ≡ empty → option_and_then (block_in slot) (if empty then None else Some (record page { is_flagged = flag })) ≡ get_or page.slots slot None
-    go true flag e = sym (none_left page.slots slot (eqb-true (live_in page) 0 e))
+    go true flag e = sym (block_count-none page.slots slot (eqb-true (live_in page) 0 e))
     go false flag e = refl
 
 survivor-is : (cycle : ℕ) (o : Option Block) (x : Block) → option_and_then (survivor cycle) o ≡ Some x → (o ≡ Some x) × (x.stamp ≡ cycle)

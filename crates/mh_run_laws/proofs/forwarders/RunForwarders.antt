@@ -25,12 +25,12 @@ use Rattle.mh_laws.proofs.forwarders.BegunWithin.{quanta-made}
 
 -- Events -----------------------------------------------------------------------------------------
 
-after-more : (machine : Machine) (before more : List Event) → machine_after machine (before ++ more) ≡ machine_after (machine_after machine before) more
+pub after-more : (machine : Machine) (before more : List Event) → machine_after machine (before ++ more) ≡ machine_after (machine_after machine before) more
 unfolding machine_after
 after-more machine [] more = refl
 after-more machine (event ∷ before) more = after-more (event_step machine event).state before more
 
-after-one : (machine : Machine) (event : Event) → machine_after machine (event ∷ []) ≡ (event_step machine event).state
+pub after-one : (machine : Machine) (event : Event) → machine_after machine (event ∷ []) ≡ (event_step machine event).state
 unfolding machine_after
 after-one machine event = refl
 
@@ -59,7 +59,7 @@ event-still machine (event.Control control.Left) none = record { phase = refl; c
 event-still machine (event.Control (control.Report window)) none = record { phase = refl; cycle = refl }
 
 -- and one with a quantum what that makes of it
-event-quantum : (machine : Machine) (e : Event) → has_quantum machine e ≡ true → (event_step machine e).state.heap.collector ≡ (quantum (half_step machine e).heap.config (half_step machine e).heap.collector).collector
+pub event-quantum : (machine : Machine) (e : Event) → has_quantum machine e ≡ true → (event_step machine e).state.heap.collector ≡ (quantum (half_step machine e).heap.config (half_step machine e).heap.collector).collector
 unfolding event_step control_step quantum_run
 event-quantum machine (event.Session who command) due = let half : Machine = (command_step machine who command).state in ap (λ test. (if test then (quantum_run half).state else half).heap.collector) due
 event-quantum machine (event.Control control.Quantum) due = ap (λ test. (if test then quantum_run machine else says (reply.Spent 0 machine.heap.collector.phase) machine).state.heap.collector) due

@@ -1,7 +1,8 @@
 -- A view that agrees with a world reaches what the world reaches, so that either may be taken as the snapshot.
-use Rattle.std.proofs.Common.{◌≡◌, ℕ, ◌≤◌, ◌==◌, if◌then◌else◌, Bool, true, false, inl, inr, List, [], ◌∷◌, Option, Some, None, IsSome, get_or, refl, sym, ap, ◌∙◌, subst}
-use Rattle.std.proofs.lemmas.Bool.{false≢true, and_parts, cases_Bool}
+use Rattle.std.proofs.Common.{◌≡◌, ℕ, ◌≤◌, ◌==◌, if◌then◌else◌, Bool, true, false, inl, inr, List, [], ◌∷◌, Option, Some, None, get_or, refl, sym, ap, ◌∙◌, subst}
+use Rattle.std.proofs.lemmas.Bool.{and_parts, cases_Bool}
 use Rattle.std.proofs.lemmas.Option.{none-some}
+use Rattle.mh_table_laws.proofs.Lists.{from_some}
 use Rattle.mh_model.specs.declared.cycle.Phase.TheVariants.{Idle}
 use Rattle.mh_model.specs.declared.command.Control.TheVariants as control
 use Rattle.mh_model.specs.declared.command.Event.{Event}
@@ -24,10 +25,6 @@ has_object : (o : Option Object) (field birth : ℕ) → reference_of o field �
 has_object None field birth e = absurd (none-some birth e)
 has_object (Some object) field birth e = (object, refl)
 
-some_object : (o : Option Object) → IsSome o → (object : Object) × (o ≡ Some object)
-some_object None some = absurd (false≢true some)
-some_object (Some object) some = (object, refl)
-
 module _ (view world : World) (agrees : Agrees view world) where
   path-world : (path : List ℕ) (birth : ℕ) → IsPath view birth path → IsPath world birth path
   path-world [] birth (slot, e) = (slot, ap (λ slots. get_or slots slot None) (sym agrees.slots) ∙ e)
@@ -38,7 +35,7 @@ module _ (view world : World) (agrees : Agrees view world) where
   path-view : (path : List ℕ) (birth : ℕ) → IsPath world birth path → IsPath view birth path
   path-view [] birth (slot, e) = (slot, ap (λ slots. get_or slots slot None) agrees.slots ∙ e)
   path-view (nearest ∷ path) birth ((field, e), after) =
-      let (object, is) = some_object (object_at view nearest) (agrees.reached nearest (path, after)) in
+      let (object, is) = from_some (object_at view nearest) (agrees.reached nearest (path, after)) in
       ((field, ap (λ o. reference_of o field) (is ∙ sym (agrees.objects nearest object is)) ∙ e), path-view path nearest after)
 
   pub reachable-world : (birth : ℕ) → Reachable view birth → Reachable world birth

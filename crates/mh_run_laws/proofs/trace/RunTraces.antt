@@ -5,6 +5,7 @@ use Rattle.std.proofs.Math.Nat.{max-le}
 use Rattle.std.proofs.lemmas.Bool.{leb-true, eqb-true, and_parts}
 use Rattle.std.proofs.lemmas.Grind.{flat_map-append}
 use Rattle.std.proofs.lemmas.List.{append-nil}
+use Rattle.std.proofs.lemmas.List.{replicate-append-replicate}
 use Rattle.mh_model.specs.declared.command.Command.{Command}
 use Rattle.mh_model.specs.declared.command.Control.{Control}
 use Rattle.mh_model.specs.declared.command.Control.TheVariants as control
@@ -22,7 +23,7 @@ use Rattle.mh_laws.proofs.costs.Quanta.{units-quantum}
 use Rattle.mh_table_laws.proofs.marking.GreyList.{all-snoc}
 use Rattle.mh_laws.proofs.runs.EveryMoment.{config-mutator_step, machine_after-keeps}
 use Rattle.mh_laws.proofs.bounds.CyclesInTime.{quantum-in_bounds, run-stays, half-stays}
-use Rattle.mh_run_laws.proofs.trace.MutatorShares.{Round, letters_of, rounds, IsRound, replicate-sum, rounds-share}
+use Rattle.mh_run_laws.proofs.trace.MutatorShares.{Round, letters_of, rounds, IsRound, rounds-share}
 
 -- Quanta within their bound ----------------------------------------------------------------------
 
@@ -75,7 +76,7 @@ module _ (config : Config) (some : 0 < config.every) where
         turns = has.turns;
         all = has.all;
         letters = ap (λ letters. letters ++ replicate units M) has.letters ∙ append_assoc (rounds has.turns) (replicate machine.units M) (replicate units M)
-            ∙ ap (λ letters. rounds has.turns ++ letters) (replicate-sum M machine.units units);
+            ∙ ap (λ letters. rounds has.turns ++ letters) (replicate-append-replicate machine.units units M);
       }
 
   -- a quantum that is due ends a round

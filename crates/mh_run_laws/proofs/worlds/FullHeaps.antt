@@ -90,11 +90,11 @@ tests-others world who (command.Post board slot) = refl
 tests-others world who (command.Take slot board) = refl
 tests-others world who command.End = refl
 
-yes_or_no-other : (answer : Bool) → is_heap_full (yes_or_no answer) ≡ false
+pub yes_or_no-other : (answer : Bool) → is_heap_full (yes_or_no answer) ≡ false
 yes_or_no-other true = refl
 yes_or_no-other false = refl
 
-shape_reply-other : (shape : Option Shape) → is_heap_full (shape_reply shape) ≡ false
+pub shape_reply-other : (shape : Option Shape) → is_heap_full (shape_reply shape) ≡ false
 shape_reply-other None = refl
 shape_reply-other (Some shape) = refl
 

@@ -13,17 +13,17 @@ use Rattle.mh_seat_laws.specs.Weights.{weigh_below, total}
 use Rattle.mh_seat_laws.specs.Lock.{Logs, weigh_numbers, first, StandIn, Fits, AllOwned, HasHome, HasHolder, IsLocked, Shows}
 
 -- 1 for the number n
-abbrev is : ℕ → ℕ → ℕ
+abbrev pub is : ℕ → ℕ → ℕ
 is n k = cond (eqb k n) 1 0
 
-none_above : (n m : ℕ) → m ≤ n → weigh_below (is n) m ≡ 0
+pub none_above : (n m : ℕ) → m ≤ n → weigh_below (is n) m ≡ 0
 none_above n zero le = refl
 none_above n (suc m) le = let r = none_above n m (omega arith) in grind (arith, nat_tests)
 
-part : {A : Type 0} (f : A → ℕ) (l : List A) (i : ℕ) (v : A) → get_elem? l i ≡ some v → f v ≤ total f l
-part f [] i v e = absurd (some-ne-none v (sym e))
-part f (x ∷ xs) zero v e = let same : f x ≡ f v = ap f (some-injective x v e) in omega arith
-part f (x ∷ xs) (suc i) v e = let r = part f xs i v e in omega arith
+pub part-of_total : {A : Type 0} (f : A → ℕ) (l : List A) (i : ℕ) (v : A) → get_elem? l i ≡ some v → f v ≤ total f l
+part-of_total f [] i v e = absurd (some-ne-none v (sym e))
+part-of_total f (x ∷ xs) zero v e = let same : f x ≡ f v = ap f (some-injective x v e) in omega arith
+part-of_total f (x ∷ xs) (suc i) v e = let r = part-of_total f xs i v e in omega arith
 
 abbrev no_one : {E : Type 0} → Option (List E)
 no_one = None
@@ -111,7 +111,7 @@ module _ {E : Type 0} (owner : E → ℕ) where
         let are : AreLogs owner h logs = are_logs seats h out.owned_all in
         let k : ℕ = (first out.view.logs).0 in
         let all : List (Option (List E)) = replicate seats None in
-        let low : k < seats = dite (dec_lt k seats) (λ lt. lt) (λ no. absurd (omega (arith, none_above k seats (omega arith), first_weighs out.view.logs out.some_log, part (λ (v : SeatView E O). weigh_numbers (is k) v.logs) s.views out.holder out.view out.holder_view, r.numbers (is k)))) in
+        let low : k < seats = dite (dec_lt k seats) (λ lt. lt) (λ no. absurd (omega (arith, none_above k seats (omega arith), first_weighs out.view.logs out.some_log, part-of_total (λ (v : SeatView E O). weigh_numbers (is k) v.logs) s.views out.holder out.view out.holder_view, r.numbers (is k)))) in
         let lock : LockState E = record { word = 1; home = None; logs = logs; taken = set all k (Some h) } in (
           lock,
           inr record {

@@ -1,20 +1,40 @@
 -- Marking by batches is marking block by block: writing back and shading change no forward, nor the references of other blocks.
-use Rattle.std.proofs.Common.{◌≡◌, ◌≢◌, ℕ, suc, ◌==◌, Bool, true, false, if◌then◌else◌, inl, inr, List, [], ◌∷◌, ◌++◌, length, map, set, Option, Some, None, option_map, option_and_then, unwrap_or, refl, sym, ap, ◌∙◌, append_assoc}
+use Rattle.std.proofs.Common.{◌≡◌, ◌≢◌, ℕ, suc, ◌==◌, Bool, true, false, if◌then◌else◌, inl, inr, List, [], ◌∷◌, ◌++◌, length, map, set, Option, Some, None, is_some, IsSome, option_map, option_and_then, unwrap_or, refl, sym, ap, ◌∙◌, append_assoc}
 use Rattle.std.specs.List.{AllByRecursion, IsDistinct}
 use Rattle.std.proofs.lemmas.Bool.{cases_eq, false≢true, eq-eqb}
-use Rattle.mh_model.specs.Pages.{Table, block_at, with_block}
-use Rattle.mh_model.specs.Table.{Block, references_at, with_reference_at, resolve, target_of, found_in}
+use Rattle.mh_model.specs.Pages.{Table, block_at, with_block, Leads}
+use Rattle.mh_model.specs.Table.{Block, references_at, with_reference_at, forward_at, resolve, target_of, found_in, LeadsOn}
 use Rattle.mh_model.specs.Collector.{Marking, is_marked, with_grey, shade_block, shade, mark_references, mark_step}
 use Rattle.mh_table_laws.specs.Marking.{mark_steps}
 use Rattle.mh_model.specs.Batches.{written_back, batch_written, NoneTwice}
 use Rattle.mh_table_laws.proofs.placing.Places.{block_at-with_block_same, block_at-with_block_other, block-slot}
 use Rattle.mh_table_laws.proofs.tables.BlockRoom.{with_block-none}
 
+-- Lists with none twice --------------------------------------------------------------------------
+
+pub all-front : (P : ℕ → Type 0) (front rest : List ℕ) → AllByRecursion P (front ++ rest) → AllByRecursion P front
+all-front P [] rest all = tt
+all-front P (x ∷ front) rest (here, after) = (here, all-front P front rest after)
+
+pub none_twice-front : (front rest : List ℕ) → NoneTwice (front ++ rest) → NoneTwice front
+unfolding IsDistinct
+none_twice-front [] rest once = tt
+none_twice-front (x ∷ front) rest (here, after) = (all-front (λ y. (x == y) ≡ false) front rest here, none_twice-front front rest after)
+
 -- Forwards ---------------------------------------------------------------------------------------
 
--- the forward of the block at a place
-abbrev forward_at : Table Block → ℕ → Option ℕ
-forward_at table place = option_and_then (λ (block : Block). block.forward) (block_at table place)
+-- a place that leads to a block has one
+pub there_before : (table : Table Block) (place : ℕ) → IsSome (block_at table (resolve table place)) → IsSome (block_at table place)
+there_before table place leads_on = go (block_at table place) refl leads_on
+  where
+    go : (content : Option Block) → block_at table place ≡ content → IsSome (block_at table (unwrap_or (option_and_then (λ b. b.forward) content) place)) → IsSome (block_at table place)
+    go None at h = h
+    go (Some block) at h = ap is_some at
+
+-- and one that leads on leads to a block
+pub leads_of : (table : Table Block) (reference : Option ℕ) → LeadsOn table reference → Leads table reference
+leads_of table None leads = tt
+leads_of table (Some place) leads = leads.0
 
 -- each forward is as it was, and so are the references of blocks at other places
 pub record KeepsOthers (place : ℕ) (old new : Table Block) : Type 0 where

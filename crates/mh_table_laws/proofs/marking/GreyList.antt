@@ -9,6 +9,7 @@ use Rattle.std.proofs.lemmas.Option.{none-some, same_Some}
 use Rattle.mh_model.specs.Pages.{Page, Table, page_number, slot_number, page_at, block_in, block_at, page_with, with_block, page_for, with_taken, IsFreeFor}
 use Rattle.mh_model.specs.Table.{Block, references_at, with_block_change, with_reference_at, resolve, target_of}
 use Rattle.mh_model.specs.Collector.{Marking, is_marked, with_grey, shade_block, shade, mark_reference, mark_references, mark_first}
+use Rattle.mh_model.specs.Batches.{written_back}
 use Rattle.mh_table_laws.specs.Marking.{IsSettled}
 use Rattle.mh_model.specs.CycleBounds.{count_at, class_at, slot_weight, page_weight, table_weight, grey_weight, weight, IsGreySound, IsMarkedIn}
 use Rattle.mh_table_laws.proofs.placing.Places.{IsSlot, block_in-page_for, block_at-with_block_same, block_at-with_block_other, block-slot}
@@ -268,9 +269,13 @@ pub cycle-shade : (marking : Marking) (reference : Option ℕ) → (shade markin
 cycle-shade marking None = refl
 cycle-shade marking (Some place) = cycle-shade_block marking (resolve marking.table place) (block_at marking.table (resolve marking.table place))
 
-cycle-mark_references : (marking : Marking) (place index : ℕ) (references : List (Option ℕ)) → (mark_references marking place index references).cycle ≡ marking.cycle
+pub cycle-mark_references : (marking : Marking) (place index : ℕ) (references : List (Option ℕ)) → (mark_references marking place index references).cycle ≡ marking.cycle
 cycle-mark_references marking place index [] = refl
 cycle-mark_references marking place index (reference ∷ references) = cycle-mark_references (mark_reference marking place index reference) place (suc index) references ∙ cycle-shade _ (target_of marking.table reference)
+
+pub cycle-written_back : (found : List (Option ℕ)) (marking : Marking) (place index : ℕ) → (written_back marking place index found).cycle ≡ marking.cycle
+cycle-written_back [] marking place index = refl
+cycle-written_back (target ∷ found) marking place index = cycle-written_back found _ place (suc index) ∙ cycle-shade _ target
 
 pub cycle-mark_first : (marking : Marking) (grey : List ℕ) → (mark_first marking grey).cycle ≡ marking.cycle
 cycle-mark_first marking [] = refl

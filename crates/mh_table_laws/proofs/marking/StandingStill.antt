@@ -171,7 +171,7 @@ references-written_back (target ∷ found) marking place index done (x ∷ rest)
 
 -- Steps ------------------------------------------------------------------------------------------
 
-after_mark-table : (collector : Collector) (grey : List ℕ) → (after_mark collector grey).table ≡ collector.table
+pub after_mark-table : (collector : Collector) (grey : List ℕ) → (after_mark collector grey).table ≡ collector.table
 after_mark-table collector [] = refl
 after_mark-table collector (place ∷ grey) = refl
 

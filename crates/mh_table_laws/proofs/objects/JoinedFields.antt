@@ -4,6 +4,7 @@ use Rattle.std.specs.Prelude.{option_to_list}
 use Rattle.std.proofs.lemmas.Bool.{ltb-true, ltb-false}
 use Rattle.std.proofs.lemmas.Option.{none-some, same_Some}
 use Rattle.std.proofs.lemmas.List.{length-map, length-append}
+use Rattle.std.proofs.lemmas.List.{get_or_append_left}
 use Rattle.mh_model.specs.declared.shape.Shape.{Shape}
 use Rattle.mh_model.specs.World.{shape_of}
 use Rattle.mh_model.specs.Classes.{Part, run_count, middle_count, child_count, parts}
@@ -16,11 +17,6 @@ use Rattle.mh_table_laws.proofs.objects.Parts.{IsFirst, counts, later_part, chil
 use Rattle.mh_table_laws.proofs.objects.Headers.{first_is, header_is}
 
 -- Lists ------------------------------------------------------------------------------------------
-
-pub read_left : {X : Type 0} (xs ys : List X) (i : ℕ) (d : X) → i < length xs → get_or (xs ++ ys) i d ≡ get_or xs i d
-read_left [] ys i d below = absurd (omega (arith, below))
-read_left (x ∷ xs) ys zero d below = refl
-read_left (x ∷ xs) ys (suc i) d below = read_left xs ys i d (omega (arith, below))
 
 pub read_right : {X : Type 0} (xs ys : List X) (i j : ℕ) (d : X) → i ≡ length xs + j → get_or (xs ++ ys) i d ≡ get_or ys j d
 read_right [] ys i j d e = ap (λ k. get_or ys k d) (omega (arith, e))
@@ -76,7 +72,7 @@ read_words d w size r n k (x ∷ ys) (run, runs) f below y e = go (nat_lt f 60) 
         let run_size = run.references in
         let quotient : f / 60 ≡ 0 = omega (arith, under) in
         let remainder : f ≡ f % 60 = omega (arith, under) in
-        read_left (w x) (flat_map w ys) f d (omega (arith, under, below, run_size, size x))
+        get_or_append_left (w x) (flat_map w ys) d f (omega (arith, under, below, run_size, size x))
         ∙ ap₂ (λ (z : Block) j. get_or (w z) j d) (same_Some x y (ap (slice_get (x ∷ ys)) (sym quotient) ∙ e)) remainder
     go false large ih =
         let over : 60 ≤ f = ltb-false f 60 large in
@@ -103,7 +99,7 @@ read_numbers r n k (x ∷ ys) (run, runs) f from below y e = go (nat_lt f 60) re
         let run_references = run.references in
         let quotient : f / 60 ≡ 0 = omega (arith, under) in
         let offset : f - (r - 60 * k) ≡ f % 60 - length x.references = omega (arith, under, from, run_references) in
-        read_left x.numbers (flat_map (λ (x : Block). x.numbers) ys) (f - (r - 60 * k)) 0 (omega (arith, under, below, from, run_size))
+        get_or_append_left x.numbers (flat_map (λ (x : Block). x.numbers) ys) 0 (f - (r - 60 * k)) (omega (arith, under, below, from, run_size))
         ∙ ap (λ j. get_or x.numbers j 0) offset
         ∙ ap (λ (z : Block). get_or z.numbers (f % 60 - length z.references) 0) (same_Some x y (ap (slice_get (x ∷ ys)) (sym quotient) ∙ e))
     go false large ih =

@@ -22,17 +22,17 @@ tabulated f (suc count) first (suc i) part e =
     let (is, below) = tabulated f count (suc first) i part e in
     (is ∙ ap f k, omega (arith, below))
 
-slice-tabulate : (f : ℕ → Part) (first count i : ℕ) → i < count → slice_get (tabulate f first count) i ≡ Some (f (first + i))
+pub slice-tabulate : (f : ℕ → Part) (first count i : ℕ) → i < count → slice_get (tabulate f first count) i ≡ Some (f (first + i))
 slice-tabulate f first zero i below = absurd (omega (arith, below))
 slice-tabulate f first (suc count) zero below = let k : first + 0 ≡ first = omega arith in ap (λ j. Some (f j)) (sym k)
 slice-tabulate f first (suc count) (suc i) below = let k : suc first + i ≡ first + suc i = omega arith in slice-tabulate f (suc first) count i (omega (arith, below)) ∙ ap (λ j. Some (f j)) k
 
-slice-left : {X : Type 0} (xs ys : List X) (i : ℕ) → i < length xs → slice_get (xs ++ ys) i ≡ slice_get xs i
+pub slice-left : {X : Type 0} (xs ys : List X) (i : ℕ) → i < length xs → slice_get (xs ++ ys) i ≡ slice_get xs i
 slice-left [] ys i below = absurd (omega (arith, below))
 slice-left (x ∷ xs) ys zero below = refl
 slice-left (x ∷ xs) ys (suc i) below = slice-left xs ys i (omega (arith, below))
 
-slice-right : {X : Type 0} (xs ys : List X) (i j : ℕ) → i ≡ length xs + j → slice_get (xs ++ ys) i ≡ slice_get ys j
+pub slice-right : {X : Type 0} (xs ys : List X) (i j : ℕ) → i ≡ length xs + j → slice_get (xs ++ ys) i ≡ slice_get ys j
 slice-right [] ys i j e = ap (slice_get ys) (omega (arith, e))
 slice-right (x ∷ xs) ys zero j e = absurd (omega (arith, e))
 slice-right (x ∷ xs) ys (suc i) j e = slice-right xs ys i j (omega (arith, e))
@@ -151,7 +151,7 @@ some_parts r n = elim (cases_Bool (nat_le (r + n) 60)) [
   | inr many ↦ let all = length-parts r n (omega (arith, leb-false (r + n) 60 many)) in omega (arith, all)
 ]
 
-middle_at : (r n i : ℕ) → 60 < r + n → i < middle_count (r + n) → slice_get (parts r n) (suc i) ≡ Some (middle_spine (r + n) i)
+pub middle_at : (r n i : ℕ) → 60 < r + n → i < middle_count (r + n) → slice_get (parts r n) (suc i) ≡ Some (middle_spine (r + n) i)
 middle_at r n i many below = go (nat_le (r + n) 60) refl
   where
     go : (b : Bool) → nat_le (r + n) 60 ≡ b → slice_get (parts_if r n b) (suc i) ≡ Some (middle_spine (r + n) i)
@@ -261,7 +261,7 @@ find_has test (y ∷ xs) i x e passes = go (test y) refl i e (λ j f. find_has t
     go false is (suc i) e more = more i e
 
 -- up to 64 words have a class
-class_of-some : (words : ℕ) → 0 < words → words ≤ 64 → IsSome (class_of words)
+pub class_of-some : (words : ℕ) → 0 < words → words ≤ 64 → IsSome (class_of words)
 class_of-some words some few = go (words == 0) refl
   where
     go : (b : Bool) → (words == 0) ≡ b → IsSome (if b then None else find (λ size. nat_le words size) class_sizes)
@@ -289,7 +289,7 @@ few_words r n (suc i) part most e = elim (later_part r n i part e).case [
 ]
 
 -- within the limits, there are no more parts than this
-parts-few : (r n : ℕ) → r + n ≤ 216000 → length (parts r n) ≤ 3661
+pub parts-few : (r n : ℕ) → r + n ≤ 216000 → length (parts r n) ≤ 3661
 parts-few r n most = elim (cases_Bool (nat_le (r + n) 60)) [
   | inl few ↦ let one = length-one r n (leb-true (r + n) 60 few) in omega (arith, one)
   | inr past ↦

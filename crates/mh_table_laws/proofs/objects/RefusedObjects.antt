@@ -26,7 +26,7 @@ part-none table birth stamp index part size class none = go (least_place table s
     go None e = refl
     go (Some p) e = absurd (none-some (placed table size (new_block birth stamp index part) p) (sym e))
 
-none-part : (table : Table Block) (birth stamp index : ℕ) (part : Part) (size : ℕ) → class_of (part_words part) ≡ Some size → least_place table size ≡ None → made_part table birth stamp index part ≡ None
+pub none-part : (table : Table Block) (birth stamp index : ℕ) (part : Part) (size : ℕ) → class_of (part_words part) ≡ Some size → least_place table size ≡ None → made_part table birth stamp index part ≡ None
 none-part table birth stamp index part size class none =
     ap (option_and_then (made_in_class table (new_block birth stamp index part))) class
     ∙ ap (option_map (placed table size (new_block birth stamp index part))) none

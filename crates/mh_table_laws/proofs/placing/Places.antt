@@ -3,7 +3,7 @@ use Rattle.std.proofs.Common.{◌≡◌, ◌≢◌, ℕ, zero, suc, ◌+◌, ◌
 use Rattle.std.specs.Option.{option_or}
 use Rattle.std.proofs.lemmas.Bool.{cases_eq, false≢true, and_parts, not-true, eqb-true}
 use Rattle.std.proofs.lemmas.Option.{none-some, same_Some}
-use Rattle.std.proofs.lemmas.List.{get_or-set_same, get_or-set_other, length-replicate}
+use Rattle.std.proofs.lemmas.List.{get_or-set_same, get_or-set_other, set-get_or, set-set, length-replicate}
 use Rattle.mh_model.specs.Classes.{slots_in}
 use Rattle.mh_model.specs.Pages.{Page, Table, page_number, slot_number, page_at, block_in, block_at, block_count, is_dense, is_sparse, empty_slot, open_slot, fresh_slot, first_place, least, least_dense_place, least_place, page_with, with_block, page_for, with_taken, with_released, HaveTheirSlots, IsFreeFor}
 use Rattle.mh_table_laws.specs.Placing.{IsFirstEmpty, IsFound, GivesNone, HasRoom, IsLeastOfItsTier, IsDensePlace}
@@ -43,6 +43,10 @@ module _ {X : Type 0} where
       ap (option_and_then (block_in (slot_number place))) (get_or-set_same table number new None inside ∙ ap (option_map (page_with (slot_number place) content)) slot.in_use)
       ∙ get_or-set_same slot.page.slots (slot_number place) content None slot.within
 
+  -- where a block is, it is exchanged
+  pub block_at-with_block_there : (table : Table X) (place : ℕ) (content : Option X) → IsSome (block_at table place) → block_at (with_block table place content) place ≡ content
+  block_at-with_block_there table place content there = let (block, is) = from_some (block_at table place) there in block_at-with_block_same table place content (block-slot table place block is)
+
   -- a page's own change, read at another slot
   page-other : (table : Table X) (number slot other : ℕ) (content : Option X) → other ≢ slot
       → option_and_then (block_in other) (page_at (set table number (option_map (page_with slot content) (page_at table number))) number) ≡ option_and_then (block_in other) (page_at table number)
@@ -58,6 +62,27 @@ module _ {X : Type 0} where
         rw same (page-other table (page_number place) (slot_number place) (slot_number other) content slots_apart)
     | inr pages_apart ↦ ap (option_and_then (block_in (slot_number other))) (get_or-set_other table (page_number place) (page_number other) _ None pages_apart)
   ]
+
+  -- a block written twice, and one written back
+  pub with_block-twice : (table : Table X) (place : ℕ) (first second : Option X) → with_block (with_block table place first) place second ≡ with_block table place second
+  with_block-twice table place first second = go table (page_number place)
+    where
+      go : (pages : Table X) (number : ℕ)
+          → set (set pages number (option_map (page_with (slot_number place) first) (page_at pages number))) number (option_map (page_with (slot_number place) second) (page_at (set pages number (option_map (page_with (slot_number place) first) (page_at pages number))) number))
+          ≡ set pages number (option_map (page_with (slot_number place) second) (page_at pages number))
+      go [] number = refl
+      go (None ∷ pages) zero = refl
+      go (Some page ∷ pages) zero = ap (λ slots. Some (record page { slots = slots }) ∷ pages) (set-set page.slots (slot_number place) first second)
+      go (page ∷ pages) (suc number) = ap (λ rest. page ∷ rest) (go pages number)
+
+  pub with_block-self : (table : Table X) (place : ℕ) → with_block table place (block_at table place) ≡ table
+  with_block-self table place = go table (page_number place)
+    where
+      go : (pages : Table X) (number : ℕ) → set pages number (option_map (page_with (slot_number place) (option_and_then (block_in (slot_number place)) (page_at pages number))) (page_at pages number)) ≡ pages
+      go [] number = refl
+      go (None ∷ pages) zero = refl
+      go (Some page ∷ pages) zero = ap (λ slots. Some (record page { slots = slots }) ∷ pages) (set-get_or page.slots (slot_number place) None)
+      go (page ∷ pages) (suc number) = ap (λ rest. page ∷ rest) (go pages number)
 
   -- no page has more than 64 slots
   abbrev pub IsShaped : Table X → Type 0
@@ -280,10 +305,14 @@ module _ {X : Type 0} where
 
   -- Taking and giving back -----------------------------------------------------------------------
 
+  -- the page of a place that was taken
+  pub taken_page : (table : Table X) (size place : ℕ) (block : X) → IsFreeFor table size place → page_at (with_taken table size place block) (page_number place) ≡ Some (page_with (slot_number place) (Some block) (page_for size (page_at table (page_number place))))
+  taken_page table size place block free = get_or-set_same table (page_number place) _ None free.inside
+
   -- what is there after a place was taken
   pub block_at-with_taken_same : (table : Table X) (size place : ℕ) (block : X) → IsFreeFor table size place → block_at (with_taken table size place block) place ≡ Some block
   block_at-with_taken_same table size place block free =
-      ap (option_and_then (block_in (slot_number place))) (get_or-set_same table (page_number place) _ None free.inside)
+      ap (option_and_then (block_in (slot_number place))) (taken_page table size place block free)
       ∙ get_or-set_same (page_for size (page_at table (page_number place))).slots (slot_number place) (Some block) None free.within
 
   pub block_in-page_for : (content : Option (Page X)) (size slot : ℕ) → block_in slot (page_for size content) ≡ option_and_then (block_in slot) content
@@ -303,6 +332,19 @@ module _ {X : Type 0} where
         rw same (taken-other_slot table (page_number place) size (slot_number place) (slot_number other) block slots_apart)
     | inr pages_apart ↦ ap (option_and_then (block_in (slot_number other))) (get_or-set_other table (page_number place) (page_number other) _ None pages_apart)
   ]
+
+  -- where a block was, it still is
+  pub block_at-with_taken_there : (table : Table X) (size place other : ℕ) (block : X) → IsFreeFor table size place → IsSome (block_at table other) → block_at (with_taken table size place block) other ≡ block_at table other
+  block_at-with_taken_there table size place other block free there =
+      block_at-with_taken_other table size place other block (λ same. false≢true (sym (ap is_some free.empty) ∙ ap (λ q. is_some (block_at table q)) (sym same) ∙ there))
+
+  -- a block put and then exchanged is the other one put
+  pub with_block-with_taken : (table : Table X) (size place : ℕ) (block other : X) → IsFreeFor table size place → with_block (with_taken table size place block) place (Some other) ≡ with_taken table size place other
+  with_block-with_taken table size place block other free =
+      let page : Page X = page_for size (page_at table (page_number place)) in
+      ap (λ content. set (with_taken table size place block) (page_number place) (option_map (page_with (slot_number place) (Some other)) content)) (taken_page table size place block free)
+      ∙ set-set table (page_number place) _ _
+      ∙ ap (λ slots. set table (page_number place) (Some (record page { slots = slots }))) (set-set page.slots (slot_number place) (Some block) (Some other))
 
   -- A place taken in a free page and given back with it leaves the table
   pub with_released-fresh : (table : Table X) (size place : ℕ) (block : X) → page_at table (page_number place) ≡ None → with_released (with_taken table size place block) place true ≡ table
@@ -338,3 +380,10 @@ module _ {X : Type 0} where
   block_count-removed (Some block ∷ slots) zero e = omega arith
   block_count-removed (None ∷ slots) (suc slot) e = block_count-removed slots slot e
   block_count-removed (Some block ∷ slots) (suc slot) e = omega (arith, block_count-removed slots slot e)
+
+  -- and where none has a block each slot is empty
+  pub block_count-none : (slots : List (Option X)) (slot : ℕ) → block_count slots ≡ 0 → get_or slots slot None ≡ None
+  block_count-none [] slot none = refl
+  block_count-none (None ∷ slots) zero none = refl
+  block_count-none (None ∷ slots) (suc slot) none = block_count-none slots slot none
+  block_count-none (Some block ∷ slots) slot none = absurd (omega arith)

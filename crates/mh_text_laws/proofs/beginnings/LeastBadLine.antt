@@ -9,7 +9,8 @@ use Rattle.mh_model.specs.HistoryTexts.{history_of, history_reading, recorded_of
 use Rattle.mh_text_laws.specs.Beginnings.{front, Begins, IsLeastBad, HasOneLeastBadLine, LeastBadLinesAreOne}
 use Rattle.mh_text_laws.proofs.ListLemmas.{all-take}
 use Rattle.mh_text_laws.proofs.round_trips.WordRoundTrips.{is_free, cut-lines}
-use Rattle.mh_text_laws.proofs.round_trips.HistoryRoundTrips.{cut-text, history_reading-short, recorded_reading-short}
+use Rattle.mh_text_laws.proofs.round_trips.HistoryRoundTrips.{cut-text}
+use Rattle.mh_model.proofs.ScriptLemmas.{history_reading-short, recorded_reading-short}
 use Rattle.mh_text_laws.proofs.beginnings.WholeLines.{pieces_free}
 use Rattle.mh_text_laws.proofs.beginnings.LineReaders.{Breaks}
 use Rattle.mh_text_laws.proofs.beginnings.ScriptLines.{script-breaks}

@@ -1,6 +1,5 @@
 -- What an event adds to the trace under the first rules: one letter M at most, and no more letters C than a quantum may spend.
-use Rattle.std.proofs.Common.{◌≡◌, ◌∙◌, ℕ, zero, suc, ◌+◌, ◌≤◌, ◌==◌, cond, Bool, true, false, List, [], ◌∷◌, ◌++◌, ap, refl, arith}
-use Rattle.std.specs.Prelude.{replicate}
+use Rattle.std.proofs.Common.{◌≡◌, ◌∙◌, ℕ, ◌+◌, ◌≤◌, ◌==◌, cond, Bool, true, false, ap, refl, arith}
 use Rattle.mh_model.specs.declared.config.Config.{Config}
 use Rattle.mh_model.specs.declared.config.Rules.TheVariants.{First}
 use Rattle.mh_model.specs.declared.command.Command.{Command}
@@ -11,38 +10,13 @@ use Rattle.mh_model.specs.declared.command.Event.{Event}
 use Rattle.mh_model.specs.declared.command.Event.TheVariants as event
 use Rattle.mh_model.specs.declared.reply.Reply.{Reply}
 use Rattle.mh_model.specs.declared.reply.Reply.TheVariants as reply
-use Rattle.mh_model.specs.Trace.{Letter, M, C, mutator_count, collector_count}
+use Rattle.mh_model.specs.Trace.{mutator_count, collector_count}
 use Rattle.mh_model.specs.Collector.{quantum}
 use Rattle.mh_model.specs.Mutator.{mutator_step}
 use Rattle.mh_model.specs.Machine.{Machine, command_units, command_step, control_step, quantum_run, is_quantum_due, event_step}
+use Rattle.mh_model.proofs.LetterLemmas.{mutator-M, collector-M, mutator-C, collector-C}
 use Rattle.mh_laws.proofs.costs.Quanta.{units-quantum}
 use Rattle.mh_laws.proofs.runs.EveryMoment.{config-mutator_step}
-
--- Letters ----------------------------------------------------------------------------------------
-
-mutator-M : (letters : List Letter) (n : ℕ) → mutator_count (letters ++ replicate n M) ≡ mutator_count letters + n
-mutator-M [] zero = refl
-mutator-M [] (suc n) = let h = mutator-M [] n in omega (arith, h)
-mutator-M (M ∷ letters) n = let h = mutator-M letters n in omega (arith, h)
-mutator-M (C ∷ letters) n = mutator-M letters n
-
-collector-M : (letters : List Letter) (n : ℕ) → collector_count (letters ++ replicate n M) ≡ collector_count letters
-collector-M [] zero = refl
-collector-M [] (suc n) = collector-M [] n
-collector-M (M ∷ letters) n = collector-M letters n
-collector-M (C ∷ letters) n = ap suc (collector-M letters n)
-
-mutator-C : (letters : List Letter) (n : ℕ) → mutator_count (letters ++ replicate n C) ≡ mutator_count letters
-mutator-C [] zero = refl
-mutator-C [] (suc n) = mutator-C [] n
-mutator-C (M ∷ letters) n = ap suc (mutator-C letters n)
-mutator-C (C ∷ letters) n = mutator-C letters n
-
-collector-C : (letters : List Letter) (n : ℕ) → collector_count (letters ++ replicate n C) ≡ collector_count letters + n
-collector-C [] zero = refl
-collector-C [] (suc n) = let h = collector-C [] n in omega (arith, h)
-collector-C (M ∷ letters) n = collector-C letters n
-collector-C (C ∷ letters) n = let h = collector-C letters n in omega (arith, h)
 
 -- Steps ------------------------------------------------------------------------------------------
 

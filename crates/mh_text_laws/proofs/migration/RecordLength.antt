@@ -1,5 +1,5 @@
 -- The text of a record is little longer than that of its entries, so migration keeps within the limit.
-use Rattle.std.proofs.Common.{◌≡◌, ◌∙◌, ℕ, ◌+◌, ◌*◌, ◌<◌, ◌≤◌, ◌^◌, true, List, [], ◌∷◌, ◌++◌, length, map, ap, sym, refl, codes, decimal, arith, length-append, append_assoc}
+use Rattle.std.proofs.Common.{◌≡◌, ℕ, ◌+◌, ◌*◌, ◌<◌, ◌≤◌, ◌^◌, true, List, [], ◌∷◌, ◌++◌, length, map, ap, refl, codes, decimal, arith, length-append}
 use Rattle.std.specs.List.{list_all}
 use Rattle.std.proofs.lemmas.Bool.{and_parts, ltb-true}
 use Rattle.std.proofs.lemmas.Fmt.{length-decimal-le}
@@ -9,13 +9,9 @@ use Rattle.mh_model.specs.Forms.{u64}
 use Rattle.mh_model.specs.Replies.{are_u64}
 use Rattle.mh_model.specs.HistoryTexts.{Recorded, entry_words, is_measured, header_words, history_text, recorded_text, measured_line}
 use Rattle.mh_model.specs.declared.history.Measured.{Measured}
+use Rattle.mh_model.proofs.TextLemmas.{joined-append}
 use Rattle.mh_text_laws.proofs.round_trips.HeaderRoundTrips.{header_numbers, small_header}
 use Rattle.mh_text_laws.proofs.round_trips.HistoryRoundTrips.{entry_line}
-
-joined-append : (word : Text) (words : List Text) (next : Text) (more : List Text) → joined ((word ∷ words) ++ next ∷ more) ≡ joined (word ∷ words) ++ 32 ∷ joined (next ∷ more)
-joined-append word [] next more = refl
-joined-append word (second ∷ words) next more =
-    ap (λ (text : Text). word ++ 32 ∷ text) (joined-append second words next more) ∙ sym (append_assoc word (32 ∷ joined (second ∷ words)) (32 ∷ joined (next ∷ more)))
 
 -- a number has 20 digits at most
 few_digits : (n : ℕ) (ns : List ℕ) → are_u64 (n ∷ ns) ≡ true → length (decimal n) ≤ 20

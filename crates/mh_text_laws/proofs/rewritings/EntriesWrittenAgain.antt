@@ -13,7 +13,8 @@ use Rattle.mh_model.specs.Replies.{reply_words, reply_of, are_u64}
 use Rattle.mh_model.specs.HistoryTexts.{event_words, is_event, event_of, session_of, entry_words, is_entry, entry_by, entry_of, measured_words, is_measured, measured_with, measured_by, measured_of, Halves, halves_at}
 use Rattle.mh_model.specs.declared.history.Measured.{Measured}
 use Rattle.mh_text_laws.proofs.rewritings.NumbersWrittenAgain.{mapped, chained, within_is, numbers_are}
-use Rattle.mh_text_laws.proofs.rewritings.WordsWrittenAgain.{text_is, joined-words, tagged_is}
+use Rattle.mh_model.proofs.TextLemmas.{text_is}
+use Rattle.mh_text_laws.proofs.rewritings.WordsWrittenAgain.{joined-words, tagged_is}
 use Rattle.mh_text_laws.proofs.rewritings.FormsWrittenAgain.{IsOf, same_of, command_is, control_is}
 use Rattle.mh_text_laws.proofs.rewritings.RepliesWrittenAgain.{reply_is}
 

@@ -10,7 +10,7 @@ use Rattle.mh_model.specs.declared.history.Version.{Version}
 use Rattle.mh_model.specs.declared.history.Version.TheVariants.{One, Two}
 use Rattle.mh_model.specs.Replies.{are_texts, with_words}
 use Rattle.mh_text_laws.proofs.rewritings.NumbersWrittenAgain.{within_is, numbered_is, OfEach, of_each, length-below}
-use Rattle.mh_text_laws.proofs.rewritings.WordsWrittenAgain.{text_is}
+use Rattle.mh_model.proofs.TextLemmas.{text_is}
 
 -- these words are written of something, which passes a test
 abbrev pub IsOf : {X : Type 0} → (X → List Text) → (X → Bool) → List Text → X → Type 0

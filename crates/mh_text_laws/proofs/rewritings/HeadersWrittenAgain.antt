@@ -10,7 +10,8 @@ use Rattle.mh_model.specs.Bytes.{Text, joined, words, is_text, numbers}
 use Rattle.mh_model.specs.HistoryTexts.{rules_number, rules_of, header_words, header_by, header_of}
 use Rattle.mh_text_laws.proofs.round_trips.HeaderRoundTrips.{header_numbers}
 use Rattle.mh_text_laws.proofs.rewritings.NumbersWrittenAgain.{chained, numbers_are}
-use Rattle.mh_text_laws.proofs.rewritings.WordsWrittenAgain.{text_is, joined-words}
+use Rattle.mh_model.proofs.TextLemmas.{text_is}
+use Rattle.mh_text_laws.proofs.rewritings.WordsWrittenAgain.{joined-words}
 
 rules_are : (n : ℕ) (rules : Rules) → rules_of n ≡ Some rules → rules_number rules ≡ n
 rules_are n rules h = by (n == 1) (n == 2) refl refl h where

@@ -10,7 +10,7 @@ use Rattle.mh_model.specs.Script.{Reading, BadLine, Means, reading_map, at_end}
 use Rattle.mh_model.specs.HistoryTexts.{Recorded, is_entry, entry_of, is_measured, measured_of, header_words, header_of, entries_from, history_text, history_of, history_reading, recorded_text, recorded_by, recorded_of, recorded_reading, measured_line}
 use Rattle.mh_text_laws.proofs.round_trips.HistoryRoundTrips.{entry_line}
 use Rattle.mh_text_laws.proofs.beginnings.WholeLines.{text_is_lines}
-use Rattle.mh_text_laws.proofs.rewritings.WordsWrittenAgain.{text_is}
+use Rattle.mh_model.proofs.TextLemmas.{text_is}
 use Rattle.mh_text_laws.proofs.rewritings.EntriesWrittenAgain.{entry_line_is, measured_line_is}
 use Rattle.mh_text_laws.proofs.rewritings.HeadersWrittenAgain.{header_line_is}
 

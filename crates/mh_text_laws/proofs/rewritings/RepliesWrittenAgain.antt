@@ -13,7 +13,7 @@ use Rattle.mh_model.specs.declared.history.Version.{Version}
 use Rattle.mh_model.specs.declared.history.Version.TheVariants.{One, Two}
 use Rattle.mh_model.specs.Replies.{refusal_words, phase_word, optional_word, reply_words, are_u64, is_reply, refusal_forms, phase_forms, phase_of, ascends, items_in_range, Ready, items_from, values, spent_of, stat_of, optional_by, optional_of, report_of, dump_of, reply_forms, reply_of}
 use Rattle.mh_text_laws.proofs.rewritings.NumbersWrittenAgain.{within_is, mapped, chained, number_is, numbers_are, of_each, length-decimals}
-use Rattle.mh_text_laws.proofs.rewritings.WordsWrittenAgain.{text_is}
+use Rattle.mh_model.proofs.TextLemmas.{text_is}
 use Rattle.mh_text_laws.proofs.rewritings.DumpsWrittenAgain.{items_are}
 use Rattle.mh_text_laws.proofs.rewritings.FormsWrittenAgain.{IsOf, same_of, word-faithful, IsFaithful, AreFaithful, formed-faithful, numbers-faithful, words-faithful}
 

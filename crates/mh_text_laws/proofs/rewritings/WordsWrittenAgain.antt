@@ -1,19 +1,9 @@
 -- The parts of a text, joined again, are the text, and a word that is a number after a byte is what is written of it.
 use Rattle.std.proofs.Common.{◌≡◌, ◌∙◌, ℕ, ◌==◌, nat_lt, cond, Bool, true, false, Some, None, List, [], ◌∷◌, ◌++◌, ap, refl, decimal}
-use Rattle.std.proofs.lemmas.Bool.{and_parts, eqb-true}
-use Rattle.mh_model.specs.Bytes.{Text, Cut, cut_after, with_byte, parts_at, joined_at, joined, words, is_text, tagged, number}
+use Rattle.std.proofs.lemmas.Bool.{eqb-true}
+use Rattle.mh_model.specs.Bytes.{Text, Cut, cut_after, with_byte, parts_at, joined_at, joined, words, tagged, number}
 use Rattle.mh_model.specs.Forms.{u64}
 use Rattle.mh_text_laws.proofs.rewritings.NumbersWrittenAgain.{number_is}
-
-pub text_is : (x y : Text) → is_text x y ≡ true → x ≡ y
-text_is [] [] h = refl
-text_is [] (b ∷ ys) h = cc
-text_is (a ∷ xs) [] h = cc
-text_is (a ∷ xs) (b ∷ ys) h =
-    let both = and_parts _ _ h in
-    let one : a ≡ b = eqb-true a b both.0 in
-    let more : xs ≡ ys = text_is xs ys both.1 in
-    cc
 
 -- Parts ------------------------------------------------------------------------------------------
 

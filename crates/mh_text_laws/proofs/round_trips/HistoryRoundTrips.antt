@@ -1,7 +1,7 @@
 -- Histories of both versions are read as they were written.
 use Rattle.std.proofs.Common.{◌≡◌, ◌∙◌, ℕ, suc, ◌≤◌, Bool, true, Option, Some, List, [], ◌∷◌, length, map, ap, sym, refl, codes, append-nil}
 use Rattle.std.specs.List.{list_all}
-use Rattle.std.proofs.lemmas.Bool.{and_parts, and_from, le-ltb}
+use Rattle.std.proofs.lemmas.Bool.{and_parts, and_from}
 use Rattle.mh_model.specs.declared.config.Config.{Config}
 use Rattle.mh_model.specs.declared.history.Entry.{Entry}
 use Rattle.mh_model.specs.Bytes.{Text, cut_after, words, joined, lines_text}
@@ -9,6 +9,7 @@ use Rattle.mh_model.specs.declared.history.Version.TheVariants.{One}
 use Rattle.mh_model.specs.Script.{Means, reading_map}
 use Rattle.mh_model.specs.HistoryTexts.{Recorded, entry_words, measured_line, measured_words, is_entry, is_measured, entry_of, measured_of, header_words, header_of, history_text, recorded_text, entries_from, history_of, history_reading, recorded_by, recorded_of, recorded_reading}
 use Rattle.mh_model.specs.declared.history.Measured.{Measured}
+use Rattle.mh_model.proofs.ScriptLemmas.{history_reading-short, recorded_reading-short}
 use Rattle.mh_text_laws.proofs.ListLemmas.{all-map}
 use Rattle.mh_text_laws.proofs.round_trips.WordRoundTrips.{is_free, are_free, cut-lines, joined_free}
 use Rattle.mh_text_laws.proofs.round_trips.EntryRoundTrips.{entry_of-line, measured_of-line, entry_are_words, measured_are_words}
@@ -37,10 +38,6 @@ cut-text lines h =
 
 -- Version 1 --------------------------------------------------------------------------------------
 
-pub history_reading-short : (text : Text) → length text ≤ 1073741824 → history_reading text ≡ history_of (cut_after 10 text)
-unfolding history_reading
-history_reading-short text few = rw (le-ltb 1073741824 (length text) few) refl
-
 pub history_reading-text : (entries : List Entry) → list_all (is_entry One) entries ≡ true → length (history_text entries) ≤ 1073741824
     → history_reading (history_text entries) ≡ Means entries
 history_reading-text entries h few =
@@ -50,10 +47,6 @@ history_reading-text entries h few =
     ∙ entries_from-lines (λ line. entry_of One (words line)) entry_line (is_entry One) (entry_of-line One) 2 entries h
 
 -- Version 2 --------------------------------------------------------------------------------------
-
-pub recorded_reading-short : (text : Text) → length text ≤ 2147483648 → recorded_reading text ≡ recorded_of (cut_after 10 text)
-unfolding recorded_reading
-recorded_reading-short text few = rw (le-ltb 2147483648 (length text) few) refl
 
 recorded_by-known : (c : Config) (found : Option Config) (lines : List Text) (entries : List Measured) → found ≡ Some c
     → entries_from (λ line. measured_of (words line)) 2 lines [] ≡ Means entries → recorded_by found lines [] ≡ Means (record { config = c; entries = entries })

@@ -1,21 +1,18 @@
 -- A reply in range is another, or it isn't: their words tell.
 use Rattle.std.proofs.Common.{◌≡◌, ◌∙◌, ◌⊎◌, inl, inr, Bool, true, false, List, [], ◌∷◌, ap, sym, refl, subst}
-use Rattle.std.proofs.lemmas.Bool.{and_from, both_ways, eq-eqb}
+use Rattle.std.proofs.lemmas.Bool.{and_from, both_ways}
 use Rattle.std.proofs.lemmas.Option.{same_Some}
 use Rattle.mh_model.specs.declared.reply.Reply.{Reply}
-use Rattle.mh_model.specs.Bytes.{Text, is_text}
+use Rattle.mh_model.specs.Bytes.{Text}
 use Rattle.mh_model.specs.declared.history.Version.{Version}
 use Rattle.mh_model.specs.Replies.{reply_words, reply_of, is_reply, are_texts}
+use Rattle.mh_model.proofs.TextLemmas.{text_itself}
 use Rattle.mh_text_laws.proofs.round_trips.ReplyRoundTrips.{reply_of-words}
 use Rattle.mh_text_laws.proofs.rewritings.FormsWrittenAgain.{texts_are}
 
-is_text-itself : (text : Text) → is_text text text ≡ true
-is_text-itself [] = refl
-is_text-itself (byte ∷ bytes) = and_from _ _ (eq-eqb byte byte refl) (is_text-itself bytes)
-
 are_texts-themselves : (texts : List Text) → are_texts texts texts ≡ true
 are_texts-themselves [] = refl
-are_texts-themselves (text ∷ texts) = and_from _ _ (is_text-itself text) (are_texts-themselves texts)
+are_texts-themselves (text ∷ texts) = and_from _ _ (text_itself text) (are_texts-themselves texts)
 
 pub same_or_other : (version : Version) (r s : Reply) → is_reply version r ≡ true → (r ≡ s) ⊎ (r ≡ s → ⊥)
 same_or_other version r s in_range = by (is_reply version s) (are_texts (reply_words r) (reply_words s)) refl refl where

@@ -1,10 +1,9 @@
 use Rattle.std.proofs.Common.{◌≡◌, ℕ, suc, ◌<◌, ◌==◌, true, inl, inr, List, [], ◌∷◌, length, get_or, take, sym, ap, ◌∙◌, arith}
-use Rattle.std.proofs.lemmas.Bool.{false≢true, eqb-true}
+use Rattle.std.proofs.lemmas.Bool.{false≢true, eqb-true, or_cases}
 use Rattle.std.proofs.lemmas.List.{take_all}
 use Rattle.mh_model.specs.Pages.{Table}
 use Rattle.mh_model.specs.Table.{Block, stamp_at}
 use Rattle.mh_grey.specs.Queue.{is_in}
-use Rattle.mh_grey.proofs.QueueLemmas.{or_cases}
 use Rattle.mh_mark.specs.Walkable.{IsWalkable}
 use Rattle.mh_mark.specs.Batched.{AreMarkable}
 use Rattle.collector_tests.proofs.mark_tests.is_walkable.Goals as goal

@@ -1,6 +1,7 @@
 use Rattle.std.proofs.Common.{arith}
 use Rattle.mh_model.specs.Classes.{part_words}
-use Rattle.mh_classes.proofs.PartLemmas.{part_is, class_of-some}
+use Rattle.mh_table_laws.proofs.objects.Parts.{class_of-some}
+use Rattle.mh_classes.proofs.PartLemmas.{part_is}
 use Rattle.mh_classes.proofs.laws.parts_have_classes.Goals as goal
 
 pub returns : goal.returns

@@ -1,12 +1,13 @@
-use Rattle.mh_judging.proofs.ShownLemmas.{if_err_by, if_ok_by, taken_refused, verdict_taken}
+use Rattle.std.proofs.lemmas.Result.{IfOk-weaker, IfErr-weaker}
+use Rattle.mh_judging.proofs.ShownLemmas.{taken_refused, verdict_taken}
 use Rattle.mh_judging.proofs.judge.judge_entries.Goals as goal
 
 pub returns-clause-verdict : goal.returns-clause-verdict
 returns-clause-verdict c =
-    if_ok_by c.replay_entries.result
+    IfOk-weaker c.replay_entries.result _ _
     (λ verdict judged. verdict_taken _ _ _ _ _ verdict (rw c.in-Some.is at c.in_ok-first.ensures.taken) (judged c.args.config c.in_ok-judge.ensures.entries))
     c.replay_entries.ensures.verdict
 
 pub returns-clause-line : goal.returns-clause-line
 returns-clause-line c =
-    if_err_by c.replay_entries.result (λ error refused. taken_refused _ _ _ _ error (rw c.in-Some.is at c.in_ok-first.ensures.taken) refused) c.replay_entries.ensures.line
+    IfErr-weaker c.replay_entries.result _ _ (λ error refused. taken_refused _ _ _ _ error (rw c.in-Some.is at c.in_ok-first.ensures.taken) refused) c.replay_entries.ensures.line

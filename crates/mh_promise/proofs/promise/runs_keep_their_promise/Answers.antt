@@ -14,7 +14,8 @@ use Rattle.mh_run_laws.specs.Utilisation.{HasShare}
 use Rattle.mh_laws.proofs.bounds.CyclesInTime.{run-stays}
 use Rattle.mh_promise.specs.Runs.{machine_at, moment_at}
 use Rattle.mh_promise.proofs.RunsByEvents.{after_more, replies-length}
-use Rattle.mh_promise.proofs.AnsweredEvents.{answered-is, beside-is, session-reply, told-left, half-heap, half-machine, run-quantum}
+use Rattle.mh_run_laws.proofs.forwarders.RunForwarders.{event-quantum}
+use Rattle.mh_promise.proofs.AnsweredEvents.{answered-is, beside-is, session-reply, told-left, half-heap, half-machine}
 use Rattle.mh_promise.proofs.FullHeaps.{new-alone}
 use Rattle.mh_promise.proofs.SpentUnits.{told-units}
 use Rattle.mh_promise.proofs.promise.runs_keep_their_promise.Goals as goal
@@ -53,7 +54,7 @@ returns c config events outcome is = record {
         let half = half_moment (moment_at config before) event in
         let machine = c.moment_has_the_machine.ensures before (first_moment config) in
         let steps = half-machine (moment_at config before) event ∙ ap (λ m. half_step m event) machine in
-        let after = ap (λ m. m.heap.collector) (after_more.event (first_machine config) before event) ∙ run-quantum (machine_at config before) event runs ∙ ap (λ m. (quantum m.heap.config m.heap.collector).collector) (sym steps) in
+        let after = ap (λ m. m.heap.collector) (after_more.event (first_machine config) before event) ∙ event-quantum (machine_at config before) event runs ∙ ap (λ m. (quantum m.heap.config m.heap.collector).collector) (sym steps) in
         subst (λ c. IsFinished (snapshot_at half) half.machine.heap.next_birth c) (sym after) (c.finished_cycles_are_exact.ensures config before event cycle (subst (λ c. is_idle c.phase ≡ true) after idle));
     any = λ before event later split. c.finished_cycles_are_exact.ensures config before event;
   };

@@ -1,6 +1,7 @@
 use Rattle.std.proofs.Common.{◌∙◌, refl, arith}
 use Rattle.mh_script.proofs.AddedLines.{added_all, added_begins, added_fails, added_more, added_none, added_written, on_err, state_after}
-use Rattle.mh_script.proofs.MachineLemmas.{machine_after-none, replies_add, replies_of_events-none, take_event}
+use Rattle.std.proofs.lemmas.List.{take_more}
+use Rattle.mh_script.proofs.MachineLemmas.{machine_after-none, replies_add, replies_of_events-none}
 use Rattle.mh_script.proofs.replies.write_replies.Goals as goal
 
 pub returns-in_err-answer-clause-begun : goal.returns-in_err-answer-clause-begun
@@ -8,7 +9,7 @@ returns-in_err-answer-clause-begun g c = on_err _ (added_begins c.loop-event.inv
 
 pub returns-in_err-flush_full-clause-begun : goal.returns-in_err-flush_full-clause-begun
 returns-in_err-flush_full-clause-begun g c =
-    let added = added_more c.loop-event.invariant.added (replies_add _) _ _ _ (take_event _ _ _ c.loop-event-test.true) c.in_ok-answer.ensures.machine c.in_ok-answer.ensures.text in
+    let added = added_more c.loop-event.invariant.added (replies_add _) _ _ _ (take_more _ _ _ c.loop-event-test.true) c.in_ok-answer.ensures.machine c.in_ok-answer.ensures.text in
     on_err _ (added_fails added (replies_add _) _ c.in_err-flush_full.ensures.begun)
 
 pub returns-in_err-flush-clause-begun : goal.returns-in_err-flush-clause-begun
@@ -29,7 +30,7 @@ loop-event-init g c = record {
 
 pub loop-event-preserved : goal.loop-event-preserved
 loop-event-preserved g c =
-    let added = added_more c.loop-event.invariant.added (replies_add _) _ _ _ (take_event _ _ _ c.loop-event-test.true) c.in_ok-answer.ensures.machine c.in_ok-answer.ensures.text in
+    let added = added_more c.loop-event.invariant.added (replies_add _) _ _ _ (take_more _ _ _ c.loop-event-test.true) c.in_ok-answer.ensures.machine c.in_ok-answer.ensures.text in
     record {
       added = added_written added _ _ c.in_ok-flush_full.ensures.kept;
       count = omega (arith, c.in_ok-answer.ensures.count, c.loop-event.invariant.count);

@@ -1,6 +1,6 @@
 use Rattle.std.proofs.Common.{ap, is_some, refl, arith}
 use Rattle.mh_model.specs.Classes.{class_of, part_words}
-use Rattle.mh_blocks.proofs.ChangeLemmas.{block_at-taken}
+use Rattle.mh_table_laws.proofs.placing.Places.{block_at-with_taken_same}
 use Rattle.mh_blocks.proofs.FreeLemmas.{free_for_class}
 use Rattle.mh_blocks.proofs.MadeLemmas.{made_at}
 use Rattle.mh_blocks.proofs.CountedLemmas.{few_counts}
@@ -13,7 +13,7 @@ take-requires c = free_for_class c.self.inside.pages _ (class_of (part_words c.a
 pub set_header-requires : goal.set_header-requires
 set_header-requires c =
     let free = free_for_class c.self.inside.pages _ (class_of (part_words c.args.part)) _ _ c.self.view_is c.requires.free c.class.ensures.class in
-    rw c.take.ensures (ap is_some (block_at-taken c.self.inside.pages _ _ _ free))
+    rw c.take.ensures (ap is_some (block_at-with_taken_same c.self.inside.pages _ _ _ free))
 
 pub overflow_add-self : goal.overflow_add-self
 overflow_add-self c =

@@ -3,7 +3,8 @@ use Rattle.mh_model.specs.declared.command.Command.TheVariants as command
 use Rattle.mh_model.specs.declared.reply.Reply.TheVariants as reply
 use Rattle.mh_model.specs.Mutator.{HeapState}
 use Rattle.mh_paged.specs.Kept.{Steps, heap_of}
-use Rattle.mh_paged.proofs.FieldLemmas.{leads-on, field-original}
+use Rattle.mh_table_laws.proofs.marking.BatchMarking.{leads_of}
+use Rattle.mh_paged.proofs.FieldLemmas.{field-original}
 use Rattle.mh_paged.proofs.KeptLemmas.{kept-after}
 use Rattle.mh_paged.proofs.StepLemmas.{is-open, is-passed, put-steps}
 use Rattle.mh_paged.proofs.kept.KeptHeap.put.Goals as goal
@@ -31,7 +32,7 @@ write_reference-requires-clause-original c =
 pub write_reference-requires-clause-leads : goal.write_reference-requires-clause-leads
 write_reference-requires-clause-leads c =
     let heap : HeapState = heap_of c.self.inside.cycle c.self.inside.next_birth c.self.inside.ended in
-    rw c.root-reference.ensures (leads-on heap.collector.table _ (c.references_lead_on.ensures.slots heap.collector (c.collectors_stay_steady.ensures.of_heaps heap c.self.invariant.keeping) c.in_ok-value.value).on)
+    rw c.root-reference.ensures (leads_of heap.collector.table _ (c.references_lead_on.ensures.slots heap.collector (c.collectors_stay_steady.ensures.of_heaps heap c.self.invariant.keeping) c.in_ok-value.value).on)
 
 pub invariant_of-self : goal.invariant_of-self
 invariant_of-self c =

@@ -1,6 +1,7 @@
 use Rattle.std.proofs.Common.{arith}
+use Rattle.std.proofs.lemmas.List.{set-set}
 use Rattle.mh_model.specs.Pages.{page_number}
-use Rattle.mh_pages.proofs.TableLemmas.{set_twice, count_after}
+use Rattle.mh_pages.proofs.TableLemmas.{count_after}
 use Rattle.mh_pages.proofs.pages.Pages.release.Goals as goal
 
 pub free_page-requires-clause-empty : goal.free_page-requires-clause-empty
@@ -8,4 +9,4 @@ free_page-requires-clause-empty c =
     rw (c.release_slot.ensures, c.page.ensures) (omega (arith, count_after c.args.self.now c.args.place c.requires.there, c.requires.alone c.if-frees_page.true))
 
 pub returns-then-frees_page : goal.returns-then-frees_page
-returns-then-frees_page c = rw (c.free_page.ensures, c.release_slot.ensures, c.page.ensures, c.if-frees_page.true) (set_twice c.args.self.now (page_number c.args.place) _ _)
+returns-then-frees_page c = rw (c.free_page.ensures, c.release_slot.ensures, c.page.ensures, c.if-frees_page.true) (set-set c.args.self.now (page_number c.args.place) _ _)
