@@ -1,12 +1,12 @@
 //! Cycles, timed.
 
 use crate::graph::{Graph, build};
-use mh_scan::gate::Open;
 use mh_model::birth::LIFE;
 use mh_model::config::Config;
 use mh_model::cycle::{Phase, Spent};
 use mh_paged::kept::KeptHeap;
 use mh_scan::crew_scan::CrewScan;
+use mh_scan::gate::Open;
 use mh_scan::scan::{OneScan, Scanner};
 use std::io;
 use std::thread::Threads;

@@ -31,8 +31,18 @@ fn time_cycles<R: Threads>(rt: &HostRuntime, threads: &R) -> io::Result<()> {
     cycles::run(rt, threads, "a tree of 4 in order", tree)?;
     cycles::run(rt, threads, "a scattered tree of 4", tree.scattered())?;
     cycles::run(rt, threads, "a scattered tree of 60", wide)?;
-    cycles::run(rt, threads, "a chain in order beside garbage", chain.beside_garbage())?;
-    cycles::run(rt, threads, "a scattered chain beside garbage", scattered.beside_garbage())
+    cycles::run(
+        rt,
+        threads,
+        "a chain in order beside garbage",
+        chain.beside_garbage(),
+    )?;
+    cycles::run(
+        rt,
+        threads,
+        "a scattered chain beside garbage",
+        scattered.beside_garbage(),
+    )
 }
 
 fn main(rt: HostRuntime) -> io::Result<()> {

@@ -1,11 +1,11 @@
 //! What is answered to the events of scripts.
 ghost use Rattle.std.specs.Prelude.{◌<◌, ◌≤◌};
 
-use mh_scan::gate::Open;
 use mh_model::command::Event;
 use mh_model::config::{Config, Rules};
 use mh_model::memory::NoMemory;
 use mh_model::reply::Reply;
+use mh_scan::gate::Open;
 use mh_scan::scan::OneScan;
 use mh_state::machine::Stop;
 use mh_state::run::{Outcome, RunFault, run};

@@ -1,9 +1,9 @@
 //! Machines and runs at their limits.
 
-use mh_scan::gate::Open;
 use mh_model::command::{Command, Event};
 use mh_model::config::Config;
 use mh_model::reply::{Refusal, Reply};
+use mh_scan::gate::Open;
 use mh_scan::scan::OneScan;
 use mh_state::machine::{Machine, Stop};
 use mh_state::run::run;

@@ -2,10 +2,10 @@ ghost use Rattle.std.specs.Prelude.{◌<◌, ◌≤◌};
 
 use crate::events::{DUMP, QUANTUM, every_kind, wide};
 use crate::states::{MOST_STEPS, PLENTY, STEP};
-use mh_scan::gate::Open;
 use mh_model::command::Event;
 use mh_model::config::Config;
 use mh_model::reply::Reply;
+use mh_scan::gate::Open;
 use mh_state::machine::Stop;
 use mh_state::run::{Outcome, RunFault, run};
 use std::alloc::Global;

@@ -3,10 +3,10 @@ ghost use Rattle.mh_service.specs.Services.{IsOf};
 
 use crate::events::{DUMP, STAT, every_kind};
 use crate::states::{MOST_STEPS, PLENTY, STEP};
-use mh_scan::gate::Open;
 use mh_model::command::Event;
 use mh_model::config::Config;
 use mh_model::reply::Reply;
+use mh_scan::gate::Open;
 use mh_service::seat::Seat;
 use mh_service::service::{Closed, Service};
 use mh_state::machine::Stop;

@@ -10,14 +10,14 @@ ghost use Rattle.mh_history.specs.Beginnings.{BeginsWithEntry, BeginsWithMeasure
 ghost use Rattle.mh_judging.specs.Judged.{BeginsToJudge, IsVerdictOn, Judges};
 ghost use Rattle.mh_script.specs.Texts.{Blames, LeavesSource, WantsMemory};
 
-use mh_script::fault::ScriptFault;
-use mh_script::texts::{read_whole, write_verdict};
 use mh_history::history::{HISTORY_BYTES, history_lines};
 use mh_history::lines::{RefusedLine, next_entry};
 use mh_history::record::{RECORD_BYTES, record_lines};
 use mh_model::config::Config;
 use mh_model::history::{Entry, Measured, Verdict};
 use mh_model::memory::NoMemory;
+use mh_script::fault::ScriptFault;
+use mh_script::texts::{read_whole, write_verdict};
 use mh_state::judge::Judge;
 use mh_text::device::DeviceFailed;
 use mh_text::pieces::Lines;

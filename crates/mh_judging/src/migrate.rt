@@ -9,13 +9,13 @@ ghost use Rattle.mh_text.specs.Stream.{AppendsBeginning};
 ghost use Rattle.mh_judging.specs.Judged.{BeginsMigration, BeginsToMigrate, Migrates, MigratesText, TakesToMigrate};
 ghost use Rattle.mh_script.specs.Texts.{Blames, BlamesSink, LeavesSource, WantsMemory};
 
-use mh_script::fault::ScriptFault;
 use crate::judge::verdict_on_history;
 use crate::record::write_lines;
-use mh_script::texts::{read_whole, write_verdict};
 use mh_history::history::{HISTORY_BYTES, history_lines};
 use mh_model::config::Config;
 use mh_model::history::Verdict;
+use mh_script::fault::ScriptFault;
+use mh_script::texts::{read_whole, write_verdict};
 use mh_text::device::DeviceFailed;
 use mh_text::sink::Sink;
 use mh_text::source::Source;

@@ -10,8 +10,6 @@ ghost use Rattle.mh_model.specs.Machine.{event_step};
 ghost use Rattle.mh_model.specs.Script.{Means};
 ghost use Rattle.mh_text.specs.Stream.{AppendsBeginning};
 
-use mh_script::fault::WriteError;
-use mh_script::texts::{flush, flush_full};
 use mh_history::entry_text::{HeaderText, MeasuredText};
 use mh_history::lines::next_entry;
 use mh_model::command::Event;
@@ -19,6 +17,8 @@ use mh_model::config::Config;
 use mh_model::history::{Entry, Measured};
 use mh_model::memory::NoMemory;
 use mh_scan::scan::OneScan;
+use mh_script::fault::WriteError;
+use mh_script::texts::{flush, flush_full};
 use mh_state::machine::{Machine, Stop};
 use mh_text::pieces::Lines;
 use mh_text::sink::Sink;

@@ -7,8 +7,8 @@ ghost use Rattle.mh_paged.specs.Dumped.{slots_at, page_items};
 use mh_blocks::blocks::Blocks;
 use mh_classes::class::Class;
 use mh_model::dump::{Dump, DumpItem};
-use mh_model::memory::NoMemory;
 use mh_model::limits::PLACES;
+use mh_model::memory::NoMemory;
 use mh_model::place::Place;
 use std::alloc::Global;
 /// What a dump says of the block at a place.

@@ -6,13 +6,13 @@ ghost use Rattle.mh_racing.specs.Raced.{BeginsToRace, RaceEndsAs, Races};
 ghost use Rattle.mh_script.specs.Run.{TakesToRun};
 ghost use Rattle.mh_script.specs.Texts.{Blames, BlamesSink, LeavesSource, WantsMemory, Writes};
 
-use mh_script::end::End;
-use mh_script::fault::ScriptFault;
 use mh_judging::record::write_record;
-use mh_script::texts::{read_whole, write_verdict};
 use mh_model::history::Verdict;
 use mh_race::race::race;
 use mh_scan::crew_scan::CrewGate;
+use mh_script::end::End;
+use mh_script::fault::ScriptFault;
+use mh_script::texts::{read_whole, write_verdict};
 use mh_text::device::DeviceFailed;
 use mh_text::script::{SCRIPT_BYTES, Script, parse};
 use mh_text::sink::Sink;

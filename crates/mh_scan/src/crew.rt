@@ -6,12 +6,12 @@ ghost use Rattle.mh_claims.specs.Seats.{IsOf, IsNew, seat_ended};
 ghost use Rattle.mh_scan.specs.Scanning.{AreScannable, lists};
 ghost use Rattle.mh_scan.specs.Crew.{piece_count, piece_at, IsFound, times_found, drawn_by, IsHired, HasWorked};
 
+use crate::gate::Gate;
 use crate::scan::{scan_block, scan_each};
 use crate::team::on_each;
 use arrayvec::ArrayVec;
 use mh_blocks::blocks::Blocks;
 use mh_claims::claims::{Claims, DrawSeat};
-use crate::gate::Gate;
 use mh_model::memory::NoMemory;
 use mh_model::place::Place;
 use std::alloc::Global;

@@ -4,10 +4,10 @@ ghost use Rattle.mh_model.specs.Table.{found_in};
 ghost use Rattle.mh_scan.specs.Scanning.{AreScannable, lists};
 
 use crate::crew;
+use crate::gate::{Gate, Open};
 use crate::scan::Scanner;
 use arrayvec::ArrayVec;
 use mh_blocks::blocks::Blocks;
-use crate::gate::{Gate, Open};
 use mh_model::memory::NoMemory;
 use mh_model::place::Place;
 use std::alloc::Global;

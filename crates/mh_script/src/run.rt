@@ -25,6 +25,7 @@ use mh_text::source::Source;
 use mh_text::text_error::TextError;
 use std::alloc::Global;
 use std::thread::Threads;
+
 const MOST_ENTRIES: usize = limits::MOST_EVENTS as usize;
 
 /// The events that are answered.

@@ -1,8 +1,8 @@
 //! What the program answers to its words and a text.
 use crate::words::texts;
-use mh_scan::gate::Open;
 use mh_program::fault::LineFault;
 use mh_program::program::program;
+use mh_scan::gate::Open;
 use mh_text::sink::StdSink;
 use mh_text::source::StdSource;
 use std::alloc::Global;

@@ -1,14 +1,14 @@
 //! Worked texts of the five subcommands.
 ghost use Rattle.std.specs.Prelude.{◌<◌, ◌^◌};
 
-use mh_scan::gate::Open;
-use mh_model::config::Config;
-use mh_model::history::Verdict;
-use mh_script::end::End;
-use mh_script::fault::ScriptFault;
 use mh_judging::judge::{audit_script, check_script};
 use mh_judging::migrate::migrate_script;
+use mh_model::config::Config;
+use mh_model::history::Verdict;
 use mh_racing::race::race_script;
+use mh_scan::gate::Open;
+use mh_script::end::End;
+use mh_script::fault::ScriptFault;
 use mh_script::run::run_script;
 use mh_text::sink::Sink;
 use mh_text::source::Source;

@@ -1,16 +1,16 @@
 //! Races of two sessions.
 use arrayvec::ArrayVec;
 use mh_blocks::blocks::Blocks;
-use mh_scan::gate::{Gate, Open};
+use mh_judging::judge::audit_script;
 use mh_model::history::Verdict;
 use mh_model::memory::NoMemory;
 use mh_model::place::Place;
+use mh_racing::race::race_script;
 use mh_scan::crew;
 use mh_scan::crew_scan::CrewGate;
+use mh_scan::gate::{Gate, Open};
 use mh_script::end::End;
 use mh_script::fault::ScriptFault;
-use mh_judging::judge::audit_script;
-use mh_racing::race::race_script;
 use mh_text::sink::StdSink;
 use mh_text::source::StdSource;
 use std::alloc::Global;

@@ -2,11 +2,11 @@
 
 use arrayvec::ArrayVec;
 use mh_blocks::blocks::Blocks;
-use mh_scan::gate::Gate;
 use mh_model::memory::NoMemory;
 use mh_model::place::Place;
 use mh_scan::crew;
 use mh_scan::crew_scan::CrewGate;
+use mh_scan::gate::Gate;
 use std::alloc::Global;
 use std::sync::atomic::AtomicU64;
 use std::sync::atomic::Ordering::SeqCst;

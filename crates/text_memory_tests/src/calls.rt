@@ -1,8 +1,8 @@
 //! Calls of the program that may be refused memory.
 use crate::comparing::Comparing;
 use crate::sweep::Outcome;
-use mh_scan::gate::Open;
 use mh_program::program::program;
+use mh_scan::gate::Open;
 use mh_text::source::StdSource;
 use std::alloc::{AllocError, Global};
 use std::sync::Wait;

@@ -5,8 +5,8 @@ use crate::texts::{
     ALONE, ALONE_HISTORY, BAD_HISTORY, COLLECTED, COLLECTED_OUTPUT, HISTORY, RECORD, REFUSED,
     REFUSED_OUTPUT, repeated,
 };
-use mh_scan::gate::Open;
 use mh_program::program::program;
+use mh_scan::gate::Open;
 use mh_text::source::StdSource;
 use std::alloc::{AllocError, Global};
 use std::process::Abort;

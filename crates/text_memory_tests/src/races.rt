@@ -1,12 +1,12 @@
 //! Races whose histories are judged when there is memory again.
 use crate::sweep::{Outcome, Seen};
 use crate::texts::{SHARED, SHARED_EVENTS};
-use mh_scan::gate::Open;
+use mh_judging::judge::audit_script;
 use mh_model::history::Verdict;
+use mh_racing::race::race_script;
+use mh_scan::gate::Open;
 use mh_script::end::End;
 use mh_script::fault::ScriptFault;
-use mh_judging::judge::audit_script;
-use mh_racing::race::race_script;
 use mh_text::sink::StdSink;
 use mh_text::source::StdSource;
 use std::alloc::{AllocError, Global};

@@ -1,9 +1,9 @@
-use mh_scan::gate::Open;
-use mh_model::config::{Config, Rules};
-use mh_model::history::Verdict;
-use mh_script::end::End;
 use mh_judging::judge::{audit_script, check_script};
 use mh_judging::migrate::migrate_script;
+use mh_model::config::{Config, Rules};
+use mh_model::history::Verdict;
+use mh_scan::gate::Open;
+use mh_script::end::End;
 use mh_script::run::run_script;
 use mh_text::sink::StdSink;
 use mh_text::source::StdSource;

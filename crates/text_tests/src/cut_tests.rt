@@ -1,8 +1,8 @@
 use crate::answers::{expect_audit, expect_run};
-use mh_scan::gate::Open;
 use mh_model::history::Verdict;
-use mh_script::end::End;
 use mh_racing::race::race_script;
+use mh_scan::gate::Open;
+use mh_script::end::End;
 use mh_text::sink::StdSink;
 use mh_text::source::StdSource;
 use std::alloc::Global;

@@ -1,6 +1,6 @@
+use mh_judging::judge::{audit_script, check_script};
 use mh_model::config::Config;
 use mh_model::history::Verdict;
-use mh_judging::judge::{audit_script, check_script};
 use mh_text::sink::StdSink;
 use std::alloc::Global;
 use std::process::Abort;

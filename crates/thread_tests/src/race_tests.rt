@@ -3,11 +3,11 @@
 use crate::graph::{
     SCHEDULED_CUT, SCHEDULED_EVENTS, SCHEDULED_PIECES, SCHEDULED_QUANTA, scheduled_script,
 };
+use mh_judging::judge::audit_script;
 use mh_model::history::Verdict;
+use mh_racing::race::race_script;
 use mh_script::end::End;
 use mh_script::fault::ScriptFault;
-use mh_judging::judge::audit_script;
-use mh_racing::race::race_script;
 use mh_text::sink::StdSink;
 use mh_text::source::StdSource;
 use std::alloc::Global;

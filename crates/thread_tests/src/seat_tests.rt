@@ -3,10 +3,10 @@ ghost use Rattle.std.specs.Prelude.{All};
 ghost use Rattle.mh_service.specs.Services.{IsOf};
 
 use crate::calls::owner_of;
-use mh_scan::gate::Open;
 use mh_model::command::{Command, Control, Event};
 use mh_model::config::Config;
 use mh_model::history::Entry;
+use mh_scan::gate::Open;
 use mh_service::seat::{DESK, Seat};
 use mh_service::service::{Closed, Service};
 use mh_state::judge::check;

@@ -3,10 +3,10 @@ ghost use Rattle.std.specs.Prelude.{All, IfOk};
 ghost use Rattle.mh_service.specs.Services.{IsOf};
 
 use crate::calls::call_at;
-use mh_scan::gate::Open;
 use mh_model::command::{Command, Control, Event};
 use mh_model::config::Config;
 use mh_model::reply::Reply;
+use mh_scan::gate::Open;
 use mh_service::seat::Seat;
 use mh_service::service::{Closed, MissingSeat, Service};
 use mh_state::machine::Stop;
