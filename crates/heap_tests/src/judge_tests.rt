@@ -2,8 +2,12 @@
 
 use mh_history::history::parse_history;
 use mh_history::record::parse_record;
+use mh_model::command::{Command, Event};
 use mh_model::config::Config;
+use mh_model::history::{Entry, Measured};
+use mh_model::reply::Reply;
 use mh_state::judge::{CheckFault, audit, check};
+use std::alloc::{AllocError, Global};
 use std::test::Fail;
 
 /// The answer where all is legal, or where the first bad entry has a number.
@@ -75,6 +79,42 @@ fn audits_records(rt: HostRuntime) -> Result<(), Fail> {
         let record = parse_record(rt.alloc(), text)?;
         let found = audit(rt.alloc(), record.config(), record.entries());
         assert_eq!(rt; found, verdict(first_bad));
+    }
+    Ok(())
+}
+
+/// So many entries in a row, all of them right but the one with a number, if there is one.
+fn entries_of(alloc: Global, count: u64, bad: Option<u64>) -> Result<Vec<Entry>, AllocError> {
+    let mut entries = Vec::new(alloc);
+    for number in 1..=count {
+        let reply = if bad == Some(number) {
+            Reply::Yes
+        } else {
+            Reply::Done
+        };
+        let event = Event::Session(0, Command::Clear { slot: 0 });
+        entries.push(Entry { event, reply })?;
+    }
+    Ok(entries)
+}
+
+const LONG: [Option<u64>; 3] = [None, Some(1_501), Some(2_001)];
+
+#[test]
+fn long_histories_are_judged_to_their_end(rt: HostRuntime) -> Result<(), Fail> {
+    let config = Config::new(4, 209, 0, 0).ok_or("within the limits")?;
+    for bad in LONG {
+        let history = entries_of(rt.alloc(), 2_001, bad)?;
+        assert_eq!(rt; check(rt.alloc(), config, &history), verdict(bad));
+        let mut record = Vec::new(rt.alloc());
+        for entry in history {
+            record.push(Measured {
+                entry,
+                mutator: 1,
+                collector: 0,
+            })?;
+        }
+        assert_eq!(rt; audit(rt.alloc(), config, &record), verdict(bad));
     }
     Ok(())
 }

@@ -3,6 +3,7 @@ use crate::words::texts;
 use mh_program::fault::LineFault;
 use mh_program::program::program;
 use mh_scan::gate::Open;
+use mh_script::fault::ScriptFault;
 use mh_text::sink::StdSink;
 use mh_text::source::StdSource;
 use std::alloc::Global;
@@ -175,6 +176,14 @@ const TOLD: &[(&str, &[u8])] = &[
         b"error: unrecognized subcommand '01234567890123456789012345678901234567890123456789012345678901234567890123456789...'\n",
     ),
     (
+        "metroheap 012345678901234567890123456789012345678901234567890123456789012345678901234567\n",
+        b"error: unrecognized subcommand '012345678901234567890123456789012345678901234567890123456789012345678901234567\\n'\n",
+    ),
+    (
+        "metroheap 0123456789012345678901234567890123456789012345678901234567890123456789012345678\n",
+        b"error: unrecognized subcommand '0123456789012345678901234567890123456789012345678901234567890123456789012345678\\...'\n",
+    ),
+    (
         "metroheap check --pages=o\nften --quantum=209 --trigger=0 --every=0",
         b"error: invalid value 'o\\nften' for '--pages': not a number\n",
     ),
@@ -208,6 +217,22 @@ fn tells_what_is_wrong_or_asked_for(rt: HostRuntime) -> Result<(), Fail> {
         assert_eq!(rt; written.status, 2);
         assert!(rt; written.output.is_empty());
         assert!(rt; written.errors.as_slice().starts_with(beginning));
+    }
+    Ok(())
+}
+
+const FAULTS: [(ScriptFault, &str); 4] = [
+    (ScriptFault::Read, "metroheap: read failed\n"),
+    (ScriptFault::Write, "metroheap: write failed\n"),
+    (ScriptFault::NoMemory, "metroheap: no memory\n"),
+    (ScriptFault::HistoryFull, "metroheap: history full\n"),
+];
+
+#[test]
+fn faults_show_the_lines_that_are_written(rt: HostRuntime) -> Result<(), Fail> {
+    for (fault, line) in FAULTS {
+        let text = format!(in rt.alloc(); "{fault}")?;
+        assert_eq!(rt; text.as_str(), line);
     }
     Ok(())
 }

@@ -98,6 +98,51 @@ const DONE: Answer<'static> = Answer {
     status: 0,
 };
 
+const REFUSED: Answer<'static> = Answer {
+    output: b"refused 10 line 1\n",
+    errors: b"",
+    status: 1,
+};
+
+#[test]
+fn a_text_may_be_refused(rt: HostRuntime) {
+    let words: [&[u8]; 2] = [b"metroheap", b"run"];
+    expect_launch(&rt, rt.alloc(), &words, b"config\n", REFUSED);
+}
+
+#[test]
+fn an_output_may_have_no_room(rt: HostRuntime) {
+    let words: [&[u8]; 2] = [b"metroheap", b"run"];
+    let mut room = [0u8; 0];
+    let mut errors = Vec::new(rt.alloc());
+    let output = room.as_mut_slice();
+    let status = launch(&rt, rt.alloc(), &Words(&words), SCRIPT, output, &mut errors);
+    assert_eq!(rt; status, 3);
+    assert_eq!(rt; errors.as_slice(), b"metroheap: write failed\n".as_slice());
+}
+
+/// Help goes where the faults of a command line go, and not to the output.
+#[test]
+fn help_is_no_output(rt: HostRuntime) {
+    let subcommands: [&[u8]; 5] = [b"run", b"race", b"check", b"audit", b"migrate"];
+    for subcommand in subcommands {
+        let words = [b"metroheap".as_slice(), subcommand, b"--help"];
+        let mut output = Vec::new(rt.alloc());
+        let mut errors = Vec::new(rt.alloc());
+        let status = launch(
+            &rt,
+            rt.alloc(),
+            &Words(&words),
+            SCRIPT,
+            &mut output,
+            &mut errors,
+        );
+        assert_eq!(rt; status, 2);
+        assert!(rt; output.is_empty());
+        assert!(rt; !errors.is_empty());
+    }
+}
+
 /// A word longer than the room that is made for one at first.
 #[test]
 fn long_words_are_whole(rt: HostRuntime) -> Result<(), Fail> {

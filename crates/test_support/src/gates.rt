@@ -88,6 +88,8 @@ impl Tally {
 pub struct Arrivals {
     wanted: u32,
     sessions: Tally,
+    scans: AtomicU64,
+    early: AtomicU64,
 }
 
 impl Arrivals {
@@ -95,11 +97,18 @@ impl Arrivals {
         Arrivals {
             wanted,
             sessions: Tally::new(),
+            scans: AtomicU64::new(0),
+            early: AtomicU64::new(0),
         }
     }
 
     pub fn sessions(&self) -> &Tally {
         &self.sessions
+    }
+
+    /// How many batches were scanned, and how many of them before any session had come.
+    pub fn scans(&self) -> (u64, u64) {
+        (self.scans.load(SeqCst), self.early.load(SeqCst))
     }
 }
 
@@ -121,6 +130,10 @@ impl CrewGate for Arrivals {
         blocks: &Blocks,
         batch: &[Place],
     ) -> Result<Vec<ArrayVec<Option<Place>, 60>>, NoMemory> {
+        self.scans.fetch_add(1, SeqCst);
+        if self.sessions.kinds() == 0 {
+            self.early.fetch_add(1, SeqCst);
+        }
         crew::scan(rt, alloc, workers, self, blocks, batch)
     }
 }
@@ -138,6 +151,11 @@ impl Hold {
             until,
             begun: AtomicU64::new(0),
         }
+    }
+
+    /// Whether the piece that is waited for was begun.
+    pub fn is_open(&self) -> bool {
+        self.begun.load(SeqCst) == 1
     }
 }
 

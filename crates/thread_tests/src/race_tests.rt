@@ -51,6 +51,17 @@ fn all_sessions_run_at_once(rt: HostRuntime) {
     }
 }
 
+/// The first call starts a cycle and scans what it made.
+#[test]
+fn a_session_passes_its_gate_before_its_first_call(rt: HostRuntime) {
+    let gate = Arrivals::new(1);
+    let mut source = StdSource::new(b"config 4 1000 4 1\na new 0 0 0\n".as_slice());
+    let mut sink = StdSink::new(Vec::new(rt.alloc()));
+    let ended = race_script(&rt, rt.alloc(), &mut source, &mut sink, 2, &gate);
+    assert_eq!(rt; ended, Ok(End::Done));
+    assert_eq!(rt; gate.scans(), (1, 0));
+}
+
 /// The lines of a history that tell of units of the collector.
 fn quanta_of(alloc: Global, history: &[u8]) -> Result<Vec<u8>, Fail> {
     let mut quanta = Vec::new(alloc);

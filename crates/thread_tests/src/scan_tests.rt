@@ -226,6 +226,7 @@ fn a_worker_draws_on_while_another_is_held(rt: HostRuntime) -> Result<(), Fail> 
     for until in [1, 3] {
         let gate = Hold::new(until);
         assert!(rt; finds_the_same(&rt, alloc, 2, &gate, &blocks, &batch)?);
+        assert!(rt; gate.is_open());
     }
     Ok(())
 }

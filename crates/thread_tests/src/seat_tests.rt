@@ -121,14 +121,27 @@ fn call_by_threads<R: Threads + Wait + Sync>(
     thread::for_each_mut(rt, seats.as_mut_slice(), 9, &one);
 }
 
+fn push_entry(alloc: Global, text: &mut String, entry: &Entry) -> Result<(), Fail> {
+    let line = format!(in alloc; "{entry:?}\n")?;
+    Ok(text.push_str(&line)?)
+}
+
 /// The text of a seat's own entries of a history.
-fn text_of(alloc: Global, number: usize, history: &[Entry]) -> Result<String, Fail> {
+fn share_of(alloc: Global, number: usize, history: &[Entry]) -> Result<String, Fail> {
     let mut text = String::new(alloc);
     for entry in history {
         if owner_of(&entry.event) == number {
-            let line = format!(in alloc; "{entry:?}\n")?;
-            text.push_str(&line)?;
+            push_entry(alloc, &mut text, entry)?;
         }
+    }
+    Ok(text)
+}
+
+/// The text of a whole log.
+fn log_of(alloc: Global, seat: &Seat) -> Result<String, Fail> {
+    let mut text = String::new(alloc);
+    for entry in seat.log() {
+        push_entry(alloc, &mut text, entry)?;
     }
     Ok(text)
 }
@@ -137,7 +150,7 @@ fn text_of(alloc: Global, number: usize, history: &[Entry]) -> Result<String, Fa
 fn logs_of(alloc: Global, seats: &[Seat]) -> Result<String, Fail> {
     let mut logs = String::new(alloc);
     for seat in seats {
-        let log = text_of(alloc, seat.number() as usize, seat.log())?;
+        let log = log_of(alloc, seat)?;
         logs.push_str(&log)?;
     }
     Ok(logs)
@@ -147,7 +160,7 @@ fn logs_of(alloc: Global, seats: &[Seat]) -> Result<String, Fail> {
 fn shares_of(alloc: Global, history: &[Entry]) -> Result<String, Fail> {
     let mut shares = String::new(alloc);
     for number in 0..9 {
-        let share = text_of(alloc, number, history)?;
+        let share = share_of(alloc, number, history)?;
         shares.push_str(&share)?;
     }
     Ok(shares)

@@ -81,12 +81,38 @@ fn fill<R: Threads + Wait>(rt: &R, service: &Service<'_, Open>, seats: &mut [Sea
     true
 }
 
+/// What a seat asks for.
+fn asked_by(number: usize) -> Event {
+    if number < 8 {
+        Event::Session(number as u8, Command::Clear { slot: 0 })
+    } else {
+        DUMP
+    }
+}
+
+/// Whether each seat is answered that the history is full.
+fn are_all_stopped<R: Threads + Wait>(
+    rt: &R,
+    service: &Service<'_, Open>,
+    seats: &mut [Seat],
+) -> bool
+    requires { All (IsOf service.now) seats.old }
+    ensures { All (IsOf service.now) seats.new }
+{
+    for number in 0..9 {
+        let answer = call_at(rt, service, seats, number, asked_by(number));
+        if !matches!(answer, Some(Err(Stop::HistoryFull))) {
+            return false;
+        }
+    }
+    true
+}
+
 #[test]
 fn a_full_history_stops_every_seat(rt: HostRuntime) -> Result<(), Fail> {
     let (service, mut seats) = opened(rt.alloc())?;
     assert!(rt; fill(&rt, &service, &mut seats));
-    let answer = call_at(&rt, &service, &mut seats, 8, DUMP);
-    assert!(rt; matches!(answer, Some(Err(Stop::HistoryFull))));
+    assert!(rt; are_all_stopped(&rt, &service, &mut seats));
     let desk = seats.pop().ok_or("no seat")?;
     assert_eq!(rt; desk.log().len(), 0);
     Ok(())
