@@ -10,6 +10,7 @@ use Rattle.mh_model.specs.Limits.{most_entries}
 use Rattle.mh_model.specs.Output.{Ending, Done, HistoryFull, Refused, output, output_of, ending, ending_of}
 use Rattle.mh_model.specs.Script.{Reading, Meaning, Means, BadLine, reading}
 use Rattle.mh_model.proofs.ScriptLemmas.{reading_long}
+use Rattle.mh_text.specs.Reading.{BeginsWithEvent}
 use Rattle.mh_text.specs.Stream.{AppendsBeginning}
 use Rattle.mh_script.specs.Run.{Outputs, TakesToRun, WritesBeginning}
 use Rattle.mh_script.specs.Texts.{IsTextOf, WantsMemory, ForText}
@@ -87,6 +88,17 @@ runs_short text (inr script) = go (nat_lt 67108864 (length text)) refl where
       let other : BadLine 0 ≡ Means script.0 = sym refused ∙ script.1 in
       cc
   go false is = grind (arith, nat_tests)
+
+-- memory was wanting for a text that is a script
+pub wants_script : (known rest : Option Text) (items text : Text) (script : Meaning) → text ≡ items → Consumes known rest items → (length items ≤ 67108864 → IsAtEnd rest) → reading text ≡ Means script → WantsMemory TakesToRun known rest
+wants_script known rest items text script same consumed whole means =
+    let takes : TakesToRun text = inr (script, means) in
+    wants_text TakesToRun 67108864 known rest items text same consumed whole (runs_short text takes) takes
+
+-- and for one that begins with an event
+pub wants_event : (known rest : Option Text) (items text : Text) → text ≡ items → Consumes known rest items → (length items ≤ 67108864 → IsAtEnd rest) → BeginsWithEvent text → WantsMemory TakesToRun known rest
+wants_event known rest items text same consumed whole begins =
+    wants_text TakesToRun 67108864 known rest items text same consumed whole begins.short (inl begins)
 
 -- a source has some text
 pub some_text : (known : Option Text) → (text : Text) × IsTextOf known text

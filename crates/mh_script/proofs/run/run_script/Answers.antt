@@ -1,11 +1,10 @@
 use Rattle.std.proofs.Common.{sym, ap, ◌∙◌}
-use Rattle.std.proofs.Common.{inl, inr}
 use Rattle.std.proofs.lemmas.Result.{err_from_is_err_and}
 use Rattle.mh_text.proofs.ErrorLemmas.{same_error}
 use Rattle.mh_model.specs.Script.{BadLine}
 use Rattle.mh_script.specs.Texts.{ForBytes}
 use Rattle.mh_script.proofs.AddedLines.{on_err}
-use Rattle.mh_script.proofs.SourceLemmas.{Refused-reads, Done-reads, HistoryFull-reads, WritesBeginning-nothing, WritesBeginning-reads, beginning_of, few_entries, many_entries, reads_slice, runs_short, script_bounded, wants_text}
+use Rattle.mh_script.proofs.SourceLemmas.{Refused-reads, Done-reads, HistoryFull-reads, WritesBeginning-nothing, WritesBeginning-reads, beginning_of, few_entries, many_entries, reads_slice, script_bounded, wants_event, wants_script}
 use Rattle.mh_script.proofs.run.run_script.Goals as goal
 
 pub returns-in_err-text-clause-begun : goal.returns-in_err-text-clause-begun
@@ -58,10 +57,8 @@ returns-in_err-text-clause-memory g c =
 
 pub returns-in-Ok-clause-memory : goal.returns-in-Ok-clause-memory
 returns-in-Ok-clause-memory g c =
-    let takes = inr (_, c.in-Ok.ensures.script) in
-    λ _. wants_text _ _ _ _ _ _ c.as_slice.ensures.value c.in_ok-text.ensures.read c.in_ok-text.ensures.whole (runs_short _ takes) takes
+    λ _. wants_script _ _ _ _ _ c.as_slice.ensures.value c.in_ok-text.ensures.read c.in_ok-text.ensures.whole c.in-Ok.ensures.script
 
 pub returns-clause-memory : goal.returns-clause-memory
 returns-clause-memory g c =
-    let takes = inl (c.in-Err-NoMemory.ensures.memory refl) in
-    λ _. wants_text _ _ _ _ _ _ c.as_slice.ensures.value c.in_ok-text.ensures.read c.in_ok-text.ensures.whole (runs_short _ takes) takes
+    λ _. wants_event _ _ _ _ c.as_slice.ensures.value c.in_ok-text.ensures.read c.in_ok-text.ensures.whole (c.in-Err-NoMemory.ensures.memory c.in-Err-NoMemory.field-0-is)
