@@ -55,4 +55,4 @@ returns-in_err-write_race-in-Ok-clause-memory g c =
 
 pub returns-clause-memory : goal.returns-clause-memory
 returns-clause-memory g c =
-    λ _. wants_event _ _ _ _ c.as_slice.ensures.value c.in_ok-text.ensures.read c.in_ok-text.ensures.whole (c.in-Err-NoMemory.ensures.memory c.in-Err-NoMemory.field-0-is)
+    λ _. wants_event _ _ _ _ c.as_slice.ensures.value c.in_ok-text.ensures.read c.in_ok-text.ensures.whole (c.in-Err-NoMemory.ensures.memory (ap Err c.in-Err-NoMemory.field-0-is))

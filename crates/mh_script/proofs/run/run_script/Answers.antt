@@ -1,5 +1,6 @@
 use Rattle.std.proofs.Common.{sym, ap, ◌∙◌}
 use Rattle.std.proofs.lemmas.Result.{err_from_is_err_and}
+use Rattle.std.specs.Prelude.{Err}
 use Rattle.mh_text.proofs.ErrorLemmas.{same_error}
 use Rattle.mh_model.specs.Script.{BadLine}
 use Rattle.mh_script.specs.Texts.{ForBytes}
@@ -61,4 +62,4 @@ returns-in-Ok-clause-memory g c =
 
 pub returns-clause-memory : goal.returns-clause-memory
 returns-clause-memory g c =
-    λ _. wants_event _ _ _ _ c.as_slice.ensures.value c.in_ok-text.ensures.read c.in_ok-text.ensures.whole (c.in-Err-NoMemory.ensures.memory c.in-Err-NoMemory.field-0-is)
+    λ _. wants_event _ _ _ _ c.as_slice.ensures.value c.in_ok-text.ensures.read c.in_ok-text.ensures.whole (c.in-Err-NoMemory.ensures.memory (ap Err c.in-Err-NoMemory.field-0-is))
