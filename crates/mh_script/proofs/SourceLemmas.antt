@@ -84,7 +84,7 @@ runs_short text (inr script) = go (nat_lt 67108864 (length text)) refl where
   go : (b : Bool) → nat_lt 67108864 (length text) ≡ b → length text ≤ 67108864
   go true is =
       let long : 67108864 < length text = grind (arith, nat_tests) in
-      let refused : reading text ≡ BadLine 0 = reading-long text long in
+      let refused : reading text ≡ BadLine 0 = reading_long text long in
       let other : BadLine 0 ≡ Means script.0 = sym refused ∙ script.1 in
       cc
   go false is = grind (arith, nat_tests)
