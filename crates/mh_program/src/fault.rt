@@ -1,9 +1,4 @@
-use mh_script::fault::NO_MEMORY;
 use thiserror::Error;
-
-pub const NOT_TEXT: &str = "metroheap: a word is not text\n";
-
-pub const BAD_CONFIGURATION: &str = "metroheap: bad configuration\n";
 
 /// Why a command line gave no order. The text of words that are refused is that of `clap`, which ends with its line.
 #[derive(Debug, Drop, Error)]
@@ -11,11 +6,11 @@ pub enum LineFault {
     #[error("{0}")]
     Words(clap::Error),
     /// A word isn't UTF-8.
-    #[error("{}", NOT_TEXT)]
+    #[error("metroheap: a word is not text\n")]
     NotText,
     /// The numbers of a configuration are outside its limits.
-    #[error("{}", BAD_CONFIGURATION)]
+    #[error("metroheap: bad configuration\n")]
     Configuration,
-    #[error("{}", NO_MEMORY)]
+    #[error("metroheap: no memory\n")]
     NoMemory,
 }

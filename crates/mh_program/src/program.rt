@@ -12,7 +12,7 @@ ghost use Rattle.mh_judging.specs.Judged.{IsAuditing, IsChecking, IsMigrating};
 ghost use Rattle.mh_racing.specs.Raced.{IsRaceRun};
 ghost use Rattle.mh_script.specs.Run.{device, IsRun};
 
-use crate::fault::{BAD_CONFIGURATION, LineFault, NOT_TEXT};
+use crate::fault::LineFault;
 use crate::line::Order;
 use crate::order::line_order;
 use crate::shown::printable;
@@ -85,9 +85,9 @@ fn tell_line<E: Sink>(alloc: Global, errors: &mut E, fault: &LineFault)
 {
     match fault {
         LineFault::Words(error) => tell_words(alloc, errors, error),
-        LineFault::NotText => tell(errors, NOT_TEXT.as_bytes()),
-        LineFault::Configuration => tell(errors, BAD_CONFIGURATION.as_bytes()),
-        LineFault::NoMemory => tell(errors, NO_MEMORY.as_bytes()),
+        LineFault::NotText => tell(errors, b"metroheap: a word is not text\n"),
+        LineFault::Configuration => tell(errors, b"metroheap: bad configuration\n"),
+        LineFault::NoMemory => tell(errors, b"metroheap: no memory\n"),
     }
 }
 

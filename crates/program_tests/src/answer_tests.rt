@@ -234,5 +234,11 @@ fn faults_show_the_lines_that_are_written(rt: HostRuntime) -> Result<(), Fail> {
         let text = format!(in rt.alloc(); "{fault}")?;
         assert_eq!(rt; text.as_str(), line);
     }
+    let text = format!(in rt.alloc(); "{}", LineFault::Configuration)?;
+    assert_eq!(rt; text.as_bytes(), OUTSIDE);
+    let text = format!(in rt.alloc(); "{}", LineFault::NotText)?;
+    assert_eq!(rt; text.as_bytes(), NOT_TEXT);
+    let text = format!(in rt.alloc(); "{}", LineFault::NoMemory)?;
+    assert_eq!(rt; text.as_bytes(), NO_MEMORY);
     Ok(())
 }
