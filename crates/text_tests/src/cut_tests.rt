@@ -1,3 +1,5 @@
+ghost use Rattle.std.specs.Prelude.{◌<◌, ◌≤◌};
+
 use crate::answers::{expect_audit, expect_run};
 use mh_model::history::Verdict;
 use mh_racing::race::race_script;
@@ -67,7 +69,9 @@ fn race_cut<R: Threads + Wait + Sync + Abort>(
     row: &Row<'_>,
     cut: &[u8],
     workers: usize,
-) -> Result<(), Fail> {
+) -> Result<(), Fail>
+    requires { (0 < workers) × (workers ≤ 64) }
+{
     let wanted = answer_to_cut(alloc, row, cut)?;
     let mut source = StdSource::new(cut);
     let mut sink = StdSink::new(Vec::new(alloc));

@@ -105,12 +105,23 @@ fn refuse_each<R: Threads + Abort>(
     Ok(())
 }
 
+/// A script of one object, then a line around the greatest number of 32 bits, is answered.
+fn answer_small<R: Threads + Abort>(
+    rt: &R,
+    alloc: Global,
+    before: &[u8],
+    after: &[u8],
+    reply: &[u8],
+) -> Result<(), Fail> {
+    answer_line(rt, alloc, &[before, MOST_SMALL, after], reply)
+}
+
 #[test]
 fn numbers_of_commands(rt: HostRuntime) -> Result<(), Fail> {
     for (before, after, reply) in SMALL_PLACES {
         let before = joined(rt.alloc(), &[b"a ", before])?;
         let before = before.as_slice();
-        answer_line(&rt, rt.alloc(), &[before, MOST_SMALL, after], reply)?;
+        answer_small(&rt, rt.alloc(), before, after, reply)?;
         refuse_each(&rt, rt.alloc(), before, REFUSED, after)?;
         refuse_each(&rt, rt.alloc(), before, LARGE, after)?;
     }
