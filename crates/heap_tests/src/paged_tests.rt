@@ -3,7 +3,7 @@
 use mh_model::birth::LIFE;
 use mh_model::config::Config;
 use mh_model::cycle::{Phase, Spent};
-use mh_model::reply::{Refusal, Reply};
+use mh_model::reply::Refusal;
 use mh_paged::kept::KeptHeap;
 use mh_scan::scan::OneScan;
 use std::alloc::Global;
@@ -57,16 +57,9 @@ fn collects_in_two_quanta(rt: HostRuntime) -> Result<(), Fail> {
 }
 
 /// The free pages, the blocks that aren't forwarders, and the forwarders.
-fn counts(heap: &KeptHeap) -> Option<(u64, u64, u64)> {
-    match &heap.stat() {
-        Reply::Stat {
-            free,
-            live,
-            old,
-            ..
-        } => Some((*free, *live, *old)),
-        _ => None,
-    }
+fn counts(heap: &KeptHeap) -> (u64, u64, u64) {
+    let stat = heap.stat();
+    (stat.free, stat.live, stat.old)
 }
 
 /// Runs a cycle to its end.
@@ -92,8 +85,8 @@ fn what_a_session_drops_meanwhile_lives_on(rt: HostRuntime) -> Result<(), Fail> 
     assert_eq!(rt; run(rt.alloc(), &mut heap), Some(Spent(208)));
     assert_eq!(rt; heap.clear(7, 0), Ok(()));
     assert!(rt; finish(rt.alloc(), &mut heap));
-    assert_eq!(rt; counts(&heap), Some((3, 1, 0)));
+    assert_eq!(rt; counts(&heap), (3, 1, 0));
     assert!(rt; finish(rt.alloc(), &mut heap));
-    assert_eq!(rt; counts(&heap), Some((4, 0, 0)));
+    assert_eq!(rt; counts(&heap), (4, 0, 0));
     Ok(())
 }

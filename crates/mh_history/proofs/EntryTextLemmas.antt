@@ -25,9 +25,9 @@ full_reply reply.No = record { first = _; more = _; words_are = refl }
 full_reply (reply.Shape shape) = record { first = _; more = _; words_are = refl }
 full_reply (reply.Refused refusal) = record { first = _; more = _; words_are = refl }
 full_reply (reply.Spent units phase) = record { first = _; more = _; words_are = refl }
-full_reply (reply.Stat free live old phase cycle) = record { first = _; more = _; words_are = refl }
+full_reply (reply.Stat stat) = record { first = _; more = _; words_are = refl }
 full_reply (reply.Dump items) = record { first = _; more = _; words_are = refl }
-full_reply (reply.Report mutator collector quanta greatest window least floor) = record { first = _; more = _; words_are = refl }
+full_reply (reply.Report report) = record { first = _; more = _; words_are = refl }
 full_reply (reply.Left quanta) = record { first = _; more = _; words_are = refl }
 
 full_event : (e : Event) → Full (event_words e)

@@ -6,6 +6,8 @@ use crate::parts::{optional_of, phase_of};
 use arrayvec::ArrayVec;
 use mh_model::cycle::Spent;
 use mh_model::reply::Reply;
+use mh_model::report::Report;
+use mh_model::stat::Stat;
 use mh_text::pieces::Words;
 use mh_text::word::{is_word, number};
 
@@ -74,13 +76,13 @@ fn stat_with(free: &[u8], live: &[u8], old: &[u8], phase: &[u8], cycle: &[u8]) -
     let old = number(old)?;
     let phase = phase_of(phase)?;
     let cycle = number(cycle)?;
-    Some(Reply::Stat {
+    Some(Reply::Stat(Stat {
         free,
         live,
         old,
         phase,
         cycle,
-    })
+    }))
 }
 
 /// The report whose words these are, without the first.
@@ -122,7 +124,7 @@ fn report_with(
     let window = number(window)?;
     let least = optional_of(least)?;
     let floor = optional_of(floor)?;
-    Some(Reply::Report {
+    Some(Reply::Report(Report {
         mutator,
         collector,
         quanta,
@@ -130,5 +132,5 @@ fn report_with(
         window,
         least,
         floor,
-    })
+    }))
 }

@@ -7,6 +7,8 @@ use Rattle.mh_model.specs.declared.reply.Refusal.{Refusal}
 use Rattle.mh_model.specs.declared.reply.Refusal.TheVariants.{BadSlot, Null, NoField, TooLarge, HeapFull, Ended, TooManySessions}
 use Rattle.mh_model.specs.declared.cycle.Phase.{Phase}
 use Rattle.mh_model.specs.declared.cycle.Phase.TheVariants.{Idle, Roots, Mark, Sweep, Defrag}
+use Rattle.mh_model.specs.declared.report.Report.{Report}
+use Rattle.mh_model.specs.declared.stat.Stat.{Stat}
 use Rattle.mh_model.specs.declared.dump.DumpItem.{DumpItem}
 use Rattle.mh_model.specs.declared.dump.DumpItem.TheVariants as item
 use Rattle.mh_model.specs.Bytes.{Text, parts_at, joined, line_text, is_text, number, numbers, tagged}
@@ -58,12 +60,12 @@ reply_words reply.No = codes "no" ∷ []
 reply_words (reply.Shape shape) = codes "shape" ∷ decimal shape.references ∷ decimal shape.numbers ∷ []
 reply_words (reply.Refused refusal) = codes "refused" ∷ refusal_words refusal
 reply_words (reply.Spent units phase) = codes "spent" ∷ decimal units ∷ codes "phase" ∷ phase_word phase ∷ []
-reply_words (reply.Stat free live old phase cycle) =
-    codes "free" ∷ decimal free ∷ codes "live" ∷ decimal live ∷ codes "old" ∷ decimal old ∷ codes "phase" ∷ phase_word phase ∷ codes "cycle" ∷ decimal cycle ∷ []
+reply_words (reply.Stat stat) =
+    codes "free" ∷ decimal stat.free ∷ codes "live" ∷ decimal stat.live ∷ codes "old" ∷ decimal stat.old ∷ codes "phase" ∷ phase_word stat.phase ∷ codes "cycle" ∷ decimal stat.cycle ∷ []
 reply_words (reply.Dump items) = codes "dump" ∷ flat_map item_words items
-reply_words (reply.Report mutator collector quanta greatest window least floor) =
-    codes "mutator" ∷ decimal mutator ∷ codes "collector" ∷ decimal collector ∷ codes "quanta" ∷ decimal quanta ∷ codes "greatest" ∷ decimal greatest ∷ codes "window" ∷ decimal window
-    ∷ codes "least" ∷ optional_word least ∷ codes "floor" ∷ optional_word floor ∷ []
+reply_words (reply.Report report) =
+    codes "mutator" ∷ decimal report.mutator ∷ codes "collector" ∷ decimal report.collector ∷ codes "quanta" ∷ decimal report.quanta ∷ codes "greatest" ∷ decimal report.greatest
+    ∷ codes "window" ∷ decimal report.window ∷ codes "least" ∷ optional_word report.least ∷ codes "floor" ∷ optional_word report.floor ∷ []
 reply_words (reply.Left quanta) = codes "left" ∷ decimal quanta ∷ []
 
 abbrev pub reply_text : Reply → Text
@@ -111,10 +113,10 @@ abbrev pub is_reply : Version → Reply → Bool
 is_reply version (reply.Number number) = are_u64 (number ∷ [])
 is_reply version (reply.Shape shape) = are_below (u32 ∷ u32 ∷ []) (shape.references ∷ shape.numbers ∷ [])
 is_reply version (reply.Spent units phase) = are_u64 (units ∷ [])
-is_reply version (reply.Stat free live old phase cycle) = are_u64 (free ∷ live ∷ old ∷ cycle ∷ [])
+is_reply version (reply.Stat stat) = are_u64 (stat.free ∷ stat.live ∷ stat.old ∷ stat.cycle ∷ [])
 is_reply version (reply.Dump items) = items_in_range items && ascends None None items
-is_reply version (reply.Report mutator collector quanta greatest window least floor) =
-    are_u64 (mutator ∷ collector ∷ quanta ∷ greatest ∷ window ∷ []) && (are_u64 (option_to_list least) && are_u64 (option_to_list floor))
+is_reply version (reply.Report report) =
+    are_u64 (report.mutator ∷ report.collector ∷ report.quanta ∷ report.greatest ∷ report.window ∷ []) && (are_u64 (option_to_list report.least) && are_u64 (option_to_list report.floor))
 is_reply One (reply.Left quanta) = false
 is_reply Two (reply.Left quanta) = are_u64 (quanta ∷ [])
 is_reply version _ = true
@@ -165,9 +167,13 @@ abbrev pub spent_of : List Text → Option Reply
 spent_of (units ∷ phase ∷ []) = option_and_then (λ n. option_map (λ p. reply.Spent n p) (phase_of phase)) (number units)
 spent_of _ = None
 
+-- of four numbers and a phase
+abbrev pub stat_from : List ℕ → Phase → Stat
+stat_from ns phase = record { free = at ns 0; live = at ns 1; old = at ns 2; phase = phase; cycle = at ns 3 }
+
 abbrev pub stat_of : List Text → Option Reply
 stat_of (free ∷ live ∷ old ∷ phase ∷ cycle ∷ []) =
-    option_and_then (λ ns. option_map (λ p. reply.Stat (at ns 0) (at ns 1) (at ns 2) p (at ns 3)) (phase_of phase)) (numbers (free ∷ live ∷ old ∷ cycle ∷ []))
+    option_and_then (λ ns. option_map (λ p. reply.Stat (stat_from ns p)) (phase_of phase)) (numbers (free ∷ live ∷ old ∷ cycle ∷ []))
 stat_of _ = None
 
 -- a number, or a word for none, with the answer to the test of that word
@@ -179,9 +185,13 @@ optional_by None false = None
 abbrev pub optional_of : Text → Option (Option ℕ)
 optional_of word = optional_by (number word) (is_text word (codes "none"))
 
+-- of five numbers, and two that may be none
+abbrev pub report_from : List ℕ → Option ℕ → Option ℕ → Report
+report_from ns least floor = record { mutator = at ns 0; collector = at ns 1; quanta = at ns 2; greatest = at ns 3; window = at ns 4; least = least; floor = floor }
+
 abbrev pub report_of : List Text → Option Reply
 report_of (mutator ∷ collector ∷ quanta ∷ greatest ∷ window ∷ least ∷ floor ∷ []) =
-    option_and_then (λ ns. option_and_then (λ x. option_map (λ y. reply.Report (at ns 0) (at ns 1) (at ns 2) (at ns 3) (at ns 4) x y) (optional_of floor)) (optional_of least))
+    option_and_then (λ ns. option_and_then (λ x. option_map (λ y. reply.Report (report_from ns x y)) (optional_of floor)) (optional_of least))
     (numbers (mutator ∷ collector ∷ quanta ∷ greatest ∷ window ∷ []))
 report_of _ = None
 

@@ -12,4 +12,6 @@ pub mod limits;
 pub mod memory;
 pub mod place;
 pub mod reply;
+pub mod report;
 pub mod shape;
+pub mod stat;

@@ -5,7 +5,7 @@ ghost use Rattle.mh_model.specs.Classes.{parts};
 ghost use Rattle.mh_model.specs.Pages.{free_pages};
 ghost use Rattle.mh_model.specs.declared.birth.TheConstants.{LIFE};
 ghost use Rattle.mh_model.specs.Collector.{quantum};
-ghost use Rattle.mh_model.specs.Machine.{dump_pages, quanta_left, stat_reply};
+ghost use Rattle.mh_model.specs.Machine.{dump_pages, quanta_left, stat_on};
 ghost use Rattle.mh_model.specs.Mutator.{first_heap, root_at, shape_at};
 ghost use Rattle.mh_model.specs.Invariant.{IsObjectAt};
 ghost use Rattle.mh_model.specs.declared.reply.Refusal.TheVariants.{Null, NoField, TooLarge, Ended, TooManySessions};
@@ -27,8 +27,9 @@ use mh_model::dump::Dump;
 use mh_model::limits::SESSIONS;
 use mh_model::memory::NoMemory;
 use mh_model::place::Place;
-use mh_model::reply::{Refusal, Reply};
+use mh_model::reply::Refusal;
 use mh_model::shape::Shape;
+use mh_model::stat::Stat;
 use mh_run_laws::following::commands_follow;
 use mh_run_laws::showing::{
     kept_views_agree_with_themselves, kept_views_are_closed, quanta_keep_the_view,
@@ -151,10 +152,10 @@ impl KeptHeap {
     }
 
     /// The free pages, the blocks that aren't forwarders, the forwarders, the phase and the cycles started.
-    pub fn stat(&self) -> Reply
-        ensures { result ≡ stat_reply self.now.collector }
+    pub fn stat(&self) -> Stat
+        ensures { result ≡ stat_on self.now.collector }
     {
-        Reply::Stat {
+        Stat {
             free: free_pages(&self.cycle) as u64,
             live: live_count(&self.cycle),
             old: forwarder_count(&self.cycle),

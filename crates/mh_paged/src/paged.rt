@@ -1,7 +1,7 @@
 //! The heap of pages as its sessions see it.
 ghost use Rattle.std.specs.Prelude.{◌≡◌, true, IfOk};
 ghost use Rattle.mh_model.specs.Pages.{free_pages};
-ghost use Rattle.mh_model.specs.Machine.{dump_pages, quanta_left, stat_reply};
+ghost use Rattle.mh_model.specs.Machine.{dump_pages, quanta_left, stat_on};
 ghost use Rattle.mh_model.specs.Mutator.{first_heap};
 ghost use Rattle.mh_paged.specs.Told.{IsTold};
 
@@ -11,8 +11,9 @@ use mh_model::config::Config;
 use mh_model::cycle::{Phase, Spent};
 use mh_model::dump::Dump;
 use mh_model::memory::NoMemory;
-use mh_model::reply::{Refusal, Reply};
+use mh_model::reply::Refusal;
 use mh_model::shape::Shape;
+use mh_model::stat::Stat;
 use mh_scan::scan::Scanner;
 use std::alloc::Global;
 
@@ -64,8 +65,8 @@ impl PagedHeap {
     }
 
     /// The free pages, the blocks that aren't forwarders, the forwarders, the phase and the cycles started.
-    pub fn stat(&self) -> Reply
-        ensures { result ≡ stat_reply self.now.kept.collector }
+    pub fn stat(&self) -> Stat
+        ensures { result ≡ stat_on self.now.kept.collector }
     {
         self.kept.stat()
     }

@@ -20,7 +20,7 @@ use mh_model::cycle::Spent;
 use mh_model::memory::NoMemory;
 use mh_model::reply::Reply;
 use mh_paged::paged::PagedHeap;
-use mh_report::report::Report;
+use mh_report::report::report;
 use mh_report::trace::Trace;
 use mh_scan::scan::Scanner;
 use std::alloc::Global;
@@ -184,10 +184,10 @@ impl Engine {
                 self.heap.start();
                 Reply::Done
             }
-            Control::Stat => self.heap.stat(),
+            Control::Stat => Reply::Stat(self.heap.stat()),
             Control::Dump => Reply::Dump(self.heap.dump(alloc)?),
             Control::Left => Reply::Left(self.heap.quanta_left()),
-            Control::Report { window } => Report::new(&mut self.trace, config, window).reply(),
+            Control::Report { window } => Reply::Report(report(&mut self.trace, config, window)),
         };
         Ok(reply)
     }

@@ -25,30 +25,9 @@ pub fn is_same(left: &Reply, right: &Reply) -> bool
         Reply::Spent { units, phase } => {
             matches!(right, Reply::Spent { units: spent, phase: after } if units == spent && phase == after)
         }
-        Reply::Stat {
-            free,
-            live,
-            old,
-            phase,
-            cycle,
-        } => {
-            let parts = (free, live, old, phase, cycle);
-            matches!(right, Reply::Stat { free, live, old, phase, cycle } if parts == (free, live, old, phase, cycle))
-        }
+        Reply::Stat(stat) => matches!(right, Reply::Stat(other) if stat == other),
         Reply::Dump(dump) => matches!(right, Reply::Dump(other) if is_same_dump(dump, other)),
-        Reply::Report {
-            mutator,
-            collector,
-            quanta,
-            greatest,
-            window,
-            least,
-            floor,
-        } => {
-            let parts = (mutator, collector, quanta, greatest, window, least, floor);
-            matches!(right, Reply::Report { mutator, collector, quanta, greatest, window, least, floor }
-                if parts == (mutator, collector, quanta, greatest, window, least, floor))
-        }
+        Reply::Report(report) => matches!(right, Reply::Report(other) if report == other),
         Reply::Left(quanta) => matches!(right, Reply::Left(other) if quanta == other),
     }
 }

@@ -1,9 +1,10 @@
 -- The texts of replies by their words.
-use Rattle.std.proofs.Common.{◌≡◌, ℕ, Option, List, [], ◌∷◌, ◌++◌, flat_map, ap, sym, append_assoc}
+use Rattle.std.proofs.Common.{◌≡◌, List, [], ◌∷◌, ◌++◌, flat_map, ap, sym, append_assoc}
 use Rattle.std.specs.Prelude.{codes}
 use Rattle.std.proofs.lemmas.List.{append-nil}
 use Rattle.mh_model.specs.declared.reply.Reply.TheVariants as reply
 use Rattle.mh_model.specs.declared.dump.DumpItem.{DumpItem}
+use Rattle.mh_model.specs.declared.report.Report.{Report}
 use Rattle.mh_model.specs.Bytes.{Text, joined}
 use Rattle.mh_model.specs.Replies.{item_words, reply_text}
 use Rattle.mh_text.specs.ReplyWords.{spaced, counts_words, window_words}
@@ -16,6 +17,5 @@ joined_spaced word (next ∷ words) = ap (λ (text : Text). word ++ 32 ∷ text)
 pub dump_text : (items : List DumpItem) → reply_text (reply.Dump items) ≡ codes "dump" ++ spaced (flat_map item_words items)
 dump_text items = joined_spaced (codes "dump") (flat_map item_words items)
 
-pub report_parts : (mutator collector quanta greatest window : ℕ) (least floor : Option ℕ)
-    → reply_text (reply.Report mutator collector quanta greatest window least floor) ≡ joined (counts_words mutator collector quanta greatest) ++ (codes " " ++ joined (window_words window least floor))
-report_parts mutator collector quanta greatest window least floor = simp append_assoc
+pub report_parts : (report : Report) → reply_text (reply.Report report) ≡ joined (counts_words report) ++ (codes " " ++ joined (window_words report))
+report_parts report = simp append_assoc

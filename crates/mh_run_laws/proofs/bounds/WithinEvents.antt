@@ -70,9 +70,9 @@ new_units-few Second reply.No blocks few = omega arith
 new_units-few Second (reply.Shape shape) blocks few = omega arith
 new_units-few Second (reply.Refused refused) blocks few = omega arith
 new_units-few Second (reply.Spent units phase) blocks few = omega arith
-new_units-few Second (reply.Stat free live old phase cycle) blocks few = omega arith
+new_units-few Second (reply.Stat stat) blocks few = omega arith
 new_units-few Second (reply.Dump items) blocks few = omega arith
-new_units-few Second (reply.Report mutator collector quanta greatest window least floor) blocks few = omega arith
+new_units-few Second (reply.Report report) blocks few = omega arith
 new_units-few Second (reply.Left quanta) blocks few = omega arith
 
 -- a command is no more units than an object has blocks

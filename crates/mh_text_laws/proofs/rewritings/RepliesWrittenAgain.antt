@@ -11,7 +11,7 @@ use Rattle.mh_model.specs.Bytes.{Text, is_text, number, numbers}
 use Rattle.mh_model.specs.Forms.{within, formed, with_numbers, at, u32, u64, where_known}
 use Rattle.mh_model.specs.declared.history.Version.{Version}
 use Rattle.mh_model.specs.declared.history.Version.TheVariants.{One, Two}
-use Rattle.mh_model.specs.Replies.{refusal_words, phase_word, optional_word, reply_words, are_u64, is_reply, refusal_forms, phase_forms, phase_of, ascends, items_in_range, Ready, items_from, values, spent_of, stat_of, optional_by, optional_of, report_of, dump_of, reply_forms, reply_of}
+use Rattle.mh_model.specs.Replies.{refusal_words, phase_word, optional_word, reply_words, are_u64, is_reply, refusal_forms, phase_forms, phase_of, ascends, items_in_range, Ready, items_from, values, spent_of, stat_from, stat_of, optional_by, optional_of, report_from, report_of, dump_of, reply_forms, reply_of}
 use Rattle.mh_text_laws.proofs.rewritings.NumbersWrittenAgain.{within_is, mapped, chained, number_is, numbers_are, of_each, length-decimals}
 use Rattle.mh_model.proofs.TextLemmas.{text_is}
 use Rattle.mh_text_laws.proofs.rewritings.DumpsWrittenAgain.{items_are}
@@ -128,7 +128,7 @@ stat_keys = codes "live" ∷ codes "old" ∷ codes "phase" ∷ codes "cycle" ∷
 
 -- the reply of these numbers and this phase
 abbrev stat : Phase → List ℕ → Reply
-stat p ns = reply.Stat (at ns 0) (at ns 1) (at ns 2) p (at ns 3)
+stat p ns = reply.Stat (stat_from ns p)
 
 stat_is : (version : Version) (more : List Text) (r : Reply) → stat_of more ≡ Some r → IsReply version (codes "free" ∷ keyed stat_keys more) r
 stat_is version [] r h = cc
@@ -154,7 +154,7 @@ abbrev report_keys : List Text
 report_keys = codes "collector" ∷ codes "quanta" ∷ codes "greatest" ∷ codes "window" ∷ codes "least" ∷ codes "floor" ∷ []
 
 abbrev report : Option ℕ → Option ℕ → List ℕ → Reply
-report x y ns = reply.Report (at ns 0) (at ns 1) (at ns 2) (at ns 3) (at ns 4) x y
+report x y ns = reply.Report (report_from ns x y)
 
 report_is : (version : Version) (more : List Text) (r : Reply) → report_of more ≡ Some r → IsReply version (codes "mutator" ∷ keyed report_keys more) r
 report_is version [] r h = cc

@@ -176,20 +176,20 @@ reply_plain version (reply.Number n) h = plain_decimals (n ∷ []) h
 reply_plain version (reply.Shape shape) h = plain_decimals (shape.references ∷ shape.numbers ∷ []) (small_numbers (u32 ∷ u32 ∷ []) (shape.references ∷ shape.numbers ∷ []) h refl)
 reply_plain version (reply.Refused refusal) h = refusal_plain refusal
 reply_plain version (reply.Spent units phase) h = next_plain units [] _ h (λ end. and_from _ _ (phase_plain phase) refl)
-reply_plain version (reply.Stat free live old phase cycle) h =
-    next_plain free (live ∷ old ∷ cycle ∷ []) _ h
-    (λ h1. next_plain live (old ∷ cycle ∷ []) _ h1
-    (λ h2. next_plain old (cycle ∷ []) _ h2
-    (λ h3. and_from _ _ (phase_plain phase) (plain_decimals (cycle ∷ []) h3))))
+reply_plain version (reply.Stat stat) h =
+    next_plain stat.free (stat.live ∷ stat.old ∷ stat.cycle ∷ []) _ h
+    (λ h1. next_plain stat.live (stat.old ∷ stat.cycle ∷ []) _ h1
+    (λ h2. next_plain stat.old (stat.cycle ∷ []) _ h2
+    (λ h3. and_from _ _ (phase_plain stat.phase) (plain_decimals (stat.cycle ∷ []) h3))))
 reply_plain version (reply.Dump items) h = items_plain items (and_parts _ _ h).0
-reply_plain version (reply.Report mutator collector quanta greatest window least floor) h =
-    let both = and_parts (are_u64 (mutator ∷ collector ∷ quanta ∷ greatest ∷ window ∷ [])) (are_u64 (option_to_list least) && are_u64 (option_to_list floor)) h in
-    next_plain mutator (collector ∷ quanta ∷ greatest ∷ window ∷ []) _ both.0
-    (λ h1. next_plain collector (quanta ∷ greatest ∷ window ∷ []) _ h1
-    (λ h2. next_plain quanta (greatest ∷ window ∷ []) _ h2
-    (λ h3. next_plain greatest (window ∷ []) _ h3
-    (λ h4. next_plain window [] _ h4
-    (λ end. and_from _ _ (optional_plain least (and_parts _ _ both.1).0) (and_from _ _ (optional_plain floor (and_parts _ _ both.1).1) refl))))))
+reply_plain version (reply.Report report) h =
+    let both = and_parts (are_u64 (report.mutator ∷ report.collector ∷ report.quanta ∷ report.greatest ∷ report.window ∷ [])) (are_u64 (option_to_list report.least) && are_u64 (option_to_list report.floor)) h in
+    next_plain report.mutator (report.collector ∷ report.quanta ∷ report.greatest ∷ report.window ∷ []) _ both.0
+    (λ h1. next_plain report.collector (report.quanta ∷ report.greatest ∷ report.window ∷ []) _ h1
+    (λ h2. next_plain report.quanta (report.greatest ∷ report.window ∷ []) _ h2
+    (λ h3. next_plain report.greatest (report.window ∷ []) _ h3
+    (λ h4. next_plain report.window [] _ h4
+    (λ end. and_from _ _ (optional_plain report.least (and_parts _ _ both.1).0) (and_from _ _ (optional_plain report.floor (and_parts _ _ both.1).1) refl))))))
 reply_plain One (reply.Left quanta) h = cc
 reply_plain Two (reply.Left quanta) h = plain_decimals (quanta ∷ []) h
 

@@ -176,14 +176,14 @@ reply_of-words version (reply.Refused refusal) h = refused-words version refusal
 reply_of-words version (reply.Spent units phase) h =
     let one : number (decimal units) ≡ Some units = number-decimal units (ltb-true units u64 (and_parts _ _ h).0) in
     rw (one, phase_of-word phase) refl
-reply_of-words version (reply.Stat free live old phase cycle) h = rw (numbers-decimal (free ∷ live ∷ old ∷ cycle ∷ []) h, phase_of-word phase) refl
+reply_of-words version (reply.Stat stat) h = rw (numbers-decimal (stat.free ∷ stat.live ∷ stat.old ∷ stat.cycle ∷ []) h, phase_of-word stat.phase) refl
 reply_of-words version (reply.Dump items) h =
     let both = and_parts (items_in_range items) (ascends None None items) h in
     rw (items_from-words items both.0, both.1) refl
-reply_of-words version (reply.Report mutator collector quanta greatest window least floor) h =
-    let ns : List ℕ = mutator ∷ collector ∷ quanta ∷ greatest ∷ window ∷ [] in
-    let both = and_parts (are_u64 ns) (are_u64 (option_to_list least) && are_u64 (option_to_list floor)) h in
-    let two = and_parts (are_u64 (option_to_list least)) (are_u64 (option_to_list floor)) both.1 in
-    rw (numbers-decimal (mutator ∷ collector ∷ quanta ∷ greatest ∷ window ∷ []) both.0, optional_of-word least two.0, optional_of-word floor two.1) refl
+reply_of-words version (reply.Report report) h =
+    let ns : List ℕ = report.mutator ∷ report.collector ∷ report.quanta ∷ report.greatest ∷ report.window ∷ [] in
+    let both = and_parts (are_u64 ns) (are_u64 (option_to_list report.least) && are_u64 (option_to_list report.floor)) h in
+    let two = and_parts (are_u64 (option_to_list report.least)) (are_u64 (option_to_list report.floor)) both.1 in
+    rw (numbers-decimal (report.mutator ∷ report.collector ∷ report.quanta ∷ report.greatest ∷ report.window ∷ []) both.0, optional_of-word report.least two.0, optional_of-word report.floor two.1) refl
 reply_of-words One (reply.Left quanta) h = cc
 reply_of-words Two (reply.Left quanta) h = numbered-words (u64 ∷ []) _ (quanta ∷ []) h refl

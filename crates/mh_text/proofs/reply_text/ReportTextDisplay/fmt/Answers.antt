@@ -3,4 +3,4 @@ use Rattle.mh_text.proofs.ReplyLemmas.{report_parts}
 use Rattle.mh_text.proofs.reply_text.ReportTextDisplay.fmt.Goals as goal
 
 pub returns-clause-writes : goal.returns-clause-writes
-returns-clause-writes g c = rw (c.in-Report.is, report_parts) (search rules)
+returns-clause-writes g c = rw report_parts (search rules)

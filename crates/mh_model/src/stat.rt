@@ -1,0 +1,15 @@
+use crate::cycle::Phase;
+
+/// What `stat` tells of a heap.
+#[derive(Clone, Copy, Debug, PartialEq, Eq)]
+pub struct Stat {
+    /// The free pages.
+    pub free: u64,
+    /// The blocks that aren't forwarders.
+    pub live: u64,
+    /// The forwarders.
+    pub old: u64,
+    pub phase: Phase,
+    /// The cycles started.
+    pub cycle: u64,
+}
