@@ -1,5 +1,7 @@
 //! Cycles, timed.
 
+ghost use Rattle.std.specs.Prelude.{◌<◌, ◌≤◌};
+
 use crate::graph::{Graph, build};
 use mh_model::birth::LIFE;
 use mh_model::config::Config;
@@ -32,42 +34,84 @@ fn run_cycle<S: Scanner>(heap: &mut KeptHeap, scanner: &mut S) -> u64 {
     units
 }
 
-/// Runs so many cycles, and answers the units of the last one and the nanoseconds of the fastest one.
+/// What cycles took: the units of the last one and the nanoseconds of the fastest one.
+#[derive(Clone, Copy)]
+struct Measured {
+    units: u64,
+    nanoseconds: u128,
+}
+
+/// Runs so many cycles.
 fn measure<S: Scanner>(
     rt: &HostRuntime,
     heap: &mut KeptHeap,
     scanner: &mut S,
     rounds: u32,
-) -> io::Result<(u64, u128)> {
-    let mut units = 0;
-    let mut least = u128::MAX;
+) -> io::Result<Measured> {
+    let mut measured = Measured {
+        units: 0,
+        nanoseconds: u128::MAX,
+    };
     for _ in 0..rounds {
         let start = Instant::now(rt)?;
-        units = run_cycle(heap, scanner);
-        least = least.min(start.elapsed(rt)?.as_nanos());
+        measured.units = run_cycle(heap, scanner);
+        measured.nanoseconds = measured.nanoseconds.min(start.elapsed(rt)?.as_nanos());
     }
-    Ok((units, least))
+    Ok(measured)
+}
+
+fn tell(rt: &HostRuntime, name: &str, how: &str, measured: Measured) -> io::Result<()> {
+    let Measured { units, nanoseconds } = measured;
+    eprint!(rt; "{name}, {how}: ")?;
+    eprint!(rt; "{units} units in {nanoseconds} ns\n")
 }
 
 /// Times the first cycle, which frees what can't be reached, and later ones.
-fn measure_all<R: Threads>(
+fn time_alone(rt: &HostRuntime, name: &str, heap: &mut KeptHeap) -> io::Result<()> {
+    let mut alone = OneScan::new(rt.alloc());
+    let first = measure(rt, heap, &mut alone, 1)?;
+    tell(rt, name, "first cycle by one thread", first)?;
+    let later = measure(rt, heap, &mut alone, ROUNDS)?;
+    tell(rt, name, "by one thread", later)
+}
+
+fn time_crew<R: Threads>(
+    rt: &HostRuntime,
+    threads: &R,
+    heap: &mut KeptHeap,
+    workers: usize,
+) -> io::Result<Measured>
+    requires { (0 < workers) × (workers ≤ 64) }
+{
+    let mut crew = CrewScan::new(threads, rt.alloc(), workers, &Open);
+    measure(rt, heap, &mut crew, ROUNDS)
+}
+
+/// Times later cycles by crews.
+fn time_crews<R: Threads>(
     rt: &HostRuntime,
     threads: &R,
     name: &str,
     heap: &mut KeptHeap,
 ) -> io::Result<()> {
-    let alloc = rt.alloc();
-    let mut alone = OneScan::new(alloc);
-    let (units, time) = measure(rt, heap, &mut alone, 1)?;
-    eprint!(rt; "{name}, first cycle by one thread: {units} units in {time} ns\n")?;
-    let (units, time) = measure(rt, heap, &mut alone, ROUNDS)?;
-    eprint!(rt; "{name}, by one thread: {units} units in {time} ns\n")?;
-    for workers in [2, 4, 64] {
-        let mut crew = CrewScan::new(threads, alloc, workers, &Open);
-        let (units, time) = measure(rt, heap, &mut crew, ROUNDS)?;
-        eprint!(rt; "{name}, by a crew of {workers}: {units} units in {time} ns\n")?;
-    }
-    Ok(())
+    tell(rt, name, "by a crew of 2", time_crew(rt, threads, heap, 2)?)?;
+    tell(rt, name, "by a crew of 4", time_crew(rt, threads, heap, 4)?)?;
+    tell(
+        rt,
+        name,
+        "by a crew of 64",
+        time_crew(rt, threads, heap, 64)?,
+    )
+}
+
+/// Times the making of a graph, and answers whether all of it found a place.
+fn make(rt: &HostRuntime, name: &str, heap: &mut KeptHeap, graph: Graph) -> io::Result<bool> {
+    let start = Instant::now(rt)?;
+    let is_made = build(heap, graph).is_ok();
+    let time = start.elapsed(rt)?.as_nanos();
+    let births = heap.births();
+    eprint!(rt; "{name}: {births} objects made in {time} ns\n")?;
+    Ok(is_made)
 }
 
 /// Times the making of a graph and cycles over it.
@@ -78,13 +122,9 @@ pub fn run<R: Threads>(rt: &HostRuntime, threads: &R, name: &str, graph: Graph) 
     let Ok(mut heap) = KeptHeap::open(rt.alloc(), config) else {
         return Ok(());
     };
-    let start = Instant::now(rt)?;
-    let is_made = build(&mut heap, graph).is_ok();
-    let time = start.elapsed(rt)?.as_nanos();
-    if !is_made {
+    if !make(rt, name, &mut heap, graph)? {
         return eprint!(rt; "{name}: no place is left\n");
     }
-    let births = heap.births();
-    eprint!(rt; "{name}: {births} objects made in {time} ns\n")?;
-    measure_all(rt, threads, name, &mut heap)
+    time_alone(rt, name, &mut heap)?;
+    time_crews(rt, threads, name, &mut heap)
 }

@@ -11,12 +11,16 @@ use mh_model::place::Place;
 use std::io;
 use std::time::Instant;
 
+/// Makes one object of these parts, where it finds a place.
+fn make_one(blocks: &mut Blocks, room: &mut PartPlaces, parts: &Parts, birth: u32) -> bool {
+    make_group(blocks, room, parts, Birth(u64::from(birth)), 1).is_ok()
+}
+
 /// Makes so many objects of these parts, or as many as find a place.
-fn make(blocks: &mut Blocks, room: &mut PartPlaces, parts: &Parts, count: u64) -> u64 {
-    let _ = parts.count();
+fn make(blocks: &mut Blocks, room: &mut PartPlaces, parts: &Parts, count: u32) -> u64 {
     let mut made: u64 = 0;
-    for birth in 0..count.min(1 << 20) {
-        if make_group(blocks, room, parts, Birth(birth), 1).is_ok() {
+    for birth in 0..count {
+        if make_one(blocks, room, parts, birth) {
             made = made.wrapping_add(1);
         }
     }
@@ -60,29 +64,37 @@ fn references_at(blocks: &Blocks, place: Place) -> u64
     found
 }
 
+fn tell(rt: &HostRuntime, count: u32, done: u64, what: &str, start: Instant) -> io::Result<()> {
+    let time = start.elapsed(rt)?.as_nanos();
+    eprint!(rt; "objects of {count} references: {done} {what}")?;
+    eprint!(rt; " in {time} ns\n")
+}
+
+/// Times what is read of the blocks of a full table.
+fn time_reading(rt: &HostRuntime, count: u32, blocks: &Blocks) -> io::Result<()> {
+    let start = Instant::now(rt)?;
+    let sum = stamps(blocks, 262_144);
+    tell(rt, count, sum, "is the sum of the stamps, read", start)?;
+    let start = Instant::now(rt)?;
+    let found = references(blocks, 262_144);
+    tell(rt, count, found, "references found", start)
+}
+
 /// Times objects of so many references, of which so many are made.
-fn measure(rt: &HostRuntime, count: u32, objects: u64) -> io::Result<()> {
+fn measure(rt: &HostRuntime, count: u32, objects: u32) -> io::Result<()> {
     let Some(all) = parts(Rules::Second, count, 0) else {
         return Ok(());
     };
-    let (Ok(mut blocks), Ok(mut room)) = (
-        Blocks::open(rt.alloc(), 4096),
-        PartPlaces::open(rt.alloc()),
-    ) else {
+    let Ok(mut blocks) = Blocks::open(rt.alloc(), 4096) else {
+        return Ok(());
+    };
+    let Ok(mut room) = PartPlaces::open(rt.alloc()) else {
         return Ok(());
     };
     let start = Instant::now(rt)?;
     let made = make(&mut blocks, &mut room, &all, objects);
-    let making = start.elapsed(rt)?.as_nanos();
-    let start = Instant::now(rt)?;
-    let sum = stamps(&blocks, 262_144);
-    let reading = start.elapsed(rt)?.as_nanos();
-    let start = Instant::now(rt)?;
-    let found = references(&blocks, 262_144);
-    let walking = start.elapsed(rt)?.as_nanos();
-    eprint!(rt;
-        "objects of {count} references: {making} ns for {made} made, {reading} ns for {sum} stamps, {walking} ns for {found} references\n"
-    )
+    tell(rt, count, made, "made", start)?;
+    time_reading(rt, count, &blocks)
 }
 
 /// Times objects of one block, of a spine, and of two levels of spines, and one that finds no place.

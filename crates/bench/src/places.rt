@@ -9,12 +9,22 @@ use std::time::Instant;
 /// How many places 4,096 pages have.
 const PLACES: usize = 262_144;
 
+/// Takes the least place, if there is one.
+fn take_least(pages: &mut Pages, class: Class) -> bool {
+    match pages.place(class) {
+        Some(place) => {
+            pages.take(class, place);
+            true
+        }
+        None => false,
+    }
+}
+
 /// Takes the least place, so many times or until there is none.
 fn fill(pages: &mut Pages, class: Class, count: usize) -> usize {
     let mut taken: usize = 0;
     for _ in 0..count {
-        if let Some(place) = pages.place(class) {
-            pages.take(class, place);
+        if take_least(pages, class) {
             taken = taken.wrapping_add(1);
         }
     }
@@ -38,8 +48,7 @@ fn give_back(pages: &mut Pages, count: usize, step: usize) -> usize {
 fn churn(pages: &mut Pages, class: Class, count: usize) -> usize {
     let mut rounds: usize = 0;
     for k in 0..count {
-        if let Some(place) = pages.place(class) {
-            pages.take(class, place);
+        if take_least(pages, class) {
             rounds = rounds.wrapping_add(1);
         }
         let other = Place(k.wrapping_mul(1_299_709) % PLACES);
