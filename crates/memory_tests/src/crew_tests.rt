@@ -1,55 +1,203 @@
-use crate::events::{DUMP, QUANTUM, STAT, chain, new, of_first, wide};
-use crate::states::{PLENTY, STEP, after, answer, go_on, told};
+use crate::asked::{Asked, Course, told_by};
+use crate::scripts::{chain, wide};
+use crate::sweep::PLENTY;
 use arrayvec::ArrayVec;
 use mh_blocks::blocks::Blocks;
-use mh_model::command::{Command, Event};
-use mh_model::config::Config;
-use mh_model::cycle::Phase;
 use mh_model::memory::NoMemory;
 use mh_model::place::Place;
-use mh_model::reply::Reply;
 use mh_scan::crew;
 use mh_scan::crew_scan::{CrewGate, CrewScan};
 use mh_scan::gate::Gate;
-use mh_scan::scan::{OneScan, Scanner};
-use mh_state::state::State;
+use mh_text::script::Script;
 use std::alloc::Global;
 use std::sync::OnceLock;
-use std::sync::atomic::AtomicU64;
-use std::sync::atomic::Ordering::SeqCst;
 use std::test::Fail;
 use std::thread::Threads;
 use test_support::famine::Famine;
+use test_support::gates::Watch;
+
+/// How many events stand before the quanta of a cycle, and what these reply.
+#[derive(Clone, Copy)]
+struct Quanta {
+    before: usize,
+    count: usize,
+    replies: &'static [u8],
+}
+
+const OF_WIDE: Quanta = Quanta {
+    before: 123,
+    count: 2,
+    replies: b"spent 399 phase mark\nspent 239 phase idle\n",
+};
+
+const OF_CHAIN: Quanta = Quanta {
+    before: 900,
+    count: 6,
+    replies: b"spent 208 phase roots\nspent 208 phase mark\nspent 208 phase mark\nspent 208 phase mark\nspent 209 phase sweep\nspent 163 phase idle\n",
+};
+
+/// One thread runs the quanta with memory at hand.
+impl Course for Quanta {
+    fn run(&mut self, asked: &mut Asked<'_>) -> Result<String, Fail> {
+        asked.go_on(self.before)?;
+        asked.go_on(self.count)?;
+        let replies = asked.replies()?;
+        if !replies.as_bytes().ends_with(self.replies) {
+            return Err(Fail::from("other quanta with memory at hand"));
+        }
+        asked.go_to_end()
+    }
+}
+
+/// Whether a crew of two runs the next quanta, so many.
+fn crew_runs<R: Threads, G: CrewGate>(
+    rt: &R,
+    alloc: Global,
+    gate: &G,
+    asked: &mut Asked<'_>,
+    count: usize,
+) -> bool {
+    asked.are_answered(&mut CrewScan::new(rt, alloc, 2, gate), count)
+}
+
+/// A crew of two runs the quanta with so many bytes left.
+#[derive(Drop)]
+struct ByCrew<'a, R> {
+    rt: &'a R,
+    alloc: Global,
+    famine: &'a mut Famine,
+    gate: &'a Watch,
+    quanta: Quanta,
+    bytes: usize,
+}
+
+impl<R: Threads> Course for ByCrew<'_, R> {
+    fn run(&mut self, asked: &mut Asked<'_>) -> Result<String, Fail> {
+        asked.go_on(self.quanta.before)?;
+        self.famine.leave(self.bytes)?;
+        let are_run = crew_runs(self.rt, self.alloc, self.gate, asked, self.quanta.count);
+        self.famine.leave(PLENTY)?;
+        if !are_run {
+            return Err(Fail::from("refused within the cycle"));
+        }
+        asked.go_to_end()
+    }
+}
+
+/// How many bytes are left at the first of some steps, how many more at each next one, and how many steps there are.
+#[derive(Clone, Copy)]
+struct Range {
+    first: usize,
+    step: usize,
+    count: usize,
+}
 
 const KIBIBYTE: usize = 1 << 10;
 
 const MEBIBYTE: usize = 1 << 20;
 
-/// A gate that counts the pieces that are begun.
+/// Some thousand bytes in small steps, some hundred thousand in larger ones, and then as many as the start of a thread takes.
+const RANGES: [Range; 3] = [
+    Range {
+        first: 0,
+        step: 32,
+        count: 128,
+    },
+    Range {
+        first: 4 * KIBIBYTE,
+        step: KIBIBYTE,
+        count: 196,
+    },
+    Range {
+        first: 0,
+        step: MEBIBYTE,
+        count: 41,
+    },
+];
+
+/// A script that a crew goes through, and what its state has to show in the end.
 #[derive(Drop)]
-struct Count {
-    pieces: AtomicU64,
+struct Steps<'a, R> {
+    rt: &'a R,
+    alloc: Global,
+    script: &'a Script,
+    quanta: Quanta,
+    wanted: String,
 }
 
-impl Gate for Count {
-    fn piece(&self, _worker: usize, _piece: u64) {
-        self.pieces.fetch_add(1, SeqCst);
-    }
-
-    fn session(&self, _who: u8) {}
-}
-
-impl CrewGate for Count {
-    fn scan_by_crew<R: Threads>(
-        &self,
-        rt: &R,
+impl<'a, R: Threads> Steps<'a, R> {
+    fn new(
+        rt: &'a R,
         alloc: Global,
-        workers: usize,
-        blocks: &Blocks,
-        batch: &[Place],
-    ) -> Result<Vec<ArrayVec<Option<Place>, 60>>, NoMemory> {
-        crew::scan(rt, alloc, workers, self, blocks, batch)
+        script: &'a Script,
+        mut quanta: Quanta,
+    ) -> Result<Steps<'a, R>, Fail> {
+        let wanted = told_by(alloc, script, &mut quanta)?;
+        Ok(Steps {
+            rt,
+            alloc,
+            script,
+            quanta,
+            wanted,
+        })
     }
+
+    /// How many pieces the crew begins with so many bytes left.
+    fn pieces_with(&self, famine: &mut Famine, bytes: usize) -> Result<u64, Fail> {
+        let gate = Watch::new(0);
+        let mut course = ByCrew {
+            rt: self.rt,
+            alloc: self.alloc,
+            famine,
+            gate: &gate,
+            quanta: self.quanta,
+            bytes,
+        };
+        if told_by(self.alloc, self.script, &mut course)? != self.wanted {
+            return Err(Fail::from("other quanta"));
+        }
+        Ok(gate.seen().passed)
+    }
+
+    /// How many pieces it begins at the last step of a range.
+    fn pieces_at_last(&self, famine: &mut Famine, range: &Range) -> Result<u64, Fail> {
+        let mut pieces = 0;
+        for step in 0..range.count {
+            let more = range.step.saturating_mul(step);
+            pieces = self.pieces_with(famine, range.first.saturating_add(more))?;
+        }
+        Ok(pieces)
+    }
+
+    /// How many pieces it begins without memory, and with the most that is left.
+    fn least_and_most(&self) -> Result<(u64, u64), Fail> {
+        let mut famine = Famine::begin(self.alloc)?;
+        famine.leave(PLENTY)?;
+        let least = self.pieces_with(&mut famine, 0)?;
+        let mut most = least;
+        for range in &RANGES {
+            most = self.pieces_at_last(&mut famine, range)?;
+        }
+        Ok((least, most))
+    }
+}
+
+/// The batches have 1, 25 and 35 places, so they are 6 pieces.
+#[test]
+fn quanta_of_a_wide_object_are_the_same_without_memory(rt: HostRuntime) -> Result<(), Fail> {
+    let script = wide(rt.alloc())?;
+    let steps = Steps::new(&rt, rt.alloc(), &script, OF_WIDE)?;
+    assert!(rt; steps.least_and_most()? == (0, 6));
+    Ok(())
+}
+
+/// Each batch has one place.
+#[test]
+fn quanta_of_a_chain_are_the_same_without_memory(rt: HostRuntime) -> Result<(), Fail> {
+    let script = chain(rt.alloc())?;
+    let steps = Steps::new(&rt, rt.alloc(), &script, OF_CHAIN)?;
+    assert!(rt; steps.least_and_most()? == (0, 300));
+    Ok(())
 }
 
 /// A gate that takes all memory when the second piece of a batch is begun.
@@ -61,11 +209,8 @@ struct Taking {
 
 impl Gate for Taking {
     fn piece(&self, _worker: usize, piece: u64) {
-        if piece != 1 || self.famine.get().is_some() {
-            return;
-        }
-        if let Ok(famine) = Famine::begin(self.alloc) {
-            let _ = self.famine.try_set(famine);
+        if piece == 1 {
+            take_all(self.alloc, &self.famine);
         }
     }
 
@@ -85,198 +230,53 @@ impl CrewGate for Taking {
     }
 }
 
-/// The events before a cycle, and the units and phases of its quanta.
-#[derive(Clone, Copy)]
-struct Cycle<'a> {
-    config: Config,
-    events: &'a [Event],
-    quanta: &'a [(u64, Phase)],
-}
-
-/// Whether a reply tells of a quantum that spent so many units and ended in a phase.
-fn is_spent(reply: &Reply, wanted: u64, wanted_phase: Phase) -> bool {
-    match reply {
-        Reply::Spent { units, phase } => units.0 == wanted && *phase == wanted_phase,
-        _ => false,
+/// Takes all memory, where it isn't taken yet.
+fn take_all(alloc: Global, taken: &OnceLock<Famine>) {
+    if let Ok(famine) = Famine::begin(alloc) {
+        let _ = taken.try_set(famine);
     }
 }
 
-/// Whether the next quantum spends so many units and ends in a phase.
-fn spends<S: Scanner>(state: &mut State, scanner: &mut S, wanted: u64, phase: Phase) -> bool {
-    match answer(state, QUANTUM, scanner) {
-        Ok(reply) => is_spent(&reply, wanted, phase),
-        Err(_) => false,
+/// A crew of two runs the quanta, and its gate takes all memory.
+#[derive(Drop)]
+struct WhereMemoryEnds<'a, R> {
+    rt: &'a R,
+    alloc: Global,
+    quanta: Quanta,
+}
+
+impl<R: Threads> WhereMemoryEnds<'_, R> {
+    /// Whether the quanta are run and memory is taken. It is given back at the end.
+    fn runs_without(&self, asked: &mut Asked<'_>) -> bool {
+        let gate = Taking {
+            alloc: self.alloc,
+            famine: OnceLock::new(),
+        };
+        crew_runs(self.rt, self.alloc, &gate, asked, self.quanta.count)
+            && gate.famine.get().is_some()
     }
 }
 
-/// Whether the next quanta are those of a cycle.
-fn runs<S: Scanner>(state: &mut State, scanner: &mut S, quanta: &[(u64, Phase)]) -> bool {
-    for (units, phase) in quanta {
-        if !spends(state, scanner, *units, *phase) {
-            return false;
+impl<R: Threads> Course for WhereMemoryEnds<'_, R> {
+    fn run(&mut self, asked: &mut Asked<'_>) -> Result<String, Fail> {
+        asked.go_on(self.quanta.before)?;
+        if !self.runs_without(asked) {
+            return Err(Fail::from("memory did not end"));
         }
+        asked.go_to_end()
     }
-    true
 }
 
-/// What a state tells after a cycle and some events more.
-fn told_after(alloc: Global, state: &mut State) -> Result<String, Fail> {
-    let load = Command::Get {
-        slot: 2,
-        source: 0,
-        field: 0,
-    };
-    go_on(
-        alloc,
-        state,
-        &[STAT, DUMP, of_first(load), new(3, 0, 2), DUMP],
-    )?;
-    told(alloc, state)
-}
-
-/// What is told after the cycle was run by one thread with memory at hand.
-fn wanted_of(alloc: Global, cycle: &Cycle<'_>) -> Result<String, Fail> {
-    let mut state = after(alloc, cycle.config, cycle.events)?;
-    if !runs(&mut state, &mut OneScan::new(alloc), cycle.quanta) {
-        return Err(Fail::from("other quanta with memory at hand"));
-    }
-    told_after(alloc, &mut state)
-}
-
-/// How many pieces a crew of two begins in a cycle for which so many bytes are left. The quanta and what is told after them
-/// have to be those that are wanted.
-fn pieces_with<R: Threads>(
-    rt: &R,
-    alloc: Global,
-    famine: &mut Famine,
-    cycle: &Cycle<'_>,
-    wanted: &str,
-    bytes: usize,
-) -> Result<u64, Fail> {
-    let gate = Count {
-        pieces: AtomicU64::new(0),
-    };
-    let mut state = after(alloc, cycle.config, cycle.events)?;
-    famine.leave(bytes)?;
-    let are_same = runs(
-        &mut state,
-        &mut CrewScan::new(rt, alloc, 2, &gate),
-        cycle.quanta,
-    );
-    famine.leave(PLENTY)?;
-    if !are_same {
-        return Err(Fail::from("other quanta"));
-    }
-    if told_after(alloc, &mut state)?.as_str() != wanted {
-        return Err(Fail::from("other answers after the cycle"));
-    }
-    Ok(gate.pieces.load(SeqCst))
-}
-
-/// How many bytes are left to a cycle: up to some thousand in small steps, up to some hundred thousand in larger ones, and
-/// then as many as the start of a thread takes.
-fn sizes(alloc: Global) -> Result<Vec<usize>, Fail> {
-    let mut sizes = Vec::new(alloc);
-    for step in 0..128 {
-        sizes.push(STEP * step)?;
-    }
-    for step in 4..200 {
-        sizes.push(KIBIBYTE * step)?;
-    }
-    for step in 0..=40 {
-        sizes.push(MEBIBYTE * step)?;
-    }
-    Ok(sizes)
-}
-
-/// The number of pieces that were begun with each size.
-fn pieces_in_turn<R: Threads>(rt: &R, alloc: Global, cycle: &Cycle<'_>) -> Result<Vec<u64>, Fail> {
-    let mut famine = Famine::begin(alloc)?;
-    famine.leave(PLENTY)?;
-    let wanted = wanted_of(alloc, cycle)?;
-    let mut pieces = Vec::new(alloc);
-    for bytes in sizes(alloc)? {
-        pieces.push(pieces_with(rt, alloc, &mut famine, cycle, &wanted, bytes)?)?;
-    }
-    Ok(pieces)
-}
-
-const WIDE: [(u64, Phase); 2] = [(399, Phase::Mark), (239, Phase::Idle)];
-
-const CHAIN: [(u64, Phase); 6] = [
-    (208, Phase::Roots),
-    (208, Phase::Mark),
-    (208, Phase::Mark),
-    (208, Phase::Mark),
-    (209, Phase::Sweep),
-    (163, Phase::Idle),
-];
-
-/// The batches have 1, 25 and 35 places, so they are 6 pieces.
-#[test]
-fn quanta_of_a_wide_object_are_the_same_without_memory(rt: HostRuntime) -> Result<(), Fail> {
-    let alloc = rt.alloc();
-    let events = wide(alloc)?;
-    let cycle = Cycle {
-        config: Config::first(8, 400, 0, 0).ok_or("no configuration")?,
-        events: &events,
-        quanta: &WIDE,
-    };
-    let pieces = pieces_in_turn(&rt, alloc, &cycle)?;
-    assert_eq!(rt; pieces.first(), Some(&0));
-    assert_eq!(rt; pieces.last(), Some(&6));
-    Ok(())
-}
-
-/// Each batch has one place.
-#[test]
-fn quanta_of_a_chain_are_the_same_without_memory(rt: HostRuntime) -> Result<(), Fail> {
-    let alloc = rt.alloc();
-    let events = chain(alloc)?;
-    let cycle = Cycle {
-        config: Config::first(8, 209, 0, 0).ok_or("no configuration")?,
-        events: &events,
-        quanta: &CHAIN,
-    };
-    let pieces = pieces_in_turn(&rt, alloc, &cycle)?;
-    assert_eq!(rt; pieces.first(), Some(&0));
-    assert_eq!(rt; pieces.last(), Some(&300));
-    Ok(())
-}
-
-/// What is told after a cycle in which the gate took all memory, where it did.
-fn told_where_memory_ends<R: Threads>(
-    rt: &R,
-    alloc: Global,
-    cycle: &Cycle<'_>,
-) -> Result<String, Fail> {
-    let gate = Taking {
-        alloc,
-        famine: OnceLock::new(),
-    };
-    let mut state = after(alloc, cycle.config, cycle.events)?;
-    let mut scanner = CrewScan::new(rt, alloc, 2, &gate);
-    let are_same = runs(&mut state, &mut scanner, cycle.quanta);
-    let is_taken = gate.famine.get().is_some();
-    drop(gate);
-    if !are_same || !is_taken {
-        return Err(Fail::from("other quanta, or memory did not end"));
-    }
-    told_after(alloc, &mut state)
-}
-
-/// The workers are at a batch of two pieces when memory ends.
 #[test]
 fn quanta_are_the_same_where_memory_ends_within_a_batch(rt: HostRuntime) -> Result<(), Fail> {
-    let alloc = rt.alloc();
-    let events = wide(alloc)?;
-    let cycle = Cycle {
-        config: Config::first(8, 400, 0, 0).ok_or("no configuration")?,
-        events: &events,
-        quanta: &WIDE,
+    let script = wide(rt.alloc())?;
+    let wanted = told_by(rt.alloc(), &script, &mut OF_WIDE)?;
+    let mut course = WhereMemoryEnds {
+        rt: &rt,
+        alloc: rt.alloc(),
+        quanta: OF_WIDE,
     };
-    let wanted = wanted_of(alloc, &cycle)?;
-    let found = told_where_memory_ends(&rt, alloc, &cycle)?;
-    assert_eq!(rt; found, wanted);
+    let found = told_by(rt.alloc(), &script, &mut course)?;
+    assert!(rt; found == wanted);
     Ok(())
 }

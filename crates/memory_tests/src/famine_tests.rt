@@ -19,34 +19,6 @@ fn can_have(alloc: Global, bytes: usize) -> bool {
     Vec::<u8>::with_capacity(alloc, bytes).is_ok()
 }
 
-#[test]
-fn a_famine_refuses_a_megabyte_until_it_ends(rt: HostRuntime) -> Result<(), Fail> {
-    let alloc = rt.alloc();
-    let famine = Famine::begin(alloc)?;
-    let is_refused = !can_have(alloc, MEGABYTE) && !can_have(alloc, 1);
-    drop(famine);
-    assert!(rt; is_refused);
-    assert!(rt; can_have(alloc, MEGABYTE));
-    Ok(())
-}
-
-#[test]
-fn a_famine_leaves_what_it_is_asked_for(rt: HostRuntime) -> Result<(), Fail> {
-    let alloc = rt.alloc();
-    let mut famine = Famine::begin(alloc)?;
-    let mut is_right = true;
-    for bytes in [64, 1_024, 16_384, 60_000, 100_000, 200_000, 128] {
-        famine.leave(bytes)?;
-        is_right = is_right && can_have(alloc, bytes - 64) && !can_have(alloc, bytes + 64);
-    }
-    famine.leave(2 * MEGABYTE)?;
-    let has_most = can_have(alloc, MEGABYTE);
-    drop(famine);
-    assert!(rt; is_right);
-    assert!(rt; has_most);
-    Ok(())
-}
-
 /// How many small blocks can be had at once.
 fn block_count(alloc: Global, held: &mut Vec<Vec<u8>>) -> usize {
     for count in 0..MOST_BLOCKS {
@@ -58,7 +30,7 @@ fn block_count(alloc: Global, held: &mut Vec<Vec<u8>>) -> usize {
     MOST_BLOCKS
 }
 
-/// Whether so many bytes and no others are left, where there is room to hold small blocks.
+/// Whether so many bytes and no others can be had in one piece, and in small blocks, where there is room to hold these.
 fn leaves(
     alloc: Global,
     famine: &mut Famine,
@@ -66,22 +38,40 @@ fn leaves(
     bytes: usize,
 ) -> Result<bool, AllocError> {
     famine.leave(bytes)?;
+    let is_one_piece = can_have(alloc, bytes.saturating_sub(64))
+        && !can_have(alloc, bytes.saturating_add(64));
+    famine.leave(bytes)?;
     let count = block_count(alloc, held);
     held.clear();
-    Ok(count == bytes / WHOLE_BLOCK)
+    Ok(is_one_piece && count == bytes / WHOLE_BLOCK)
 }
 
 #[test]
-fn a_famine_leaves_no_more_than_it_is_asked_for(rt: HostRuntime) -> Result<(), Fail> {
+fn a_famine_leaves_what_it_is_asked_for_and_no_more(rt: HostRuntime) -> Result<(), Fail> {
     let alloc = rt.alloc();
     let mut held = Vec::with_capacity(alloc, MOST_BLOCKS)?;
     let mut famine = Famine::begin(alloc)?;
     let mut is_right = true;
-    for bytes in [64, 1_024, 16_384, 65_536, 70_000, 100_000, 200_000, 128] {
+    for bytes in [
+        64, 1_024, 16_384, 60_000, 65_536, 70_000, 100_000, 200_000, 128,
+    ] {
         is_right = is_right && leaves(alloc, &mut famine, &mut held, bytes)?;
     }
     drop(famine);
     assert!(rt; is_right);
+    Ok(())
+}
+
+#[test]
+fn a_famine_refuses_all_until_it_ends(rt: HostRuntime) -> Result<(), Fail> {
+    let alloc = rt.alloc();
+    let mut famine = Famine::begin(alloc)?;
+    let is_refused = !can_have(alloc, MEGABYTE) && !can_have(alloc, 1);
+    famine.leave(2 * MEGABYTE)?;
+    let has_most = can_have(alloc, MEGABYTE);
+    drop(famine);
+    assert!(rt; is_refused && has_most);
+    assert!(rt; can_have(alloc, MEGABYTE));
     Ok(())
 }
 

@@ -2,16 +2,22 @@
 #![tactic(auto)]
 
 #[cfg(test)]
-mod crew_tests;
+mod asked;
 #[cfg(test)]
-mod events;
+mod called;
+#[cfg(test)]
+mod crew_tests;
 #[cfg(test)]
 mod famine_tests;
 #[cfg(test)]
+mod opening_tests;
+#[cfg(test)]
 mod run_tests;
+#[cfg(test)]
+mod scripts;
 #[cfg(test)]
 mod service_tests;
 #[cfg(test)]
 mod state_tests;
 #[cfg(test)]
-mod states;
+mod sweep;

@@ -1,157 +1,102 @@
 ghost use Rattle.std.specs.Prelude.{◌<◌, ◌≤◌};
 
-use crate::events::{DUMP, QUANTUM, every_kind, wide};
-use crate::states::{MOST_STEPS, PLENTY, STEP};
-use mh_model::command::Event;
-use mh_model::config::Config;
+use crate::asked::{Asked, Course, lines_of, told_by};
+use crate::scripts::{every_kind, wide};
+use crate::sweep::{MOST_STEPS, PLENTY, STEP};
 use mh_model::reply::Reply;
 use mh_scan::gate::Open;
-use mh_state::machine::Stop;
-use mh_state::run::{Outcome, RunFault, run};
+use mh_state::run::{RunFault, run};
+use mh_text::script::Script;
 use std::alloc::Global;
 use std::test::Fail;
 use std::thread::Threads;
 use test_support::famine::Famine;
 
-/// How many runs stopped before one did not, and the most replies that one of these had.
+/// All events, with memory at hand, up to the lines of all replies.
 #[derive(Clone, Copy)]
-struct Stopped {
-    runs: usize,
-    most_replies: usize,
+struct AllReplies;
+
+impl Course for AllReplies {
+    fn run(&mut self, asked: &mut Asked<'_>) -> Result<String, Fail> {
+        let _ = asked.go_to_end()?;
+        asked.replies()
+    }
 }
 
-/// A run of events by so many workers.
-#[derive(Clone, Copy)]
-struct Case<'a> {
-    alloc: Global,
-    config: Config,
-    events: &'a [Event],
-    workers: usize,
-}
-
-/// The text of replies.
-fn text_of(alloc: Global, replies: &[Reply]) -> Result<String, Fail> {
-    Ok(format!(in alloc; "{replies:?}")?)
-}
-
-/// How many replies a run has that stopped. They have to be the first of the run that had memory at hand.
-fn count_of(alloc: Global, fault: &RunFault, wanted: &Outcome) -> Result<usize, Fail> {
-    let count = fault.replies.len();
-    if fault.stop != Stop::NoMemory || count >= wanted.replies.len() {
-        return Err(Fail::from("another fault"));
-    }
-    let first = text_of(alloc, &wanted.replies[..count])?;
-    if text_of(alloc, &fault.replies)? != first {
-        return Err(Fail::from("other replies"));
-    }
-    Ok(count)
-}
-
-/// Two runs have to end alike.
-fn compare(alloc: Global, outcome: &Outcome, wanted: &Outcome) -> Result<(), Fail> {
-    let found = outcome.heap.dump(alloc)?;
-    let dump = wanted.heap.dump(alloc)?;
-    if found.items() != dump.items() || outcome.free != wanted.free {
-        return Err(Fail::from("another heap"));
-    }
-    let trace = (
-        outcome.trace.mutator_count(),
-        outcome.trace.collector_count(),
-    );
-    if trace != (wanted.trace.mutator_count(), wanted.trace.collector_count()) {
-        return Err(Fail::from("another trace"));
-    }
-    if text_of(alloc, &outcome.replies)? != text_of(alloc, &wanted.replies)? {
-        return Err(Fail::from("another reply"));
-    }
-    Ok(())
-}
-
-/// A run of which no clause tells.
-fn run_of<R: Threads>(
+/// The replies of a run that stops.
+fn stopped_replies<R: Threads>(
     rt: &R,
     alloc: Global,
-    config: Config,
-    events: &[Event],
+    script: &Script,
     workers: usize,
-) -> Result<Outcome, RunFault>
+) -> Option<Vec<Reply>>
     requires { (0 < workers) × (workers ≤ 64) }
 {
-    run(rt, alloc, config, events, workers, &Open)
+    let outcome = run(rt, alloc, script.config(), script.events(), workers, &Open);
+    let RunFault { stop: _, replies } = outcome.err()?;
+    Some(replies)
 }
 
-/// Runs events with so many bytes left. Gives how many replies a run has that stopped; one that did not has to end as with
-/// memory at hand.
-fn replies_with<R: Threads>(
+/// The same of a run with so many bytes left.
+fn stopped_with<R: Threads>(
     rt: &R,
+    alloc: Global,
     famine: &mut Famine,
-    case: &Case<'_>,
-    wanted: &Outcome,
+    script: &Script,
+    workers: usize,
     bytes: usize,
-) -> Result<Option<usize>, Fail>
-    requires { (0 < case.now.workers) × (case.now.workers ≤ 64) }
+) -> Result<Option<Vec<Reply>>, Fail>
+    requires { (0 < workers) × (workers ≤ 64) }
 {
     famine.leave(bytes)?;
-    let answer = run_of(rt, case.alloc, case.config, case.events, case.workers);
+    let replies = stopped_replies(rt, alloc, script, workers);
     famine.leave(PLENTY)?;
-    match answer {
-        Err(fault) => Ok(Some(count_of(case.alloc, &fault, wanted)?)),
-        Ok(outcome) => {
-            compare(case.alloc, &outcome, wanted)?;
-            Ok(None)
-        }
-    }
+    Ok(replies)
 }
 
-/// Runs events with more and more memory until a run does not stop.
-fn run_in_turn<R: Threads>(
+/// The most replies of a run that stops. Those of each have to be the first of those with memory at hand.
+fn most_replies<R: Threads>(
     rt: &R,
     alloc: Global,
     famine: &mut Famine,
-    events: &[Event],
+    script: &Script,
     workers: usize,
-) -> Result<Stopped, Fail>
+) -> Result<usize, Fail>
     requires { (0 < workers) × (workers ≤ 64) }
 {
-    let config = Config::first(8, 400, 0, 0).ok_or("no configuration")?;
-    let wanted = run_of(rt, alloc, config, events, 1)?;
-    let case = Case {
-        alloc,
-        config,
-        events,
-        workers,
-    };
-    let mut most_replies = 0;
-    for runs in 0..MOST_STEPS {
-        let Some(count) = replies_with(rt, famine, &case, &wanted, STEP * runs)? else {
-            return Ok(Stopped { runs, most_replies });
+    let wanted = told_by(alloc, script, &mut AllReplies)?;
+    let mut most = 0;
+    for step in 0..MOST_STEPS {
+        let Some(replies) = stopped_with(rt, alloc, famine, script, workers, STEP * step)? else {
+            return Ok(most);
         };
-        most_replies = count.max(most_replies);
+        if !wanted
+            .as_str()
+            .starts_with(lines_of(alloc, &replies)?.as_str())
+        {
+            return Err(Fail::from("other replies"));
+        }
+        most = most.max(replies.len());
     }
     Err(Fail::from("refused with memory at hand"))
 }
 
 #[test]
 fn a_run_stops_with_the_replies_of_what_was_done(rt: HostRuntime) -> Result<(), Fail> {
-    let alloc = rt.alloc();
-    let mut famine = Famine::begin(alloc)?;
+    let script = every_kind(rt.alloc(), b"config 8 400 0 0\n", 0)?;
+    let mut famine = Famine::begin(rt.alloc())?;
     famine.leave(PLENTY)?;
-    let events = every_kind(alloc)?;
-    let stopped = run_in_turn(&rt, alloc, &mut famine, &events, 1)?;
-    drop(famine);
-    assert!(rt; stopped.most_replies >= 16);
+    let most = most_replies(&rt, rt.alloc(), &mut famine, &script, 1)?;
+    assert!(rt; most >= 16);
     Ok(())
 }
 
 #[test]
 fn a_run_by_a_crew_stops_alike(rt: HostRuntime) -> Result<(), Fail> {
-    let alloc = rt.alloc();
-    let mut famine = Famine::begin(alloc)?;
+    let script = wide(rt.alloc())?;
+    let mut famine = Famine::begin(rt.alloc())?;
     famine.leave(PLENTY)?;
-    let mut events = wide(alloc)?;
-    events.extend_from_slice(&[QUANTUM, QUANTUM, DUMP])?;
-    let stopped = run_in_turn(&rt, alloc, &mut famine, &events, 2)?;
-    drop(famine);
-    assert!(rt; stopped.most_replies >= 64);
+    let most = most_replies(&rt, rt.alloc(), &mut famine, &script, 2)?;
+    assert!(rt; most >= 64);
     Ok(())
 }

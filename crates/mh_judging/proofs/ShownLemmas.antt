@@ -1,16 +1,11 @@
 -- Entries that are shown to a judge as they are read.
 use Rattle.std.proofs.Common.{◌≡◌, ◌∙◌, Option, List, [], ◌∷◌, ◌++◌, ap, refl}
-use Rattle.mh_model.specs.declared.config.Config.{Config}
-use Rattle.mh_model.specs.declared.history.Entry.{Entry}
-use Rattle.mh_model.specs.declared.history.Measured.{Measured}
 use Rattle.mh_model.specs.declared.history.Verdict.{Verdict}
 use Rattle.mh_model.specs.declared.history.Verdict.TheVariants.{Legal}
-use Rattle.mh_model.specs.History.{IsLegal}
 use Rattle.mh_model.specs.Bytes.{Text}
-use Rattle.mh_model.specs.HistoryTexts.{IsJudged, IsLegalRecord}
+use Rattle.mh_model.specs.HistoryTexts.{IsJudged}
 use Rattle.mh_model.specs.Script.{Reading, Means}
 use Rattle.mh_state.specs.Judging.{Judging}
-use Rattle.mh_state.proofs.JudgeLemmas.{legal_rule, record_rule}
 use Rattle.mh_text.specs.Pieces.{Lines}
 use Rattle.mh_text.specs.TextErrors.{Refuses}
 use Rattle.mh_text.specs.declared.text_error.TextError.{TextError}
@@ -19,7 +14,6 @@ use Rattle.mh_history.specs.Beginnings.{TakesEntry, entries_left, entry_before}
 use Rattle.mh_history.proofs.LineLemmas.{Walked, entry_taken, walked_end, walked_more, walked_start}
 use Rattle.mh_judging.specs.Judged.{IsVerdictOn}
 
--- what follows from a result's value, and from its error
 -- a judge has seen an entry, and then the entries that were read
 pub record HasShown {X : Type 0} (read : Text → Option X) (HasSeen : List X → Judging → Type 0) (first : X) (old new : Lines) (judging : Judging) : Type 0 where
   pub seen : List X
@@ -51,9 +45,6 @@ pub taken_refused : {X : Type 0} (read : Text → Option X) (old new : Lines) (f
 taken_refused read old new first (Line bad) took refused = entry_taken read old new first took ∙ ap (entry_before first) refused
 taken_refused read old new first NoMemory took refused = tt
 
--- a history without entries is legal
-pub none_legal : (config : Config) (r : Reading (List Entry)) → r ≡ Means [] → IsVerdictOn (IsLegal config) r (Legal 0)
-none_legal config r is = rw is ((legal_rule config).empty, refl)
-
-pub none_legal_record : (config : Config) (r : Reading (List Measured)) → r ≡ Means [] → IsVerdictOn (IsLegalRecord config) r (Legal 0)
-none_legal_record config r is = rw is ((record_rule config).empty, refl)
+-- no entries are lawful
+pub none_judged : {X : Type 0} (Lawful : List X → Type 0) (r : Reading (List X)) → Lawful [] → r ≡ Means [] → IsVerdictOn Lawful r (Legal 0)
+none_judged Lawful r lawful is = rw is (lawful, refl)

@@ -1,17 +1,19 @@
 //! Histories that are judged as whole texts.
-ghost use Rattle.std.specs.Prelude.{◌≡◌, ◌≢◌, ◌<◌, ◌^◌, [], IfOk, IfErr, OnErr, IsErrOf};
+ghost use Rattle.std.specs.Prelude.{◌≡◌, ◌≢◌, ◌<◌, ◌^◌, List, [], ◌∷◌, ◌++◌, IfOk, IfErr, OnOk, OnErr, IsErrOf};
 ghost use Rattle.std.specs.Io.KnownBytes.{Keeps};
 ghost use Rattle.mh_model.specs.History.{IsLegal};
-ghost use Rattle.mh_model.specs.HistoryTexts.{IsAudited, IsChecked, IsLegalRecord};
+ghost use Rattle.mh_model.specs.HistoryTexts.{IsAudited, IsChecked, IsJudged, IsLegalRecord};
 ghost use Rattle.mh_model.specs.declared.config.Config.{Config};
-ghost use Rattle.mh_state.specs.Judging.{HasSeenEntries, HasSeenMeasured};
+ghost use Rattle.mh_model.specs.declared.history.Verdict.{Verdict};
+ghost use Rattle.mh_state.specs.Judging.{HasSeenEntries, HasSeenMeasured, Judging};
+ghost use Rattle.mh_state.proofs.JudgeLemmas.{legal_rule, record_rule};
 ghost use Rattle.mh_text.specs.TextErrors.{Refuses};
-ghost use Rattle.mh_history.specs.Beginnings.{BeginsWithEntry, BeginsWithMeasured, HasEntry, entries_left, entry_before, entry_line, measured_line};
-ghost use Rattle.mh_judging.specs.Judged.{BeginsToJudge, IsVerdictOn, Judges};
+ghost use Rattle.mh_history.specs.Beginnings.{BeginsWithEntry, BeginsWithMeasured, HasEntry, entries_left, entry_before};
+ghost use Rattle.mh_judging.specs.Judged.{BeginsToJudge, Finds, HasSeenNone, IsVerdictOn, Judges};
 ghost use Rattle.mh_script.specs.Texts.{Blames, LeavesSource, WantsMemory};
 
 use mh_history::history::{HISTORY_BYTES, history_lines};
-use mh_history::lines::{RefusedLine, next_entry};
+use mh_history::lines::{FromLine, RefusedLine, next_entry};
 use mh_history::record::{RECORD_BYTES, record_lines};
 use mh_model::config::Config;
 use mh_model::history::{Entry, Measured, Verdict};
@@ -27,68 +29,89 @@ use mh_text::text_error::TextError;
 use mh_text_laws::verdicts::{texts_are_audited, texts_are_checked};
 use std::alloc::Global;
 
-/// Shows a judge an entry of version 1, and then those that are left, each as it is read.
-fn replay_entries(
+/// An entry of some version, as a judge is shown it.
+trait Shown: FromLine + Drop {
+    // What a judge who was shown entries knows, and which are lawful.
+    ghost has_seen: { Config → List Self → Judging → Type 0 };
+
+    ghost lawful: { Config → List Self → Type 0 };
+
+    /// Shows it to a judge.
+    fn show(&self, judge: &mut Judge) -> Result<(), NoMemory>
+        ensures { OnOk result ((config : Config) (seen : List Self) → has_seen config seen judge.old → has_seen config (seen ++ self.now ∷ []) judge.new) };
+
+    ghost none_lawful: { (config : Config) → lawful config [] };
+
+    ghost none_seen: { (config : Config) (judging : Judging) → HasSeenNone config judging → has_seen config [] judging };
+
+    ghost judged: { (judging : Judging) (verdict : Verdict) → Finds judging verdict → (config : Config) (seen : List Self) → has_seen config seen judging → IsJudged (lawful config) seen verdict };
+}
+
+impl Shown for Entry {
+    ghost has_seen = { HasSeenEntries };
+
+    ghost lawful = { IsLegal };
+
+    fn show(&self, judge: &mut Judge) -> Result<(), NoMemory> {
+        judge.entry(self)
+    }
+
+    ghost none_lawful = { λ config. (legal_rule config).empty };
+
+    ghost none_seen = { λ config judging none. none.entries };
+
+    ghost judged = { λ judging verdict finds. finds.entries };
+}
+
+impl Shown for Measured {
+    ghost has_seen = { HasSeenMeasured };
+
+    ghost lawful = { IsLegalRecord };
+
+    fn show(&self, judge: &mut Judge) -> Result<(), NoMemory> {
+        judge.measured(self)
+    }
+
+    ghost none_lawful = { λ config. (record_rule config).empty };
+
+    ghost none_seen = { λ config judging none. none.measured };
+
+    ghost judged = { λ judging verdict finds. finds.measured };
+}
+
+/// Shows a judge an entry, and then those that are left, each as it is read.
+fn replay<E: Shown>(
     alloc: Global,
     judge: &mut Judge,
-    first: &Entry,
+    first: &E,
     mut lines: Lines<'_>,
 ) -> Result<Verdict, TextError>
-    ensures verdict { IfOk result (λ verdict. (config : Config) → HasSeenEntries config [] judge.old
-        → IsVerdictOn (IsLegal config) (entry_before first.now (entries_left entry_line lines.entry)) verdict) }
-    ensures line { IfErr result (Refuses (entries_left entry_line lines.entry)) }
+    ensures verdict { IfOk result (λ verdict. (config : Config) → E.has_seen config [] judge.old
+        → IsVerdictOn (E.lawful config) (entry_before first.now (entries_left E.of_line lines.entry)) verdict) }
+    ensures line { IfErr result (Refuses (entries_left E.of_line lines.entry)) }
 {
-    judge.entry(first)?;
-    while let Some(entry) = next_entry::<Entry>(alloc, &mut lines)? {
-        judge.entry(&entry)?;
+    first.show(judge)?;
+    while let Some(entry) = next_entry::<E>(alloc, &mut lines)? {
+        entry.show(judge)?;
     }
     Ok(judge.verdict())
 }
 
-/// The verdict on the entries that are left of a history of version 1. No machine is opened before there is one.
-#[tactic(auto, using(crate::proofs::ShownLemmas::none_legal, mh_history::proofs::LineLemmas::taken_entry))]
-fn judge_entries(alloc: Global, config: Config, mut lines: Lines<'_>) -> Result<Verdict, TextError>
-    ensures verdict { IfOk result (IsVerdictOn (IsLegal config) (entries_left entry_line lines.entry)) }
-    ensures line { IfErr result (Refuses (entries_left entry_line lines.entry)) }
-    ensures memory { IsErrOf result TextError.NoMemory → HasEntry entry_line lines.entry }
-{
-    let Some(first) = next_entry::<Entry>(alloc, &mut lines)? else {
-        return Ok(Verdict::Legal(0));
-    };
-    let mut judge = Judge::open(alloc, config)?;
-    replay_entries(alloc, &mut judge, &first, lines)
-}
-
-/// Shows a judge an entry of version 2, and then those that are left, each as it is read.
-fn replay_measured(
+/// The verdict on the entries that are left of a history. No machine is opened before there is one.
+fn judge_lines<E: Shown>(
     alloc: Global,
-    judge: &mut Judge,
-    first: &Measured,
+    config: Config,
     mut lines: Lines<'_>,
 ) -> Result<Verdict, TextError>
-    ensures verdict { IfOk result (λ verdict. (config : Config) → HasSeenMeasured config [] judge.old
-        → IsVerdictOn (IsLegalRecord config) (entry_before first.now (entries_left measured_line lines.entry)) verdict) }
-    ensures line { IfErr result (Refuses (entries_left measured_line lines.entry)) }
+    ensures verdict { IfOk result (IsVerdictOn (E.lawful config) (entries_left E.of_line lines.entry)) }
+    ensures line { IfErr result (Refuses (entries_left E.of_line lines.entry)) }
+    ensures memory { IsErrOf result TextError.NoMemory → HasEntry E.of_line lines.entry }
 {
-    judge.measured(first)?;
-    while let Some(measured) = next_entry::<Measured>(alloc, &mut lines)? {
-        judge.measured(&measured)?;
-    }
-    Ok(judge.verdict())
-}
-
-/// The same of a history of version 2.
-#[tactic(auto, using(crate::proofs::ShownLemmas::none_legal_record, mh_history::proofs::LineLemmas::taken_entry))]
-fn judge_measured(alloc: Global, config: Config, mut lines: Lines<'_>) -> Result<Verdict, TextError>
-    ensures verdict { IfOk result (IsVerdictOn (IsLegalRecord config) (entries_left measured_line lines.entry)) }
-    ensures line { IfErr result (Refuses (entries_left measured_line lines.entry)) }
-    ensures memory { IsErrOf result TextError.NoMemory → HasEntry measured_line lines.entry }
-{
-    let Some(first) = next_entry::<Measured>(alloc, &mut lines)? else {
+    let Some(first) = next_entry::<E>(alloc, &mut lines)? else {
         return Ok(Verdict::Legal(0));
     };
     let mut judge = Judge::open(alloc, config)?;
-    replay_measured(alloc, &mut judge, &first, lines)
+    replay(alloc, &mut judge, &first, lines)
 }
 
 /// The verdict on a text of version 1, whose entries are replayed with one worker and not kept.
@@ -101,7 +124,7 @@ pub fn verdict_on_history(alloc: Global, config: Config, text: &[u8]) -> Result<
         Ok(lines) => lines,
         Err(RefusedLine(line)) => return Ok(Verdict::Refused(line)),
     };
-    match judge_entries(alloc, config, lines) {
+    match judge_lines::<Entry>(alloc, config, lines) {
         Ok(verdict) => Ok(verdict),
         Err(TextError::Line(line)) => Ok(Verdict::Refused(line)),
         Err(TextError::NoMemory) => Err(NoMemory),
@@ -118,7 +141,7 @@ pub fn verdict_on_record(alloc: Global, text: &[u8]) -> Result<Verdict, NoMemory
         Ok(read) => read,
         Err(RefusedLine(line)) => return Ok(Verdict::Refused(line)),
     };
-    match judge_measured(alloc, config, lines) {
+    match judge_lines::<Measured>(alloc, config, lines) {
         Ok(verdict) => Ok(verdict),
         Err(TextError::Line(line)) => Ok(Verdict::Refused(line)),
         Err(TextError::NoMemory) => Err(NoMemory),

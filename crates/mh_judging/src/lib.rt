@@ -4,3 +4,4 @@
 pub mod judge;
 pub mod migrate;
 pub mod record;
+mod recording;

@@ -38,12 +38,23 @@ use mh_scan::scan::Scanner;
 use std::alloc::Global;
 use std::marker::Model;
 /// The heap of pages with its collector and its sessions.
-#[derive(Drop)]
 pub struct KeptHeap {
     pub(crate) cycle: Cycle,
     pub(crate) next_birth: u64,
     pub(crate) ended: [bool; SESSIONS],
     pub(crate) places: PartPlaces,
+}
+
+// An owner proves one call where it drops the heap, and not each of its tables.
+impl Drop for KeptHeap {
+    fn drop(self) {
+        let KeptHeap {
+            cycle: _,
+            next_birth: _,
+            ended: _,
+            places: _,
+        } = self;
+    }
 }
 
 impl Model for KeptHeap {

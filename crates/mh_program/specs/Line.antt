@@ -18,13 +18,17 @@ worker_numbers = Unsigned 1 64
 abbrev pub any_text : ValueParser
 any_text = String
 
+-- an option that is given with one value
+abbrev pub option_rule : Text → Rule
+option_rule name = record (new_rule name) { long = Some name; value_names = 1 }
+
 -- the option `--workers W`, which may be left out
 abbrev pub workers_rule : Rule
-workers_rule = record (new_rule (codes "workers")) { long = Some (codes "workers"); value_names = 1; parser = Some worker_numbers }
+workers_rule = record (option_rule (codes "workers")) { parser = Some worker_numbers }
 
 -- an option with a number of a configuration, which has to be given; whether its text is a number `clap` leaves open
 abbrev pub number_rule : Text → Rule
-number_rule name = record (new_rule name) { long = Some name; value_names = 1; parser = Some any_text; required = true }
+number_rule name = record (option_rule name) { parser = Some any_text; required = true }
 
 -- Subcommands ------------------------------------------------------------------------------------
 

@@ -1,7 +1,7 @@
 ghost use Rattle.std.specs.Prelude.{◌≡◌, IfOk, false, codes};
 ghost use Rattle.clap.specs.Words.{app_of, new_app, rule_of, with_rule, with_subcommand};
 ghost use Rattle.clap.specs.declared.builder.command.Command.TheViews.{out-Command};
-ghost use Rattle.mh_program.specs.Line.{config_app, metroheap, number_rule, optional_app, workers_app, workers_rule};
+ghost use Rattle.mh_program.specs.Line.{config_app, metroheap, number_rule, option_rule, optional_app, workers_app, workers_rule};
 
 use clap::builder::ValueParser;
 use clap::{Arg, Command};
@@ -29,15 +29,23 @@ const SCRIPT_STATUSES: &str =
 const HISTORY_STATUSES: &str =
     "Exit status: 0 where the history is legal, 1 where the text was refused, 2 where the command line was, 3 where memory was wanting or a device failed, 4 where the history is not legal";
 
+/// An option that is given with one value.
+fn option<'a>(alloc: Global, name: &'a str, value: &'a str, help: &'a str) -> Arg<'a>
+    ensures rule { rule_of result ≡ option_rule name.entry.now }
+    ensures local { result.global ≡ false }
+{
+    Arg::new(alloc, name)
+        .long(name)
+        .value_name(value)
+        .help(help)
+}
+
 fn workers<'a>(alloc: Global) -> Arg<'a>
     ensures rule { rule_of result ≡ workers_rule }
     ensures local { result.global ≡ false }
 {
-    Arg::new(alloc, "workers")
-        .long("workers")
-        .value_name("W")
-        .value_parser(ValueParser::unsigned(1, MOST_WORKERS))
-        .help("How many threads scan at a time at most, from 1 to 64; 1 where it is not given")
+    let help = "How many threads scan at a time at most, from 1 to 64; 1 where it is not given";
+    option(alloc, "workers", "W", help).value_parser(ValueParser::unsigned(1, MOST_WORKERS))
 }
 
 /// A subcommand with a number of workers.
@@ -56,12 +64,9 @@ fn number<'a>(alloc: Global, name: &'a str, value: &'a str, help: &'a str) -> Ar
     ensures rule { rule_of result ≡ number_rule name.entry.now }
     ensures local { result.global ≡ false }
 {
-    Arg::new(alloc, name)
-        .long(name)
-        .value_name(value)
+    option(alloc, name, value, help)
         .required(true)
         .value_parser(ValueParser::string())
-        .help(help)
 }
 
 /// The command with one number of a configuration more.

@@ -11,7 +11,7 @@ const MOST_SHOWN: usize = 80;
 fn is_printable(byte: u8) -> bool
     ensures { result ≡ is_printable byte }
 {
-    (b' '..=b'~').contains(&byte)
+    matches!(byte, b' '..=b'~')
 }
 
 /// Whether a word is shown as it is.

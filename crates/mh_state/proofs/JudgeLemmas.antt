@@ -5,12 +5,10 @@ use Rattle.mh_model.specs.declared.command.Event.{Event}
 use Rattle.mh_model.specs.declared.config.Config.{Config}
 use Rattle.mh_model.specs.declared.history.Entry.{Entry}
 use Rattle.mh_model.specs.declared.history.Measured.{Measured}
-use Rattle.mh_model.specs.declared.history.Verdict.{Verdict}
-use Rattle.mh_model.specs.declared.history.Verdict.TheVariants.{Refused, Legal, FirstBad}
 use Rattle.mh_model.specs.declared.reply.Reply.{Reply}
 use Rattle.mh_model.specs.Limits.{most_entries}
 use Rattle.mh_model.specs.History.{IsLegal, IsFirstBadOf}
-use Rattle.mh_model.specs.HistoryTexts.{IsJudged, IsLegalRecord, measured_step, machine_record}
+use Rattle.mh_model.specs.HistoryTexts.{IsLegalRecord, measured_step, machine_record}
 use Rattle.mh_model.specs.Machine.{Machine, first_machine, event_step, machine_after, machine_replies}
 use Rattle.mh_promise.specs.Runs.{machine_at}
 use Rattle.mh_promise.proofs.RunsByEvents.{after_more, replies_more, no-events, no-replies}
@@ -116,11 +114,16 @@ shown_all {X} config event_of Lawful xs i judging all seen =
     let P : List X → Type 0 = λ ys. HasSeen config event_of Lawful ys judging in
     subst P (take_all i xs all) seen
 
--- a verdict that names no bad element finds them lawful
-pub judged_lawful : {X : Type 0} (Lawful : List X → Type 0) (xs : List X) (verdict : Verdict) → ((number : ℕ) → verdict ≡ FirstBad number → ⊥) → IsJudged Lawful xs verdict → Lawful xs
-judged_lawful Lawful xs (Refused line) other judged = absurd judged
-judged_lawful Lawful xs (Legal count) other judged = judged.0
-judged_lawful Lawful xs (FirstBad number) other judged = absurd (other number refl)
+module _ {X : Type 0} (config : Config) (event_of : X → Event) (Lawful : List X → Type 0) (xs : List X) (running : Running) where
+  -- where none is found to be bad they are lawful
+  pub found_none : (found : Option ℕ) → found ≡ None → HasSeen config event_of Lawful xs (record { running = running; first_bad = found }) → Lawful xs
+  found_none None is seen = seen.lawful
+  found_none (Some number) is seen = cc
+
+  -- and the one that is found is the first
+  pub found_first : (found : Option ℕ) (number : ℕ) → found ≡ Some number → HasSeen config event_of Lawful xs (record { running = running; first_bad = found }) → IsFirstBadOf Lawful xs number
+  found_first None number is seen = cc
+  found_first (Some other) number is seen = let same : other ≡ number = cc in subst (IsFirstBadOf Lawful xs) same seen
 
 -- Histories --------------------------------------------------------------------------------------
 

@@ -1,6 +1,7 @@
 -- Runs that go on event by event.
-use Rattle.std.proofs.Common.{◌≡◌, ◌≢◌, ◌<◌, ◌≤◌, ℕ, ◌+◌, List, [], ◌∷◌, ◌++◌, length, take, drop, get_or, sym, ap, ◌∙◌, subst, arith}
+use Rattle.std.proofs.Common.{◌≡◌, ◌≢◌, ◌<◌, ◌≤◌, ℕ, ◌+◌, Vec, Global, List, [], ◌∷◌, ◌++◌, length, take, drop, get_or, sym, ap, ◌∙◌, subst, arith}
 use Rattle.std.proofs.lemmas.List.{length-append, take_more, take_all, take-append-drop}
+use Rattle.std.specs.Vec.{vec_len}
 use Rattle.mh_model.specs.declared.command.Event.{Event}
 use Rattle.mh_model.specs.declared.config.Config.{Config}
 use Rattle.mh_model.specs.declared.reply.Reply.{Reply}
@@ -8,14 +9,9 @@ use Rattle.mh_model.specs.Limits.{most_entries}
 use Rattle.mh_promise.specs.Runs.{AreAnsweredSoFar}
 use Rattle.mh_promise.specs.Replays.{EventsKeepTheReplay, IsReplay}
 use Rattle.mh_state.specs.Running.{Running, first_running}
-use Rattle.mh_state.specs.Whole.{GoesOn}
-
--- so many of the events were done, and these are their replies
-pub record HasDone (config : Config) (events : List Event) (count : ℕ) (replies : List Reply) (running : Running) : Type 0 where
-  pub replay : IsReplay config (take count events) replies running.machine
-  pub done : running.done ≡ count
-  pub answered : length replies ≡ count
-  pub few : count ≤ most_entries
+use Rattle.mh_state.specs.declared.machine.Stop.{Stop}
+use Rattle.mh_state.specs.declared.machine.Stop.TheVariants.{HistoryFull}
+use Rattle.mh_state.specs.Whole.{GoesOn, HasDone, IsStopped}
 
 module _ (law : EventsKeepTheReplay) (config : Config) (events : List Event) where
   pub none-done : (replies : List Reply) (running : Running) → replies ≡ [] → running ≡ first_running config → HasDone config events 0 replies running
@@ -45,3 +41,25 @@ answered-so-far config events count replies running has = record { done = take c
 -- all of them were done
 pub all-done : (config : Config) (events : List Event) (count : ℕ) (replies : List Reply) (running : Running) → length events ≤ count → HasDone config events count replies running → IsReplay config events replies running.machine
 all-done config events count replies running all has = subst (λ es. IsReplay config es replies running.machine) (take_all count events all) has.replay
+
+-- the event after those that were done was refused
+pub stopped-at : (config : Config) (events : List Event) (count : ℕ) (replies after : List Reply) (old new : Running) (stop : Stop) → count < length events → new ≡ old → after ≡ replies
+    → (stop ≡ HistoryFull → old.done ≡ most_entries) → (old.done ≡ most_entries → stop ≡ HistoryFull) → HasDone config events count replies old → IsStopped config events after new stop
+stopped-at config events count replies after old new stop left same kept full ends has = rw (same, kept) (record { count = count; has = has; left = left; full = full; ends = ends })
+
+-- for a run that stopped
+module _ (config : Config) (events : List Event) (replies : Vec Reply Global) (running : Running) (stop : Stop) (stopped : IsStopped config events replies.items running stop) where
+  pub stopped-so-far : AreAnsweredSoFar config events replies.items
+  stopped-so-far = answered-so-far config events stopped.count replies.items running stopped.has
+
+  pub stopped-full : stop ≡ HistoryFull → vec_len replies ≡ most_entries
+  stopped-full is = let has = stopped.has in omega (arith, replies.ok.0, has.answered, has.done, stopped.full is)
+
+  pub stopped-more : stop ≡ HistoryFull → most_entries < length events
+  stopped-more is = let has = stopped.has in omega (arith, has.done, stopped.full is, stopped.left)
+
+  pub stopped-ends : vec_len replies ≡ most_entries → stop ≡ HistoryFull
+  stopped-ends is = let has = stopped.has in stopped.ends (omega (arith, replies.ok.0, has.answered, has.done, is))
+
+  pub stopped-left : vec_len replies < length events
+  stopped-left = let has = stopped.has in omega (arith, replies.ok.0, has.answered, stopped.left)

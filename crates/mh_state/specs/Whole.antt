@@ -1,8 +1,13 @@
 -- Whole runs: what one shows, and how it goes on event by event.
-use Rattle.std.specs.Prelude.{◌≡◌, List, [], ◌∷◌, ◌++◌}
+use Rattle.std.specs.Prelude.{◌≡◌, ◌<◌, ◌≤◌, ℕ, List, [], ◌∷◌, ◌++◌, length, take}
 use Rattle.mh_model.specs.declared.command.Event.{Event}
+use Rattle.mh_model.specs.declared.config.Config.{Config}
 use Rattle.mh_model.specs.declared.reply.Reply.{Reply}
+use Rattle.mh_model.specs.Limits.{most_entries}
+use Rattle.mh_promise.specs.Replays.{IsReplay}
 use Rattle.mh_promise.specs.Runs as promised
+use Rattle.mh_state.specs.declared.machine.Stop.{Stop}
+use Rattle.mh_state.specs.declared.machine.Stop.TheVariants.{HistoryFull}
 use Rattle.mh_state.specs.declared.run.Outcome.{Outcome}
 use Rattle.mh_state.specs.Running.{Running, Does}
 
@@ -15,3 +20,18 @@ pub record GoesOn (old : Running) (before : List Reply) (event : Event) (new : R
   pub reply : Reply
   pub does : Does old event reply new
   pub replies : after ≡ before ++ reply ∷ []
+
+-- so many of the events were done, and these are their replies
+pub record HasDone (config : Config) (events : List Event) (count : ℕ) (replies : List Reply) (running : Running) : Type 0 where
+  pub replay : IsReplay config (take count events) replies running.machine
+  pub done : running.done ≡ count
+  pub answered : length replies ≡ count
+  pub few : count ≤ most_entries
+
+-- some of the events were done, and the one after them was refused: for the full history exactly where that was full
+pub record IsStopped (config : Config) (events : List Event) (replies : List Reply) (running : Running) (stop : Stop) : Type 0 where
+  pub count : ℕ
+  pub has : HasDone config events count replies running
+  pub left : count < length events
+  pub full : stop ≡ HistoryFull → running.done ≡ most_entries
+  pub ends : running.done ≡ most_entries → stop ≡ HistoryFull

@@ -134,6 +134,34 @@ impl Judge {
         Ok(())
     }
 
+    /// Shows it a whole history, and tells what it found.
+    fn settle(&mut self, history: &[Entry]) -> Result<(), CheckFault>
+        ensures legal { OnOk result ((config : Config) → HasSeenEntries config [] self.old → IsLegal config history.now) }
+        ensures bad { IfErr result (λ fault. (config : Config) → HasSeenEntries config [] self.old → TellsFirstBad (IsLegal config) history.now fault) }
+    {
+        for entry in history {
+            self.entry(entry)?;
+        }
+        match self.first_bad {
+            Some(number) => Err(CheckFault::FirstBad(number)),
+            None => Ok(()),
+        }
+    }
+
+    /// The same of a record.
+    fn settle_measured(&mut self, entries: &[Measured]) -> Result<(), CheckFault>
+        ensures legal { OnOk result ((config : Config) → HasSeenMeasured config [] self.old → IsLegalRecord config entries.now) }
+        ensures bad { IfErr result (λ fault. (config : Config) → HasSeenMeasured config [] self.old → TellsFirstBad (IsLegalRecord config) entries.now fault) }
+    {
+        for measured in entries {
+            self.measured(measured)?;
+        }
+        match self.first_bad {
+            Some(number) => Err(CheckFault::FirstBad(number)),
+            None => Ok(()),
+        }
+    }
+
     /// What was found of the entries that were shown.
     pub fn verdict(&self) -> Verdict
         ensures entries { (config : Config) (seen : List Entry) → HasSeenEntries config seen self.now → IsJudged (IsLegal config) seen result }
@@ -152,13 +180,7 @@ pub fn check(alloc: Global, config: Config, history: &[Entry]) -> Result<(), Che
     ensures bad { IfErr result (TellsFirstBad (IsLegal config) history.now) }
 {
     let mut judge = Judge::open(alloc, config)?;
-    for entry in history {
-        judge.entry(entry)?;
-    }
-    match judge.verdict() {
-        Verdict::FirstBad(number) => Err(CheckFault::FirstBad(number)),
-        _ => Ok(()),
-    }
+    judge.settle(history)
 }
 
 /// Replays a history whose entries tell their units, with one worker. An entry past the 1,000,000th is bad.
@@ -167,11 +189,5 @@ pub fn audit(alloc: Global, config: Config, entries: &[Measured]) -> Result<(), 
     ensures bad { IfErr result (TellsFirstBad (IsLegalRecord config) entries.now) }
 {
     let mut judge = Judge::open(alloc, config)?;
-    for measured in entries {
-        judge.measured(measured)?;
-    }
-    match judge.verdict() {
-        Verdict::FirstBad(number) => Err(CheckFault::FirstBad(number)),
-        _ => Ok(()),
-    }
+    judge.settle_measured(entries)
 }

@@ -28,12 +28,23 @@ pub enum Stop {
 }
 
 /// The machine, which does events one by one, 1,000,000 at most.
-#[derive(Drop)]
 pub struct Machine {
     alloc: Global,
     config: Config,
     engine: Engine,
     done: u64,
+}
+
+// An owner proves one call where it drops the machine, and not each of its parts.
+impl Drop for Machine {
+    fn drop(self) {
+        let Machine {
+            alloc: _,
+            config: _,
+            engine: _,
+            done: _,
+        } = self;
+    }
 }
 
 impl Model for Machine {
@@ -126,6 +137,12 @@ impl Machine {
         ensures heap { result.0.kept ≡ self.machine.heap }
         ensures trace { result.1.trace ≡ self.machine.trace }
     {
-        (self.engine.heap, self.engine.trace)
+        let Machine {
+            alloc: _,
+            config: _,
+            engine,
+            done: _,
+        } = self;
+        (engine.heap, engine.trace)
     }
 }

@@ -4,7 +4,7 @@ ghost use Rattle.mh_model.specs.Limits.{most_entries};
 ghost use Rattle.mh_promise.specs.Runs.{IsTheMachines, AreAnsweredSoFar};
 ghost use Rattle.mh_promise.specs.Replays.{IsReplay};
 ghost use Rattle.mh_promise.specs.Promise.{IsPromised, IsPromisedSoFar};
-ghost use Rattle.mh_state.specs.Whole.{shown, GoesOn};
+ghost use Rattle.mh_state.specs.Whole.{shown, GoesOn, HasDone, IsStopped};
 ghost use Rattle.mh_state.specs.declared.machine.Stop.{Stop};
 
 use crate::machine::{Machine, Stop};
@@ -63,6 +63,23 @@ fn go_on<S: Scanner>(
     Ok(())
 }
 
+/// Does events one by one, up to one that is refused.
+fn go_on_with_all<S: Scanner>(
+    machine: &mut Machine,
+    replies: &mut Vec<Reply>,
+    events: &[Event],
+    scanner: &mut S,
+) -> Result<(), Stop>
+    ensures done { OnOk result ((config : Config) → HasDone config events.now 0 replies.old.items machine.old → HasDone config events.now (length events.now) replies.new.items machine.new) }
+    ensures stopped { IfErr result (λ stop. (config : Config) → HasDone config events.now 0 replies.old.items machine.old → IsStopped config events.now replies.new.items machine.new stop) }
+{
+    events_keep_the_replay();
+    for event in events {
+        go_on(machine, replies, *event, scanner)?;
+    }
+    Ok(())
+}
+
 /// Does events one by one from the first machine on.
 fn replay<S: Scanner>(
     alloc: Global,
@@ -87,12 +104,10 @@ fn replay<S: Scanner>(
         }
         Ok(machine) => machine,
     };
-    for event in events {
-        if let Err(stop) = go_on(&mut machine, &mut replies, *event, scanner) {
-            return Err(RunFault { stop, replies });
-        }
+    match go_on_with_all(&mut machine, &mut replies, events, scanner) {
+        Ok(()) => Ok((machine, replies)),
+        Err(stop) => Err(RunFault { stop, replies }),
     }
-    Ok((machine, replies))
 }
 
 /// Does all events, the cycles by as many workers at most as are asked for. A run that stops did the events before the one

@@ -1,19 +1,15 @@
-//! Tests of what lies below the collector: the words that all crates share, sets of pages, classes, pages, blocks, objects
-//! and roots.
+//! Tests of the calls of tables that no script comes to: words of pages, blocks, roots, the grey list and single steps of
+//! the sweep.
 #![tactic(auto)]
 
 #[cfg(test)]
-mod bit_tests;
-#[cfg(test)]
 mod block_tests;
 #[cfg(test)]
-mod class_tests;
-#[cfg(test)]
-mod group_tests;
-#[cfg(test)]
-mod model_tests;
+mod grey_tests;
 #[cfg(test)]
 mod page_tests;
+#[cfg(test)]
+mod reply_tests;
 #[cfg(test)]
 mod root_tests;
 #[cfg(test)]

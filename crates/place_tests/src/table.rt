@@ -1,26 +1,23 @@
-//! What the tests of blocks and of objects share.
+//! A table with one block.
 
 use mh_blocks::blocks::Blocks;
-use mh_classes::parts::{Part, parts};
+use mh_classes::parts::parts;
+use mh_model::birth::Birth;
 use mh_model::config::Rules;
 use mh_model::place::Place;
-use std::process::Abort;
+use std::alloc::Global;
 use std::test::Fail;
 
-/// The one part of an object of so many fields.
-pub fn small_part(references: u32, numbers: u32) -> Result<Part, Fail> {
-    let all = parts(Rules::Second, references, numbers).ok_or("too large")?;
-    let _ = all.count();
-    Ok(all.get(0))
-}
+/// The mark stamp of the block.
+pub const STAMP: u64 = 4;
 
-/// Moves the block at a place to the least place in unflagged pages of its class.
-pub fn moved(rt: &impl Abort, blocks: &mut Blocks, place: Place) -> Result<Place, Fail> {
-    assert!(rt; blocks.is_taken(place));
-    assert_eq!(rt; blocks.forward(place), None);
-    assert!(rt; place.page() < blocks.len());
-    let class = blocks.class_at(place.page()).ok_or("a free page")?;
-    let to = blocks.place_dense(class).ok_or("no place")?;
-    blocks.relocate(place, to);
-    Ok(to)
+/// One page with a block of two references and three numbers, and its place.
+pub fn one_block(alloc: Global) -> Result<(Blocks, Place), Fail> {
+    let mut blocks = Blocks::open(alloc, 1)?;
+    let all = parts(Rules::Second, 2, 3).ok_or("too large")?;
+    let _ = all.count();
+    let place = blocks
+        .make(all.get(0), 0, Birth(0), STAMP)
+        .map_err(|_| "full")?;
+    Ok((blocks, place))
 }

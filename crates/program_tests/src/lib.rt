@@ -1,22 +1,17 @@
-//! Tests of the program: its words, what it answers, and its subcommands over devices that give and take little, are
-//! interrupted, or fail.
+//! Tests of the program: its words, and its subcommands over devices that give and take little, are interrupted, or fail.
 #![tactic(auto)]
 
 #[cfg(test)]
-mod answer_tests;
-#[cfg(test)]
 mod cases;
 #[cfg(test)]
-mod failing_tests;
+mod device_tests;
 #[cfg(test)]
-mod interrupted_tests;
-#[cfg(test)]
-mod launch_tests;
+mod long_tests;
 #[cfg(test)]
 mod order_tests;
 #[cfg(test)]
-mod read_tests;
+mod trial;
 #[cfg(test)]
-mod words;
+mod trouble;
 #[cfg(test)]
-mod write_tests;
+mod word_tests;

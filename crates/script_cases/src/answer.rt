@@ -1,7 +1,6 @@
 use std::alloc::{AllocError, Global};
 
 /// What the program is to write and to tell, and its status.
-#[derive(Drop)]
 pub struct Answer {
     pub status: u8,
     /// What is written, or what `audit` writes of that.
@@ -12,6 +11,19 @@ pub struct Answer {
     /// What standard error is told, or how that begins.
     pub errors: Vec<u8>,
     pub errors_go_on: bool,
+}
+
+impl Drop for Answer {
+    fn drop(self) {
+        let Answer {
+            status: _,
+            output: _,
+            is_audited: _,
+            held: _,
+            errors: _,
+            errors_go_on: _,
+        } = self;
+    }
 }
 
 impl Answer {

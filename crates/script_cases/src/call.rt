@@ -8,11 +8,20 @@ use std::sync::Wait;
 use std::thread::Threads;
 
 /// What the program wrote and told, and its status.
-#[derive(Drop)]
 pub struct Written {
     pub status: u8,
     pub output: Vec<u8>,
     pub errors: Vec<u8>,
+}
+
+impl Drop for Written {
+    fn drop(self) {
+        let Written {
+            status: _,
+            output: _,
+            errors: _,
+        } = self;
+    }
 }
 
 /// An environment with these words, of which the first is the program's own name.

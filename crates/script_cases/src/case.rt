@@ -24,7 +24,6 @@ enum Part {
     Errors,
 }
 
-#[derive(Drop)]
 pub struct Case {
     alloc: Global,
     part: Part,
@@ -36,6 +35,22 @@ pub struct Case {
     pub from: usize,
     pub text: Text,
     pub answer: Answer,
+}
+
+impl Drop for Case {
+    fn drop(self) {
+        let Case {
+            alloc: _,
+            part: _,
+            title: _,
+            deeds: _,
+            places: _,
+            words: _,
+            from: _,
+            text: _,
+            answer: _,
+        } = self;
+    }
 }
 
 fn number(word: &str) -> Result<usize> {

@@ -15,12 +15,21 @@ pub enum Variation {
 }
 
 /// The program is called with these words.
-#[derive(Drop)]
 pub struct Deed {
     pub words: Vec<u8>,
     pub variation: Variation,
     /// What parts of the text are replaced by.
     pub others: Vec<Vec<u8>>,
+}
+
+impl Drop for Deed {
+    fn drop(self) {
+        let Deed {
+            words: _,
+            variation: _,
+            others: _,
+        } = self;
+    }
 }
 
 fn whole(alloc: Global, words: &str, variation: Variation) -> Result<Deed> {

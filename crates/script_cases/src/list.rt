@@ -3,10 +3,15 @@ use anyhow::{Result, bail};
 use std::alloc::{AllocError, Global};
 
 /// The words that a file of cases has under a name.
-#[derive(Drop)]
 pub struct List {
     name: String,
     words: Vec<Vec<u8>>,
+}
+
+impl Drop for List {
+    fn drop(self) {
+        let List { name: _, words: _ } = self;
+    }
 }
 
 impl List {

@@ -23,6 +23,8 @@
 //! | `% audited` | the status is 0, and these lines are what `audit` writes of the output |
 //! | `% holds` | a line that the output has |
 //! | `% errors`, `% errors begin` | what standard error is told, or how that begins; where neither stands, nothing |
+//!
+//! Types that own many texts have a `drop` of their own, which takes them apart: who owns one proves one call where it is dropped.
 #![tactic(auto)]
 
 mod alter;

@@ -31,11 +31,20 @@ fn sections<'a>(alloc: Global, file: &'a str) -> Result<Vec<Section<'a>>> {
     Ok(sections)
 }
 
-#[derive(Drop)]
 struct Reader {
     alloc: Global,
     lists: Vec<List>,
     cases: Vec<Case>,
+}
+
+impl Drop for Reader {
+    fn drop(self) {
+        let Reader {
+            alloc: _,
+            lists: _,
+            cases: _,
+        } = self;
+    }
 }
 
 impl Reader {
@@ -57,6 +66,15 @@ impl Reader {
         }
         Ok(())
     }
+
+    fn into_cases(self) -> Vec<Case> {
+        let Reader {
+            alloc: _,
+            lists: _,
+            cases,
+        } = self;
+        cases
+    }
 }
 
 /// The cases of a file. What stands before the title of the first one is a case of its own.
@@ -70,5 +88,5 @@ pub fn read_cases(alloc: Global, file: &str) -> Result<Vec<Case>> {
     for section in &sections(alloc, file)? {
         reader.add(section)?;
     }
-    Ok(reader.cases)
+    Ok(reader.into_cases())
 }

@@ -16,13 +16,24 @@ use std::sync::Wait;
 use std::thread::Threads;
 
 /// A call of a case, with its words and the beginning of the text as they are filled.
-#[derive(Drop)]
 pub struct Trial<'a> {
     pub alloc: Global,
     pub case: &'a Case,
     pub deed: &'a Deed,
     pub line: Vec<u8>,
     pub first: Vec<u8>,
+}
+
+impl Drop for Trial<'_> {
+    fn drop(self) {
+        let Trial {
+            alloc: _,
+            case: _,
+            deed: _,
+            line: _,
+            first: _,
+        } = self;
+    }
 }
 
 /// Whether `audit` finds the history legal, and writes this of it.
@@ -144,9 +155,11 @@ fn try_words<R: Threads + Wait + Sync>(
     for turn in 0..words.len().max(1) {
         let word = filling(words, turn);
         let trial = Trial {
+            alloc: placed.alloc,
+            case: placed.case,
+            deed: placed.deed,
             line: filled(placed.alloc, placed.line.as_slice(), word)?,
             first: filled(placed.alloc, placed.first.as_slice(), word)?,
-            ..*placed
         };
         try_trial(rt, &trial, report)?;
     }

@@ -6,7 +6,7 @@ use std::alloc::{AllocError, Global};
 const GREATEST: u32 = 44;
 
 /// Above this many bytes the C library divides what is free, so blocks of powers of 2 take it all.
-const SMALL: u32 = 12;
+const SMALL: u32 = 11;
 
 /// The C library keeps small blocks that were freed apart, by sizes that differ by so many bytes.
 const STEP: usize = 16;
@@ -21,6 +21,19 @@ const DIVIDED: usize = 1 << 24;
 /// How many bytes are asked for together with those that are left, so that these are one piece.
 const MARGIN: usize = 65_536;
 
+/// How many bytes of the stack are used before all memory is taken. From then on it can't grow.
+const STACK: usize = 1 << 20;
+
+/// Uses the stack as deep as what is tried later may need it.
+fn use_stack(alloc: Global) -> Result<(), AllocError> {
+    let mut room = [0u8; STACK];
+    for (index, byte) in room.iter_mut().enumerate() {
+        *byte = (index % 251) as u8;
+    }
+    drop(Vec::from_slice(alloc, &room)?);
+    Ok(())
+}
+
 /// All memory that the system would give this process. It is held until this is dropped, and never written to.
 #[derive(Drop)]
 pub struct Famine {
@@ -31,6 +44,7 @@ pub struct Famine {
 impl Famine {
     /// Takes all memory. From then on each request in this process is refused, and no thread can be started.
     pub fn begin(alloc: Global) -> Result<Famine, AllocError> {
+        use_stack(alloc)?;
         drop(Vec::<u8>::with_capacity(alloc, DIVIDED)?);
         let mut famine = Famine {
             alloc,

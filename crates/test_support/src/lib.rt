@@ -1,18 +1,7 @@
-//! What tests share: gates that hold and count, devices that fail, a process without memory, and scripts with what they
-//! print.
+//! What tests share: gates that hold and count, devices that fail, the words of a command line, and a process without memory.
 #![tactic(auto)]
 
-pub mod collector_rows;
-pub mod command_rows;
-pub mod devices;
-pub mod entries;
-pub mod expected;
+pub mod environment;
 pub mod famine;
 pub mod gates;
-pub mod generated;
-pub mod long_rows;
-pub mod measured_rows;
-pub mod named_rows;
-pub mod refused_rows;
-pub mod rows;
 pub mod troubled;

@@ -9,9 +9,12 @@ pub enum Trouble {
     Error(ErrorKind),
     /// The call takes or gives no byte.
     NoByte,
+    /// Each call is interrupted of which the number is no multiple of `at`.
+    Interruptions,
 }
 
-/// A reader and a writer of std of which the call number `at`, counted from 1, has this trouble, and no other.
+/// A reader and a writer of std that takes or gives at most `most` bytes at a call. Call number `at`, counted from 1, has this
+/// trouble, and no other, unless the trouble says more.
 #[derive(Drop)]
 pub struct Troubled<'a> {
     pub bytes: &'a [u8],
@@ -47,12 +50,13 @@ impl<'a> Troubled<'a> {
     /// Counts a call, and gives how many bytes it may take or give.
     fn room(&mut self, wanted: usize) -> io::Result<usize> {
         self.calls = self.calls.wrapping_add(1);
-        if self.calls != self.at {
-            return Ok(wanted.min(self.most));
-        }
         match self.trouble {
-            Trouble::Error(kind) => Err(io::Error::from(kind)),
-            Trouble::NoByte => Ok(0),
+            Trouble::Error(kind) if self.calls == self.at => Err(io::Error::from(kind)),
+            Trouble::NoByte if self.calls == self.at => Ok(0),
+            Trouble::Interruptions if self.calls % self.at.max(1) != 0 => {
+                Err(io::Error::from(ErrorKind::Interrupted))
+            }
+            _ => Ok(wanted.min(self.most)),
         }
     }
 }
@@ -65,60 +69,6 @@ impl Read for Troubled<'_> {
 }
 
 impl Write for Troubled<'_> {
-    fn write(&mut self, bytes: &[u8]) -> io::Result<usize> {
-        let count = self.room(bytes.len())?.min(bytes.len());
-        self.taken.extend_from_slice(&bytes[..count])?;
-        Ok(count)
-    }
-
-    fn flush(&mut self) -> io::Result<()> {
-        Ok(())
-    }
-}
-
-/// A reader and a writer of std of which so many calls in a row are interrupted before each one that isn't.
-#[derive(Drop)]
-pub struct Interrupted<'a> {
-    pub bytes: &'a [u8],
-    pub taken: Vec<u8>,
-    pub most: usize,
-    pub in_a_row: u64,
-    pub calls: u64,
-}
-
-impl<'a> Interrupted<'a> {
-    pub fn reader(alloc: Global, bytes: &'a [u8], most: usize, in_a_row: u64) -> Interrupted<'a> {
-        Interrupted {
-            bytes,
-            taken: Vec::new(alloc),
-            most,
-            in_a_row,
-            calls: 0,
-        }
-    }
-
-    pub fn writer(alloc: Global, most: usize, in_a_row: u64) -> Interrupted<'static> {
-        Interrupted::reader(alloc, b"", most, in_a_row)
-    }
-
-    fn room(&mut self, wanted: usize) -> io::Result<usize> {
-        if self.calls < self.in_a_row {
-            self.calls += 1;
-            return Err(io::Error::from(ErrorKind::Interrupted));
-        }
-        self.calls = 0;
-        Ok(wanted.min(self.most))
-    }
-}
-
-impl Read for Interrupted<'_> {
-    fn read(&mut self, buffer: &mut [u8]) -> io::Result<usize> {
-        let count = self.room(buffer.len())?.min(buffer.len());
-        self.bytes.read(&mut buffer[..count])
-    }
-}
-
-impl Write for Interrupted<'_> {
     fn write(&mut self, bytes: &[u8]) -> io::Result<usize> {
         let count = self.room(bytes.len())?.min(bytes.len());
         self.taken.extend_from_slice(&bytes[..count])?;

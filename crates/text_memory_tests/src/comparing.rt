@@ -1,9 +1,7 @@
-ghost use Rattle.std.specs.Prelude.{◌≡◌, None};
+use std::io;
+use std::io::Write;
 
-use mh_text::device::DeviceFailed;
-use mh_text::sink::Sink;
-
-/// A sink that takes no memory: it keeps nothing, and tells whether what was written is a beginning of a text.
+/// A writer that takes no memory: it keeps nothing, and tells whether what was written is a beginning of a text.
 #[derive(Drop)]
 pub struct Comparing<'a> {
     text: &'a [u8],
@@ -35,17 +33,17 @@ impl<'a> Comparing<'a> {
     }
 }
 
-impl Sink for Comparing<'_> {
-    ghost written = { λ sink. None };
-
-    ghost failures = { λ sink. 0 };
-
-    fn write(&mut self, bytes: &[u8]) -> Result<usize, DeviceFailed> {
+impl Write for Comparing<'_> {
+    fn write(&mut self, bytes: &[u8]) -> io::Result<usize> {
         let end = self.written.saturating_add(bytes.len());
         if self.text.get(self.written..end) != Some(bytes) {
             self.differs = true;
         }
         self.written = end;
         Ok(bytes.len())
+    }
+
+    fn flush(&mut self) -> io::Result<()> {
+        Ok(())
     }
 }

@@ -6,18 +6,10 @@ mod calls;
 #[cfg(test)]
 mod comparing;
 #[cfg(test)]
-mod judge_tests;
-#[cfg(test)]
-mod program_tests;
-#[cfg(test)]
 mod race_tests;
-#[cfg(test)]
-mod races;
-#[cfg(test)]
-mod run_tests;
 #[cfg(test)]
 mod sweep;
 #[cfg(test)]
-mod texts;
+mod text_tests;
 #[cfg(test)]
-mod work;
+mod texts;

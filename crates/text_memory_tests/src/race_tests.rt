@@ -1,74 +1,48 @@
-use crate::races::Races;
-use crate::sweep::{Attempt, Outcome, check};
-use crate::texts::{ALONE, ALONE_HISTORY, repeated};
-use crate::work::{Answer, Task, Work};
-use mh_script::end::End;
+use crate::calls::{Call, Outcome, Reading, Wanted};
+use crate::comparing::Comparing;
+use crate::sweep::check;
+use crate::texts::{ALONE, ALONE_HISTORY, RACE, RACE_BY_TWO, SHARED, SHARED_ENTRIES, repeated};
+use mh_program::launch::launch;
 use std::test::Fail;
 use std::thread;
+use test_support::environment::Words;
 use test_support::famine::Famine;
 
-/// A script of one session, whose history is known.
-fn alone<'a>(text: &'a [u8], output: &'a [u8]) -> Attempt<'a> {
-    Attempt::OnText(Work {
-        task: Task::Race,
-        text,
-        answer: Answer::Script(End::Done),
-        output,
-    })
-}
+const SESSION: Call<'static> = Call {
+    words: RACE,
+    text: ALONE,
+    wanted: Wanted::Output(ALONE_HISTORY),
+    status: 0,
+    reading: Reading::Before,
+};
 
 #[test]
 fn a_session_alone(rt: HostRuntime) -> Result<(), Fail> {
-    let mut work = alone(ALONE, ALONE_HISTORY);
-    check(&rt, rt.alloc(), &mut work)?;
-    assert_eq!(rt; work.outcome(&rt, rt.alloc()), Outcome::Right);
+    check(&rt, rt.alloc(), SESSION, 2)?;
     Ok(())
 }
 
 #[test]
-fn a_session_alone_whose_threads_have_stacks(rt: HostRuntime) -> Result<(), Fail> {
-    let mut work = alone(ALONE, ALONE_HISTORY);
-    assert_eq!(rt; work.outcome(&rt, rt.alloc()), Outcome::Right);
-    check(&rt, rt.alloc(), &mut work)?;
+fn a_session_alone_with_its_words(rt: HostRuntime) -> Result<(), Fail> {
+    let call = Call {
+        reading: Reading::Within,
+        ..SESSION
+    };
+    check(&rt, rt.alloc(), call, 1)?;
     Ok(())
 }
 
-#[test]
-fn a_beginning_of_a_long_history(rt: HostRuntime) -> Result<(), Fail> {
-    let alloc = rt.alloc();
-    let script = repeated(alloc, b"config 4 1000 4 1\n", b"a clear 0\n", 4_200)?;
-    let history = repeated(
-        alloc,
-        b"history 2 rules 2 4 1000 4 1\n",
-        b"s0 clear 0 = ok units 1 296\n",
-        4_200,
-    )?;
-    let mut work = alone(script.as_slice(), history.as_slice());
-    let seen = check(&rt, alloc, &mut work)?;
-    assert!(rt; seen.begun > 0);
-    Ok(())
-}
+const SESSIONS: Call<'static> = Call {
+    words: RACE_BY_TWO,
+    text: SHARED,
+    wanted: Wanted::History(SHARED_ENTRIES),
+    status: 0,
+    reading: Reading::Before,
+};
 
 #[test]
 fn three_sessions_and_the_desk(rt: HostRuntime) -> Result<(), Fail> {
-    let alloc = rt.alloc();
-    let mut races = Attempt::OfRaces(Races::new(alloc)?);
-    let told = check(&rt, alloc, &mut races)?;
-    let seen = races.judged(alloc);
-    assert_eq!(rt; seen.wrong, None);
-    assert_eq!(rt; (seen.right, seen.refused), (told.right, told.refused));
-    Ok(())
-}
-
-#[test]
-fn sessions_whose_threads_have_stacks(rt: HostRuntime) -> Result<(), Fail> {
-    let alloc = rt.alloc();
-    let mut races = Attempt::OfRaces(Races::new(alloc)?);
-    assert_eq!(rt; races.outcome(&rt, alloc), Outcome::Right);
-    check(&rt, alloc, &mut races)?;
-    let seen = races.judged(alloc);
-    assert_eq!(rt; seen.wrong, None);
-    assert!(rt; seen.right > 1 && seen.refused > 0);
+    check(&rt, rt.alloc(), SESSIONS, 2)?;
     Ok(())
 }
 
@@ -77,15 +51,35 @@ const FEW_BYTES: usize = 1 << 22;
 
 #[test]
 fn a_race_where_no_thread_can_be_started(rt: HostRuntime) -> Result<(), Fail> {
-    let alloc = rt.alloc();
-    let mut races = Attempt::OfRaces(Races::new(alloc)?);
-    let mut famine = Famine::begin(alloc)?;
+    let mut famine = Famine::begin(rt.alloc())?;
     famine.leave(FEW_BYTES)?;
     let is_refused = thread::spawn(&rt, || 0u8).is_err();
-    let told = races.outcome(&rt, alloc);
+    let outcome = SESSIONS.attempt(&rt, rt.alloc(), &mut famine, FEW_BYTES)?;
     drop(famine);
     assert!(rt; is_refused);
-    assert_eq!(rt; told, Outcome::Right);
-    assert_eq!(rt; races.judged(alloc).right, 1);
+    assert_eq!(rt; outcome, Outcome::Right);
+    Ok(())
+}
+
+/// How many entries a history holds.
+const MOST_ENTRIES: usize = 1_000_000;
+
+#[test]
+fn a_race_of_more_events_than_a_history_holds(rt: HostRuntime) -> Result<(), Fail> {
+    let alloc = rt.alloc();
+    let script = repeated(
+        alloc,
+        b"config 4 209 0 0\n",
+        b"a clear 0\n",
+        MOST_ENTRIES + 1,
+    )?;
+    let first = b"history 2 rules 2 4 209 0 0\n";
+    let history = repeated(alloc, first, b"s0 clear 0 = ok units 1 0\n", MOST_ENTRIES)?;
+    let mut output = Comparing::new(history.as_slice());
+    let mut errors = Comparing::new(b"metroheap: history full\n");
+    let input = script.as_slice();
+    let status = launch(&rt, alloc, &Words(RACE), input, &mut output, &mut errors);
+    assert_eq!(rt; status, 3);
+    assert!(rt; output.is_whole() && errors.is_whole());
     Ok(())
 }

@@ -1,55 +1,10 @@
-//! The same work again and again, each time with other memory left.
-use crate::calls::Call;
-use crate::races::{Races, judge_each};
-use crate::work::Work;
+//! The same call again and again, each time with other memory left.
+use crate::calls::{Call, Outcome};
 use std::alloc::{AllocError, Global};
 use std::process::Abort;
 use std::sync::Wait;
 use std::thread::Threads;
 use test_support::famine::Famine;
-
-/// How work came out.
-#[derive(Clone, Copy, Debug, PartialEq, Eq)]
-pub enum Outcome {
-    Right,
-    /// Want of memory was told, and so many bytes were written, which are a beginning of what is right.
-    Refused(usize),
-    Wrong,
-}
-
-/// Work that may be refused memory.
-#[derive(Drop)]
-pub enum Attempt<'a> {
-    OnText(Work<'a>),
-    OfProgram(Call<'a>),
-    OfRaces(Races),
-}
-
-impl Attempt<'_> {
-    /// Makes ready for one attempt what needs memory at hand.
-    fn make_ready(&mut self, alloc: Global, famine: &mut Famine) -> Result<(), AllocError> {
-        match self {
-            Attempt::OfProgram(call) => call.make_ready(alloc, famine),
-            Attempt::OnText(_) | Attempt::OfRaces(_) => Ok(()),
-        }
-    }
-
-    pub fn outcome<R: Threads + Wait + Sync>(&mut self, rt: &R, alloc: Global) -> Outcome {
-        match self {
-            Attempt::OnText(work) => work.outcome(rt, alloc),
-            Attempt::OfProgram(call) => call.outcome(rt, alloc),
-            Attempt::OfRaces(races) => races.outcome(rt, alloc),
-        }
-    }
-
-    /// How the races came out whose histories were not judged yet.
-    pub fn judged(&self, alloc: Global) -> Seen {
-        match self {
-            Attempt::OfRaces(races) => judge_each(alloc, races),
-            Attempt::OnText(_) | Attempt::OfProgram(_) => Seen::new(),
-        }
-    }
-}
 
 /// The blocks of the C library differ by so many bytes.
 const STEP: usize = 16;
@@ -68,10 +23,12 @@ const MEGABYTE: usize = 1 << 20;
 /// The stack of a thread takes 16 megabytes, so that with these two threads are started.
 const MOST_MEGABYTES: usize = 40;
 
+/// Room for the stacks of several threads.
+const PLENTY: usize = 256 * MEGABYTE;
+
 /// What was answered while memory was refused.
-#[derive(Clone, Copy, Debug, PartialEq, Eq)]
+#[derive(Clone, Copy)]
 pub struct Seen {
-    pub right: u64,
     pub refused: u64,
     /// How many of those that were refused had written something.
     pub begun: u64,
@@ -80,19 +37,10 @@ pub struct Seen {
 }
 
 impl Seen {
-    pub fn new() -> Seen {
-        Seen {
-            right: 0,
-            refused: 0,
-            begun: 0,
-            wrong: None,
-        }
-    }
-
     /// Counts an outcome with so many bytes left.
-    pub fn count(&mut self, left: usize, outcome: Outcome) {
+    fn count(&mut self, left: usize, outcome: Outcome) {
         match outcome {
-            Outcome::Right => self.right = self.right.wrapping_add(1),
+            Outcome::Right => {}
             Outcome::Refused(written) => {
                 self.refused = self.refused.wrapping_add(1);
                 self.begun = self.begun.wrapping_add(u64::from(written > 0));
@@ -103,93 +51,109 @@ impl Seen {
     }
 }
 
-/// Makes one attempt with so many bytes left.
-fn attempt_with<R: Threads + Wait + Sync>(
-    rt: &R,
-    alloc: Global,
-    famine: &mut Famine,
-    work: &mut Attempt<'_>,
-    left: usize,
-) -> Result<Outcome, AllocError> {
-    work.make_ready(alloc, famine)?;
-    famine.leave(left)?;
-    Ok(work.outcome(rt, alloc))
+/// Attempts of one call.
+#[derive(Drop)]
+struct Sweep<'a> {
+    call: Call<'a>,
+    famine: Famine,
+    seen: Seen,
 }
 
-/// Attempts with no memory left, and then with more each time, until one is right. Gives how many bytes were left then.
-fn until_right<R: Threads + Wait + Sync>(
-    rt: &R,
-    alloc: Global,
-    famine: &mut Famine,
-    work: &mut Attempt<'_>,
-    seen: &mut Seen,
-) -> Result<usize, AllocError> {
-    let mut left = 0usize;
-    for _ in 0..MOST_BYTES {
-        let outcome = attempt_with(rt, alloc, famine, work, left)?;
-        seen.count(left, outcome);
-        if outcome == Outcome::Right || left > MOST_BYTES {
-            break;
+impl<'a> Sweep<'a> {
+    fn new(alloc: Global, call: Call<'a>) -> Result<Sweep<'a>, AllocError> {
+        Ok(Sweep {
+            call,
+            famine: Famine::begin(alloc)?,
+            seen: Seen {
+                refused: 0,
+                begun: 0,
+                wrong: None,
+            },
+        })
+    }
+
+    /// Makes one attempt with so many bytes left, and tells whether it was right.
+    fn attempt<R: Threads + Wait + Sync>(
+        &mut self,
+        rt: &R,
+        alloc: Global,
+        left: usize,
+    ) -> Result<bool, AllocError> {
+        let outcome = self.call.attempt(rt, alloc, &mut self.famine, left)?;
+        self.seen.count(left, outcome);
+        Ok(outcome == Outcome::Right)
+    }
+
+    /// Attempts with no memory left, and then with more each time, until one is right. Gives how many bytes were left then.
+    fn until_right<R: Threads + Wait + Sync>(
+        &mut self,
+        rt: &R,
+        alloc: Global,
+    ) -> Result<usize, AllocError> {
+        let mut left = 0usize;
+        for _ in 0..MOST_BYTES {
+            if self.attempt(rt, alloc, left)? || left > MOST_BYTES {
+                break;
+            }
+            left = left.saturating_add(STEP.max(left / PARTS));
         }
-        left = left.saturating_add(STEP.max(left / PARTS));
+        Ok(left)
     }
-    Ok(left)
-}
 
-/// Attempts in small steps with a little less than what was enough.
-fn below<R: Threads + Wait + Sync>(
-    rt: &R,
-    alloc: Global,
-    famine: &mut Famine,
-    work: &mut Attempt<'_>,
-    enough: usize,
-    seen: &mut Seen,
-) -> Result<(), AllocError> {
-    let mut left = enough.saturating_sub(WINDOW);
-    for _ in 0..WINDOW / STEP {
-        seen.count(left, attempt_with(rt, alloc, famine, work, left)?);
-        left = left.saturating_add(STEP);
+    /// Attempts in small steps with a little less than what was enough.
+    fn below<R: Threads + Wait + Sync>(
+        &mut self,
+        rt: &R,
+        alloc: Global,
+        enough: usize,
+    ) -> Result<(), AllocError> {
+        let mut left = enough.saturating_sub(WINDOW);
+        for _ in 0..WINDOW / STEP {
+            self.attempt(rt, alloc, left)?;
+            left = left.saturating_add(STEP);
+        }
+        Ok(())
     }
-    Ok(())
-}
 
-/// Attempts with a megabyte left, and then with one more each time, so that threads are refused and then started.
-fn by_megabytes<R: Threads + Wait + Sync>(
-    rt: &R,
-    alloc: Global,
-    famine: &mut Famine,
-    work: &mut Attempt<'_>,
-    seen: &mut Seen,
-) -> Result<(), AllocError> {
-    for count in 1..=MOST_MEGABYTES {
-        let left = count * MEGABYTE;
-        seen.count(left, attempt_with(rt, alloc, famine, work, left)?);
+    /// Attempts with a megabyte left, and then with one more each time, so that threads are refused and then started.
+    fn by_megabytes<R: Threads + Wait + Sync>(
+        &mut self,
+        rt: &R,
+        alloc: Global,
+    ) -> Result<(), AllocError> {
+        for count in 1..=MOST_MEGABYTES {
+            self.attempt(rt, alloc, count * MEGABYTE)?;
+        }
+        Ok(())
     }
-    Ok(())
+
+    /// Refuses the requests for memory that the call makes, in turn.
+    fn refuse_each<R: Threads + Wait + Sync>(
+        &mut self,
+        rt: &R,
+        alloc: Global,
+    ) -> Result<(), AllocError> {
+        let enough = self.until_right(rt, alloc)?;
+        self.below(rt, alloc, enough)?;
+        self.by_megabytes(rt, alloc)
+    }
 }
 
-/// Refuses the requests for memory that the work makes, in turn.
-pub fn refuse_each<R: Threads + Wait + Sync>(
-    rt: &R,
-    alloc: Global,
-    work: &mut Attempt<'_>,
-) -> Result<Seen, AllocError> {
-    let mut famine = Famine::begin(alloc)?;
-    let mut seen = Seen::new();
-    let enough = until_right(rt, alloc, &mut famine, work, &mut seen)?;
-    below(rt, alloc, &mut famine, work, enough, &mut seen)?;
-    by_megabytes(rt, alloc, &mut famine, work, &mut seen)?;
-    Ok(seen)
-}
-
-/// Where memory is refused the work is done right or tells of it.
+/// Refuses the requests for memory that a call makes in turn, and then grants all, so many times over. The C library keeps the
+/// stack of a thread that has ended for the next one, so from the second time on threads have stacks.
 pub fn check<R: Threads + Wait + Sync + Abort>(
     rt: &R,
     alloc: Global,
-    work: &mut Attempt<'_>,
+    call: Call<'_>,
+    times: usize,
 ) -> Result<Seen, AllocError> {
-    let seen = refuse_each(rt, alloc, work)?;
+    let mut sweep = Sweep::new(alloc, call)?;
+    for _ in 0..times {
+        sweep.refuse_each(rt, alloc)?;
+        assert!(rt; sweep.attempt(rt, alloc, PLENTY)?);
+    }
+    let seen = sweep.seen;
     assert_eq!(rt; seen.wrong, None);
-    assert!(rt; seen.right > 0 && seen.refused > 0);
+    assert!(rt; seen.refused > 0);
     Ok(seen)
 }

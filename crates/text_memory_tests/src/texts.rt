@@ -1,6 +1,44 @@
-//! Scripts and histories, and what is right for them.
+//! Command lines, scripts and histories, and what is right for them.
 use std::alloc::{AllocError, Global};
 use std::fmt::Write;
+
+pub const RUN: &[&[u8]] = &[b"metroheap", b"run"];
+
+pub const RUN_BY_TWO: &[&[u8]] = &[b"metroheap", b"run", b"--workers=2"];
+
+pub const RACE: &[&[u8]] = &[b"metroheap", b"race"];
+
+pub const RACE_BY_TWO: &[&[u8]] = &[b"metroheap", b"race", b"--workers=2"];
+
+pub const CHECK: &[&[u8]] = &[
+    b"metroheap",
+    b"check",
+    b"--pages=4",
+    b"--quantum=353",
+    b"--trigger=0",
+    b"--every=0",
+];
+
+pub const AUDIT: &[&[u8]] = &[b"metroheap", b"audit"];
+
+pub const MIGRATE: &[&[u8]] = &[
+    b"metroheap",
+    b"migrate",
+    b"--pages=4",
+    b"--quantum=353",
+    b"--trigger=0",
+    b"--every=0",
+];
+
+/// Under this configuration each command is followed by a whole cycle.
+pub const MIGRATE_CYCLES: &[&[u8]] = &[
+    b"metroheap",
+    b"migrate",
+    b"--pages=4",
+    b"--quantum=1000",
+    b"--trigger=4",
+    b"--every=1",
+];
 
 /// Five objects of 64 words of which one is dropped, so that a collection moves another; two names, a dump and a report.
 pub const COLLECTED: &[u8] = b"# Five objects, of which one moves.
@@ -103,8 +141,8 @@ c end
 * left
 ";
 
-/// How many events the script of three sessions and the desk has.
-pub const SHARED_EVENTS: u64 = 15;
+/// How many entries a history of three sessions and the desk has.
+pub const SHARED_ENTRIES: u64 = 15;
 
 /// A collection, as a history of version 1.
 pub const HISTORY: &[u8] = b"history 1
@@ -128,6 +166,8 @@ s1 clear 16 = refused 1 bad slot units 1 0
 * report 361 = mutator 2 collector 360 quanta 2 greatest 353 window 361 least 1 floor none units 0 0
 ";
 
+pub const LEGAL: &[u8] = b"legal 7\n";
+
 /// A history of which the third entry has a wrong reply.
 pub const BAD_HISTORY: &[u8] =
     b"history 1\ns0 new 0 0 1 = ok\ns0 write 0 0 5 = ok\ns0 read 0 0 = number 6\ns0 end = ok\n";
@@ -135,6 +175,8 @@ pub const BAD_HISTORY: &[u8] =
 /// The same as version 2.
 pub const BAD_RECORD: &[u8] =
     b"history 2 rules 2 4 353 0 0\ns0 new 0 0 1 = ok units 1 0\ns0 write 0 0 5 = ok units 1 0\ns0 read 0 0 = number 6 units 1 0\n";
+
+pub const FIRST_BAD: &[u8] = b"first bad 3\n";
 
 /// A text, and after it another, so many times.
 pub fn repeated(
@@ -181,4 +223,22 @@ fn add_oks(output: &mut String) -> Result<(), AllocError> {
         output.push_str("ok\n")?;
     }
     Ok(())
+}
+
+/// An object that leads to sixty others, so that a crew has pieces to share, and a cycle that finds them.
+pub fn wide(alloc: Global) -> Result<String, AllocError> {
+    let mut script = "config 8 400 0 0\na new 0 60 0\n".to_string(alloc)?;
+    for field in 0..60u32 {
+        write!(script, "a new 1 1 0\na put 0 {field} 1\n")?;
+    }
+    script.push_str("a clear 1\n* start\n* quantum\n* quantum\n* stat\n")?;
+    Ok(script)
+}
+
+pub fn wide_output(alloc: Global) -> Result<Vec<u8>, AllocError> {
+    let mut output = repeated(alloc, b"", b"ok\n", 123)?;
+    let last =
+        b"spent 399 phase mark\nspent 239 phase idle\nfree 5 live 61 old 0 phase idle cycle 1\n";
+    output.extend_from_slice(last)?;
+    Ok(output)
 }

@@ -1,43 +1,60 @@
-//! Claims and the seats that draw them.
+//! Draws of the claim word.
+ghost use Rattle.std.specs.Prelude.{◌+◌, ◌^◌, ◌<◌, ◌≤◌, All};
+ghost use Rattle.mh_claims.specs.Seats.{IsOf};
 
-use mh_claims::claims::Claims;
+use mh_claims::claims::{Claims, DrawSeat};
+use mh_model::memory::NoMemory;
+use std::alloc::Global;
 use std::test::Fail;
 
-#[test]
-fn the_most_seats_have_not_ended_at_first(rt: HostRuntime) -> Result<(), Fail> {
-    let (_, seats) = Claims::new(rt.alloc(), 1, 64)?;
-    assert_eq!(rt; seats.len(), 64);
-    assert!(rt; !seats.iter().any(|seat| seat.ended()));
-    Ok(())
+/// What a seat draws. One that has ended draws nothing.
+fn draw(claims: &Claims, seats: &mut [DrawSeat], index: usize) -> Option<u64>
+    requires { All (IsOf claims.now) seats.old }
+    ensures { All (IsOf claims.now) seats.new }
+{
+    if index >= seats.len() || seats[index].ended() {
+        return None;
+    }
+    claims.draw(&mut seats[index])
+}
+
+/// What the seats with these indices draw, one after the other.
+fn drawn_by(
+    alloc: Global,
+    claims: &Claims,
+    seats: &mut [DrawSeat],
+    order: &[usize],
+) -> Result<Vec<Option<u64>>, NoMemory>
+    requires { All (IsOf claims.now) seats.old }
+{
+    let mut drawn = Vec::new(alloc);
+    for index in order {
+        drawn.push(draw(claims, seats, *index))?;
+    }
+    Ok(drawn)
+}
+
+/// The same of so many seats that draw the numbers below a bound.
+fn drawn(
+    alloc: Global,
+    bound: u64,
+    count: usize,
+    order: &[usize],
+) -> Result<Vec<Option<u64>>, NoMemory>
+    requires some { (0 < count) × (count ≤ 64) }
+    requires room { bound + count < 2 ^ 64 }
+{
+    let (claims, mut seats) = Claims::new(alloc, bound, count)?;
+    drawn_by(alloc, &claims, &mut seats, order)
 }
 
 #[test]
-fn two_seats_draw_three_numbers(rt: HostRuntime) -> Result<(), Fail> {
-    let (claims, mut seats) = Claims::new(rt.alloc(), 3, 2)?;
-    assert_eq!(rt; seats.len(), 2);
-    let mut a = seats.pop().ok_or("no seat")?;
-    let mut b = seats.pop().ok_or("one seat")?;
-    assert_eq!(rt; claims.draw(&mut a), Some(0));
-    assert_eq!(rt; claims.draw(&mut b), Some(1));
-    assert_eq!(rt; claims.draw(&mut a), Some(2));
-    assert!(rt; !a.ended());
-    assert_eq!(rt; claims.draw(&mut a), None);
-    assert_eq!(rt; claims.draw(&mut b), None);
-    assert!(rt; a.ended());
-    let mut ended = Vec::new(rt.alloc());
-    ended.push(a)?;
-    ended.push(b)?;
-    claims.finish(ended);
-    Ok(())
-}
-
-#[test]
-fn no_number_is_below_0(rt: HostRuntime) -> Result<(), Fail> {
-    let (claims, mut seats) = Claims::new(rt.alloc(), 0, 1)?;
-    let mut seat = seats.pop().ok_or("no seat")?;
-    assert_eq!(rt; claims.draw(&mut seat), None);
-    assert!(rt; seat.ended());
-    seats.push(seat)?;
-    claims.finish(seats);
+fn each_number_is_drawn_once(rt: HostRuntime) -> Result<(), Fail> {
+    let by_two = drawn(rt.alloc(), 3, 2, &[1, 0, 1, 1, 0])?;
+    assert!(rt; by_two.as_slice() == [Some(0), Some(1), Some(2), None, None].as_slice());
+    let of_one = drawn(rt.alloc(), 1, 64, &[63, 0])?;
+    assert!(rt; of_one.as_slice() == [Some(0), None].as_slice());
+    let of_none = drawn(rt.alloc(), 0, 1, &[0])?;
+    assert!(rt; of_none.as_slice() == [None].as_slice());
     Ok(())
 }

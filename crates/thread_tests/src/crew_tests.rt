@@ -1,83 +1,73 @@
-//! Crews that mark the graph, by runs of scripts and by the program.
+//! Crews that mark graphs and trees, by runs of scripts and by the program.
+ghost use Rattle.std.specs.Prelude.{◌<◌, ◌≤◌};
 
-use crate::graph::{CYCLES_CUT, CYCLES_PIECES, cycles_output, cycles_script};
-use mh_program::program::program;
-use mh_script::end::End;
-use mh_script::run::run_script;
-use mh_text::sink::StdSink;
-use mh_text::source::StdSource;
-use std::alloc::{AllocError, Global};
+use crate::graph::{CYCLES_CUT, CYCLES_PIECES, SLOTS, cycles_output, cycles_script};
+use crate::runs::{printed, printed_by_program};
+use std::alloc::Global;
 use std::test::Fail;
-use test_support::gates::{Seen, Watch};
+use std::thread::Threads;
+use test_support::gates::{Hold, Seen, Watch};
 
-/// How many workers a run has, how many pieces its batches have, and how many batches have more than one. One worker cuts
-/// none.
-const RUNS: [(usize, u64, u64); 4] = [
-    (1, 0, 0),
-    (2, CYCLES_PIECES, CYCLES_CUT),
-    (7, CYCLES_PIECES, CYCLES_CUT),
-    (64, CYCLES_PIECES, CYCLES_CUT),
-];
+/// What a gate sees of the graph's cycles where more than one worker marks them.
+pub const CYCLES_SEEN: Seen = Seen {
+    passed: CYCLES_PIECES,
+    cut: CYCLES_CUT,
+    faults: 0,
+};
+
+/// What a gate sees of a run of the graph's cycles whose batches are each shared by so many workers at least.
+fn seen_of_cycles<R: Threads>(
+    rt: &R,
+    alloc: Global,
+    workers: usize,
+    wanted: u32,
+) -> Result<Seen, Fail>
+    requires { (0 < workers) × (workers ≤ 64) }
+{
+    let gate = Watch::new(wanted);
+    let output = printed(rt, alloc, &cycles_script(alloc)?, workers, &gate)?;
+    if output.as_slice() != cycles_output(alloc)?.as_slice() {
+        return Err(Fail::from("other replies"));
+    }
+    Ok(gate.seen())
+}
 
 #[test]
 fn two_workers_share_each_batch_of_a_run(rt: HostRuntime) -> Result<(), Fail> {
-    let script = cycles_script(rt.alloc())?;
-    let output = cycles_output(rt.alloc())?;
-    for (workers, passed, cut) in RUNS {
-        let gate = Watch::new(workers.min(2) as u32);
-        let mut source = StdSource::new(script.as_slice());
-        let mut sink = StdSink::new(Vec::new(rt.alloc()));
-        let ended = run_script(&rt, rt.alloc(), &mut source, &mut sink, workers, &gate);
-        assert_eq!(rt; ended, Ok(End::Done));
-        assert!(rt; sink.writer.as_slice() == output.as_slice());
-        let seen = Seen {
-            passed,
-            cut,
-            faults: 0,
-        };
-        assert_eq!(rt; gate.seen(), seen, "with {workers} workers");
+    for workers in [2, 7, 64] {
+        let seen = seen_of_cycles(&rt, rt.alloc(), workers, 2)?;
+        assert!(rt; seen == CYCLES_SEEN, "with {workers} workers");
     }
     Ok(())
 }
 
-/// The words of a run by so many workers.
-fn words_of(alloc: Global, workers: &str) -> Result<Vec<String>, AllocError> {
-    let mut words = Vec::new(alloc);
-    for word in ["metroheap", "run", "--workers", workers] {
-        words.push(word.to_string(alloc)?)?;
-    }
-    Ok(words)
+#[test]
+fn one_worker_calls_no_gate(rt: HostRuntime) -> Result<(), Fail> {
+    let seen = seen_of_cycles(&rt, rt.alloc(), 1, 1)?;
+    assert!(rt; seen.passed == 0 && seen.cut == 0 && seen.faults == 0);
+    Ok(())
 }
 
 #[test]
 fn two_workers_share_each_batch_of_the_program(rt: HostRuntime) -> Result<(), Fail> {
-    let alloc = rt.alloc();
-    let script = cycles_script(alloc)?;
-    let output = cycles_output(alloc)?;
-    let seen = Seen {
-        passed: CYCLES_PIECES,
-        cut: CYCLES_CUT,
-        faults: 0,
-    };
+    let script = cycles_script(rt.alloc())?;
+    let output = cycles_output(rt.alloc())?;
     for workers in ["2", "7"] {
         let gate = Watch::new(2);
-        let words = Ok(words_of(alloc, workers)?);
-        let mut source = StdSource::new(script.as_slice());
-        let mut sink = StdSink::new(Vec::new(alloc));
-        let mut errors = StdSink::new(Vec::new(alloc));
-        let status = program(
-            &rt,
-            alloc,
-            words,
-            &mut source,
-            &mut sink,
-            &mut errors,
-            &gate,
-        );
-        assert_eq!(rt; status, 0);
-        assert!(rt; sink.writer.as_slice() == output.as_slice());
-        assert!(rt; errors.writer.is_empty());
-        assert_eq!(rt; gate.seen(), seen, "with {workers} workers");
+        let printed = printed_by_program(&rt, rt.alloc(), &script, workers, &gate)?;
+        assert!(rt; printed.as_slice() == output.as_slice());
+        assert!(rt; gate.seen() == CYCLES_SEEN, "with {workers} workers");
+    }
+    Ok(())
+}
+
+/// One worker is held at the first piece, and the other goes on to the next, and on to the last of four.
+#[test]
+fn a_worker_draws_on_while_another_is_held(rt: HostRuntime) -> Result<(), Fail> {
+    for until in [1, 3] {
+        let gate = Hold::new(until);
+        let _ = printed(&rt, rt.alloc(), SLOTS, 2, &gate)?;
+        assert!(rt; gate.is_open());
     }
     Ok(())
 }

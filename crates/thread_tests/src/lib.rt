@@ -1,10 +1,8 @@
-//! Tests of claims, locks, crews, services and races in several threads.
+//! Tests of crews, locks, services and races in several threads.
 #![tactic(auto)]
 
 #[cfg(test)]
-mod call_tests;
-#[cfg(test)]
-mod calls;
+mod callers;
 #[cfg(test)]
 mod claim_tests;
 #[cfg(test)]
@@ -14,7 +12,11 @@ mod graph;
 #[cfg(test)]
 mod lock_tests;
 #[cfg(test)]
+mod marks;
+#[cfg(test)]
 mod race_tests;
+#[cfg(test)]
+mod runs;
 #[cfg(test)]
 mod scan_tests;
 #[cfg(test)]

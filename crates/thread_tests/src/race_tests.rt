@@ -1,65 +1,53 @@
 //! Races whose sessions have to run at once, and one whose quanta are scanned by crews.
+ghost use Rattle.std.specs.Prelude.{◌<◌, ◌≤◌};
 
-use crate::graph::{
-    SCHEDULED_CUT, SCHEDULED_EVENTS, SCHEDULED_PIECES, SCHEDULED_QUANTA, scheduled_script,
-};
-use mh_judging::judge::audit_script;
-use mh_model::history::Verdict;
-use mh_racing::race::race_script;
-use mh_script::end::End;
-use mh_script::fault::ScriptFault;
-use mh_text::sink::StdSink;
-use mh_text::source::StdSource;
+use crate::graph::{SCHEDULED_CUT, SCHEDULED_PIECES, SCHEDULED_QUANTA, scheduled_script};
+use crate::runs::raced;
 use std::alloc::Global;
+use std::sync::Wait;
 use std::test::Fail;
+use std::thread::Threads;
 use test_support::gates::{Arrivals, Seen, Watch};
 
-/// The verdict on a history of version 2.
-fn verdict_on(alloc: Global, history: &[u8]) -> Result<Verdict, ScriptFault> {
-    let mut sink = StdSink::new(Vec::new(alloc));
-    audit_script(alloc, &mut StdSource::new(history), &mut sink)
+/// Whether so many sessions of a script, the desk among them, are in the race at once. Each is held until all have come.
+fn run_at_once<R: Threads + Wait + Sync>(
+    rt: &R,
+    alloc: Global,
+    script: &[u8],
+    sessions: u32,
+) -> Result<bool, Fail> {
+    let gate = Arrivals::new(sessions);
+    let _ = raced(rt, alloc, script, 2, &gate)?;
+    Ok(gate.sessions().is_each_once(sessions))
 }
 
-/// Scripts with how many sessions have events, the desk among them, and how many events.
-const SHARED: [(&[u8], u32, u64); 4] = [
-    (b"config 4 209 0 0\n", 0, 0),
-    (b"config 4 209 0 0\na new 0 0 1\nb new 0 0 1\n", 2, 2),
-    (
-        b"config 4 353 4 3\na new 0 1 0\nb new 0 0 0\nb post 0 0\na take 1 0\na put 0 0 1\nc take 0 0\nc end\n",
-        3,
-        7,
-    ),
-    (
-        b"config 4 209 0 0\na new 0 0 1\nb new 0 0 1\nc new 0 0 1\nd new 0 0 1\ne new 0 0 1\nf new 0 0 1\ng new 0 0 1\nh new 0 0 1\ni new 0 0 1\n* start\n* quantum\na post 0 0\nh take 1 0\nh end\n* stat\n* dump\n",
-        9,
-        16,
-    ),
-];
+const NONE: &[u8] = b"config 4 209 0 0\n";
 
-/// Each session is held until all have come.
+const TWO: &[u8] = b"config 4 209 0 0\na new 0 0 1\nb new 0 0 1\n";
+
+const THREE: &[u8] =
+    b"config 4 353 4 3\na new 0 1 0\nb new 0 0 0\nb post 0 0\na take 1 0\na put 0 0 1\nc take 0 0\nc end\n";
+
+const NINE: &[u8] =
+    b"config 4 209 0 0\na new 0 0 1\nb new 0 0 1\nc new 0 0 1\nd new 0 0 1\ne new 0 0 1\nf new 0 0 1\ng new 0 0 1\nh new 0 0 1\ni new 0 0 1\n* start\n* quantum\na post 0 0\nh take 1 0\nh end\n* stat\n* dump\n";
+
 #[test]
-fn all_sessions_run_at_once(rt: HostRuntime) {
-    for (script, sessions, events) in SHARED {
-        let gate = Arrivals::new(sessions);
-        let mut source = StdSource::new(script);
-        let mut sink = StdSink::new(Vec::new(rt.alloc()));
-        let ended = race_script(&rt, rt.alloc(), &mut source, &mut sink, 2, &gate);
-        assert_eq!(rt; ended, Ok(End::Done));
-        assert!(rt; gate.sessions().is_each_once(sessions));
-        let verdict = verdict_on(rt.alloc(), sink.writer.as_slice());
-        assert_eq!(rt; verdict, Ok(Verdict::Legal(events)));
-    }
+fn all_sessions_run_at_once(rt: HostRuntime) -> Result<(), Fail> {
+    assert!(rt; run_at_once(&rt, rt.alloc(), NONE, 0)?);
+    assert!(rt; run_at_once(&rt, rt.alloc(), TWO, 2)?);
+    assert!(rt; run_at_once(&rt, rt.alloc(), THREE, 3)?);
+    assert!(rt; run_at_once(&rt, rt.alloc(), NINE, 9)?);
+    Ok(())
 }
 
 /// The first call starts a cycle and scans what it made.
 #[test]
-fn a_session_passes_its_gate_before_its_first_call(rt: HostRuntime) {
+fn a_session_passes_its_gate_before_its_first_call(rt: HostRuntime) -> Result<(), Fail> {
     let gate = Arrivals::new(1);
-    let mut source = StdSource::new(b"config 4 1000 4 1\na new 0 0 0\n".as_slice());
-    let mut sink = StdSink::new(Vec::new(rt.alloc()));
-    let ended = race_script(&rt, rt.alloc(), &mut source, &mut sink, 2, &gate);
-    assert_eq!(rt; ended, Ok(End::Done));
-    assert_eq!(rt; gate.scans(), (1, 0));
+    let script = b"config 4 1000 4 1\na new 0 0 0\n";
+    let _ = raced(&rt, rt.alloc(), script, 2, &gate)?;
+    assert!(rt; gate.scans() == (1, 0));
+    Ok(())
 }
 
 /// The lines of a history that tell of units of the collector.
@@ -73,25 +61,33 @@ fn quanta_of(alloc: Global, history: &[u8]) -> Result<Vec<u8>, Fail> {
     Ok(quanta)
 }
 
+/// The lines that tell of quanta in the history of a race.
+fn quanta_of_race<R: Threads + Wait + Sync>(
+    rt: &R,
+    alloc: Global,
+    script: &[u8],
+    workers: usize,
+    gate: &Watch,
+) -> Result<Vec<u8>, Fail>
+    requires { (0 < workers) × (workers ≤ 64) }
+{
+    let history = raced(rt, alloc, script, workers, gate)?;
+    quanta_of(alloc, &history)
+}
+
 #[test]
 fn two_workers_share_each_batch_of_a_race(rt: HostRuntime) -> Result<(), Fail> {
-    let script = scheduled_script(rt.alloc())?;
-    let seen = Seen {
+    let wanted = Seen {
         passed: SCHEDULED_PIECES,
         cut: SCHEDULED_CUT,
         faults: 0,
     };
+    let script = scheduled_script(rt.alloc())?;
     for workers in [2, 7, 64] {
         let gate = Watch::new(2);
-        let mut source = StdSource::new(script.as_slice());
-        let mut sink = StdSink::new(Vec::new(rt.alloc()));
-        let ended = race_script(&rt, rt.alloc(), &mut source, &mut sink, workers, &gate);
-        assert_eq!(rt; ended, Ok(End::Done));
-        assert_eq!(rt; gate.seen(), seen, "with {workers} workers");
-        let history = sink.writer.as_slice();
-        assert!(rt; quanta_of(rt.alloc(), history)?.as_slice() == SCHEDULED_QUANTA);
-        let verdict = verdict_on(rt.alloc(), history);
-        assert_eq!(rt; verdict, Ok(Verdict::Legal(SCHEDULED_EVENTS)));
+        let quanta = quanta_of_race(&rt, rt.alloc(), &script, workers, &gate)?;
+        assert!(rt; quanta.as_slice() == SCHEDULED_QUANTA);
+        assert!(rt; gate.seen() == wanted, "with {workers} workers");
     }
     Ok(())
 }

@@ -2,15 +2,14 @@
 ghost use Rattle.std.specs.Prelude.{All};
 ghost use Rattle.mh_service.specs.Services.{IsOf};
 
-use crate::calls::owner_of;
-use mh_model::command::{Command, Control, Event};
-use mh_model::config::Config;
+use crate::callers::owner_of;
+use mh_model::command::Event;
 use mh_model::history::Entry;
 use mh_scan::gate::Open;
-use mh_service::seat::{DESK, Seat};
-use mh_service::service::{Closed, Service};
-use mh_state::judge::check;
-use std::alloc::Global;
+use mh_service::seat::Seat;
+use mh_service::service::Service;
+use mh_text::script::{Script, parse};
+use std::alloc::{AllocError, Global};
 use std::sync::Wait;
 use std::sync::atomic::AtomicU64;
 use std::sync::atomic::Ordering::SeqCst;
@@ -21,69 +20,41 @@ use test_support::gates::{Tally, wait_for};
 
 const ROUNDS: u64 = 48;
 
+/// An event of each of the nine seats for four rounds, which come again and again: the sessions make objects that lead to one
+/// which another session posted.
+const FOUR_ROUNDS: &[u8] =
+    b"config 16 300 0 0\na new 0 1 1\nb new 0 1 1\nc new 0 1 1\nd new 0 1 1\ne new 0 1 1\nf new 0 1 1\ng new 0 1 1\nh new 0 1 1\n* start\na post 0 0\nb post 1 0\nc post 2 0\nd post 3 0\ne post 4 0\nf post 5 0\ng post 6 0\nh post 7 0\n* quantum\na take 1 1\nb take 1 2\nc take 1 3\nd take 1 4\ne take 1 5\nf take 1 6\ng take 1 7\nh take 1 0\n* stat\na put 0 0 1\nb put 0 0 1\nc put 0 0 1\nd put 0 0 1\ne put 0 0 1\nf put 0 0 1\ng put 0 0 1\nh put 0 0 1\n* dump\n";
+
 /// Where nine threads wait for one another before each round, for ever where there are fewer, and how many calls were
 /// answered.
 #[derive(Drop)]
-struct Rounds {
+struct Rounds<'a> {
+    events: &'a [Event],
     arrived: AtomicU64,
     answered: AtomicU64,
 }
 
-impl Rounds {
-    fn new() -> Rounds {
-        Rounds {
-            arrived: AtomicU64::new(0),
-            answered: AtomicU64::new(0),
-        }
-    }
-
-    /// Waits until all nine have come to this round.
-    fn wait_for(&self, round: u64) {
+impl Rounds<'_> {
+    /// The event of a seat in a round, once all nine have come to it.
+    fn event(&self, round: u64, seat: u64) -> Option<Event> {
         self.arrived.fetch_add(1, SeqCst);
         wait_for(&self.arrived, round.saturating_add(1).saturating_mul(9));
+        let index = (round % 4 * 9).saturating_add(seat.min(8)) as usize;
+        self.events.get(index).copied()
     }
 }
 
-/// What a session asks for in a round: it makes objects that lead to one which another session posted.
-fn command_of(who: u32, round: u64) -> Command {
-    match round % 4 {
-        0 => Command::New {
-            slot: 0,
-            references: 1,
-            numbers: 1,
-        },
-        1 => Command::Post {
-            board: who,
-            slot: 0,
-        },
-        2 => Command::Take {
-            slot: 1,
-            board: who.wrapping_add(1) % 8,
-        },
-        _ => Command::Put {
-            slot: 0,
-            field: 0,
-            value: 1,
-        },
-    }
-}
-
-fn control_of(round: u64) -> Control {
-    match round % 4 {
-        0 => Control::Start,
-        1 => Control::Quantum,
-        2 => Control::Stat,
-        _ => Control::Dump,
-    }
-}
-
-/// The event of a seat in a round.
-fn event_of(number: u64, round: u64) -> Event {
-    if number == DESK {
-        return Event::Control(control_of(round));
-    }
-    let who = number.min(7) as u8;
-    Event::Session(who, command_of(u32::from(who), round))
+/// Makes a call where the event is one of the seat's.
+fn call<R: Threads + Wait>(
+    rt: &R,
+    service: &Service<'_, Open>,
+    seat: &mut Seat,
+    event: Event,
+) -> bool
+    requires { IsOf service.now seat.old }
+    ensures { IsOf service.now seat.new }
+{
+    seat.owns(&event) && service.call(rt, seat, event).is_ok()
 }
 
 /// Makes a call in each round.
@@ -91,16 +62,16 @@ fn call_each_round<R: Threads + Wait>(
     rt: &R,
     service: &Service<'_, Open>,
     seat: &mut Seat,
-    rounds: &Rounds,
+    rounds: &Rounds<'_>,
 )
     requires { IsOf service.now seat.old }
     ensures { IsOf service.now seat.new }
 {
     for round in 0..ROUNDS {
-        let event = event_of(seat.number(), round);
-        rounds.wait_for(round);
-        if seat.owns(&event) && service.call(rt, seat, event).is_ok() {
-            rounds.answered.fetch_add(1, SeqCst);
+        if let Some(event) = rounds.event(round, seat.number()) {
+            if call(rt, service, seat, event) {
+                rounds.answered.fetch_add(1, SeqCst);
+            }
         }
     }
 }
@@ -110,7 +81,7 @@ fn call_by_threads<R: Threads + Wait + Sync>(
     rt: &R,
     service: &Service<'_, Open>,
     seats: &mut Vec<Seat>,
-    rounds: &Rounds,
+    rounds: &Rounds<'_>,
 )
     requires { All (IsOf service.now) seats.old.items }
     ensures { All (IsOf service.now) seats.new.items }
@@ -121,91 +92,73 @@ fn call_by_threads<R: Threads + Wait + Sync>(
     thread::for_each_mut(rt, seats.as_mut_slice(), 9, &one);
 }
 
-fn push_entry(alloc: Global, text: &mut String, entry: &Entry) -> Result<(), Fail> {
-    let line = format!(in alloc; "{entry:?}\n")?;
-    Ok(text.push_str(&line)?)
-}
-
-/// The text of a seat's own entries of a history.
-fn share_of(alloc: Global, number: usize, history: &[Entry]) -> Result<String, Fail> {
-    let mut text = String::new(alloc);
-    for entry in history {
-        if owner_of(&entry.event) == number {
-            push_entry(alloc, &mut text, entry)?;
-        }
-    }
-    Ok(text)
-}
-
-/// The text of a whole log.
-fn log_of(alloc: Global, seat: &Seat) -> Result<String, Fail> {
-    let mut text = String::new(alloc);
-    for entry in seat.log() {
-        push_entry(alloc, &mut text, entry)?;
-    }
-    Ok(text)
-}
-
-/// The texts of the logs of all seats, in the order of their numbers.
-fn logs_of(alloc: Global, seats: &[Seat]) -> Result<String, Fail> {
+/// The text of the logs of all seats.
+fn logs_of(alloc: Global, seats: &[Seat]) -> Result<String, AllocError> {
     let mut logs = String::new(alloc);
     for seat in seats {
-        let log = log_of(alloc, seat)?;
+        let log = format!(in alloc; "{:?}\n", seat.log())?;
         logs.push_str(&log)?;
     }
     Ok(logs)
 }
 
-/// The same, of the history that is left.
-fn shares_of(alloc: Global, history: &[Entry]) -> Result<String, Fail> {
+/// A seat's own entries of a history.
+fn share_of(alloc: Global, history: &[Entry], number: usize) -> Result<Vec<&Entry>, AllocError> {
+    let mut share = Vec::new(alloc);
+    for entry in history {
+        if owner_of(&entry.event) == number {
+            share.push(entry)?;
+        }
+    }
+    Ok(share)
+}
+
+/// The text of what the logs of all seats have to be.
+fn shares_of(alloc: Global, history: &[Entry]) -> Result<String, AllocError> {
     let mut shares = String::new(alloc);
     for number in 0..9 {
-        let share = share_of(alloc, number, history)?;
+        let share = format!(in alloc; "{:?}\n", share_of(alloc, history, number)?)?;
         shares.push_str(&share)?;
     }
     Ok(shares)
 }
 
-/// Whether each seat has one entry in each nine.
-fn are_rounds(history: &[Entry]) -> bool {
-    for round in history.chunks(9) {
-        let owners = Tally::new();
-        for entry in round {
-            owners.add(owner_of(&entry.event) as u64);
-        }
-        if !owners.is_each_once(9) {
-            return false;
-        }
-    }
-    true
-}
-
-/// What is left of a service that its nine seats called at once, how many calls were answered, and the logs.
+/// How many calls were answered of nine seats that call at once, their logs, and the history that they leave.
 fn left_by_threads<R: Threads + Wait + Sync>(
     rt: &R,
     alloc: Global,
-    config: Config,
-) -> Result<(Closed, u64, String), Fail> {
-    let (service, mut seats) = Service::open(alloc, config, 2, &Open)?;
-    let rounds = Rounds::new();
-    call_by_threads(rt, &service, &mut seats, &rounds);
-    let logs = logs_of(alloc, &seats)?;
-    let Ok(closed) = service.close(seats) else {
-        return Err(Fail::from("not closed"));
+    script: &Script,
+) -> Result<(u64, String, Vec<Entry>), Fail> {
+    let rounds = Rounds {
+        events: script.events(),
+        arrived: AtomicU64::new(0),
+        answered: AtomicU64::new(0),
     };
-    Ok((closed, rounds.answered.load(SeqCst), logs))
+    let (service, mut seats) = Service::open(alloc, script.config(), 2, &Open)?;
+    call_by_threads(rt, &service, &mut seats, &rounds);
+    let logs = logs_of(alloc, &seats);
+    match service.close(seats) {
+        Ok(closed) => Ok((rounds.answered.load(SeqCst), logs?, closed.history)),
+        Err(_) => Err(Fail::from("not closed")),
+    }
+}
+
+/// Whether each seat has one entry of a round.
+fn is_round(round: &[Entry]) -> bool {
+    let owners = Tally::new();
+    for entry in round {
+        owners.add(owner_of(&entry.event) as u64);
+    }
+    owners.is_each_once(9)
 }
 
 #[test]
 fn nine_seats_call_at_once(rt: HostRuntime) -> Result<(), Fail> {
-    let alloc = rt.alloc();
-    let config = Config::new(16, 300, 0, 0).ok_or("no configuration")?;
-    let (closed, answered, logs) = left_by_threads(&rt, alloc, config)?;
-    let history = closed.history.as_slice();
-    assert_eq!(rt; answered, 9 * ROUNDS);
-    assert_eq!(rt; history.len() as u64, 9 * ROUNDS);
-    assert!(rt; are_rounds(history));
-    assert!(rt; logs == shares_of(alloc, history)?);
-    assert_eq!(rt; check(alloc, config, history), Ok(()));
+    let script = parse(rt.alloc(), FOUR_ROUNDS)?;
+    let (answered, logs, history) = left_by_threads(&rt, rt.alloc(), &script)?;
+    assert!(rt; answered == 9 * ROUNDS);
+    assert!(rt; logs == shares_of(rt.alloc(), &history)?);
+    assert!(rt; history.len() as u64 == answered);
+    assert!(rt; history.chunks(9).all(is_round));
     Ok(())
 }

@@ -1,119 +1,116 @@
-//! A service to its end.
-ghost use Rattle.std.specs.Prelude.{All, IfOk};
-ghost use Rattle.mh_service.specs.Services.{IsOf};
+//! Calls of a service, one after the other, up to a full history.
+ghost use Rattle.std.specs.Prelude.{◌<◌, ◌≤◌};
 
-use crate::calls::call_at;
-use mh_model::command::{Command, Control, Event};
-use mh_model::config::Config;
+use crate::callers::Callers;
+use crate::crew_tests::CYCLES_SEEN;
+use crate::graph::{cycles_output, cycles_script};
+use mh_model::command::Event;
 use mh_model::reply::Reply;
+use mh_scan::crew_scan::CrewGate;
 use mh_scan::gate::Open;
-use mh_service::seat::Seat;
-use mh_service::service::{Closed, MissingSeat, Service};
 use mh_state::machine::Stop;
-use std::alloc::{AllocError, Global};
+use mh_text::script::parse;
+use std::alloc::Global;
 use std::sync::Wait;
 use std::test::Fail;
 use std::thread::Threads;
+use test_support::gates::Watch;
 
-static OPEN: Open = Open;
-
-const CLEAR: Event = Event::Session(0, Command::Clear { slot: 0 });
-
-const NEW: Event = Event::Session(
-    7,
-    Command::New {
-        slot: 0,
-        references: 0,
-        numbers: 0,
-    },
-);
-
-const DUMP: Event = Event::Control(Control::Dump);
-
-const LATE: Event = Event::Session(9, Command::End);
-
-/// A service of two workers over four pages, with its seats.
-fn opened(alloc: Global) -> Result<(Service<'static, Open>, Vec<Seat>), Fail>
-    ensures { IfOk result (λ made. All (IsOf made.0) made.1.items) }
+/// The lines of the answers to the calls of a script.
+fn answers_of<R: Threads + Wait, G: CrewGate>(
+    rt: &R,
+    alloc: Global,
+    script: &[u8],
+    workers: usize,
+    gate: &G,
+) -> Result<String, Fail>
+    requires { (0 < workers) × (workers ≤ 64) }
 {
-    let config = Config::new(4, 209, 0, 0).ok_or("no configuration")?;
-    Ok(Service::open(alloc, config, 2, &OPEN)?)
-}
-
-/// Whether a service is closed with all its seats but the last, and then with all.
-fn closes_with_all_seats(
-    service: Service<'_, Open>,
-    mut seats: Vec<Seat>,
-) -> Result<Option<Closed>, AllocError>
-    requires { All (IsOf service) seats.items }
-{
-    let Some(last) = seats.pop() else {
-        return Ok(None);
-    };
-    let Err(MissingSeat { service, mut seats }) = service.close(seats) else {
-        return Ok(None);
-    };
-    seats.push(last)?;
-    Ok(service.close(seats).ok())
+    let script = parse(alloc, script)?;
+    let mut callers = Callers::new(rt, alloc, script.config(), workers, gate)?;
+    callers.answers_to(alloc, script.events())
 }
 
 #[test]
-fn a_service_closes_with_all_its_seats(rt: HostRuntime) -> Result<(), Fail> {
-    let (service, mut seats) = opened(rt.alloc())?;
-    assert!(rt; call_at(&rt, &service, &mut seats, 8, NEW).is_none());
-    assert!(rt; call_at(&rt, &service, &mut seats, 8, LATE).is_some());
-    let closed = closes_with_all_seats(service, seats)?.ok_or("not closed")?;
-    assert_eq!(rt; closed.history.len(), 1);
-    assert_eq!(rt; closed.free, 4);
+fn two_workers_share_each_batch_of_a_service(rt: HostRuntime) -> Result<(), Fail> {
+    let script = cycles_script(rt.alloc())?;
+    let output = cycles_output(rt.alloc())?;
+    for workers in [2, 7, 64] {
+        let gate = Watch::new(2);
+        let answers = answers_of(&rt, rt.alloc(), &script, workers, &gate)?;
+        assert!(rt; answers.as_bytes() == output.as_slice());
+        assert!(rt; gate.seen() == CYCLES_SEEN, "with {workers} workers");
+    }
     Ok(())
 }
 
-/// Makes as many calls of the first seat as a history has room for.
-fn fill<R: Threads + Wait>(rt: &R, service: &Service<'_, Open>, seats: &mut [Seat]) -> bool
-    requires { All (IsOf service.now) seats.old }
-    ensures { All (IsOf service.now) seats.new }
-{
-    for _ in 0..1_000_000 {
-        if !matches!(call_at(rt, service, seats, 0, CLEAR), Some(Ok(Reply::Done))) {
-            return false;
-        }
+/// How many cycles the desk asks for, each by four calls.
+const CYCLES: u64 = 250;
+
+/// An object of a session, and then cycles that the desk asks for.
+fn desk_script(alloc: Global) -> Result<Vec<u8>, Fail> {
+    let mut script = Vec::from_slice(alloc, b"config 4 400 0 0\na new 0 0 0\n")?;
+    for _ in 0..CYCLES {
+        script.extend_from_slice(b"* start\n* quantum\n* left\n* stat\n")?;
     }
-    true
+    Ok(script)
 }
 
-/// What a seat asks for.
-fn asked_by(number: usize) -> Event {
-    if number < 8 {
-        Event::Session(number as u8, Command::Clear { slot: 0 })
-    } else {
-        DUMP
+/// What it is told.
+fn desk_output(alloc: Global) -> Result<String, Fail> {
+    let mut output = String::new(alloc);
+    output.push_str("ok\n")?;
+    for cycle in 1..=CYCLES {
+        let lines = format!(in alloc;
+            "ok\nspent 360 phase idle\nleft 0\nfree 3 live 1 old 0 phase idle cycle {cycle}\n"
+        )?;
+        output.push_str(&lines)?;
     }
-}
-
-/// Whether each seat is answered that the history is full.
-fn are_all_stopped<R: Threads + Wait>(
-    rt: &R,
-    service: &Service<'_, Open>,
-    seats: &mut [Seat],
-) -> bool
-    requires { All (IsOf service.now) seats.old }
-    ensures { All (IsOf service.now) seats.new }
-{
-    for number in 0..9 {
-        let answer = call_at(rt, service, seats, number, asked_by(number));
-        if !matches!(answer, Some(Err(Stop::HistoryFull))) {
-            return false;
-        }
-    }
-    true
+    Ok(output)
 }
 
 #[test]
+fn a_desk_makes_a_thousand_calls(rt: HostRuntime) -> Result<(), Fail> {
+    let script = desk_script(rt.alloc())?;
+    let answers = answers_of(&rt, rt.alloc(), &script, 2, &Open)?;
+    assert!(rt; answers == desk_output(rt.alloc())?);
+    Ok(())
+}
+
+/// Whether as many calls of an event are answered `ok` as a history has room for.
+fn fills<R: Threads + Wait, G: CrewGate>(callers: &mut Callers<'_, R, G>, event: Event) -> bool {
+    for _ in 0..1_000_000 {
+        if !matches!(callers.call(event), Some(Ok(Reply::Done))) {
+            return false;
+        }
+    }
+    true
+}
+
+/// Whether each of these calls is answered that the history is full.
+fn are_stopped<R: Threads + Wait, G: CrewGate>(
+    callers: &mut Callers<'_, R, G>,
+    events: &[Event],
+) -> bool {
+    for event in events {
+        if !matches!(callers.call(*event), Some(Err(Stop::HistoryFull))) {
+            return false;
+        }
+    }
+    true
+}
+
+/// An event of each seat.
+const EACH_SEAT: &[u8] =
+    b"config 4 209 0 0\na clear 0\nb clear 0\nc clear 0\nd clear 0\ne clear 0\nf clear 0\ng clear 0\nh clear 0\n* dump\n";
+
+#[test]
 fn a_full_history_stops_every_seat(rt: HostRuntime) -> Result<(), Fail> {
-    let (service, mut seats) = opened(rt.alloc())?;
-    assert!(rt; fill(&rt, &service, &mut seats));
-    assert!(rt; are_all_stopped(&rt, &service, &mut seats));
-    let desk = seats.pop().ok_or("no seat")?;
-    assert_eq!(rt; desk.log().len(), 0);
+    let script = parse(rt.alloc(), EACH_SEAT)?;
+    let events = script.events();
+    let first = *events.first().ok_or("no event")?;
+    let mut callers = Callers::new(&rt, rt.alloc(), script.config(), 2, &Open)?;
+    assert!(rt; fills(&mut callers, first));
+    assert!(rt; are_stopped(&mut callers, events));
     Ok(())
 }

@@ -1,0 +1,71 @@
+//! Runs.
+ghost use Rattle.std.specs.Prelude.{◌<◌, ◌≤◌};
+
+use crate::answers::add_line;
+use mh_model::command::{Command, Event};
+use mh_model::config::Config;
+use mh_model::reply::Reply;
+use mh_scan::gate::Open;
+use mh_state::machine::Stop;
+use mh_state::run::{RunFault, run};
+use mh_text::script::parse;
+use std::alloc::Global;
+use std::test::Fail;
+use std::thread::Threads;
+
+const SCRIPT: &[u8] =
+    b"config 4 353 0 0\na new 0 1 1\na put 0 0 0\na get 1 0 0\na write 1 0 7\na read 0 0\na shape 0\na copy 2 1\na clear 1\na post 9 2\nb take 2 9\na same 0 1\na end\na shape 0\n* start\n* quantum\n* left\n* stat\n* dump\n* report 300\n";
+
+const ANSWERS: &str =
+    "ok\nok\nok\nok\nnumber 7\nshape 1 1\nok\nok\nok\nok\nno\nok\nrefused 6 ended\nok\nspent 339 phase idle\nleft 0\nfree 3 live 1 old 0 phase idle cycle 1\ndump P0 C6 - 0=0.0\nmutator 13 collector 339 quanta 1 greatest 339 window 300 least 0 floor none\n";
+
+/// The replies of a run, of which no clause tells: what those of `run` tell is long.
+fn replies_of<R: Threads>(
+    rt: &R,
+    alloc: Global,
+    config: Config,
+    events: &[Event],
+    workers: usize,
+) -> Result<Vec<Reply>, RunFault>
+    requires { (0 < workers) × (workers ≤ 64) }
+{
+    Ok(run(rt, alloc, config, events, workers, &Open)?.replies)
+}
+
+/// The lines of the replies of a run.
+fn answers_of_run<R: Threads>(rt: &R, alloc: Global, workers: usize) -> Result<String, Fail>
+    requires { (0 < workers) × (workers ≤ 64) }
+{
+    let script = parse(alloc, SCRIPT)?;
+    let mut lines = String::new(alloc);
+    for reply in &replies_of(rt, alloc, script.config(), script.events(), workers)? {
+        add_line(alloc, &mut lines, reply)?;
+    }
+    Ok(lines)
+}
+
+#[test]
+fn a_run_answers_each_event(rt: HostRuntime) -> Result<(), Fail> {
+    assert_eq!(rt; answers_of_run(&rt, rt.alloc(), 1)?.as_str(), ANSWERS);
+    assert_eq!(rt; answers_of_run(&rt, rt.alloc(), 7)?.as_str(), ANSWERS);
+    Ok(())
+}
+
+const CLEAR: Event = Event::Session(0, Command::Clear { slot: 0 });
+
+/// Why a run of so many events stopped, if it did, and how many it did then.
+fn stop_of<R: Threads>(rt: &R, alloc: Global, count: usize) -> Result<Option<(Stop, usize)>, Fail> {
+    let config = Config::new(4, 353, 0, 0).ok_or("no configuration")?;
+    let events = vec![in alloc; CLEAR; count]?;
+    match replies_of(rt, alloc, config, &events, 1) {
+        Ok(_) => Ok(None),
+        Err(RunFault { stop, replies }) => Ok(Some((stop, replies.len()))),
+    }
+}
+
+#[test]
+fn a_run_stops_after_its_most_events(rt: HostRuntime) -> Result<(), Fail> {
+    let stop = stop_of(&rt, rt.alloc(), 1_000_001)?;
+    assert_eq!(rt; stop, Some((Stop::HistoryFull, 1_000_000)));
+    Ok(())
+}

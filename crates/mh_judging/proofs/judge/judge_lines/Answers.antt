@@ -1,0 +1,18 @@
+use Rattle.std.proofs.lemmas.Result.{IfOk-weaker, IfErr-weaker}
+use Rattle.mh_history.proofs.LineLemmas.{taken_entry}
+use Rattle.mh_judging.proofs.ShownLemmas.{taken_refused, verdict_taken}
+use Rattle.mh_judging.proofs.judge.judge_lines.Goals as goal
+
+pub returns-clause-verdict : goal.returns-clause-verdict
+returns-clause-verdict g c =
+    let none = g.met.E.Shown.none_seen c.args.config _ (record { entries = c.in_ok-judge.ensures.entries; measured = c.in_ok-judge.ensures.measured }) in
+    IfOk-weaker c.replay.result _ _ (λ verdict judged. verdict_taken _ _ _ _ _ verdict (rw c.in-Some.is at c.in_ok-first.ensures.taken) (judged c.args.config none)) c.replay.ensures.verdict
+
+pub returns-clause-line : goal.returns-clause-line
+returns-clause-line g c = IfErr-weaker c.replay.result _ _ (λ error refused. taken_refused _ _ _ _ error (rw c.in-Some.is at c.in_ok-first.ensures.taken) refused) c.replay.ensures.line
+
+pub returns-in_err-judge-clause-memory : goal.returns-in_err-judge-clause-memory
+returns-in_err-judge-clause-memory g c = λ _. taken_entry _ _ _ _ (rw c.in-Some.is at c.in_ok-first.ensures.taken)
+
+pub returns-clause-memory : goal.returns-clause-memory
+returns-clause-memory g c = λ _. taken_entry _ _ _ _ (rw c.in-Some.is at c.in_ok-first.ensures.taken)

@@ -1,0 +1,182 @@
+//! A record of version 2 as it is written: the machine that does the events, and the lines that wait for the sink.
+ghost use Rattle.std.specs.Prelude.{◌≡◌, ◌+◌, ◌<◌, ◌≤◌, ◌^◌, List, ◌++◌, [], length, IfOk, IfSome, OnSome, IfNone, OnOk, OnErr, IsErrOf};
+ghost use Rattle.std.specs.Io.KnownBytes.{Appends};
+ghost use Rattle.std.specs.String.{string_bytes};
+ghost use Rattle.mh_history.specs.Beginnings.{entries_left, entry_before, entry_line};
+ghost use Rattle.mh_model.specs.declared.history.Entry.{Entry};
+ghost use Rattle.mh_model.specs.Bytes.{joined, line_text};
+ghost use Rattle.mh_model.specs.HistoryTexts.{header_words};
+ghost use Rattle.mh_model.specs.Limits.{most_entries};
+ghost use Rattle.mh_model.specs.Script.{Means};
+ghost use Rattle.mh_text.specs.Stream.{AppendsBeginning};
+ghost use Rattle.mh_script.specs.Texts.{Buffers};
+ghost use Rattle.mh_judging.specs.Recording.{Advances, IsFirst, WritesReading, WritesRecord, event_line};
+
+use mh_history::entry_text::{HeaderText, MeasuredText};
+use mh_history::lines::next_entry;
+use mh_model::command::Event;
+use mh_model::config::Config;
+use mh_model::history::{Entry, Measured};
+use mh_model::memory::NoMemory;
+use mh_scan::scan::OneScan;
+use mh_script::fault::WriteError;
+use mh_script::texts::{flush, flush_full};
+use mh_state::machine::{Machine, Stop};
+use mh_text::pieces::Lines;
+use mh_text::sink::Sink;
+use mh_text::text_error::TextError;
+use std::alloc::Global;
+use std::fmt::Write;
+
+/// The first line of a record.
+fn header(alloc: Global, config: Config) -> Result<String, NoMemory>
+    ensures { IfOk result (λ text. string_bytes text ≡ line_text (joined (header_words config))) }
+{
+    let mut text = String::new(alloc);
+    let line = HeaderText(config);
+    writeln!(text, "{line}")?;
+    Ok(text)
+}
+
+/// Reads the next of lines that are entries, none after the last.
+fn entry_again(alloc: Global, lines: &mut Lines<'_>) -> Result<Option<Entry>, NoMemory>
+    requires { (entries : List Entry) × (entries_left entry_line lines.old ≡ Means entries) }
+    ensures entry { IfOk result (λ next. IfSome next (λ entry.
+        entries_left entry_line lines.old ≡ entry_before entry (entries_left entry_line lines.new))) }
+    ensures fewer { IfOk result (λ next. OnSome next (length lines.new.lines < length lines.old.lines)) }
+    ensures end { IfOk result (λ next. IfNone next (entries_left entry_line lines.old ≡ Means [])) }
+{
+    match next_entry(alloc, lines) {
+        Ok(next) => Ok(next),
+        Err(TextError::NoMemory) => Err(NoMemory),
+        Err(TextError::Line(_)) => unreachable!(),
+    }
+}
+
+/// A record that is being written.
+pub(crate) struct Recording {
+    machine: Machine,
+    scanner: OneScan,
+    text: String,
+}
+
+// Owners prove one call where they drop it, and not each of the heap's parts.
+impl Drop for Recording {
+    fn drop(self) {
+        let Recording {
+            machine: _,
+            scanner: _,
+            text: _,
+        } = self;
+    }
+}
+
+impl Recording {
+    /// The record of no entry, of which nothing is written.
+    pub(crate) fn open(alloc: Global, config: Config) -> Result<Recording, NoMemory>
+        ensures { IfOk result (IsFirst config) }
+    {
+        let text = header(alloc, config)?;
+        Ok(Recording {
+            machine: Machine::open(alloc, config)?,
+            scanner: OneScan::new(alloc),
+            text,
+        })
+    }
+
+    /// Does an event, and adds its line to the text that waits.
+    fn measure(&mut self, event: Event) -> Result<(), NoMemory>
+        requires { self.old.machine.done < most_entries }
+        ensures machine { OnOk result (Advances self.old event self.new) }
+        ensures text { OnOk result (string_bytes self.new.text ≡ string_bytes self.old.text ++ event_line self.old.machine.machine event) }
+    {
+        let mutator = self.machine.trace().mutator_count();
+        let collector = self.machine.trace().collector_count();
+        let reply = match self.machine.step(event, &mut self.scanner) {
+            Ok(reply) => reply,
+            Err(Stop::NoMemory) => return Err(NoMemory),
+            Err(Stop::HistoryFull) => unreachable!(),
+        };
+        let trace = self.machine.trace();
+        let measured = Measured {
+            entry: Entry { event, reply },
+            mutator: trace.mutator_count().saturating_sub(mutator),
+            collector: trace.collector_count().saturating_sub(collector),
+        };
+        let line = MeasuredText(&measured);
+        writeln!(self.text, "{line}")?;
+        Ok(())
+    }
+
+    /// Does an event and writes its line, once the buffer is full.
+    fn add<W: Sink>(&mut self, event: Event, sink: &mut W) -> Result<(), WriteError>
+        requires room { self.old.machine.done < most_entries }
+        requires count { W.failures sink.old < 2 ^ 62 }
+        ensures machine { OnOk result (Advances self.old event self.new) }
+        ensures text { OnOk result (Buffers (W.written sink.old) (W.written sink.new) (string_bytes self.new.text) (string_bytes self.old.text ++ event_line self.old.machine.machine event)) }
+        ensures begun { OnErr result (AppendsBeginning (W.written sink.old) (W.written sink.new) (string_bytes self.old.text ++ event_line self.old.machine.machine event)) }
+        ensures no_failure { OnOk result (W.failures sink.new ≡ W.failures sink.old) }
+        ensures blamed { IsErrOf result WriteError.Device → W.failures sink.old < W.failures sink.new }
+        ensures not_blamed { IsErrOf result WriteError.NoMemory → W.failures sink.new ≡ W.failures sink.old }
+    {
+        self.measure(event)?;
+        flush_full(sink, &mut self.text)?;
+        Ok(())
+    }
+
+    /// Writes what waits.
+    fn finish<W: Sink>(&mut self, sink: &mut W) -> Result<(), WriteError>
+        requires { W.failures sink.old < 2 ^ 62 }
+        ensures done { OnOk result (Appends (W.written sink.old) (W.written sink.new) (string_bytes self.old.text)) }
+        ensures begun { OnErr result (AppendsBeginning (W.written sink.old) (W.written sink.new) (string_bytes self.old.text)) }
+        ensures no_failure { OnOk result (W.failures sink.new ≡ W.failures sink.old) }
+        ensures blamed { OnErr result (W.failures sink.old < W.failures sink.new) }
+        ensures device { IsErrOf result WriteError.NoMemory → ⊥ }
+    {
+        flush(sink, &mut self.text)?;
+        Ok(())
+    }
+
+    /// Writes the whole record of a history.
+    pub(crate) fn write_entries<W: Sink>(
+        &mut self,
+        entries: &[Entry],
+        sink: &mut W,
+    ) -> Result<(), WriteError>
+        requires first { self.old.machine.done ≡ 0 }
+        requires few { length entries.now ≤ most_entries }
+        requires count { W.failures sink.old < 2 ^ 62 }
+        ensures done { OnOk result (WritesRecord Appends self.old entries.now (W.written sink.old) (W.written sink.new)) }
+        ensures begun { OnErr result (WritesRecord AppendsBeginning self.old entries.now (W.written sink.old) (W.written sink.new)) }
+        ensures no_failure { OnOk result (W.failures sink.new ≡ W.failures sink.old) }
+        ensures blamed { IsErrOf result WriteError.Device → W.failures sink.old < W.failures sink.new }
+        ensures not_blamed { IsErrOf result WriteError.NoMemory → W.failures sink.new ≡ W.failures sink.old }
+    {
+        for entry in entries {
+            self.add(entry.event, sink)?;
+        }
+        self.finish(sink)
+    }
+
+    /// The same of the entries that lines are read as, of which one at a time is kept.
+    pub(crate) fn write_lines<W: Sink>(
+        &mut self,
+        alloc: Global,
+        mut lines: Lines<'_>,
+        sink: &mut W,
+    ) -> Result<(), WriteError>
+        requires first { self.old.machine.done ≡ 0 }
+        requires few { (entries : List Entry) × (entries_left entry_line lines ≡ Means entries) × (length entries ≤ most_entries) }
+        requires count { W.failures sink.old < 2 ^ 62 }
+        ensures done { OnOk result (WritesReading Appends self.old (entries_left entry_line lines.entry) (W.written sink.old) (W.written sink.new)) }
+        ensures begun { OnErr result (WritesReading AppendsBeginning self.old (entries_left entry_line lines.entry) (W.written sink.old) (W.written sink.new)) }
+        ensures no_failure { OnOk result (W.failures sink.new ≡ W.failures sink.old) }
+        ensures blamed { IsErrOf result WriteError.Device → W.failures sink.old < W.failures sink.new }
+        ensures not_blamed { IsErrOf result WriteError.NoMemory → W.failures sink.new ≡ W.failures sink.old }
+    {
+        while let Some(entry) = entry_again(alloc, &mut lines)? {
+            self.add(entry.event, sink)?;
+        }
+        self.finish(sink)
+    }
+}

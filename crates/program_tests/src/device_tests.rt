@@ -1,0 +1,261 @@
+use crate::cases::{CASES, Case};
+use crate::trial::{Device, Devices, Outcome, SOUND_DEVICES};
+use crate::trouble::{Way, trouble_each_read, trouble_each_write};
+use std::alloc::Global;
+use std::io::ErrorKind;
+use std::process::Abort;
+use std::sync::Wait;
+use std::thread::Threads;
+use test_support::troubled::Trouble;
+
+const READS: &[Way] = &[
+    Way {
+        most: 1,
+        trouble: Trouble::Error(ErrorKind::WouldBlock),
+        outcome: Outcome::ReadFailed,
+    },
+    Way {
+        most: 7,
+        trouble: Trouble::Error(ErrorKind::WouldBlock),
+        outcome: Outcome::ReadFailed,
+    },
+    Way {
+        most: usize::MAX,
+        trouble: Trouble::Error(ErrorKind::WouldBlock),
+        outcome: Outcome::ReadFailed,
+    },
+    Way {
+        most: 7,
+        trouble: Trouble::Error(ErrorKind::UnexpectedEof),
+        outcome: Outcome::ReadFailed,
+    },
+    Way {
+        most: 7,
+        trouble: Trouble::Error(ErrorKind::OutOfMemory),
+        outcome: Outcome::ReadFailed,
+    },
+    Way {
+        most: 7,
+        trouble: Trouble::Error(ErrorKind::Interrupted),
+        outcome: Outcome::Right,
+    },
+];
+
+fn trouble_reads<R: Threads + Wait + Sync + Abort>(rt: &R, alloc: Global, case: &Case<'_>) {
+    for way in READS {
+        trouble_each_read(rt, alloc, case, way);
+    }
+}
+
+#[test]
+fn each_read_has_trouble_in_turn(rt: HostRuntime) {
+    for case in CASES {
+        trouble_reads(&rt, rt.alloc(), case);
+    }
+}
+
+const WRITES: &[Way] = &[
+    Way {
+        most: 1,
+        trouble: Trouble::Error(ErrorKind::BrokenPipe),
+        outcome: Outcome::WriteFailed,
+    },
+    Way {
+        most: 7,
+        trouble: Trouble::Error(ErrorKind::BrokenPipe),
+        outcome: Outcome::WriteFailed,
+    },
+    Way {
+        most: usize::MAX,
+        trouble: Trouble::Error(ErrorKind::BrokenPipe),
+        outcome: Outcome::WriteFailed,
+    },
+    Way {
+        most: 7,
+        trouble: Trouble::Error(ErrorKind::StorageFull),
+        outcome: Outcome::WriteFailed,
+    },
+    Way {
+        most: 7,
+        trouble: Trouble::Error(ErrorKind::OutOfMemory),
+        outcome: Outcome::WriteFailed,
+    },
+    Way {
+        most: 7,
+        trouble: Trouble::NoByte,
+        outcome: Outcome::WriteFailed,
+    },
+    Way {
+        most: 7,
+        trouble: Trouble::Error(ErrorKind::Interrupted),
+        outcome: Outcome::Right,
+    },
+];
+
+fn trouble_writes<R: Threads + Wait + Sync + Abort>(rt: &R, alloc: Global, case: &Case<'_>) {
+    for way in WRITES {
+        trouble_each_write(rt, alloc, case, way);
+    }
+}
+
+#[test]
+fn each_write_has_trouble_in_turn(rt: HostRuntime) {
+    for case in CASES {
+        trouble_writes(&rt, rt.alloc(), case);
+    }
+}
+
+const FAILURE: Trouble = Trouble::Error(ErrorKind::BrokenPipe);
+
+/// A device that takes or gives at most so many bytes at a call, and fails at one call.
+fn failing(most: usize, at: u64) -> Device {
+    Device {
+        most,
+        at,
+        trouble: FAILURE,
+    }
+}
+
+/// The reader fails at one call and the writer at one, if the program comes to them.
+fn fail_both<R: Threads + Wait + Sync + Abort>(
+    rt: &R,
+    alloc: Global,
+    case: &Case<'_>,
+    read: u64,
+    write: u64,
+) {
+    let devices = Devices {
+        input: failing(16, read),
+        output: failing(16, write),
+        ..SOUND_DEVICES
+    };
+    let trial = devices.run(rt, alloc, case);
+    let reads = (case.input.len().div_ceil(16) as u64).wrapping_add(1);
+    let wanted = if read <= reads {
+        Outcome::ReadFailed
+    } else if write <= trial.writes {
+        Outcome::WriteFailed
+    } else {
+        Outcome::Right
+    };
+    assert_eq!(rt; trial.outcome, wanted);
+}
+
+fn fail_both_in_turn<R: Threads + Wait + Sync + Abort>(
+    rt: &R,
+    alloc: Global,
+    case: &Case<'_>,
+    write: u64,
+) {
+    for read in 1..15 {
+        fail_both(rt, alloc, case, read, write);
+    }
+}
+
+fn fail_each_with_each<R: Threads + Wait + Sync + Abort>(rt: &R, alloc: Global, case: &Case<'_>) {
+    for write in 1..15 {
+        fail_both_in_turn(rt, alloc, case, write);
+    }
+}
+
+#[test]
+fn the_device_that_fails_first_is_blamed(rt: HostRuntime) {
+    for case in CASES {
+        fail_each_with_each(&rt, rt.alloc(), case);
+    }
+}
+
+/// Standard error fails at each write in turn, until it doesn't, while the reader fails at one call or the writer at one. Gives
+/// how many writes a whole line takes.
+fn fail_to_tell<R: Threads + Wait + Sync + Abort>(
+    rt: &R,
+    alloc: Global,
+    case: &Case<'_>,
+    read: u64,
+    write: u64,
+    outcome: Outcome,
+) -> u64 {
+    for at in 1..u64::MAX {
+        let devices = Devices {
+            input: failing(7, read),
+            output: failing(7, write),
+            errors: failing(1, at),
+        };
+        let trial = devices.run(rt, alloc, case);
+        assert_eq!(rt; trial.outcome, outcome);
+        if trial.tellings < at {
+            return trial.tellings;
+        }
+    }
+    0
+}
+
+#[test]
+fn the_status_is_the_same_where_standard_error_fails(rt: HostRuntime) {
+    for case in CASES {
+        let read_failed = fail_to_tell(&rt, rt.alloc(), case, 2, 0, Outcome::ReadFailed);
+        assert_eq!(rt; read_failed, 23);
+        let write_failed = fail_to_tell(&rt, rt.alloc(), case, 0, 2, Outcome::WriteFailed);
+        assert_eq!(rt; write_failed, 24);
+    }
+}
+
+/// Of the calls of devices that take or give at most so many bytes, only each such one is not interrupted.
+#[derive(Clone, Copy)]
+struct Pace {
+    most: usize,
+    every: u64,
+}
+
+const PACES: &[Pace] = &[
+    Pace { most: 1, every: 2 },
+    Pace { most: 7, every: 2 },
+    Pace {
+        most: usize::MAX,
+        every: 2,
+    },
+    Pace { most: 1, every: 11 },
+    Pace { most: 7, every: 11 },
+    Pace {
+        most: usize::MAX,
+        every: 11,
+    },
+];
+
+fn interrupt<R: Threads + Wait + Sync + Abort>(
+    rt: &R,
+    alloc: Global,
+    case: &Case<'_>,
+    pace: &Pace,
+) {
+    let device = Device {
+        most: pace.most,
+        at: pace.every,
+        trouble: Trouble::Interruptions,
+    };
+    let devices = Devices {
+        input: device,
+        output: device,
+        errors: device,
+    };
+    let trial = devices.run(rt, alloc, case);
+    assert_eq!(rt; trial.outcome, Outcome::Right);
+    assert!(rt; trial.reads > pace.every && trial.writes >= pace.every);
+}
+
+fn interrupt_at_each_pace<R: Threads + Wait + Sync + Abort>(
+    rt: &R,
+    alloc: Global,
+    case: &Case<'_>,
+) {
+    for pace in PACES {
+        interrupt(rt, alloc, case, pace);
+    }
+}
+
+#[test]
+fn interruptions_change_nothing(rt: HostRuntime) {
+    for case in CASES {
+        interrupt_at_each_pace(&rt, rt.alloc(), case);
+    }
+}

@@ -1,0 +1,180 @@
+use crate::cases::{Case, MIGRATE, NONE, RACE, RUN};
+use crate::trial::{Device, Devices, Outcome, SOUND_DEVICES, Trial};
+use crate::trouble::{Way, trouble_each_write};
+use std::alloc::{AllocError, Global};
+use std::io::ErrorKind;
+use std::process::Abort;
+use std::sync::Wait;
+use std::test::Fail;
+use std::thread::Threads;
+use test_support::troubled::Trouble;
+
+const FAILURE: Trouble = Trouble::Error(ErrorKind::BrokenPipe);
+
+/// A text and an output that have one line so many times after their first.
+#[derive(Drop)]
+struct LongCase<'a> {
+    words: &'a [&'a [u8]],
+    first: &'a [u8],
+    line: &'a [u8],
+    first_output: &'a [u8],
+    line_output: &'a [u8],
+    times: usize,
+}
+
+const RUN_OF_MANY: LongCase<'static> = LongCase {
+    words: RUN,
+    first: b"config 4 209 0 0\n",
+    line: b"a clear 0\n",
+    first_output: b"",
+    line_output: b"ok\n",
+    times: 30_000,
+};
+
+const LONG_CASES: &[LongCase<'static>] = &[
+    RUN_OF_MANY,
+    LongCase {
+        words: RACE,
+        first: b"config 4 209 0 0\n",
+        line: b"a clear 0\n",
+        first_output: b"history 2 rules 2 4 209 0 0\n",
+        line_output: b"s0 clear 0 = ok units 1 0\n",
+        times: 3_000,
+    },
+    LongCase {
+        words: MIGRATE,
+        first: b"history 1\n",
+        line: b"s0 clear 0 = ok\n",
+        first_output: b"history 2 rules 1 4 353 0 0\n",
+        line_output: b"s0 clear 0 = ok units 1 0\n",
+        times: 3_000,
+    },
+];
+
+/// A text of a line and another one so many times.
+fn long_text(
+    alloc: Global,
+    first: &[u8],
+    line: &[u8],
+    times: usize,
+) -> Result<Vec<u8>, AllocError> {
+    let mut text = Vec::from_slice(alloc, first)?;
+    for _ in 0..times {
+        text.extend_from_slice(line)?;
+    }
+    Ok(text)
+}
+
+fn fail_long<R: Threads + Wait + Sync + Abort>(
+    rt: &R,
+    alloc: Global,
+    long: &LongCase<'_>,
+    way: &Way,
+) -> Result<(), AllocError> {
+    let input = long_text(alloc, long.first, long.line, long.times)?;
+    let output = long_text(alloc, long.first_output, long.line_output, long.times)?;
+    let case = Case {
+        words: long.words,
+        input: input.as_slice(),
+        outputs: &[output.as_slice()],
+        told: NONE,
+        status: 0,
+    };
+    trouble_each_write(rt, alloc, &case, way);
+    Ok(())
+}
+
+#[test]
+fn each_write_of_several_pieces_fails(rt: HostRuntime) -> Result<(), Fail> {
+    let way = Way {
+        most: 10_000,
+        trouble: FAILURE,
+        outcome: Outcome::WriteFailed,
+    };
+    for long in LONG_CASES {
+        fail_long(&rt, rt.alloc(), long, &way)?;
+    }
+    Ok(())
+}
+
+/// Replies are written in pieces of some 65,536 bytes.
+const AFTER_A_PIECE: Devices = Devices {
+    output: Device {
+        most: 65_538,
+        at: 2,
+        trouble: FAILURE,
+    },
+    ..SOUND_DEVICES
+};
+
+#[test]
+fn a_writer_fails_after_a_piece(rt: HostRuntime) -> Result<(), Fail> {
+    let first = RUN_OF_MANY.first;
+    let input = long_text(rt.alloc(), first, RUN_OF_MANY.line, RUN_OF_MANY.times)?;
+    let output = long_text(rt.alloc(), b"", b"ok\n", RUN_OF_MANY.times)?;
+    let case = Case {
+        words: RUN,
+        input: input.as_slice(),
+        outputs: &[output.as_slice()],
+        told: NONE,
+        status: 0,
+    };
+    let trial = AFTER_A_PIECE.run(&rt, rt.alloc(), &case);
+    assert_eq!(rt; trial.outcome, Outcome::WriteFailed);
+    assert_eq!(rt; trial.written, 65_538);
+    Ok(())
+}
+
+/// So many bytes are more than a script may have.
+const TOO_MANY: usize = 1 << 27;
+
+/// The program on a text that is too long, of whose reads one fails.
+fn read_too_much<R: Threads + Wait + Sync>(
+    rt: &R,
+    alloc: Global,
+    words: &[&[u8]],
+    text: &[u8],
+    at: u64,
+) -> Trial {
+    let case = Case {
+        words,
+        input: text,
+        outputs: &[b"refused 10 line 0\n"],
+        told: NONE,
+        status: 1,
+    };
+    let devices = Devices {
+        input: Device {
+            most: usize::MAX,
+            at,
+            trouble: FAILURE,
+        },
+        ..SOUND_DEVICES
+    };
+    devices.run(rt, alloc, &case)
+}
+
+/// It is read until it gave too much, and the last read may fail.
+fn expect_an_end<R: Threads + Wait + Sync + Abort>(
+    rt: &R,
+    alloc: Global,
+    words: &[&[u8]],
+    text: &[u8],
+) {
+    let sound = read_too_much(rt, alloc, words, text, 0);
+    assert_eq!(rt; sound.outcome, Outcome::Right);
+    assert!(rt; sound.unread > 0);
+    let last = read_too_much(rt, alloc, words, text, sound.reads);
+    assert_eq!(rt; last.outcome, Outcome::ReadFailed);
+    let next = read_too_much(rt, alloc, words, text, sound.reads.wrapping_add(1));
+    assert_eq!(rt; next.outcome, Outcome::Right);
+}
+
+#[test]
+fn a_reader_is_read_until_it_gave_too_much(rt: HostRuntime) -> Result<(), Fail> {
+    let mut text = Vec::new(rt.alloc());
+    text.resize(TOO_MANY, b'#')?;
+    expect_an_end(&rt, rt.alloc(), RUN, text.as_slice());
+    expect_an_end(&rt, rt.alloc(), RACE, text.as_slice());
+    Ok(())
+}

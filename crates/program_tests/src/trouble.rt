@@ -1,0 +1,78 @@
+//! Devices that have a trouble at each of their calls in turn.
+use crate::cases::Case;
+use crate::trial::{Device, Devices, Outcome, SOUND_DEVICES};
+use std::alloc::Global;
+use std::process::Abort;
+use std::sync::Wait;
+use std::thread::Threads;
+use test_support::troubled::Trouble;
+
+/// A trouble of a device that gives or takes at most so many bytes at a call, and how the program ends then.
+#[derive(Clone, Copy)]
+pub struct Way {
+    pub most: usize,
+    pub trouble: Trouble,
+    pub outcome: Outcome,
+}
+
+impl Way {
+    fn device(&self, at: u64) -> Device {
+        Device {
+            most: self.most,
+            at,
+            trouble: self.trouble,
+        }
+    }
+
+    /// How many calls so many bytes take at least.
+    fn calls_for(&self, bytes: usize) -> u64 {
+        bytes.div_ceil(self.most.max(1)) as u64
+    }
+}
+
+/// The reader has a trouble at each call in turn, until the program doesn't come to it. Its last call finds the end.
+pub fn trouble_each_read<R: Threads + Wait + Sync + Abort>(
+    rt: &R,
+    alloc: Global,
+    case: &Case<'_>,
+    way: &Way,
+) {
+    for at in 1..u64::MAX {
+        let devices = Devices {
+            input: way.device(at),
+            ..SOUND_DEVICES
+        };
+        let trial = devices.run(rt, alloc, case);
+        if trial.reads < at {
+            assert_eq!(rt; trial.outcome, Outcome::Right);
+            assert_eq!(rt;
+                trial.reads,
+                way.calls_for(case.input.len()).wrapping_add(1)
+            );
+            break;
+        }
+        assert_eq!(rt; trial.outcome, way.outcome);
+    }
+}
+
+/// The writer has a trouble at each call in turn, until the program doesn't come to it.
+pub fn trouble_each_write<R: Threads + Wait + Sync + Abort>(
+    rt: &R,
+    alloc: Global,
+    case: &Case<'_>,
+    way: &Way,
+) {
+    for at in 1..u64::MAX {
+        let devices = Devices {
+            output: way.device(at),
+            ..SOUND_DEVICES
+        };
+        let trial = devices.run(rt, alloc, case);
+        if trial.writes < at {
+            assert_eq!(rt; trial.outcome, Outcome::Right);
+            assert!(rt; trial.writes >= way.calls_for(trial.written));
+            break;
+        }
+        assert_eq!(rt; trial.outcome, way.outcome);
+    }
+}

@@ -1,0 +1,206 @@
+//! Texts whose output is known.
+use crate::calls::{Call, Reading, Wanted};
+use crate::sweep::check;
+use crate::texts::{
+    AUDIT, BAD_HISTORY, BAD_RECORD, CHECK, COLLECTED, COLLECTED_OUTPUT, FIRST_BAD, HISTORY, LEGAL,
+    MIGRATE, MIGRATE_CYCLES, RACE, RECORD, REFUSED, REFUSED_OUTPUT, RUN, RUN_BY_TWO, crowded,
+    crowded_output, repeated, wide, wide_output,
+};
+use std::alloc::{AllocError, Global};
+use std::process::Abort;
+use std::sync::Wait;
+use std::test::Fail;
+use std::thread::Threads;
+
+const SCRIPTS: &[Call<'static>] = &[
+    Call {
+        words: RUN,
+        text: COLLECTED,
+        wanted: Wanted::Output(COLLECTED_OUTPUT),
+        status: 0,
+        reading: Reading::Before,
+    },
+    Call {
+        words: RUN,
+        text: REFUSED,
+        wanted: Wanted::Output(REFUSED_OUTPUT),
+        status: 1,
+        reading: Reading::Before,
+    },
+];
+
+const CHECKED: &[Call<'static>] = &[
+    Call {
+        words: CHECK,
+        text: HISTORY,
+        wanted: Wanted::Output(LEGAL),
+        status: 0,
+        reading: Reading::Before,
+    },
+    Call {
+        words: CHECK,
+        text: BAD_HISTORY,
+        wanted: Wanted::Output(FIRST_BAD),
+        status: 4,
+        reading: Reading::Before,
+    },
+];
+
+const AUDITED: &[Call<'static>] = &[
+    Call {
+        words: AUDIT,
+        text: RECORD,
+        wanted: Wanted::Output(LEGAL),
+        status: 0,
+        reading: Reading::Before,
+    },
+    Call {
+        words: AUDIT,
+        text: BAD_RECORD,
+        wanted: Wanted::Output(FIRST_BAD),
+        status: 4,
+        reading: Reading::Before,
+    },
+];
+
+const MIGRATED: &[Call<'static>] = &[
+    Call {
+        words: MIGRATE,
+        text: HISTORY,
+        wanted: Wanted::Output(RECORD),
+        status: 0,
+        reading: Reading::Before,
+    },
+    Call {
+        words: MIGRATE,
+        text: BAD_HISTORY,
+        wanted: Wanted::Output(FIRST_BAD),
+        status: 4,
+        reading: Reading::Before,
+    },
+];
+
+/// Each call is made with its words read before memory is refused, and then with them read within.
+fn check_each<R: Threads + Wait + Sync + Abort>(
+    rt: &R,
+    alloc: Global,
+    calls: &[Call<'_>],
+) -> Result<(), AllocError> {
+    for call in calls {
+        check(rt, alloc, *call, 1)?;
+        let whole = Call {
+            reading: Reading::Within,
+            ..*call
+        };
+        check(rt, alloc, whole, 1)?;
+    }
+    Ok(())
+}
+
+#[test]
+fn scripts_that_are_run(rt: HostRuntime) -> Result<(), Fail> {
+    check_each(&rt, rt.alloc(), SCRIPTS)?;
+    Ok(())
+}
+
+#[test]
+fn histories_that_are_checked(rt: HostRuntime) -> Result<(), Fail> {
+    check_each(&rt, rt.alloc(), CHECKED)?;
+    Ok(())
+}
+
+#[test]
+fn records_that_are_audited(rt: HostRuntime) -> Result<(), Fail> {
+    check_each(&rt, rt.alloc(), AUDITED)?;
+    Ok(())
+}
+
+#[test]
+fn histories_that_are_migrated(rt: HostRuntime) -> Result<(), Fail> {
+    check_each(&rt, rt.alloc(), MIGRATED)?;
+    Ok(())
+}
+
+const BY_CREW: Call<'static> = Call {
+    words: RUN_BY_TWO,
+    text: COLLECTED,
+    wanted: Wanted::Output(COLLECTED_OUTPUT),
+    status: 0,
+    reading: Reading::Within,
+};
+
+#[test]
+fn a_script_by_a_crew(rt: HostRuntime) -> Result<(), Fail> {
+    check(&rt, rt.alloc(), BY_CREW, 1)?;
+    Ok(())
+}
+
+#[test]
+fn a_crew_without_threads_and_with_them(rt: HostRuntime) -> Result<(), Fail> {
+    let script = wide(rt.alloc())?;
+    let output = wide_output(rt.alloc())?;
+    let call = Call {
+        text: script.as_bytes(),
+        wanted: Wanted::Output(output.as_slice()),
+        reading: Reading::Before,
+        ..BY_CREW
+    };
+    check(&rt, rt.alloc(), call, 2)?;
+    Ok(())
+}
+
+/// A beginning of the output is written before memory is refused.
+fn check_beginnings<R: Threads + Wait + Sync + Abort>(
+    rt: &R,
+    alloc: Global,
+    words: &[&[u8]],
+    text: &[u8],
+    output: &[u8],
+) -> Result<(), AllocError> {
+    let call = Call {
+        words,
+        text,
+        wanted: Wanted::Output(output),
+        status: 0,
+        reading: Reading::Before,
+    };
+    let seen = check(rt, alloc, call, 1)?;
+    assert!(rt; seen.begun > 0);
+    Ok(())
+}
+
+#[test]
+fn a_beginning_of_many_replies(rt: HostRuntime) -> Result<(), Fail> {
+    let script = crowded(rt.alloc())?;
+    let output = crowded_output(rt.alloc())?;
+    check_beginnings(&rt, rt.alloc(), RUN, script.as_slice(), output.as_bytes())?;
+    Ok(())
+}
+
+const LINES: usize = 4_200;
+
+#[test]
+fn a_beginning_of_a_long_history(rt: HostRuntime) -> Result<(), Fail> {
+    let alloc = rt.alloc();
+    let script = repeated(alloc, b"config 4 1000 4 1\n", b"a clear 0\n", LINES)?;
+    let first = b"history 2 rules 2 4 1000 4 1\n";
+    let history = repeated(alloc, first, b"s0 clear 0 = ok units 1 296\n", LINES)?;
+    check_beginnings(&rt, alloc, RACE, script.as_slice(), history.as_slice())?;
+    Ok(())
+}
+
+#[test]
+fn a_beginning_of_a_long_record(rt: HostRuntime) -> Result<(), Fail> {
+    let alloc = rt.alloc();
+    let history = repeated(alloc, b"history 1\n", b"s0 clear 0 = ok\n", LINES)?;
+    let first = b"history 2 rules 1 4 1000 4 1\n";
+    let record = repeated(alloc, first, b"s0 clear 0 = ok units 1 296\n", LINES)?;
+    check_beginnings(
+        &rt,
+        alloc,
+        MIGRATE_CYCLES,
+        history.as_slice(),
+        record.as_slice(),
+    )?;
+    Ok(())
+}

@@ -1,0 +1,82 @@
+//! A service whose seats call one after the other.
+ghost use Rattle.std.specs.Prelude.{◌<◌, ◌≤◌, All};
+ghost use Rattle.mh_service.specs.Services.{IsOf};
+
+use mh_model::command::Event;
+use mh_model::config::Config;
+use mh_model::memory::NoMemory;
+use mh_model::reply::Reply;
+use mh_scan::crew_scan::CrewGate;
+use mh_service::seat::Seat;
+use mh_service::service::Service;
+use mh_state::machine::Stop;
+use mh_text::reply_text::ReplyText;
+use std::alloc::Global;
+use std::sync::Wait;
+use std::test::Fail;
+use std::thread::Threads;
+
+/// A service with its seats.
+#[derive(Drop)]
+pub struct Callers<'a, R, G> {
+    rt: &'a R,
+    service: Service<'a, G>,
+    seats: Vec<Seat>,
+    ghost own: { All (IsOf service) seats.items },
+}
+
+/// The number of the seat that makes the call of an event.
+pub fn owner_of(event: &Event) -> usize {
+    match event {
+        Event::Session(who, _) => usize::from(*who).min(8),
+        Event::Control(_) => 8,
+    }
+}
+
+/// The answer to a call of its seat, which is none where there is no such seat.
+fn answer<R: Threads + Wait, G: CrewGate>(
+    rt: &R,
+    service: &Service<'_, G>,
+    seats: &mut [Seat],
+    event: Event,
+) -> Option<Result<Reply, Stop>>
+    requires { All (IsOf service.now) seats.old }
+    ensures { All (IsOf service.now) seats.new }
+{
+    let index = owner_of(&event);
+    if index >= seats.len() || !seats[index].owns(&event) {
+        return None;
+    }
+    Some(service.call(rt, &mut seats[index], event))
+}
+
+impl<'a, R: Threads + Wait, G: CrewGate> Callers<'a, R, G> {
+    pub fn new(
+        rt: &'a R,
+        alloc: Global,
+        config: Config,
+        workers: usize,
+        gate: &'a G,
+    ) -> Result<Callers<'a, R, G>, NoMemory>
+        requires { (0 < workers) × (workers ≤ 64) }
+    {
+        let (service, seats) = Service::open(alloc, config, workers, gate)?;
+        Ok(Callers { rt, service, seats })
+    }
+
+    /// The answer to a call of its seat, which is none where there is no such seat.
+    pub fn call(&mut self, event: Event) -> Option<Result<Reply, Stop>> {
+        answer(self.rt, &self.service, &mut self.seats, event)
+    }
+
+    /// The lines of the answers to these calls, none of which is refused.
+    pub fn answers_to(&mut self, alloc: Global, events: &[Event]) -> Result<String, Fail> {
+        let mut answers = String::new(alloc);
+        for event in events {
+            let reply = self.call(*event).ok_or("no seat")??;
+            let line = format!(in alloc; "{}\n", ReplyText(&reply))?;
+            answers.push_str(&line)?;
+        }
+        Ok(answers)
+    }
+}
