@@ -11,7 +11,7 @@ use mh_model::place::Place;
 use std::io;
 use std::time::Instant;
 
-/// Makes one object of these parts, where it finds a place.
+/// Makes one object of these parts, if it finds a place.
 fn make_one(blocks: &mut Blocks, room: &mut PartPlaces, parts: &Parts, birth: u32) -> bool {
     make_group(blocks, room, parts, Birth(u64::from(birth)), 1).is_ok()
 }

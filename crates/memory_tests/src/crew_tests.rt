@@ -230,7 +230,7 @@ impl CrewGate for Taking {
     }
 }
 
-/// Takes all memory, where it isn't taken yet.
+/// Takes all memory, if it isn't taken yet.
 fn take_all(alloc: Global, taken: &OnceLock<Famine>) {
     if let Ok(famine) = Famine::begin(alloc) {
         let _ = taken.try_set(famine);

@@ -30,7 +30,7 @@ fn block_count(alloc: Global, held: &mut Vec<Vec<u8>>) -> usize {
     MOST_BLOCKS
 }
 
-/// Whether so many bytes and no others can be had in one piece, and in small blocks, where there is room to hold these.
+/// Whether so many bytes and no others can be had in one piece, and in small blocks, if there is room to hold these.
 fn leaves(
     alloc: Global,
     famine: &mut Famine,

@@ -8,7 +8,7 @@ use std::test::Fail;
 use std::thread::Threads;
 use test_support::famine::Famine;
 
-/// Makes all calls, each with more and more memory where it is refused. The last has to be refused first.
+/// Makes all calls, each with more and more memory if it is refused. The last has to be refused first.
 fn call_all<A: Attempt>(called: &mut A, famine: Option<&mut Famine>) -> Result<(), Fail> {
     let are_right = match famine {
         None => are_all_done(called, KINDS),

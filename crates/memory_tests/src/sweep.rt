@@ -4,7 +4,7 @@ use std::alloc::AllocError;
 use std::test::Fail;
 use test_support::famine::Famine;
 
-/// How many bytes are left where memory is at hand.
+/// How many bytes are left when memory is at hand.
 pub const PLENTY: usize = 1 << 22;
 
 /// By how many bytes the memory grows that is left to a try.
@@ -13,7 +13,7 @@ pub const STEP: usize = 32;
 /// The most steps that are tried.
 pub const MOST_STEPS: usize = 4_000;
 
-/// Work that can be tried again where memory was refused to it.
+/// Work that can be tried again if memory was refused to it.
 pub trait Attempt {
     /// Whether the next piece of work is done.
     fn is_done(&mut self) -> bool;

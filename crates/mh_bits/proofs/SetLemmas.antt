@@ -104,7 +104,7 @@ member_is words number member within =
     get_or-bits_of words (4096 * number + member) (omega arith)
     ∙ (ap (λ k. has_bit (get_or words k 0) ((4096 * number + member) % 64)) row ∙ ap (has_bit (get_or words (64 * number + member / 64) 0)) column)
 
--- a word of a set is 0 exactly where the summary says so
+-- a word of a set is 0 exactly when the summary says so
 word_sum : (words summaries : List ℕ) (number j : ℕ) → IsSummed words summaries → number < length summaries → j < 64 → has_bit (get_or summaries number 0) j ≡ not (get_or words (64 * number + j) 0 == 0)
 word_sum words summaries number j summed inside small =
     let row : (64 * number + j) / 64 ≡ number = omega arith in

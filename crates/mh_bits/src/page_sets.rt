@@ -85,7 +85,7 @@ impl PageSets {
         }
     }
 
-    /// The least page in a set. It reads two words, or one where there is none.
+    /// The least page in a set. It reads two words, or one if there is none.
     pub fn least(&self, set: usize, tally: &mut Tally) -> Option<usize>
         requires set { 4096 * set + 4096 ≤ length self.now }
         requires few { tally.old < 2 ^ 61 }

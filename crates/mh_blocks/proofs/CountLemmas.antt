@@ -17,7 +17,7 @@ use Rattle.mh_table_laws.proofs.placing.Places.{block_in-page_for}
 abbrev pub passing : (Block → Bool) → List Block → ℕ
 passing test blocks = length (filter test blocks)
 
--- 1 where a block is there that passes
+-- 1 if a block is there that passes
 abbrev pub one : (Block → Bool) → Option Block → ℕ
 one test None = 0
 one test (Some block) = if test block then 1 else 0

@@ -50,7 +50,7 @@ taken_counts table size place block blocks forwarders free original counts =
       forwarders_are = omega (arith, counts.forwarders_are, old, none);
     }
 
--- 1 where the block at a place is a forwarder
+-- 1 if the block at a place is a forwarder
 abbrev pub forwards : Table Block → ℕ → ℕ
 forwards table place = bool_byte (is_some (forward_at table place))
 

@@ -222,7 +222,7 @@ impl Blocks {
         }
     }
 
-    /// Takes the block at a place back, and frees its page where this is asked.
+    /// Takes the block at a place back, and frees its page if this is asked.
     pub fn unmake(&mut self, place: Place, frees_page: bool)
         requires there { IsSome (block_at self.old place) }
         requires alone { frees_page ≡ true → count_at self.old (page_number place) ≡ 1 }

@@ -24,7 +24,7 @@ pub length-all_of : (views : List Lists) → length (all_of views) ≡ total len
 length-all_of [] = refl
 length-all_of (view ∷ views) = omega (arith, length-append view (all_of views), length-all_of views)
 
--- where a list stands among the lists of all seats
+-- if a list stands among the lists of all seats
 record Stands (lists : Lists) (list : List ℕ) : Type 0 where
   pub seat : ℕ
   pub inside : seat < length lists

@@ -1,4 +1,4 @@
--- Where every seat has ended and one seat stands for all, each number below the bound was drawn once.
+-- If every seat has ended and one seat stands for all, each number below the bound was drawn once.
 use Rattle.std.proofs.Common.{◌≡◌, ℕ, zero, suc, ◌<◌, true, All, List, [], ◌∷◌, ◌++◌, length, get_or, map, sym, refl, ap, ◌∙◌, subst, arith, append-nil}
 use mathlib.Core.Option.{some, some-injective, some-ne-none}
 use lib.ListN.{get_elem?}

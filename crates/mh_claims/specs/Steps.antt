@@ -1,4 +1,4 @@
--- What a step at the claim word tells the seat that takes it.
+-- What a step at the claim word gives the seat that takes it.
 use Rattle.std.specs.Prelude.{◌≡◌, ℕ, ◌≤◌, nat_lt, if◌then◌else◌, Option, Some, None, List, [], ◌∷◌, ◌++◌, slice_index_or}
 use Rattle.atomic_table.specs.Table.{Me, Step}
 use Rattle.mh_seat_laws.specs.ClaimWord.{Lists}

@@ -175,7 +175,7 @@ impl Claims {
         self.table.shared.fetch_add::<Draw<A>>(seat, 0, 1)
     }
 
-    /// The next number, where it is below the bound. A draw is one atomic step, asks for no memory and never waits.
+    /// The next number, if it is below the bound. A draw is one atomic step, asks for no memory and never waits.
     pub fn draw(&self, seat: &mut DrawSeat) -> Option<u64>
         requires own { IsOf self.now seat.old }
         requires going { seat_ended seat.old ≡ false }

@@ -48,7 +48,7 @@ class_number-same a b one two e = sym (class_is a one).is_size ∙ (ap (λ k. ge
 pub sizes_by_words : (words : ℕ) → words ≤ 64 → get_or SIZES words 0 ≡ unwrap_or (class_of words) 0
 sizes_by_words words few = eqb-true _ _ (sym (agree_below_at (λ w. true) (λ w. get_or SIZES w 0 == unwrap_or (class_of w) 0) 65 words refl (omega arith)))
 
--- none where its size would be 0
+-- none if its size would be 0
 pub no_class : (words : ℕ) → unwrap_or (class_of words) 0 ≡ 0 → None ≡ class_of words
 no_class words e = go (class_of words) refl e
   where

@@ -1,4 +1,4 @@
--- How many references and numbers a block has itself, told by the counts in its header.
+-- How many references and numbers a block has itself, by the counts in its header.
 use Rattle.std.specs.Prelude.{ℕ, ◌+◌, nat_le, if◌then◌else◌}
 use Rattle.mh_model.specs.declared.shape.Shape.{Shape}
 use Rattle.mh_model.specs.Classes.{child_count}

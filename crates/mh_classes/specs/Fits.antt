@@ -3,7 +3,7 @@ use Rattle.std.specs.Prelude.{◌≡◌, ℕ, ◌+◌, ◌<◌, ◌≤◌, ◌^�
 use Rattle.mh_model.specs.Classes.{Part, parts}
 use Rattle.mh_classes.specs.Counts.{reference_count, number_count}
 
--- a part has the references and numbers that its header tells, and each count in the header has 20 bits
+-- a part has the references and numbers that its header states, and each count in the header has 20 bits
 pub record FitsItsHeader (part : Part) : Type 0 where
   pub references : part.references ≡ reference_count part.header
   pub numbers : part.numbers ≡ number_count part.header

@@ -7,7 +7,7 @@ use Rattle.mh_classes.specs.Fits.{FitsItsHeader}
 abbrev pub PartsHaveClasses : Type 0
 PartsHaveClasses = (references numbers i : ℕ) (part : Part) → references + numbers ≤ 216000 → slice_get (parts references numbers) i ≡ Some part → IsSome (class_of (part_words part))
 
--- each part has the references and numbers that its header tells, and each count in the header has 20 bits
+-- each part has the references and numbers that its header states, and each count in the header has 20 bits
 abbrev pub PartsFitTheirHeaders : Type 0
 PartsFitTheirHeaders = (references numbers i : ℕ) (part : Part) → references + numbers ≤ 216000 → slice_get (parts references numbers) i ≡ Some part → FitsItsHeader part
 

@@ -13,7 +13,7 @@ const SIZES: [u8; 65] = [
     50, 57, 57, 57, 57, 57, 57, 57, 64, 64, 64, 64, 64, 64, 64,
 ];
 
-/// The number of the class of each size up to 64, and 20 where no class has it.
+/// The number of the class of each size up to 64, and 20 if no class has it.
 const NUMBERS: [u8; 65] = [
     20, 20, 20, 20, 0, 1, 2, 3, 4, 5, 20, 6, 20, 7, 20, 8, 20, 9, 20, 20, 10, 20, 20, 11, 20, 20,
     12, 20, 20, 20, 13, 20, 20, 20, 14, 20, 20, 20, 20, 15, 20, 20, 20, 20, 16, 20, 20, 20, 20, 20,
@@ -39,7 +39,7 @@ impl Model for Class {
     ghost inverse = { λ size. record { size = size } };
 }
 
-/// The size of the class for so many words, and 0 where there is none.
+/// The size of the class for so many words, and 0 if there is none.
 fn size_for(words: usize) -> u8
     requires { words ≤ 64 }
     ensures { result ≡ unwrap_or (class_of words) 0 }

@@ -6,7 +6,7 @@ pub fn parts_have_classes()
     ensures { PartsHaveClasses }
 {}
 
-/// Each part has the references and numbers that its header tells, and the counts in the header have 20 bits.
+/// Each part has the references and numbers that its header states, and the counts in the header have 20 bits.
 pub fn parts_fit_their_headers()
     ensures { PartsFitTheirHeaders }
 {}

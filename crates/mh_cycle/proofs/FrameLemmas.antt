@@ -77,7 +77,7 @@ framed-shaded config table phase cursor cycle grey reference frame =
       defrag = long.defrag;
     }
 
--- a step of the roots keeps it, where more slots are left
+-- a step of the roots keeps it, if more slots are left
 pub framed-roots : (config : Config) (table : Table Block) (phase : Phase) (cursor cycle : ℕ) (grey : Queue) (reference : Option ℕ) → IsFramed config table phase cursor grey → phase ≡ Roots → cursor + 1 ≢ 144
     → IsFramed config (shade (marking table grey.places cycle) reference).table phase (cursor + 1) (record { places = (shade (marking table grey.places cycle) reference).grey; pages = grey.pages })
 framed-roots config table phase cursor cycle grey reference frame is more =

@@ -120,7 +120,7 @@ over-nothing left moved c none = elim (cases_Bool (is_idle c.phase)) [
   | inr runs ↦ over left (step_cost c moved) moved c refl (omega (arith, step_cost-positive c moved runs))
 ]
 
--- no step at all, where the next one doesn't fit
+-- no step at all, if the next one doesn't fit
 pub steps-over : (n left : ℕ) (moved : Bool) (c : Collector) → is_over left moved c ≡ true → steps n left moved c ≡ record { units = 0; collector = c }
 unfolding steps
 steps-over zero left moved c stops = refl

@@ -7,7 +7,7 @@ use Rattle.mh_cycle.specs.Advance.{IsStride, IsRun}
 use Rattle.mh_cycle.proofs.StepLemmas.{cost-is, sweep-past, sweep-stays}
 use Rattle.mh_cycle.proofs.StrideLemmas.{stride-then, stride-one, stride-many}
 
--- where a collector's sweep is
+-- if a collector's sweep is
 abbrev sweeping_of : Collector → Sweeping
 sweeping_of c = record { table = c.table; place = c.cursor }
 

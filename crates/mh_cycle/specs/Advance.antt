@@ -26,7 +26,7 @@ IsFrom phase left collector = (order phase ≤ order collector.phase) ⊎ (is_ov
 abbrev pub IsStride : ℕ → Bool → Collector → Bool → Collector → Type 0
 IsStride units moved old moves new = (left : ℕ) → units ≤ left → steps left left moved old ≡ with_units units (steps (left - units) (left - units) moves new)
 
--- steps that fit in what is left and move no block, which are none only where the next one doesn't fit
+-- steps that fit in what is left and move no block, which are none only if the next one doesn't fit
 pub record IsRun (left : ℕ) (old : Collector) (units : ℕ) (new : Collector) : Type 0 where
   pub fits : units ≤ left
   pub goes : (moved : Bool) → IsStride units moved old moved new

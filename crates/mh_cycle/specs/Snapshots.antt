@@ -11,7 +11,7 @@ use Rattle.mh_model.specs.Snapshot.{IsKept}
 use Rattle.mh_model.specs.Invariant.{IsSound, KeepsSnapshot, Continues}
 use Rattle.mh_cycle.specs.State.{CycleState}
 
--- a snapshot that the running cycle keeps is kept on, and what it keeps is all that is left where the cycle ends
+-- a snapshot that the running cycle keeps is kept on, and what it keeps is all that is left when the cycle ends
 abbrev pub ContinuesEach : Collector → Collector → Type 0
 ContinuesEach old new = (snapshot : World) (next_birth : ℕ) → is_idle old.phase ≡ false → KeepsSnapshot snapshot next_birth old → Continues snapshot next_birth new
 
@@ -28,6 +28,6 @@ KeepsEach old new = (snapshot : World) (next_birth : ℕ) → KeepsSnapshot snap
 abbrev pub HasKeptBlock : World → ℕ → Collector → ℕ → Type 0
 HasKeptBlock snapshot next_birth collector place = in_roots_or_mark collector.phase ≡ true → (block : Block) × (block_at collector.table place ≡ Some block) × (block.forward ≡ None) × IsKept snapshot next_birth block.birth
 
--- each snapshot that was kept still is, where the block at this place is of what it keeps
+-- each snapshot that was kept still is, if the block at this place is of what it keeps
 abbrev pub KeepsEachBehind : ℕ → Collector → Collector → Type 0
 KeepsEachBehind place old new = (snapshot : World) (next_birth : ℕ) → HasKeptBlock snapshot next_birth old place → KeepsSnapshot snapshot next_birth old → KeepsSnapshot snapshot next_birth new

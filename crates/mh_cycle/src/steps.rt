@@ -17,7 +17,6 @@ use mh_laws::batches::any_cut_into_batches_is_the_same;
 use mh_laws::fields::references_lead_on;
 use mh_mark::batch::mark_batch;
 use mh_mark::mark::{FirstGrey, first_grey, mark_step};
-use mh_mark::roots_step::roots_step;
 use mh_model::cycle::Phase;
 use mh_model::limits::{PLACES, ROOT_SLOTS};
 use mh_model::place::Place;
@@ -92,13 +91,8 @@ impl Cycle {
         ensures { self.new ≡ with_collector self.old (collector_step self.old.collector) }
     {
         references_lead_on();
-        roots_step(
-            &mut self.blocks,
-            &mut self.grey,
-            self.number,
-            &self.roots,
-            self.cursor,
-        );
+        let reference = self.roots.get(self.cursor);
+        self.grey.shade(&mut self.blocks, self.number, reference);
         self.cursor += 1;
         if self.cursor == ROOT_SLOTS {
             self.cursor = 0;
@@ -131,7 +125,7 @@ impl Cycle {
         self.phase = after_mark(&self.grey);
     }
 
-    /// Marks through the longest front that fits in what is left, by the scanner. Answers what that cost, nothing where
+    /// Marks through the longest front that fits in what is left, by the scanner. Answers what that cost, nothing if
     /// the first block doesn't fit.
     pub(crate) fn mark_batch<S: Scanner>(&mut self, scanner: &mut S, left: u64) -> u64
         requires phase { self.old.collector.phase ≡ Mark }

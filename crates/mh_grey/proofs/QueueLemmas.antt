@@ -47,7 +47,7 @@ pub queue-open : (pages : ℕ) → IsQueue [] (64 * pages) pages
 unfolding IsDistinct
 queue-open pages = record { once = tt; below = λ place is. absurd (false≢true is); room = refl }
 
--- what is pushed where there is room is there
+-- what is pushed if there is room is there
 pub pushed : {E : Type 0} (result : Result Unit E) (P Q : Type 0) → (IsOk result ↔ P) → P → OnOk result Q → Q
 pushed (Ok nothing) P Q variant p on = on
 pushed (Err e) P Q variant p on = absurd (false≢true (variant.1 p))

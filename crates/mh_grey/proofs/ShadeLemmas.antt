@@ -32,7 +32,7 @@ pub shade-new : (m : Marking) (reference : ℕ) → IsSome (block_at m.table (re
     → shade m (Some reference) ≡ record m { table = with_stamp_at m.table (resolve m.table reference) m.cycle; grey = m.grey ++ resolve m.table reference ∷ [] }
 shade-new m reference there apart = place-new m (resolve m.table reference) there apart
 
--- where the grey places are marked, a reference may be shaded
+-- if the grey places are marked, a reference may be shaded
 pub marked-apart : (table : Table Block) (cycle : ℕ) (grey : List ℕ) (reference : Option ℕ) → AreMarked table cycle grey → IsApart table cycle grey reference
 marked-apart table cycle grey reference marked place is unmarked = go (is_in place grey) refl
   where

@@ -18,7 +18,7 @@ module _ {X : Type 0} where
   kept_view see g keeps None = refl
   kept_view see g keeps (Some x) = keeps x
 
-  -- what is seen of the block at any place stays, where the change keeps it
+  -- what is seen of the block at any place stays, if the change keeps it
   pub change-view : {A : Type 0} (see : Option X → A) (g : X → X) → ((x : X) → see (Some (g x)) ≡ see (Some x)) → (table : Table X) (place q : ℕ) → see (block_at (with_block table place (option_map g (block_at table place))) q) ≡ see (block_at table q)
   change-view see g keeps table place q = elim (cases_eq q place) [
     | inr apart ↦ ap see (block_at-with_block_other table place q (option_map g (block_at table place)) apart)

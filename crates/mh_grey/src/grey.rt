@@ -95,7 +95,7 @@ impl Grey {
         let _ = self.places.try_push_back(place);
     }
 
-    /// Marks the block to which a reference leads, where it isn't marked, and makes it grey.
+    /// Marks the block to which a reference leads, if it isn't marked, and makes it grey.
     pub fn shade(&mut self, blocks: &mut Blocks, cycle: u64, reference: Option<Place>)
         requires pages { self.old.pages ≡ length blocks.old }
         requires leads { LeadsOn blocks.old reference }
@@ -109,7 +109,7 @@ impl Grey {
         }
     }
 
-    /// Marks the block at an address, where it isn't marked, and makes it grey. It shades a reference that is resolved already.
+    /// Marks the block at an address, if it isn't marked, and makes it grey. It shades a reference that is resolved already.
     pub fn shade_from(&mut self, blocks: &mut Blocks, cycle: u64, address: Address)
         requires pages { self.old.pages ≡ length blocks.old }
         requires at { address ≡ address_in blocks.old address.place }

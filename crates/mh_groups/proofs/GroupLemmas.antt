@@ -9,7 +9,7 @@ use Rattle.mh_groups.specs.Making.{AreUnlinked}
 use Rattle.mh_groups.proofs.MadeLemmas.{made_parts-more, made_parts-none}
 use Rattle.mh_table_laws.proofs.placing.Places.{with_block-self}
 
--- What is read where something was written is that, or nothing past the end ------------------------
+-- What is read if something was written is that, or nothing past the end ------------------------
 
 set_read : {X : Type 0} (xs : List (Option X)) (i : ℕ) (x : Option X) → (get_or (set xs i x) i None ≡ x) ⊎ (get_or (set xs i x) i None ≡ None)
 set_read [] i x = inr refl

@@ -37,7 +37,7 @@ mapped-some : (change : Block → Block) (content : Option Block) → IsSome con
 mapped-some change None is = is
 mapped-some change (Some block) is = refl
 
--- a block is changed where one is, and each other stays
+-- a block is changed if one is, and each other stays
 pub changed-there : (table : Table Block) (place other : ℕ) (change : Block → Block) → IsSome (block_at table other) → IsSome (block_at (with_block_change table place change) other)
 changed-there table place other change is = elim (cases_eq other place) [
   | inl same ↦
@@ -109,7 +109,7 @@ module _ (old : Table Block) (place : ℕ) (children : List ℕ) (is : IsSome (b
 
 -- The parts in order -----------------------------------------------------------------------------
 
--- So many parts are linked: what is left of the book's linking, and the parts that aren't linked yet are as they were made
+-- So many parts are linked: what is left of the model's linking, and the parts that aren't linked yet are as they were made
 pub record AreLinkedSoFar (old : Table Block) (list : List Part) (places : List ℕ) (table : Table Block) (count : ℕ) : Type 0 where
   pub left : linked_parts places old places list ≡ linked_parts places table (drop count places) (drop count list)
   pub unlinked : AreUnlinked table places list count

@@ -57,7 +57,7 @@ module _ {X : Type 0} where
 
 -- One part more ----------------------------------------------------------------------------------
 
--- a page is free exactly where it has no class
+-- a page is free exactly when it has no class
 class-none : (content : Option (Page Block)) → is_none (option_map (λ (page : Page Block). page.class_size) content) ≡ is_none content
 class-none None = refl
 class-none (Some page) = refl
@@ -117,7 +117,7 @@ made_part-at table birth stamp index size place part class least =
     ap (option_and_then (made_in_class table (new_block birth stamp index part))) class
     ∙ ap (option_map (λ p. record { place = p; table = with_taken table size p (new_block birth stamp index part) })) least
 
--- So many parts of an object are made: what is left of the book's making, and how to take them back
+-- So many parts of an object are made: what is left of the model's making, and how to take them back
 pub record AreMadeSoFar (old : Table Block) (birth stamp : ℕ) (list : List Part) (table : Table Block) (places : List ℕ) (fresh : List Bool) (count : ℕ) : Type 0 where
   pub left : made_parts old birth stamp 0 list ≡ option_map (made_after (take count places)) (made_parts table birth stamp count (drop count list))
   pub back : without_parts table places fresh count ≡ old

@@ -52,7 +52,7 @@ fn unmake_parts(blocks: &mut Blocks, places: &[Place], fresh: &[bool], count: us
     }
 }
 
-/// Makes the parts in order, and keeps their places. Where one finds none, those before it are taken back.
+/// Makes the parts in order, and keeps their places. If one finds none, those before it are taken back.
 fn make_parts(
     blocks: &mut Blocks,
     places: &mut [Place],
@@ -115,7 +115,7 @@ fn link_parts(blocks: &mut Blocks, places: &[Place], parts: &Parts)
     }
 }
 
-/// Makes an object of these parts, or leaves the table as it was where one of them finds no place. It answers the place
+/// Makes an object of these parts, or leaves the table as it was if one of them finds no place. It answers the place
 /// of part 0, which stands for the object.
 pub fn make_group(
     blocks: &mut Blocks,

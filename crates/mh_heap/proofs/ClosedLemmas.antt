@@ -11,7 +11,7 @@ at_set (x ∷ xs) zero (suc at) new item is = inr is
 at_set (x ∷ xs) (suc place) zero new item is = inr is
 at_set (x ∷ xs) (suc place) (suc at) new item is = at_set xs place at new item is
 
--- what was there is there still, where one is exchanged and where one is added
+-- what was there is there still, if one is exchanged and if one is added
 there_set : (objects : List (Option Object)) (birth at : ℕ) (new : Object) → IsSome (get_or objects at None) → IsSome (get_or (set objects birth (Some new)) at None)
 there_set [] birth at new there = there
 there_set (x ∷ xs) zero zero new there = refl

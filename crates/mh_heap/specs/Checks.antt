@@ -3,11 +3,11 @@ use Rattle.std.specs.Prelude.{Bool, List, Result, Ok, Err, Option, Some, None}
 use Rattle.mh_model.specs.World.{first_refusal}
 use Rattle.mh_model.specs.declared.reply.Refusal.{Refusal}
 
--- the value, where there is no refusal
+-- the value, if there is no refusal
 abbrev pub unless : {T : Type 0} → Option Refusal → T → Result T Refusal
 unless None value = Ok value
 unless (Some refusal) value = Err refusal
 
--- the value where no test holds, and else the refusal of the first that does
+-- the value if no test holds, and else the refusal of the first that does
 abbrev pub tested : {T : Type 0} → List (Bool × Refusal) → T → Result T Refusal
 tested tests value = unless (first_refusal tests) value

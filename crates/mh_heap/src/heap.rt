@@ -14,7 +14,7 @@ use mh_model::shape::Shape;
 use mh_scan::scan::Scanner;
 
 /// A heap as its sessions see it: each call is the command of its name by the session `who`. What a heap shows is the
-/// ever-growing world, with nothing at the births that it no longer holds. Each call promises what this heap tells
+/// ever-growing world, with nothing at the births that it no longer holds. Each call promises what this heap states
 /// exactly, and the laws say what that shows.
 pub trait Heap {
     ghost shown: { Self → Showing };
@@ -22,7 +22,7 @@ pub trait Heap {
     // What a command of a session answers and leaves.
     ghost performs: { Self → ℕ → Command → Reply → Self → Type 0 };
 
-    // What is so of a heap to which memory was refused: nothing more, or what is false where it asks for none.
+    // What is so of a heap to which memory was refused: nothing more, or what is false if it asks for none.
     ghost lacks: { Self → Type 0 };
 
     // What a quantum spends and leaves.

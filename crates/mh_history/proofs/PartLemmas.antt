@@ -107,7 +107,7 @@ shown_next [] i text none below is = absurd (omega arith)
 shown_next (item ∷ items) zero text none below is = rw is refl
 shown_next (item ∷ items) (suc i) text none below is = let one : suc i + 1 ≡ suc (i + 1) = omega arith in rw one (shown_next items i text none (omega arith) is)
 
--- the words are the texts where the words left are the texts left
+-- the words are the texts if the words left are the texts left
 wrong_by : (word text : Text) (words texts : List Text) → is_text word text ≡ false → are_texts (word ∷ words) (text ∷ texts) ≡ false
 wrong_by word text words texts is = rw is refl
 

@@ -11,7 +11,7 @@ use mh_text::pieces::Words;
 use mh_text::word::numbers;
 use std::alloc::Global;
 
-/// The entry that words are, where the version knows its event and its reply.
+/// The entry that words are, if the version knows its event and its reply.
 pub fn entry_of(
     alloc: Global,
     version: Version,

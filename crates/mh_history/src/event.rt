@@ -24,7 +24,7 @@ fn session_of(word: &[u8]) -> Option<u8>
     }
 }
 
-/// The event that words are, where the version knows it.
+/// The event that words are, if the version knows it.
 pub fn event_of(version: Version, mut words: Words<'_>) -> Option<Event>
     ensures { result ≡ event_of version words.entry }
 {

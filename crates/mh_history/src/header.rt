@@ -6,7 +6,7 @@ use mh_text::forms::small;
 use mh_text::pieces::Words;
 use mh_text::word::{is_word, number, numbers};
 
-/// The configuration that the words of a history's first line are, in version 2. None where they are none, or outside the
+/// The configuration that the words of a history's first line are, in version 2. None if they are none, or outside the
 /// limits.
 pub fn header_of(mut words: Words<'_>) -> Option<Config>
     ensures { result ≡ header_of words.entry }

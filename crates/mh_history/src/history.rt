@@ -35,7 +35,7 @@ pub fn history_lines(text: &[u8]) -> Result<Lines<'_>, RefusedLine>
 }
 
 /// Reads a history of version 1, up to its first bad line. It takes memory for entries alone, so a text that is refused before
-/// its first entry is never answered with want of memory.
+/// its first entry is never answered with `NoMemory`.
 pub fn parse_history(alloc: Global, text: &[u8]) -> Result<Vec<Entry>, TextError>
     ensures entries { IfOk result (λ entries. history_reading text.now ≡ Means entries.items) }
     ensures line { IfErr result (Refuses (history_reading text.now)) }

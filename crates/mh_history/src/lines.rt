@@ -34,7 +34,7 @@ pub trait FromLine: Sized {
     // What a line is read as.
     ghost of_line: { List ℕ → Option Self };
 
-    /// Reads a line, given without its end. None where it is bad.
+    /// Reads a line, given without its end. None if it is bad.
     fn from_line(alloc: Global, line: &[u8]) -> Result<Option<Self>, NoMemory>
         ensures read { IfOk result (λ read. read ≡ of_line line.now) }
         ensures memory { OnErr result (IsSome (of_line line.now)) };

@@ -27,7 +27,7 @@ fn are_words(mut words: Words<'_>, texts: &[&str]) -> bool
     words.next_word().is_none()
 }
 
-/// A value where the words are these.
+/// A value if the words are these.
 pub fn where_words<T: Drop>(words: Words<'_>, texts: &[&str], value: T) -> Option<T>
     ensures { result ≡ within (are_texts words.entry (names_shown texts.now)) value }
 {
@@ -138,7 +138,7 @@ pub fn flag_of(word: &[u8]) -> Option<bool>
     }
 }
 
-/// The number that a word is, or none where it says so.
+/// The number that a word is, or none if it says so.
 pub fn optional_of(word: &[u8]) -> Option<Option<u64>>
     ensures { result ≡ optional_of word.now }
 {

@@ -74,7 +74,7 @@ pub fn record_lines(text: &[u8]) -> Result<(Config, Lines<'_>), RefusedLine>
 }
 
 /// Reads a history of version 2, up to its first bad line. It takes memory for entries alone, so a text that is refused before
-/// its first entry is never answered with want of memory.
+/// its first entry is never answered with `NoMemory`.
 pub fn parse_record(alloc: Global, text: &[u8]) -> Result<Record, TextError>
     ensures record { IfOk result (λ read. recorded_reading text.now ≡ Means read) }
     ensures line { IfErr result (Refuses (recorded_reading text.now)) }

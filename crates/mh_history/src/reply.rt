@@ -12,7 +12,7 @@ use mh_text::pieces::Words;
 use mh_text::word::is_word;
 use std::alloc::Global;
 
-/// The well-formed reply that words are, where the version knows it. Memory is taken for a dump alone.
+/// The well-formed reply that words are, if the version knows it. Memory is taken for a dump alone.
 pub fn reply_of(
     alloc: Global,
     version: Version,

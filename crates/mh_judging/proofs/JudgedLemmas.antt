@@ -48,7 +48,7 @@ audited_refused text line is = rw is refl
 pub audited_bad : (config : Config) (text : Text) (r : Reading (List Measured)) (line : ℕ) → recorded_reading text ≡ with_header config r → r ≡ BadLine line → IsAudited text (Refused line)
 audited_bad config text r line is bad = audited_refused text line (is ∙ ap (with_header config) bad)
 
--- nothing is a beginning of the line of any verdict
+-- nothing is a prefix of the line of any verdict
 pub begins_to_judge_nothing : (Judged : Text → Verdict → Type 0) → ((text : Text) → (verdict : Verdict) × Judged text verdict) → (known a : Option Text) → BeginsToJudge Judged known a a
 begins_to_judge_nothing Judged some known a =
     let text = some_text known in

@@ -63,7 +63,7 @@ module _ {config : Config} {text : Text} {verdict : Verdict} {whole : Text} (mak
   pub begins_migration : (old new : Option Text) → AppendsBeginning old new whole → BeginsMigration config text old new
   begins_migration old new begun = record { whole = whole; migrated = (verdict, makes.checked, sym makes.same); wrote = begun }
 
--- nothing is a beginning of what migration makes
+-- nothing is a prefix of what migration makes
 pub begins_migration_nothing : TextsAreMigrated → (config : Config) (text : Text) (a : Option Text) → BeginsMigration config text a a
 begins_migration_nothing some config text a =
     let made = some config text in

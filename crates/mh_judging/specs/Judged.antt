@@ -42,7 +42,7 @@ pub record Judges (Judged : Text → Verdict → Type 0) (known old new : Option
   pub judged : Judged text verdict
   pub wrote : Appends old new (line_text (verdict_text verdict))
 
--- a beginning of the line of the verdict on the text of a source was written
+-- a prefix of the line of the verdict on the text of a source was written
 pub record BeginsToJudge (Judged : Text → Verdict → Type 0) (known old new : Option Text) : Type 0 where
   pub text : Text
   pub is_text : IsTextOf known text
@@ -61,7 +61,7 @@ pub record MigratesText (config : Config) (text : Text) (old new : Option Text) 
   pub checked : IsChecked config text verdict
   pub wrote : Appends old new (migration_text config verdict (history_reading text))
 
--- a beginning of what migration makes of a text was written
+-- a prefix of what migration makes of a text was written
 pub record BeginsMigration (config : Config) (text : Text) (old new : Option Text) : Type 0 where
   pub whole : Text
   pub migrated : IsMigratedTo config text whole
@@ -74,7 +74,7 @@ pub record Migrates (config : Config) (known old new : Option Text) (verdict : V
   pub migrated : MigratesText config text old new verdict
   pub legal : (count : ℕ) → verdict ≡ Legal count → IsAudited (migration_text config verdict (history_reading text)) (Legal count)
 
--- a beginning of what migration makes of the text of a source was written
+-- a prefix of what migration makes of the text of a source was written
 pub record BeginsToMigrate (config : Config) (known old new : Option Text) : Type 0 where
   pub text : Text
   pub is_text : IsTextOf known text
@@ -82,7 +82,7 @@ pub record BeginsToMigrate (config : Config) (known old new : Option Text) : Typ
 
 -- Ended ------------------------------------------------------------------------------------------
 
--- A history of a source was judged, of so many bytes at most and with such a beginning where memory is taken for it, and how that ended
+-- A history of a source was judged, of so many bytes at most and with such a prefix if memory is taken for it, and how that ended
 pub record IsJudging (Judged : Text → Verdict → Type 0) (Begins : Text → Type 0) (most : ℕ) (source source' sink sink' : Device) (ended : Result Verdict ScriptFault) : Type 0 where
   pub judged : IfOk ended (Judges Judged source.bytes sink.bytes sink'.bytes)
   pub begun : OnErr ended (BeginsToJudge Judged source.bytes sink.bytes sink'.bytes)

@@ -80,7 +80,7 @@ fn write_migrated<W: Sink>(
     }
 }
 
-/// Reads a whole history of version 1, and writes it as version 2 where it is legal, and else the line of its verdict.
+/// Reads a whole history of version 1, and writes it as version 2 if it is legal, and else the line of its verdict.
 pub fn migrate_script<S: Source, W: Sink>(
     alloc: Global,
     config: Config,

@@ -60,7 +60,7 @@ pub(crate) struct Recording {
     text: String,
 }
 
-// Owners prove one call where they drop it, and not each of the heap's parts.
+// Owners prove one call when they drop it, and not each of the heap's parts.
 impl Drop for Recording {
     fn drop(self) {
         let Recording {

@@ -16,7 +16,7 @@ pub record IsLongestFront (most : ℕ) (table : Table Block) (left : ℕ) (grey 
   pub longest : (other after : List ℕ) → grey ≡ other ++ after → length other ≤ most → batch_cost table other ≤ left → length other ≤ length batch
   pub ended : (length batch ≡ most) ⊎ ((rest ≡ []) ⊎ (left < batch_cost table batch + first_mark_cost table rest))
 
--- A cut into batches gives the machine of one block at a time; the steps of a quantum begin with a batch that fits, and end with it where the next block doesn't fit; and the longest front ends there, or where it is full
+-- A cut into batches gives the machine of one block at a time; the steps of a quantum begin with a batch that fits, and end with it if the next block doesn't fit; and the longest front ends there, or if it is full
 pub record AnyCutIntoBatchesIsTheSame : Type 0 where
   pub same : (marking : Marking) (batch rest : List ℕ) → marking.grey ≡ batch ++ rest → NoneTwice marking.grey → mark_steps (length batch) marking ≡ batch_marked marking batch rest
   pub begins : (collector : Collector) (batch rest : List ℕ) (left : ℕ) (has_moved : Bool) → collector.phase ≡ Mark → collector.grey ≡ batch ++ rest → NoneTwice collector.grey → 0 < length batch → batch_cost collector.table batch ≤ left →

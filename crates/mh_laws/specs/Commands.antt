@@ -32,15 +32,15 @@ pub record IsBorn (heap : HeapState) (who slot references numbers : ℕ) : Type 
 abbrev pub CommandKeepsTheCourse : Type 0
 CommandKeepsTheCourse = (heap : HeapState) (who : ℕ) (command : Command) → IsOnCourse (most_fields heap.config) heap.collector (mutator_step heap who command).state.collector
 
--- A refused command leaves the heap as it was, also where the heap is full
+-- A refused command leaves the heap as it was, also if the heap is full
 abbrev pub RefusalLeavesTheHeap : Type 0
 RefusalLeavesTheHeap = (heap : HeapState) (who : ℕ) (command : Command) (refusal : Refusal) → (mutator_step heap who command).reply ≡ reply.Refused refusal → (mutator_step heap who command).state ≡ heap
 
--- A new object is refused by a full heap only where its parts aren't made
+-- A new object is refused by a full heap only if its parts aren't made
 abbrev pub FullHeapHasNoPlace : Type 0
 FullHeapHasNoPlace = (heap : HeapState) (who slot references numbers : ℕ) → (mutator_step heap who (command.New slot references numbers)).reply ≡ reply.Refused HeapFull → new_group heap references numbers ≡ None
 
--- and each one that no other test refuses is, where they aren't made
+-- and each one that no other test refuses is, if they aren't made
 abbrev pub NoPlaceIsAFullHeap : Type 0
 NoPlaceIsAFullHeap = (heap : HeapState) (who slot references numbers : ℕ) → refusal (record (heap_sight heap) { is_full = never_full }) who (command.New slot references numbers) ≡ None → new_group heap references numbers ≡ None
     → (mutator_step heap who (command.New slot references numbers)).reply ≡ reply.Refused HeapFull

@@ -7,7 +7,7 @@ use Rattle.mh_model.specs.Table.{Block, forward_at}
 use Rattle.mh_model.specs.Collector.{Collector, is_idle, is_start_due, quantum_start, steps, quantum}
 use Rattle.mh_model.specs.Invariant.{in_trace, IsSteady}
 
--- the collector after so many steps of a quantum, or after all of them where it takes fewer
+-- the collector after so many steps of a quantum, or after all of them if it takes fewer
 abbrev pub after_steps : Config → Collector → ℕ → Collector
 after_steps config collector count = (steps count config.quantum false (quantum_start config collector)).collector
 
@@ -18,7 +18,7 @@ pub record BeginsToDefragment (config : Config) (collector begun : Collector) : 
   pub is : after_steps config collector (suc count) ≡ begun
   pub defragments : begun.phase ≡ Defrag
 
--- where a table has a forwarder, an earlier one had none: no block, or one that is no forwarder
+-- if a table has a forwarder, an earlier one had none: no block, or one that is no forwarder
 abbrev pub ForwardersAreNew : Table Block → Table Block → Type 0
 ForwardersAreNew earlier table = (place target : ℕ) → forward_at table place ≡ Some target → forward_at earlier place ≡ None
 
@@ -27,7 +27,7 @@ pub record IsMadeSince (begun collector : Collector) : Type 0 where
   pub cycle : begun.cycle ≡ collector.cycle
   pub forwarders : ForwardersAreNew begun.table collector.table
 
--- What a quantum leaves of forwarders: where a defragmentation begins within it no block is one, and a cycle that it leaves in defragmentation or ends was entered there, or begins to defragment within it and made each forwarder since
+-- What a quantum leaves of forwarders: when a defragmentation begins within it no block is one, and a cycle that it leaves in defragmentation or ends was entered there, or begins to defragment within it and made each forwarder since
 pub record MakesItsForwarders (config : Config) (old new : Collector) : Type 0 where
   pub begins : (begun : Collector) → BeginsToDefragment config old begun → (place : ℕ) → forward_at begun.table place ≡ None
   pub reaches : in_trace new.phase ≡ false → (is_idle old.phase ≡ false) ⊎ (is_start_due config old ≡ true)

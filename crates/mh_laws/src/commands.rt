@@ -11,12 +11,12 @@ pub fn refusal_leaves_the_heap()
     ensures { RefusalLeavesTheHeap }
 {}
 
-/// A new object is refused by a full heap only where its parts aren't made.
+/// A new object is refused by a full heap only if its parts aren't made.
 pub fn full_heap_has_no_place()
     ensures { FullHeapHasNoPlace }
 {}
 
-/// A new object that no other test refuses is refused by a full heap where its parts aren't made.
+/// A new object that no other test refuses is refused by a full heap if its parts aren't made.
 pub fn no_place_is_a_full_heap()
     ensures { NoPlaceIsAFullHeap }
 {}

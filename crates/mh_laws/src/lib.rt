@@ -1,5 +1,5 @@
 //! The laws of the collector and of the commands: each is what a function with nothing to do ensures.
-//! They speak of the machine of the book, and not yet of code.
+//! They speak of the machine of the model, and not yet of code.
 #![tactic(auto)]
 
 pub mod barriers;

@@ -1,4 +1,4 @@
--- The lock of the book over the call of a seat that took the value at home.
+-- The lock of the model over the call of a seat that took the value at home.
 use Rattle.std.proofs.Common.{arith, ◌≡◌, ℕ, ◌<◌, ◌==◌, if◌then◌else◌, List, [], ◌∷◌, ◌++◌, length, get_or, set, Option, Some, None, option_map, Result, Ok, Err, IfOk, OnErr, Bool, refl, sym, ap, ◌∙◌, subst, length-set, get_or-set_same, eq-eqb, append-nil, ⊎_elim}
 use Rattle.std.specs.Option.{option_to_list}
 use Rattle.std.proofs.lemmas.List.{get_or-set_other}
@@ -8,7 +8,7 @@ use Rattle.mh_seat_laws.proofs.lock.TakesAndGives.{with_give-kept}
 use Rattle.mh_lock.specs.Seats.{LockView, LockSeatView, IsTakenAndGiven, entry_of}
 use Rattle.mh_lock.specs.Steps.{WasAtHome}
 
--- what an answer leaves of a list that gets its entry, where it has one
+-- what an answer leaves of a list that gets its entry, if it has one
 pub entries-answered : {R F E : Type 0} (before after : List E) (answer : Result R F) (entry : R → E) → IfOk answer (λ r. after ≡ before ++ entry r ∷ []) → OnErr answer (after ≡ before) → after ≡ before ++ option_to_list (entry_of entry answer)
 entries-answered before after (Ok reply) entry ok err = ok
 entries-answered before after (Err refusal) entry ok err = err ∙ sym (append-nil before)
@@ -17,7 +17,7 @@ pub entry-owned : {R F E : Type 0} (owner : E → ℕ) (seat : ℕ) (answer : Re
 entry-owned owner seat (Ok reply) entry owned e is = let same : entry reply ≡ e = cc in ap owner (sym same) ∙ owned reply
 entry-owned owner seat (Err refusal) entry owned e is = cc
 
--- what a seat owns of a history that gets its entry, where there is one
+-- what a seat owns of a history that gets its entry, if there is one
 pub owned-more : {E : Type 0} (owner : E → ℕ) (seat : ℕ) (history : List E) (entry : Option E) → ((e : E) → entry ≡ Some e → owner e ≡ seat) → owned_by owner seat (history ++ option_to_list entry) ≡ owned_by owner seat history ++ option_to_list entry
 owned-more owner seat history None owned = ap (owned_by owner seat) (append-nil history) ∙ sym (append-nil (owned_by owner seat history))
 owned-more owner seat history (Some entry) owned =

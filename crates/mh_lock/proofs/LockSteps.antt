@@ -91,7 +91,7 @@ module _ {T E O : Type 0} (owner : E → ℕ) (entries : T → List E) (origin :
         };
       }
 
-  -- the lock of the book that the table shows then
+  -- the lock of the model that the table shows then
   was_at_home : (table : State T (SeatView E O)) → Kept table → (id number : ℕ) (log : List E) → get_elem? table.views id ≡ some (seat_view ((number, log) ∷ []) None) → (home : HasHome owner entries origin about table)
       → WasAtHome owner seats number log (entries home.value)
   was_at_home table rule id number log there home =

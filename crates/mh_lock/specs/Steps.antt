@@ -53,7 +53,7 @@ held_origin origin (slot ∷ slots) = Some (origin slot.1)
 abbrev pub found_of : {T E O : Type 0} → (T → List E) → (T → O) → T → Found E O
 found_of entries origin value = record { history = entries value; origin = origin value }
 
--- a history was at home in a lock of the book with so many logs, among which a seat's stands at its number
+-- a history was at home in a lock of the model with so many logs, among which a seat's stands at its number
 pub record WasAtHome {E : Type 0} (owner : E → ℕ) (seats number : ℕ) (log history : List E) : Type 0 where
   pub state : LockState E
   pub kept : IsAtHome owner state
@@ -72,7 +72,7 @@ module _ {T E O : Type 0} (owner : E → ℕ) (entries : T → List E) (origin :
       × (origin value ≡ about.1)
       × WasAtHome owner about.0 (number_in before) (log_in before) (entries value)
 
-  -- A try to take the value: where 0 was found the seat has it, and else nothing has changed
+  -- A try to take the value: if 0 was found the seat has it, and else nothing has changed
   abbrev pub Takes : Option (ℕ × O) → Step T → Me T (SeatView E O) → ℕ → Me T (SeatView E O) → Type 0
   Takes about step before found after = (found ≡ 0 → IfSome about (λ key. HasTaken key before after)) × (found ≢ 0 → after ≡ before)
 

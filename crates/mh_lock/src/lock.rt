@@ -140,7 +140,7 @@ impl<T: Entries<E> + Drop, E: Owned> Lock<T, E> {
         Ok((lock, all))
     }
 
-    /// How many threads sleep until the value is back, or are about to. There may be others by the time it is told.
+    /// How many threads sleep until the value is back, or are about to. There may be others by the time it is reported.
     pub fn sleepers(&self) -> u64 {
         self.sleepers.load(SeqCst)
     }
@@ -244,7 +244,7 @@ impl<T: Entries<E> + Drop, E: Owned> Lock<T, E> {
         answer
     }
 
-    /// The value, once all seats are handed in. Where one is missing, lock and seats come back. It asks for no memory.
+    /// The value, once all seats are handed in. If one is missing, lock and seats come back. It asks for no memory.
     pub fn close<S: HasSeat<T, E>>(self, seats: Vec<S>) -> Result<T, (Lock<T, E>, Vec<S>)>
         requires { All (λ seat. IsOf self (S.seat_of seat)) seats.items }
         ensures count { IfOk result (λ value. vec_len seats ≡ self.seats) }

@@ -99,7 +99,7 @@ front-ends_dear table most left old batch (place ∷ grey) count cost front one 
 
 -- The batch ------------------------------------------------------------------------------------------
 
--- blocks marked through one by one are the batch, where none stands twice
+-- blocks marked through one by one are the batch, if none stands twice
 blocks-batch : (batch : List ℕ) (m : Marking) → NoneTwice batch → blocks_marked m batch ≡ batch_written m batch (found_in m.table batch)
 unfolding IsDistinct
 blocks-batch [] m once = refl

@@ -17,15 +17,15 @@ use Rattle.mh_grey.proofs.StampLemmas.{change-view, IsLike, like-trans, like-ref
 use Rattle.mh_scan.specs.Scanning.{IsScannable, lists}
 use Rattle.mh_mark.specs.Batched.{IsMarkable, blocks_marked}
 use Rattle.mh_mark.specs.Walkable.{IsAtHome, LeadHome}
-use Rattle.mh_mark.specs.Kept.{IsKept}
+use Rattle.mh_mark.specs.Kept.{KeepsMarking}
 use Rattle.mh_mark.proofs.MarkLemmas.{IsMarkingOn}
 use Rattle.mh_table_laws.proofs.marking.BatchMarking.{leads_of}
 use Rattle.mh_mark.proofs.ReferenceLemmas.{home-leads, at_home-leads, target-at_home, at_home-like, references_written, class-with_block, class-shaded, marked-written, write}
 
-pub kept-refl : (m : Marking) → IsKept m m
+pub kept-refl : (m : Marking) → KeepsMarking m m
 kept-refl m = record { there = λ q. refl; forwards = λ q. refl; classes = λ page. refl; long = refl; counts = λ q. refl; lead = λ q home. home; cycle = refl; marked = λ marked. marked; grey = λ q is. inl is }
 
-pub kept-trans : (a b c : Marking) → IsKept a b → IsKept b c → IsKept a c
+pub kept-trans : (a b c : Marking) → KeepsMarking a b → KeepsMarking b c → KeepsMarking a c
 kept-trans a b c ab bc = record {
   there = λ q. bc.there q ∙ ab.there q;
   forwards = λ q. bc.forwards q ∙ ab.forwards q;
@@ -76,7 +76,7 @@ lead-written table place index target new like same home q long lead i below = e
         subst (λ rs. LeadsHome new (get_or rs i None)) (sym (same q ∙ written)) (by_index (references_at table q) refl (omega arith))
     by_block false at here = absurd (omega (arith, none (block_at table q) at))
 
-pub write-kept : (m : Marking) (place index : ℕ) (target : Option ℕ) → LeadsHome m.table target → IsKept m (write m place index target)
+pub write-kept : (m : Marking) (place index : ℕ) (target : Option ℕ) → LeadsHome m.table target → KeepsMarking m (write m place index target)
 write-kept m place index target home =
     let written = with_reference_at m.table place index target in
     let between : Marking = record m { table = written } in
@@ -99,24 +99,24 @@ write-kept m place index target home =
     }
 
 -- the cycle's number written out
-pub kept-as : (old new : Marking) (cycle : ℕ) → new.cycle ≡ cycle → IsKept old new → IsKept old (marking new.table new.grey cycle)
-kept-as old new cycle same kept = subst (λ n. IsKept old (marking new.table new.grey n)) same kept
+pub kept-as : (old new : Marking) (cycle : ℕ) → new.cycle ≡ cycle → KeepsMarking old new → KeepsMarking old (marking new.table new.grey cycle)
+kept-as old new cycle same kept = subst (λ n. KeepsMarking old (marking new.table new.grey n)) same kept
 
-as-like : (old new : Marking) → IsKept old new → IsLike old.table new.table
+as-like : (old new : Marking) → KeepsMarking old new → IsLike old.table new.table
 as-like old new kept = record { there = kept.there; forwards = kept.forwards; long = kept.long }
 
-pub marked-kept : (start : Marking) (place : ℕ) (m : Marking) (index : ℕ) → IsMarkingOn start place m index → index < length (references_at start.table place) → IsKept start m
-    → IsKept start (marking (mark_reference m place index (reference_at m.table place index)).table (mark_reference m place index (reference_at m.table place index)).grey start.cycle)
+pub marked-kept : (start : Marking) (place : ℕ) (m : Marking) (index : ℕ) → IsMarkingOn start place m index → index < length (references_at start.table place) → KeepsMarking start m
+    → KeepsMarking start (marking (mark_reference m place index (reference_at m.table place index)).table (mark_reference m place index (reference_at m.table place index)).grey start.cycle)
 marked-kept start place m index on below kept =
     let target = target_of m.table (reference_at m.table place index) in
-    let all : IsKept start (write m place index target) = kept-trans start m (write m place index target) kept (write-kept m place index target (at_home-leads m.table target (target-at_home m.table (reference_at m.table place index) (on.lead index (omega arith) below)))) in
+    let all : KeepsMarking start (write m place index target) = kept-trans start m (write m place index target) kept (write-kept m place index target (at_home-leads m.table target (target-at_home m.table (reference_at m.table place index) (on.lead index (omega arith) below)))) in
     kept-as start (write m place index target) start.cycle all.cycle all
 
 -- What was found, written back -----------------------------------------------------------------------
 
 pub record IsWritingOn (start : Marking) (place : ℕ) (found : List (Option ℕ)) (m : Marking) (index : ℕ) : Type 0 where
   pub same : written_back m place index (drop index found) ≡ written_back start place 0 found
-  pub kept : IsKept start m
+  pub kept : KeepsMarking start m
 
 pub writing-starts : (start : Marking) (place : ℕ) (found : List (Option ℕ)) → IsWritingOn start place found start 0
 writing-starts start place found = record { same = refl; kept = kept-refl start }
@@ -126,7 +126,7 @@ pub writing-goes : (start : Marking) (place : ℕ) (found : List (Option ℕ)) (
 writing-goes start place found m index on below home =
     let target = get_or found index None in
     let next : Marking = write m place index target in
-    let all : IsKept start next = kept-trans start m next on.kept (write-kept m place index target (at_home-leads m.table target (at_home-like start.table m.table target (as-like start m on.kept) home))) in
+    let all : KeepsMarking start next = kept-trans start m next on.kept (write-kept m place index target (at_home-leads m.table target (at_home-like start.table m.table target (as-like start m on.kept) home))) in
     let suc_is : index + 1 ≡ suc index = omega arith in
     subst (λ n. IsWritingOn start place found (marking next.table next.grey n) (index + 1)) all.cycle (record {
       same = ap (λ i. written_back next place i (drop (index + 1) found)) suc_is ∙ sym (ap (written_back m place index) (drop_more found index None below)) ∙ on.same;
@@ -134,7 +134,7 @@ writing-goes start place found m index on below home =
     })
 
 -- what writing one asks for
-pub writing-home : (start m : Marking) (target : Option ℕ) → IsKept start m → IsAtHome start.table target → IsAtHome m.table target
+pub writing-home : (start m : Marking) (target : Option ℕ) → KeepsMarking start m → IsAtHome start.table target → IsAtHome m.table target
 writing-home start m target kept home = at_home-like start.table m.table target (as-like start m kept) home
 
 -- a marking by its parts
@@ -163,20 +163,20 @@ found-at table batch found index one is below at =
     let item : one.items ≡ get_or (lists found) index [] = ap (λ (o : ArrayVec (Option ℕ)). o.items) at ∙ sym (get_or-map (λ (o : ArrayVec (Option ℕ)). o.items) found index one [] within) in
     record { items = item; is = item ∙ ap (λ l. get_or l index []) is ∙ get_or-map (λ place. map (target_of table) (references_at table place)) batch index 0 [] below }
 
-pub found-few : (start m : Marking) (batch : List ℕ) (found : List (ArrayVec (Option ℕ))) (index : ℕ) (one : ArrayVec (Option ℕ)) → IsKept start m → IsFoundAt start.table batch found index one → length one.items ≤ length (references_at m.table (get_or batch index 0))
+pub found-few : (start m : Marking) (batch : List ℕ) (found : List (ArrayVec (Option ℕ))) (index : ℕ) (one : ArrayVec (Option ℕ)) → KeepsMarking start m → IsFoundAt start.table batch found index one → length one.items ≤ length (references_at m.table (get_or batch index 0))
 found-few start m batch found index one kept at = omega (arith, ap length at.is, length-map (references_at start.table (get_or batch index 0)) (target_of start.table), kept.counts (get_or batch index 0))
 
-pub found-leads : (start m : Marking) (batch : List ℕ) (found : List (ArrayVec (Option ℕ))) (index : ℕ) (one : ArrayVec (Option ℕ)) → IsKept start m → IsMarkable start.table (get_or batch index 0) → IsFoundAt start.table batch found index one
+pub found-leads : (start m : Marking) (batch : List ℕ) (found : List (ArrayVec (Option ℕ))) (index : ℕ) (one : ArrayVec (Option ℕ)) → KeepsMarking start m → IsMarkable start.table (get_or batch index 0) → IsFoundAt start.table batch found index one
     → (i : ℕ) → IsAtHome m.table (get_or one.items i None)
 found-leads start m batch found index one kept home at i =
     at_home-like start.table m.table (get_or one.items i None) (as-like start m kept) (subst (λ l. IsAtHome start.table (get_or l i None)) (sym at.is) (found-home start.table (references_at start.table (get_or batch index 0)) home.lead i))
 
 pub record IsBatchOn (start : Marking) (batch : List ℕ) (all : List (List (Option ℕ))) (m : Marking) (index : ℕ) : Type 0 where
   pub same : batch_written m (drop index batch) (drop index all) ≡ batch_written start batch all
-  pub kept : IsKept start m
+  pub kept : KeepsMarking start m
 
 pub batch-goes : (start : Marking) (batch : List ℕ) (all : List (List (Option ℕ))) (m next : Marking) (index : ℕ) → IsBatchOn start batch all m index → index < length batch → index < length all
-    → next ≡ written_back m (get_or batch index 0) 0 (get_or all index []) → IsKept m next → IsBatchOn start batch all next (index + 1)
+    → next ≡ written_back m (get_or batch index 0) 0 (get_or all index []) → KeepsMarking m next → IsBatchOn start batch all next (index + 1)
 batch-goes start batch all m next index on below inside is kept = record {
   same =
       ap (λ x. batch_written x (drop (index + 1) batch) (drop (index + 1) all)) is
@@ -188,11 +188,11 @@ batch-goes start batch all m next index on below inside is kept = record {
 
 pub record IsBlocksOn (start : Marking) (batch : List ℕ) (m : Marking) (index : ℕ) : Type 0 where
   pub same : blocks_marked m (drop index batch) ≡ blocks_marked start batch
-  pub kept : IsKept start m
+  pub kept : KeepsMarking start m
 
 pub blocks-goes : (start : Marking) (batch : List ℕ) (m : Marking) (table : Table Block) (grey : List ℕ) (index : ℕ) → IsBlocksOn start batch m index → index < length batch
     → table ≡ (mark_references m (get_or batch index 0) 0 (references_at m.table (get_or batch index 0))).table → grey ≡ (mark_references m (get_or batch index 0) 0 (references_at m.table (get_or batch index 0))).grey
-    → IsKept m (marking table grey m.cycle) → IsBlocksOn start batch (marking table grey m.cycle) (index + 1)
+    → KeepsMarking m (marking table grey m.cycle) → IsBlocksOn start batch (marking table grey m.cycle) (index + 1)
 blocks-goes start batch m table grey index on below a b kept =
     let place = get_or batch index 0 in
     let is : marking table grey m.cycle ≡ mark_references m place 0 (references_at m.table place) = marked-as (mark_references m place 0 (references_at m.table place)) table grey m.cycle a b (sym (cycle-mark_references m place 0 (references_at m.table place))) in
@@ -203,7 +203,7 @@ blocks-goes start batch m table grey index on below a b kept =
 
 pub found-goes : (start : Marking) (batch : List ℕ) (found : List (ArrayVec (Option ℕ))) (m : Marking) (table : Table Block) (grey : List ℕ) (index : ℕ) (one : ArrayVec (Option ℕ)) (items : List (Option ℕ)) → IsBatchOn start batch (lists found) m index
     → lists found ≡ found_in start.table batch → index < length batch → IsFoundAt start.table batch found index one → items ≡ one.items
-    → table ≡ (written_back m (get_or batch index 0) 0 items).table → grey ≡ (written_back m (get_or batch index 0) 0 items).grey → IsKept m (marking table grey m.cycle) → IsBatchOn start batch (lists found) (marking table grey m.cycle) (index + 1)
+    → table ≡ (written_back m (get_or batch index 0) 0 items).table → grey ≡ (written_back m (get_or batch index 0) 0 items).grey → KeepsMarking m (marking table grey m.cycle) → IsBatchOn start batch (lists found) (marking table grey m.cycle) (index + 1)
 found-goes start batch found m table grey index one items on is below at here a b kept =
     let long : length (lists found) ≡ length batch = ap length is ∙ length-map batch (λ place. map (target_of start.table) (references_at start.table place)) in
     let same : items ≡ get_or (lists found) index [] = here ∙ at.items in

@@ -94,7 +94,7 @@ same_address table new place same = ap (λ (o : Option ℕ). record { place = pl
 abbrev pub write : Marking → ℕ → ℕ → Option ℕ → Marking
 write m place index target = shade (record m { table = with_reference_at m.table place index target }) target
 
--- a target that is written is shaded where it stands
+-- a target that is written is shaded if it stands
 pub write-home : (m : Marking) (place index target : ℕ) → forward_at m.table target ≡ None → write m place index (Some target) ≡ shade_place (record m { table = with_reference_at m.table place index (Some target) }) target
 write-home m place index target home =
     let written = with_reference_at m.table place index (Some target) in
@@ -145,7 +145,7 @@ marked-moved m place index from target is =
 pub written-there : (table : Table Block) (place index target : ℕ) (reference : Option ℕ) → IsAtHome table (Some target) → IsSome (block_at (with_reference_at table place index reference) target)
 written-there table place index target reference home = (like-reference table place index reference).there target ∙ home.0
 
--- where grey places are marked, a place may be shaded, and after a reference is written too
+-- if grey places are marked, a place may be shaded, and after a reference is written too
 pub marked-apart_at : (table : Table Block) (cycle : ℕ) (grey : List ℕ) (place : ℕ) → AreMarked table cycle grey → IsApartAt table cycle grey place
 marked-apart_at table cycle grey place marked unmarked = go (is_in place grey) refl
   where

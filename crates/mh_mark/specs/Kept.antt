@@ -8,7 +8,7 @@ use Rattle.mh_grey.specs.Shading.{AreMarked}
 use Rattle.mh_mark.specs.Walkable.{LeadHome}
 
 -- pages have the classes that they had; each block is where it was, leads where it led and has as many references; references that led home do, marked grey places are, and what is newly grey is no forwarder
-pub record IsKept (old new : Marking) : Type 0 where
+pub record KeepsMarking (old new : Marking) : Type 0 where
   pub there : (place : ℕ) → is_some (block_at new.table place) ≡ is_some (block_at old.table place)
   pub forwards : (place : ℕ) → forward_at new.table place ≡ forward_at old.table place
   pub classes : (page : ℕ) → class_at new.table page ≡ class_at old.table page

@@ -6,7 +6,7 @@ ghost use Rattle.mh_pages.specs.Addresses.{address_in};
 ghost use Rattle.mh_grey.specs.Queue.{is_in};
 ghost use Rattle.mh_grey.specs.Shading.{marking, AreMarked};
 ghost use Rattle.mh_scan.specs.Scanning.{lists};
-ghost use Rattle.mh_mark.specs.Kept.{IsKept};
+ghost use Rattle.mh_mark.specs.Kept.{KeepsMarking};
 ghost use Rattle.mh_mark.specs.Walkable.{IsAtHome, IsWalkable};
 ghost use Rattle.mh_mark.specs.Batched.{AreMarkable, blocks_marked, front_of, front_marked};
 
@@ -18,7 +18,7 @@ use mh_model::place::Place;
 use mh_pages::address::Address;
 use mh_scan::scan::Scanner;
 
-/// Writes a reference of the block at an address, where it isn't what stands there.
+/// Writes a reference of the block at an address, if it isn't what stands there.
 fn store_reference(blocks: &mut Blocks, address: Address, index: usize, reference: Option<Place>)
     requires at { address ≡ address_in blocks.old address.place }
     requires there { index < length (references_at blocks.old address.place) }
@@ -72,7 +72,7 @@ fn write_back(
     requires marked { AreMarked blocks.old cycle grey.old.places }
     ensures table { blocks.new ≡ (written_back (marking blocks.old grey.old.places cycle) place 0 found.now).table }
     ensures grey { grey.new ≡ record { places = (written_back (marking blocks.old grey.old.places cycle) place 0 found.now).grey; pages = grey.old.pages } }
-    ensures kept { IsKept (marking blocks.old grey.old.places cycle) (marking blocks.new grey.new.places cycle) }
+    ensures kept { KeepsMarking (marking blocks.old grey.old.places cycle) (marking blocks.new grey.new.places cycle) }
 {
     let address = blocks.address(place);
     for index in 0..found.len() {
@@ -94,7 +94,7 @@ fn write_batch(
     requires found { lists found.now ≡ found_in blocks.old batch.now }
     ensures table { blocks.new ≡ (batch_written (marking blocks.old grey.old.places cycle) batch.now (lists found.now)).table }
     ensures grey { grey.new ≡ record { places = (batch_written (marking blocks.old grey.old.places cycle) batch.now (lists found.now)).grey; pages = grey.old.pages } }
-    ensures kept { IsKept (marking blocks.old grey.old.places cycle) (marking blocks.new grey.new.places cycle) }
+    ensures kept { KeepsMarking (marking blocks.old grey.old.places cycle) (marking blocks.new grey.new.places cycle) }
 {
     for index in 0..batch.len() {
         write_back(blocks, grey, cycle, batch[index], found[index].as_slice());
@@ -108,7 +108,7 @@ fn mark_blocks(blocks: &mut Blocks, grey: &mut Grey, cycle: u64, batch: &[Place]
     requires marked { AreMarked blocks.old cycle grey.old.places }
     ensures table { blocks.new ≡ (blocks_marked (marking blocks.old grey.old.places cycle) batch.now).table }
     ensures grey { grey.new ≡ record { places = (blocks_marked (marking blocks.old grey.old.places cycle) batch.now).grey; pages = grey.old.pages } }
-    ensures kept { IsKept (marking blocks.old grey.old.places cycle) (marking blocks.new grey.new.places cycle) }
+    ensures kept { KeepsMarking (marking blocks.old grey.old.places cycle) (marking blocks.new grey.new.places cycle) }
 {
     for index in 0..batch.len() {
         mark_block(blocks, grey, cycle, batch[index]);
@@ -142,8 +142,8 @@ fn take_front(blocks: &Blocks, grey: &mut Grey, left: u64, batch: &mut ArrayVec<
 }
 
 /// Marks through the longest front that fits in what is left: the scanner finds its references at once, which are then
-/// written back and shaded, and where it has no memory the same blocks are marked one after the other. Answers what
-/// that costs, nothing where not even the first fits.
+/// written back and shaded, and if it has no memory the same blocks are marked one after the other. Answers what
+/// that costs, nothing if not even the first fits.
 pub fn mark_batch<S: Scanner>(
     blocks: &mut Blocks,
     grey: &mut Grey,

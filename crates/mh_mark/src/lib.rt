@@ -1,6 +1,9 @@
-//! Marking: the roots, one grey block at a time, and a batch of grey blocks.
+//! Marking: one grey block at a time, and a batch of grey blocks.
+//!
+//! A mark is a stamp equal to the number of the cycle, so no phase clears marks: the next number makes each block white. A
+//! marked block is grey while its place waits in the queue, first in, first out, and black afterwards. Each reference of a
+//! grey block is resolved and written back, so that no marked block refers to a forwarder once marking has ended.
 #![tactic(auto)]
 
 pub mod batch;
 pub mod mark;
-pub mod roots_step;

@@ -6,7 +6,7 @@ ghost use Rattle.mh_pages.specs.Addresses.{address_in};
 ghost use Rattle.mh_grey.specs.Queue.{is_in};
 ghost use Rattle.mh_grey.specs.Shading.{marking, AreMarked};
 ghost use Rattle.mh_mark.specs.First.{IsFirstGrey};
-ghost use Rattle.mh_mark.specs.Kept.{IsKept};
+ghost use Rattle.mh_mark.specs.Kept.{KeepsMarking};
 ghost use Rattle.mh_mark.specs.Walkable.{LeadHome, IsWalkable};
 
 use mh_blocks::blocks::Blocks;
@@ -67,7 +67,7 @@ fn mark_references(blocks: &mut Blocks, grey: &mut Grey, cycle: u64, address: Ad
     requires marked { AreMarked blocks.old cycle grey.old.places }
     ensures table { blocks.new ≡ (mark_references (marking blocks.old grey.old.places cycle) address.place 0 (references_at blocks.old address.place)).table }
     ensures grey { grey.new ≡ record { places = (mark_references (marking blocks.old grey.old.places cycle) address.place 0 (references_at blocks.old address.place)).grey; pages = grey.old.pages } }
-    ensures kept { IsKept (marking blocks.old grey.old.places cycle) (marking blocks.new grey.new.places cycle) }
+    ensures kept { KeepsMarking (marking blocks.old grey.old.places cycle) (marking blocks.new grey.new.places cycle) }
 {
     for index in 0..count {
         mark_reference(blocks, grey, cycle, address, index);
@@ -82,7 +82,7 @@ pub fn mark_block(blocks: &mut Blocks, grey: &mut Grey, cycle: u64, place: Place
     requires marked { AreMarked blocks.old cycle grey.old.places }
     ensures table { blocks.new ≡ (mark_references (marking blocks.old grey.old.places cycle) place 0 (references_at blocks.old place)).table }
     ensures grey { grey.new ≡ record { places = (mark_references (marking blocks.old grey.old.places cycle) place 0 (references_at blocks.old place)).grey; pages = grey.old.pages } }
-    ensures kept { IsKept (marking blocks.old grey.old.places cycle) (marking blocks.new grey.new.places cycle) }
+    ensures kept { KeepsMarking (marking blocks.old grey.old.places cycle) (marking blocks.new grey.new.places cycle) }
 {
     let address = blocks.address(place);
     let count = blocks.reference_count_from(address);

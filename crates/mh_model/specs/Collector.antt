@@ -37,7 +37,7 @@ is_marked cycle block = block.stamp == cycle
 abbrev pub with_grey : Marking → ℕ → Block → Marking
 with_grey marking place block = record marking { table = with_block marking.table place (Some (record block { stamp = marking.cycle })); grey = marking.grey ++ place ∷ [] }
 
--- the same, where a block is there that isn't marked
+-- the same, if a block is there that isn't marked
 abbrev pub shade_block : Marking → ℕ → Option Block → Marking
 shade_block marking place None = marking
 shade_block marking place (Some block) = if is_marked marking.cycle block then marking else with_grey marking place block
@@ -94,7 +94,7 @@ next_place place (Some page) = if is_last_slot place page then next_page place e
 abbrev pub survivor : ℕ → Block → Option Block
 survivor cycle block = if is_forwarder block || not (is_marked cycle block) then None else Some block
 
--- A page after the sweep of its last slot: free where it has no block; else flagged where at most a quarter of its slots has one and a page below it is unflagged and of its class
+-- A page after the sweep of its last slot: free if it has no block; else flagged if at most a quarter of its slots has one and a page below it is unflagged and of its class
 abbrev pub judged_page : Table Block → ℕ → Page Block → Option (Page Block)
 judged_page table number page =
     if live_in page == 0
@@ -122,11 +122,11 @@ pub record Move : Type 0 where
 abbrev pub if_flagged : Page Block → Option (Page Block)
 if_flagged page = if page.is_flagged then Some page else None
 
--- the page of a place, where it is in use and flagged
+-- the page of a place, if it is in use and flagged
 abbrev pub flagged_page : Table Block → ℕ → Option (Page Block)
 flagged_page table place = option_and_then if_flagged (page_at table (page_number place))
 
--- a block of a page moves where it isn't a forwarder and the first tier of placement gives a place
+-- a block of a page moves if it isn't a forwarder and the first tier of placement gives a place
 abbrev pub move_of : Table Block → Page Block → Block → Option Move
 move_of table page block =
     if is_forwarder block
@@ -197,7 +197,7 @@ step_in Defrag collector = defrag_step collector
 
 -- Phases that follow at once ---------------------------------------------------------------------
 
--- marking goes on, or the sweep begins where no block is grey
+-- marking goes on, or the sweep begins if no block is grey
 abbrev pub after_mark : Collector → List ℕ → Collector
 after_mark collector [] = with_phase collector Sweep 0
 after_mark collector (place ∷ grey) = with_phase collector Mark 0
@@ -210,7 +210,7 @@ is_past table place = nat_le (length table) (page_number place)
 abbrev pub cycle_end : Collector → Collector
 cycle_end collector = record collector { phase = Idle; cursor = 0; quanta = 0 }
 
--- the phase that follows where one is done
+-- the phase that follows when one is done
 abbrev pub phase_after : Phase → Collector → Collector
 phase_after Idle collector = collector
 phase_after Roots collector = if collector.cursor == 144 then after_mark collector collector.grey else collector
@@ -218,7 +218,7 @@ phase_after Mark collector = after_mark collector collector.grey
 phase_after Sweep collector = if is_past collector.table collector.cursor then with_phase collector Defrag 0 else collector
 phase_after Defrag collector = if is_past collector.table collector.cursor then cycle_end collector else collector
 
--- The step that the phase has, and the phase that follows at once where it is done
+-- The step that the phase has, and the phase that follows at once when it is done
 unfoldable pub collector_step : Collector → Collector
 collector_step collector = phase_after collector.phase (step_in collector.phase collector)
 

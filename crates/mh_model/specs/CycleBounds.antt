@@ -17,7 +17,7 @@ abbrev pub count_at : Table Block → ℕ → ℕ
 count_at table place = length (references_at table place)
 
 module _ (price : ℕ → ℕ) (cycle : ℕ) where
-  -- what marking the block in a slot will cost, at a price by its references: nothing where it is marked
+  -- what marking the block in a slot will cost, at a price by its references: nothing if it is marked
   abbrev pub slot_weight : Option Block → ℕ
   slot_weight None = 0
   slot_weight (Some block) = if is_marked cycle block then 0 else price (length block.references)
@@ -51,7 +51,7 @@ in_units references = 1 + references
 abbrev pub class_at : Table Block → ℕ → Option ℕ
 class_at table number = option_map (λ page. page.class_size) (page_at table number)
 
--- the class of a page, and 0 where it is free
+-- the class of a page, and 0 if it is free
 abbrev pub size_at : Table Block → ℕ → ℕ
 size_at table number = unwrap_or (class_at table number) 0
 

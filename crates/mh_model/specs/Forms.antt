@@ -10,7 +10,7 @@ use Rattle.mh_model.specs.Bytes.{Text, is_text, numbers}
 
 -- Forms ------------------------------------------------------------------------------------------
 
--- a value where a test holds
+-- a value if a test holds
 abbrev pub within : {X : Type 0} → Bool → X → Option X
 within true x = Some x
 within false x = None

@@ -10,11 +10,11 @@ abbrev pub output_of : Reading Meaning → Text
 output_of (BadLine line) = line_text (bad_line_text line)
 output_of (Means script) = replies_text (machine_replies (first_machine script.config) (take most_entries script.events))
 
--- The output of a script: its least bad line, or the replies to its first 1,000,000 events
+-- The output of a script: its first bad line, or the replies to its first 1,000,000 events
 unfoldable pub output : Text → Text
 output text = output_of (reading text)
 
--- how a run ends that memory and devices don't cut short: all is answered, the history is full and events are left, or the script is refused with its least bad line
+-- how a run ends that memory and devices don't cut short: all is answered, the history is full and events are left, or the script is refused with its first bad line
 pub data Ending : Type 0 where
   Done : Ending
   HistoryFull : Ending

@@ -5,7 +5,7 @@ use Rattle.std.specs.List.{list_any}
 use Rattle.std.specs.Option.{option_or}
 use Rattle.mh_model.specs.Classes.{is_class_size, slots_in}
 
--- A page in use: the class of its blocks, told by its size, its flag, and its slots, each with a block or without (Metronome)
+-- A page in use: the class of its blocks, known by its size, its flag, and its slots, each with a block or without (Metronome)
 pub record Page (X : Type 0) : Type 0 where
   pub class_size : ℕ
   pub is_flagged : Bool
@@ -29,7 +29,7 @@ first_place None after = option_map (λ place. 64 + place) after
 module _ {X : Type 0} where
   -- What is there --------------------------------------------------------------------------------
 
-  -- the page of this number, where it is in use
+  -- the page of this number, if it is in use
   abbrev pub page_at : Table X → ℕ → Option (Page X)
   page_at table page = get_or table page None
 
@@ -45,7 +45,7 @@ module _ {X : Type 0} where
   Leads table None = Unit {0}
   Leads table (Some place) = IsSome (block_at table place)
 
-  -- the class of a page in use, told by its size, and none of a free one
+  -- the class of a page in use, known by its size, and none of a free one
   abbrev pub class_at : Table X → ℕ → Option ℕ
   class_at table page = option_map (λ used. used.class_size) (page_at table page)
 
@@ -68,7 +68,7 @@ module _ {X : Type 0} where
   free_pages (None ∷ pages) = suc (free_pages pages)
   free_pages (Some page ∷ pages) = free_pages pages
 
-  -- how many blocks the page of this number has: none where it is free
+  -- how many blocks the page of this number has: none if it is free
   abbrev pub count_at : Table X → ℕ → ℕ
   count_at table page = unwrap_or (option_map live_in (page_at table page)) 0
 
@@ -139,7 +139,7 @@ module _ {X : Type 0} where
   abbrev pub with_taken : Table X → ℕ → ℕ → X → Table X
   with_taken table size place block = set table (page_number place) (Some (page_with (slot_number place) (Some block) (page_for size (page_at table (page_number place)))))
 
-  -- The table with the block at a place taken back, and its page freed where this is asked
+  -- The table with the block at a place taken back, and its page freed if this is asked
   abbrev pub with_released : Table X → ℕ → Bool → Table X
   with_released table place true = set table (page_number place) None
   with_released table place false = with_block table place None

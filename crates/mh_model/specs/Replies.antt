@@ -47,7 +47,7 @@ item_words (item.Page page class_size is_flagged) = (80 ∷ decimal page) ∷ (6
 item_words (item.Block slot birth part) = placed_word 61 slot birth part ∷ []
 item_words (item.Forwarder slot to_page to_slot) = placed_word 62 slot to_page to_slot ∷ []
 
--- a number, where there is one
+-- a number, if there is one
 abbrev pub optional_word : Option ℕ → Text
 optional_word None = codes "none"
 optional_word (Some n) = decimal n
@@ -80,7 +80,7 @@ replies_text = flat_map (λ reply. line_text (reply_text reply))
 
 -- In range ---------------------------------------------------------------------------------------
 
--- a number is past the one before, where there is one
+-- a number is past the one before, if there is one
 abbrev pub is_after : Option ℕ → ℕ → Bool
 is_after None n = true
 is_after (Some before) n = nat_lt before n

@@ -37,7 +37,7 @@ abbrev pub stretches : ℕ → List Letter → List (List Letter)
 stretches window [] = if window == 0 then [] ∷ [] else []
 stretches window (letter ∷ letters) = if nat_lt (suc (length letters)) window then [] else take window (letter ∷ letters) ∷ stretches window letters
 
--- the lesser of a number and another, where there is another
+-- the lesser of a number and another, if there is another
 abbrev pub lesser : ℕ → Option ℕ → ℕ
 lesser number None = number
 lesser number (Some other) = min number other
@@ -47,10 +47,10 @@ abbrev pub least_of : List ℕ → Option ℕ
 least_of [] = None
 least_of (number ∷ numbers) = Some (lesser number (least_of numbers))
 
--- The least number of units of the mutator in any stretch of a length. There is none where the trace is shorter
+-- The least number of units of the mutator in any stretch of a length. There is none if the trace is shorter
 abbrev pub least_mutator : ℕ → List Letter → Option ℕ
 least_mutator window letters = least_of (map mutator_count (stretches window letters))
 
--- So many units of the mutator at least are in each stretch, where a quantum of at most k units is run after each m of them
+-- So many units of the mutator at least are in each stretch, if a quantum of at most k units is run after each m of them
 abbrev pub floor : ℕ → ℕ → ℕ → ℕ
 floor m k window = m * (window / (m + k)) + (window % (m + k) - k)

@@ -16,7 +16,7 @@ pub struct Measured {
     pub collector: u64,
 }
 
-/// The version of a history's text. The second tells the rules and each entry's units, and knows one control and its reply
+/// The version of a history's text. The second states the rules and each entry's units, and knows one control and its reply
 /// more.
 #[derive(Clone, Copy, Debug, PartialEq, Eq)]
 pub enum Version {

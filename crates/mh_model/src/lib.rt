@@ -1,5 +1,5 @@
 //! The words that every crate of metroheap shares: configurations, commands, events and replies.
-//! `specs/` holds the book, the definitions that all contracts cite.
+//! `specs/` holds the model, the definitions that all contracts cite.
 #![tactic(auto)]
 
 pub mod birth;

@@ -1,4 +1,4 @@
-//! The numbers of the rules, each named once for the code. The book has them where it speaks of them.
+//! The numbers of the rules, each named once for the code. The model has them where it speaks of them.
 
 /// The words of a page.
 pub const PAGE_WORDS: usize = 256;

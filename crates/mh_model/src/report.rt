@@ -11,6 +11,6 @@ pub struct Report {
     pub window: u64,
     /// The fewest units of the mutator in a stretch as long as the window, none if the trace is shorter.
     pub least: Option<u64>,
-    /// So many there are at least in any trace of this configuration, none where no quantum is scheduled.
+    /// So many there are at least in any trace of this configuration, none if no quantum is scheduled.
     pub floor: Option<u64>,
 }

@@ -1,6 +1,6 @@
 use crate::cycle::Phase;
 
-/// What `stat` tells of a heap.
+/// What `stat` reports of a heap.
 #[derive(Clone, Copy, Debug, PartialEq, Eq)]
 pub struct Stat {
     /// The free pages.

@@ -1,4 +1,4 @@
--- What a barrier leaves where it found it, and what holds where a field lies.
+-- What a barrier leaves if it found it, and what holds if a field lies.
 use Rattle.std.proofs.Common.{◌≡◌, ℕ, Bool, true, false, if◌then◌else◌, [], Option, Some, None, option_map, unwrap_or, is_some, option_and_then, refl, ap, ◌∙◌, subst}
 use Rattle.mh_model.specs.Pages.{Table, block_at, with_block, Leads}
 use Rattle.mh_model.specs.declared.shape.Shape.{Shape}
@@ -10,7 +10,7 @@ use Rattle.mh_laws.specs.Fields.{ReferencesLeadOn}
 use Rattle.mh_table_laws.proofs.marking.BatchMarking.{leads_of}
 use Rattle.mh_grey.proofs.StampLemmas.{change-view}
 
--- blocks are where they were, with the references that they had
+-- blocks are if they were, with the references that they had
 pub record StaysLaid (old new : Table Block) : Type 0 where
   pub there : (place : ℕ) → is_some (block_at new place) ≡ is_some (block_at old place)
   pub references : (place : ℕ) → references_at new place ≡ references_at old place

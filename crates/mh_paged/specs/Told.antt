@@ -9,7 +9,7 @@ use Rattle.mh_model.specs.View.{heap_view}
 use Rattle.mh_run_laws.specs.Following.{Follows, has_no_place}
 use Rattle.mh_heap.specs.Shown.{Showing}
 
--- what a heap of pages shows: its view, where its pages have no place, its cycle's number, and the configured quantum
+-- what a heap of pages shows: its view, if its pages have no place, its cycle's number, and the configured quantum
 abbrev pub showing : HeapState → Showing
 showing heap = record { view = heap_view heap; is_full = has_no_place heap; number = heap.collector.cycle; limit = heap.config.quantum }
 

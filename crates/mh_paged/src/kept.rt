@@ -45,7 +45,7 @@ pub struct KeptHeap {
     pub(crate) places: PartPlaces,
 }
 
-// An owner proves one call where it drops the heap, and not each of its tables.
+// An owner proves one call if it drops the heap, and not each of its tables.
 impl Drop for KeptHeap {
     fn drop(self) {
         let KeptHeap {

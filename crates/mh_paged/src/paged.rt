@@ -1,4 +1,7 @@
 //! The heap of pages as its sessions see it.
+//!
+//! It is a type of its own because the laws of `Heap` speak of views and those of `KeptHeap` of pages: it keeps at hand, as a
+//! ghost, what the laws say of the view of its pages.
 ghost use Rattle.std.specs.Prelude.{◌≡◌, true, IfOk};
 ghost use Rattle.mh_model.specs.Pages.{free_pages};
 ghost use Rattle.mh_model.specs.Machine.{dump_pages, quanta_left, stat_on};

@@ -6,7 +6,7 @@ use Rattle.std.proofs.Math.Nat.{mul-le-mul_right}
 use Rattle.mh_model.specs.Pages.{Table, page_number, slot_number, block_at, class_at, with_block, with_taken, IsFreeFor}
 use Rattle.mh_pages.specs.Shown.{words_from, shown_table}
 use Rattle.mh_pages.specs.Words.{words_at}
-use Rattle.mh_pages.specs.Kept.{IsCopied, AreApart, IsKept}
+use Rattle.mh_pages.specs.Kept.{IsCopied, AreApart, AreStored}
 use Rattle.mh_table_laws.proofs.placing.Places.{block_at-with_taken_same, block_at-with_taken_there, with_block-with_taken}
 use Rattle.mh_pages.proofs.TableLemmas.{page_of_block, class_taken, other_class}
 use Rattle.mh_pages.proofs.ShownLemmas.{IsTaken, block_at-shown}
@@ -31,7 +31,7 @@ slots_apart page slot other_page other_slot size fits other_fits apart = by_page
     ]
 
 -- A place taken for a copy of a block of the class
-module _ (heads frees words : List ℕ) (sets : List Bool) (free : ℕ) (kept : IsKept heads frees words sets free) (old table : Table (List ℕ)) (size place source : ℕ) (zeros : List ℕ)
+module _ (heads frees words : List ℕ) (sets : List Bool) (free : ℕ) (kept : AreStored heads frees words sets free) (old table : Table (List ℕ)) (size place source : ℕ) (zeros : List ℕ)
     (shown : shown_table heads frees words ≡ table) (taken : table ≡ with_taken old size place zeros)
     (is : IsFreeFor old size place) (there : IsSome (block_at old source)) (class : class_at old (page_number source) ≡ Some size) where
   pub copy_taken : IsTaken heads frees place
@@ -76,7 +76,7 @@ module _ (heads frees words : List ℕ) (sets : List Bool) (free : ℕ) (kept : 
         subst (λ s. IsCopied words new (256 * page_number source + slot_number source * s) (start heads frees words sets free kept place) (get_or heads (page_number place) 0 / 2)) (sym source_size)
         (subst (λ s. IsCopied words new (256 * page_number source + slot_number source * size) (256 * page_number place + slot_number place * s) s) (sym copy_size) copied)
 
-    pub kept-copied : IsKept heads frees new sets free
+    pub kept-copied : AreStored heads frees new sets free
     kept-copied = kept-block heads frees words sets free kept place new copy_taken of_its_size.others
 
     block_copied : Some (words_from words (256 * page_number source + slot_number source * (get_or heads (page_number source) 0 / 2)) (get_or heads (page_number place) 0 / 2)) ≡ Some (words_at old source)

@@ -119,7 +119,7 @@ indexed-set heads frees sets page size head free so all within few sizes class o
         ∙ (other_class kind (get_or heads page 0) (get_or frees page 0) size other old four apart
         ∙ (sym (other_class kind head free size other new four apart) ∙ sym (now_at_page kind other number here))))))
 
--- The sets are those of the pages where a page that had a free slot has one still
+-- The sets are those of the pages if a page that had a free slot has one still
 belongs-free : (kind head before after size : ℕ) → (before == 0) ≡ (after == 0) → belongs kind head before size ≡ belongs kind head after size
 belongs-free zero head before after size e = refl
 belongs-free (suc zero) head before after size e = ap (λ b. (head == 2 * size) && not b) e

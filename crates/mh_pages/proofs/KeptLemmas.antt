@@ -17,7 +17,7 @@ use Rattle.mh_pages.specs.Shown.{words_from, shown_slot, shown_slots, page_of, s
 use Rattle.mh_pages.specs.Words.{words_at, with_word}
 use Rattle.mh_pages.specs.Addresses.{Address, address_in}
 use Rattle.mh_pages.specs.Indexed.{IsIndexed, indexed_again, indexed_after, HasRoomFor}
-use Rattle.mh_pages.specs.Kept.{is_head, AgreeOutside, IsKept}
+use Rattle.mh_pages.specs.Kept.{is_head, AgreeOutside, AreStored}
 use Rattle.mh_pages.proofs.ShownLemmas.{length-shown, page_at-shown, page_at-shown_past, block_at-shown, slot_at, head_class, free_page, used_page, used_page_of, shown-set, in_page, IsTaken, IsWord, word_taken, taken_place}
 use Rattle.mh_pages.proofs.WriteLemmas.{shown-block, shown-word, slots-released, slots-taken, slots-fresh, block_fits, written_inside, zeroed_inside}
 use Rattle.mh_pages.proofs.CleanLemmas.{LosesClean, clean-set, clean-block, loses-released, clean-used, clean-free}
@@ -45,7 +45,7 @@ pub marked : (old : ℕ) (flag : Bool) → 4 ≤ old / 2 → IsMarked old (old /
 marked old true few = record { some = λ e. absurd (omega (arith, e)); same = omega arith; is_flag = eq-eqb _ _ (omega arith) }
 marked old false few = record { some = λ e. absurd (omega (arith, e)); same = omega arith; is_flag = ne_eqb _ _ (λ e. absurd (omega (arith, e))) }
 
-module _ (heads frees words : List ℕ) (sets : List Bool) (free : ℕ) (kept : IsKept heads frees words sets free) where
+module _ (heads frees words : List ℕ) (sets : List Bool) (free : ℕ) (kept : AreStored heads frees words sets free) where
   -- Pages in use, places with a block, and words of blocks --------------------------------------
 
   pub record IsUsed (page : ℕ) : Type 0 where
@@ -152,7 +152,7 @@ module _ (heads frees words : List ℕ) (sets : List Bool) (free : ℕ) (kept : 
       ap (λ o. free_pages (set (shown_table heads frees words) (place / 64) (option_map (page_with (place % 64) content) o))) at
       ∙ free_pages-same (shown_table heads frees words) (place / 64) _ _ at
 
-  pub kept-block : (place : ℕ) (new : List ℕ) → IsTaken heads frees place → AgreeOutside words new (start place) (start place + size_at place) → IsKept heads frees new sets free
+  pub kept-block : (place : ℕ) (new : List ℕ) → IsTaken heads frees place → AgreeOutside words new (start place) (start place + size_at place) → AreStored heads frees new sets free
   kept-block place new is agree = record {
     sized = record {
       few_pages = kept.sized.few_pages;
@@ -170,7 +170,7 @@ module _ (heads frees words : List ℕ) (sets : List Bool) (free : ℕ) (kept : 
   word_within place index is = omega (arith, start_few place is.place_taken, is.in_block)
 
   -- One word
-  pub kept-word : (place index word : ℕ) → IsWord heads frees place index → IsKept heads frees (set words (start place + index) word) sets free
+  pub kept-word : (place index word : ℕ) → IsWord heads frees place index → AreStored heads frees (set words (start place + index) word) sets free
   kept-word place index word is = kept-block place _ is.place_taken (written_inside words (start place + index) word (start place) (start place + size_at place) (omega arith) (omega (arith, is.in_block)))
 
   pub word_shown : (place index word : ℕ) → IsWord heads frees place index → shown_table heads frees (set words (start place + index) word) ≡ with_word (shown_table heads frees words) place index word
@@ -182,7 +182,7 @@ module _ (heads frees words : List ℕ) (sets : List Bool) (free : ℕ) (kept : 
       → IsIndexed (set heads page head) (set frees page new_free) new_sets → length new_sets ≡ length sets
       → LosesClean words page (get_or heads page 0) (get_or frees page 0) head new_free
       → count ≡ free_pages (set (shown_table heads frees words) page (shown_page head new_free words page))
-      → IsKept (set heads page head) (set frees page new_free) words new_sets count
+      → AreStored (set heads page head) (set frees page new_free) words new_sets count
   kept-set page head new_free count new_sets inside is none indexed same loses counted = record {
     sized = record {
       few_pages = omega (arith, length-set heads page head, kept.sized.few_pages);
@@ -200,7 +200,7 @@ module _ (heads frees words : List ℕ) (sets : List Bool) (free : ℕ) (kept : 
   kept-used : (page head new_free : ℕ) (new_sets : List Bool) → IsUsed page → head ≢ 0 → is_head head ≡ true → ((slot : ℕ) → slots_in (head / 2) ≤ slot → has_bit new_free slot ≡ false)
       → IsIndexed (set heads page head) (set frees page new_free) new_sets → length new_sets ≡ length sets
       → LosesClean words page (get_or heads page 0) (get_or frees page 0) head new_free
-      → IsKept (set heads page head) (set frees page new_free) words new_sets free
+      → AreStored (set heads page head) (set frees page new_free) words new_sets free
   kept-used page head new_free new_sets is some is_head none indexed same loses =
       kept-set page head new_free free new_sets is.inside is_head none indexed same loses
       (kept.free_count
@@ -210,9 +210,9 @@ module _ (heads frees words : List ℕ) (sets : List Bool) (free : ℕ) (kept : 
   -- the free slots of a page in use changed
   pub kept-free : (page new_free : ℕ) → IsUsed page → ((slot : ℕ) → slots_in (get_or heads page 0 / 2) ≤ slot → has_bit new_free slot ≡ false)
       → LosesClean words page (get_or heads page 0) (get_or frees page 0) (get_or heads page 0) new_free
-      → IsKept heads (set frees page new_free) words (indexed_after sets page (get_or heads page 0 / 2) (get_or heads page 0) (get_or frees page 0) new_free) free
+      → AreStored heads (set frees page new_free) words (indexed_after sets page (get_or heads page 0 / 2) (get_or heads page 0) (get_or frees page 0) new_free) free
   kept-free page new_free is none loses =
-      subst (λ h. IsKept h (set frees page new_free) words (indexed_after sets page (get_or heads page 0 / 2) (get_or heads page 0) (get_or frees page 0) new_free) free) (set-get_or heads page 0)
+      subst (λ h. AreStored h (set frees page new_free) words (indexed_after sets page (get_or heads page 0 / 2) (get_or heads page 0) (get_or frees page 0) new_free) free) (set-get_or heads page 0)
       (kept-used page (get_or heads page 0) new_free _ is is.used (kept.pages.are_heads page) none
       (indexed-after heads frees sets page (get_or heads page 0 / 2) new_free kept.indexed kept.sized.as_many_sets is.inside kept.sized.few_pages kept.sized.as_many_frees (class_used page is.used) refl)
       (length-indexed_after sets page (get_or heads page 0 / 2) (get_or heads page 0) (get_or frees page 0) new_free)
@@ -234,7 +234,7 @@ module _ (heads frees words : List ℕ) (sets : List Bool) (free : ℕ) (kept : 
       (used_page_of head (get_or frees page 0) words page (get_or heads page 0 / 2) flag some same is_flag ∙ ap (option_map (flagged_as flag)) (sym (page_used page is)))
 
   pub kept-flagged : (page head : ℕ) → IsUsed page → head ≢ 0 → head / 2 ≡ get_or heads page 0 / 2
-      → IsKept (set heads page head) (set frees page (get_or frees page 0)) words (indexed_again sets page (get_or heads page 0 / 2) head (get_or frees page 0)) free
+      → AreStored (set heads page head) (set frees page (get_or frees page 0)) words (indexed_again sets page (get_or heads page 0 / 2) head (get_or frees page 0)) free
   kept-flagged page head is some same =
       let class = class_used page is.used in
       kept-used page head (get_or frees page 0) _ is some (or_right _ _ (ap is_class_size same ∙ class))
@@ -254,7 +254,7 @@ module _ (heads frees words : List ℕ) (sets : List Bool) (free : ℕ) (kept : 
       block_count-none _ slot (sym (ap (λ p. unwrap_or (option_map live_in p) 0) (page_used page is)) ∙ none) in
       none-some _ (sym empty ∙ (slot_at (get_or frees page 0) words page (get_or heads page 0 / 2) slot within ∙ ap (λ b. if b then None else Some (words_from words (256 * page + slot * (get_or heads page 0 / 2)) (get_or heads page 0 / 2))) taken))
 
-  pub kept-freed : (page : ℕ) → IsUsed page → count_at (shown_table heads frees words) page ≡ 0 → IsKept (set heads page 0) (set frees page 0) words (indexed_again sets page (get_or heads page 0 / 2) 0 0) (free + 1)
+  pub kept-freed : (page : ℕ) → IsUsed page → count_at (shown_table heads frees words) page ≡ 0 → AreStored (set heads page 0) (set frees page 0) words (indexed_again sets page (get_or heads page 0 / 2) 0 0) (free + 1)
   kept-freed page is none =
       kept-set page 0 0 (free + 1) _ is.inside refl (λ slot past. has_bit-zero slot)
       (indexed-set heads frees sets page (get_or heads page 0 / 2) 0 0 kept.indexed kept.sized.as_many_sets is.inside kept.sized.few_pages kept.sized.as_many_frees (class_used page is.used) (inr refl) (inl refl))
@@ -285,7 +285,7 @@ module _ (heads frees words : List ℕ) (sets : List Bool) (free : ℕ) (kept : 
         ∙ ap (option_map (page_with a_slot None)) (sym (page_used a_page used)))
 
     pub kept-released : IsTaken heads frees place → ((offset : ℕ) → a_slot * (a_head / 2) ≤ offset → offset < a_slot * (a_head / 2) + a_head / 2 → get_or words (256 * a_page + offset) 0 ≡ 0)
-        → IsKept heads (set frees a_page (with_bit a_free a_slot)) words (indexed_after sets a_page (a_head / 2) a_head a_free (with_bit a_free a_slot)) free
+        → AreStored heads (set frees a_page (with_bit a_free a_slot)) words (indexed_after sets a_page (a_head / 2) a_head a_free (with_bit a_free a_slot)) free
     kept-released is zeros =
         kept-free a_page (with_bit a_free a_slot) (record { inside = is.inside; used = is.used })
         (λ slot past. has_bit-set_other a_free a_slot slot (omega arith) (λ e. absurd (omega (arith, is.within))) ∙ kept.pages.no_more_slots a_page slot past)
@@ -338,10 +338,10 @@ module _ (heads frees words : List ℕ) (sets : List Bool) (free : ℕ) (kept : 
         ∙ ap (λ p. page_with a_slot (Some (replicate size 0)) (page_for size p)) (sym (page_used a_page its.page_is_used))))
 
     pub kept-taken_used : (size : ℕ) → IsFreeFor (shown_table heads frees words) size place → a_head ≢ 0
-        → IsKept heads (set frees a_page (without_bit a_free a_slot)) words (indexed_after sets a_page size a_head a_free (without_bit a_free a_slot)) free
+        → AreStored heads (set frees a_page (without_bit a_free a_slot)) words (indexed_after sets a_page size a_head a_free (without_bit a_free a_slot)) free
     kept-taken_used size is used =
         let its = free_used size is used in
-        subst (λ s. IsKept heads (set frees a_page (without_bit a_free a_slot)) words (indexed_after sets a_page s a_head a_free (without_bit a_free a_slot)) free) its.same
+        subst (λ s. AreStored heads (set frees a_page (without_bit a_free a_slot)) words (indexed_after sets a_page s a_head a_free (without_bit a_free a_slot)) free) its.same
         (kept-free a_page (without_bit a_free a_slot) its.page_is_used
         (λ slot past. has_bit-less a_free a_slot slot (kept.pages.no_more_slots a_page slot past))
         (λ offset small none. inl (λ word. none (record { used = word.used; within = word.within; taken = has_bit-less a_free a_slot _ word.taken }))))
@@ -368,7 +368,7 @@ module _ (heads frees words : List ℕ) (sets : List Bool) (free : ℕ) (kept : 
         ∙ ap (set (shown_table heads frees words) a_page) (fresh_page size class is none)
 
     pub kept-taken_fresh : (size : ℕ) → is_class_size size ≡ true → IsFreeFor (shown_table heads frees words) size place → a_head ≡ 0
-        → IsKept (set heads a_page (2 * size)) (set frees a_page (without_bit (2 ^ slots_in size - 1) a_slot)) words (indexed_again sets a_page size (2 * size) (without_bit (2 ^ slots_in size - 1) a_slot)) (free - 1)
+        → AreStored (set heads a_page (2 * size)) (set frees a_page (without_bit (2 ^ slots_in size - 1) a_slot)) words (indexed_again sets a_page size (2 * size) (without_bit (2 ^ slots_in size - 1) a_slot)) (free - 1)
     kept-taken_fresh size class is none =
         let inside = free_within size is in
         let half : 2 * size / 2 ≡ size = omega arith in
@@ -395,12 +395,12 @@ pub free_of : (heads frees words : List ℕ) (table : Table (List ℕ)) (size pl
 free_of heads frees words table size place shown is = subst (λ t. IsFreeFor t size place) (sym shown) is
 
 -- A block given back: its words set to 0, and its slot free
-module _ (heads frees words new : List ℕ) (sets : List Bool) (free : ℕ) (kept : IsKept heads frees words sets free) (place : ℕ) (is : IsTaken heads frees place)
+module _ (heads frees words new : List ℕ) (sets : List Bool) (free : ℕ) (kept : AreStored heads frees words sets free) (place : ℕ) (is : IsTaken heads frees place)
     (zeroed : IsZeroed words new (256 * (place / 64) + (place % 64) * (get_or heads (place / 64) 0 / 2)) (256 * (place / 64) + (place % 64) * (get_or heads (place / 64) 0 / 2) + get_or heads (place / 64) 0 / 2)) where
-  cleared : IsKept heads frees new sets free
+  cleared : AreStored heads frees new sets free
   cleared = kept-block heads frees words sets free kept place new is (zeroed_inside words new _ _ zeroed)
 
-  pub kept-given_back : IsKept heads (set frees (place / 64) (with_bit (get_or frees (place / 64) 0) (place % 64))) new (indexed_after sets (place / 64) (get_or heads (place / 64) 0 / 2) (get_or heads (place / 64) 0) (get_or frees (place / 64) 0) (with_bit (get_or frees (place / 64) 0) (place % 64))) free
+  pub kept-given_back : AreStored heads (set frees (place / 64) (with_bit (get_or frees (place / 64) 0) (place % 64))) new (indexed_after sets (place / 64) (get_or heads (place / 64) 0 / 2) (get_or heads (place / 64) 0) (get_or frees (place / 64) 0) (with_bit (get_or frees (place / 64) 0) (place % 64))) free
   kept-given_back = kept-released heads frees new sets free cleared place is (λ offset from under. zeroed.zeros (256 * (place / 64) + offset) (omega arith) (omega arith))
 
   pub given_back_shown : shown_table heads (set frees (place / 64) (with_bit (get_or frees (place / 64) 0) (place % 64))) new ≡ with_block (shown_table heads frees words) place None

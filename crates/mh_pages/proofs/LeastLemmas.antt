@@ -100,7 +100,7 @@ sparse-tells size head slots = elim (cases_eq head (2 * size + 1)) [
   ]
 ]
 
--- what a page gives of a tier: its lowest free slot, where it has one and its head is the tier's
+-- what a page gives of a tier: its lowest free slot, if it has one and its head is the tier's
 open-given : (test : Page (List ℕ) → Bool) (wanted : ℕ) → TellsHead test wanted → (head free : ℕ) (words : List ℕ) (number : ℕ) → wanted ≢ 0 → ((head == wanted) && not (free == 0)) ≡ true → free < 2 ^ 64
     → ((slot : ℕ) → slots_in (head / 2) ≤ slot → has_bit free slot ≡ false) → open_slot test (shown_page head free words number) ≡ Some (trailing_zeros w64 free)
 open-given test wanted tells head free words number positive is small none =

@@ -12,7 +12,7 @@ use Rattle.mh_classes.specs.Numbers.{class_number}
 use Rattle.mh_classes.proofs.ClassLemmas.{class_is}
 use Rattle.mh_pages.specs.Shown.{page_shown, shown_table}
 use Rattle.mh_pages.specs.Indexed.{belongs, AllFree}
-use Rattle.mh_pages.specs.Kept.{is_head, IsKept}
+use Rattle.mh_pages.specs.Kept.{is_head, AreStored}
 use Rattle.mh_pages.proofs.ShownLemmas.{free_page}
 use Rattle.std.proofs.lemmas.List.{get_or_past}
 use Rattle.mh_pages.proofs.CountLemmas.{free_pages-all}
@@ -51,7 +51,7 @@ shown-open pages =
     (tabulate-replicate (page_shown (replicate pages 0) (replicate pages 0) (replicate (256 * pages) 0)) 0 pages None
     (λ number a b. free_page _ _ (replicate (256 * pages) 0) number (same_at pages number 0)))
 
-pub kept-open : (sets : List Bool) (pages : ℕ) → pages ≤ 4096 → AllFree sets pages → IsKept (replicate pages 0) (replicate pages 0) (replicate (256 * pages) 0) sets pages
+pub kept-open : (sets : List Bool) (pages : ℕ) → pages ≤ 4096 → AllFree sets pages → AreStored (replicate pages 0) (replicate pages 0) (replicate (256 * pages) 0) sets pages
 kept-open sets pages few so = record {
   sized = record {
     few_pages = omega (arith, length-replicate {A = ℕ} pages 0);

@@ -63,7 +63,7 @@ in_page size slot i class within small =
 pub words_from-same : (words new : List ℕ) (first count : ℕ) → ((i : ℕ) → i < count → get_or new (first + i) 0 ≡ get_or words (first + i) 0) → words_from new first count ≡ words_from words first count
 words_from-same words new first count agree = tabulate_same (λ i. get_or new (first + i) 0) (λ i. get_or words (first + i) 0) 0 count (λ i a b. agree i (omega arith))
 
--- a page is shown alike where the words agree on it
+-- a page is shown alike if the words agree on it
 pub page-same : (head free number : ℕ) (words new : List ℕ) → is_head head ≡ true → AgreeOn number words new → shown_page head free new number ≡ shown_page head free words number
 page-same head free number words new is agree = elim (cases_eq head 0) [
   | inl none ↦ free_page head free new number none ∙ sym (free_page head free words number none)
@@ -119,7 +119,7 @@ slots-set free new_free words new number size slot content others here =
     (λ i a b apart. others i (omega arith) (λ e. apart (omega arith)))
     (λ h. ap (shown_slot new_free new number size) (omega arith) ∙ here h)
 
--- a slot is shown alike where its bit and its words are alike
+-- a slot is shown alike if its bit and its words are alike
 pub slot-same : (free new_free : ℕ) (words new : List ℕ) (number size slot : ℕ) → has_bit new_free slot ≡ has_bit free slot
     → ((i : ℕ) → i < size → get_or new (256 * number + slot * size + i) 0 ≡ get_or words (256 * number + slot * size + i) 0)
     → shown_slot new_free new number size slot ≡ shown_slot free words number size slot
@@ -153,7 +153,7 @@ pub block_at-shown : (heads frees words : List ℕ) (place : ℕ) → IsTaken he
 block_at-shown heads frees words place is =
     block_of_page heads frees words place is.inside is.used ∙ (slot_at _ words (place / 64) _ (place % 64) is.within ∙ taken-slot_shown _ words (place / 64) _ (place % 64) is.taken)
 
--- where a block is shown there is one in the words
+-- if a block is shown there is one in the words
 pub taken_place : (heads frees words : List ℕ) (place : ℕ) → block_at (shown_table heads frees words) place ≢ None → IsTaken heads frees place
 taken_place heads frees words place some = by_page (cases_lt (place / 64) (length heads))
   where

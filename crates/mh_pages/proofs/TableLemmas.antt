@@ -1,4 +1,4 @@
--- What tables of any blocks do: one block less, and the classes of pages where a place is taken.
+-- What tables of any blocks do: one block less, and the classes of pages if a place is taken.
 use Rattle.std.proofs.Common.{◌≡◌, ℕ, ◌+◌, ◌<◌, inl, inr, Option, Some, None, is_some, IsSome, option_map, option_and_then, unwrap_or, length, refl, ap, ◌∙◌, sym, arith, get_or-set_same, get_or-set_other}
 use Rattle.std.proofs.lemmas.Bool.{cases_eq, false≢true}
 use Rattle.mh_table_laws.proofs.Lists.{there_below}

@@ -82,7 +82,7 @@ module _ (heads frees words : List ℕ) (place : ℕ) (are : ArePages heads free
   pub block_fits : IsTaken heads frees place → the_slot * the_size + the_size ≤ 256
   block_fits is = slot_fits the_size the_slot (head_class the_head (are.are_heads the_page) is.used) is.within
 
-  -- the table with another content of the slot, where its page is in use
+  -- the table with another content of the slot, if its page is in use
   pub with_slot : (content : Option (List ℕ)) (new_table : Table (List ℕ)) → the_page < length heads → the_head ≢ 0
       → new_table ≡ set (shown_table heads frees words) the_page (Some (page_with the_slot content (page_of the_size (the_head % 2 == 1) (shown_slots the_free words the_page the_size))))
       → new_table ≡ with_block (shown_table heads frees words) place content

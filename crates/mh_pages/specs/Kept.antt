@@ -33,7 +33,7 @@ pub record AreClean (heads frees words : List ℕ) : Type 0 where
   pub clean : (number offset : ℕ) → offset < 256 → (IsBlockWord (get_or heads number 0) (get_or frees number 0) offset → ⊥) → get_or words (256 * number + offset) 0 ≡ 0
 
 -- all that is kept
-pub record IsKept (heads frees words : List ℕ) (sets : List Bool) (free : ℕ) : Type 0 where
+pub record AreStored (heads frees words : List ℕ) (sets : List Bool) (free : ℕ) : Type 0 where
   pub sized : AreSized heads frees words sets
   pub pages : ArePages heads frees
   pub indexed : IsIndexed heads frees sets

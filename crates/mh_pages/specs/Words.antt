@@ -7,7 +7,7 @@ use Rattle.mh_pages.specs.declared.header.Header.{Header}
 abbrev pub header_of : List ℕ → Header
 header_of block = record { birth = get_or block 0 0; counts = get_or block 1 0; stamp = get_or block 2 0; forward = get_or block 3 0 }
 
--- the words of the block at a place, and none where there is no block
+-- the words of the block at a place, and none if there is no block
 abbrev pub words_at : Table (List ℕ) → ℕ → List ℕ
 words_at table place = unwrap_or (block_at table place) []
 

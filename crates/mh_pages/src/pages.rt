@@ -17,7 +17,7 @@ use mh_model::place::Place;
 use std::alloc::Global;
 use std::marker::Model;
 
-/// Pages of blocks: for each page its head (0 where it is free, and else twice the size of its class
+/// Pages of blocks: for each page its head (0 if it is free, and else twice the size of its class
 /// and 1 for its flag) and a word with a bit for each slot without a block, the words of all pages,
 /// the sets that the search for a place reads, and how many pages are free.
 #[derive(Drop)]
@@ -33,13 +33,13 @@ impl Model for Pages {
     ghost use Rattle.std.specs.Prelude.{List, ℕ};
     ghost use Rattle.mh_model.specs.Pages.{Table};
     ghost use Rattle.mh_pages.specs.Shown.{shown_table};
-    ghost use Rattle.mh_pages.specs.Kept.{IsKept};
+    ghost use Rattle.mh_pages.specs.Kept.{AreStored};
 
     ghost Value = { Table (List ℕ) };
 
     ghost view = { λ pages. shown_table pages.heads pages.frees pages.words };
 
-    ghost invariant = { λ pages. IsKept pages.heads pages.frees pages.words pages.sets pages.free };
+    ghost invariant = { λ pages. AreStored pages.heads pages.frees pages.words pages.sets pages.free };
 }
 
 /// The class of a page in use, by its head.
@@ -263,7 +263,7 @@ impl Pages {
         );
     }
 
-    /// Takes the block at a place back, and frees its page where this is asked.
+    /// Takes the block at a place back, and frees its page if this is asked.
     pub fn release(&mut self, place: Place, frees_page: bool)
         requires there { IsSome (block_at self.old place) }
         requires alone { frees_page ≡ true → count_at self.old (page_number place) ≡ 1 }
@@ -443,7 +443,7 @@ impl Pages {
         self.set_word_from(address, index, word);
     }
 
-    /// The header of the block at a place, where there is one.
+    /// The header of the block at a place, if there is one.
     pub fn header(&self, place: Place) -> Option<Header>
         ensures { result ≡ option_map header_of (block_at self.now place) }
     {

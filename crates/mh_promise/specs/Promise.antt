@@ -1,4 +1,4 @@
--- What a run promises of its outcome. Where a clause speaks of the events before another, it holds at each beginning of the run.
+-- What a run promises of its outcome. If a clause speaks of the events before another, it holds at each beginning of the run.
 use Rattle.std.specs.Prelude.{◌≡◌, ℕ, ◌-◌, ◌<◌, ◌≤◌, true, false, Some, None, List, [], ◌∷◌, ◌++◌, length}
 use Rattle.mh_model.specs.declared.command.Command.{Command}
 use Rattle.mh_model.specs.declared.command.Command.TheVariants as command
@@ -40,7 +40,7 @@ abbrev pub IsNew : Command → Type 0
 IsNew (command.New slot references numbers) = Unit {0}
 IsNew _ = ⊥
 
--- A full heap answers new objects alone, only where some part of the object has no place, and each that no other test refuses where one has none
+-- A full heap answers new objects alone, only if some part of the object has no place, and each that no other test refuses if one has none
 pub record FullIsNoPlace (config : Config) (events : List Event) (replies : List Reply) : Type 0 where
   pub new : (before : List Event) (who : ℕ) (asked : Command) → IsAnswered events replies before (event.Session who asked) (reply.Refused HeapFull) → IsNew asked
   pub only : (before : List Event) (who slot references numbers : ℕ) → IsAnswered events replies before (event.Session who (command.New slot references numbers)) (reply.Refused HeapFull) → new_group (machine_at config before).heap references numbers ≡ None
@@ -54,7 +54,7 @@ RefusedChangesNothing config events replies = (before : List Event) (who : ℕ) 
 
 -- Quanta -----------------------------------------------------------------------------------------
 
--- No quantum spends more units than are configured: by the greatest of the trace, and by what each reply tells
+-- No quantum spends more units than are configured: by the greatest of the trace, and by what each reply states
 pub record QuantaKeepTheirLimit (config : Config) (events : List Event) (outcome : Outcome) : Type 0 where
   pub greatest : outcome.trace.greatest ≤ config.quantum
   pub spent : (before : List Event) (event : Event) (units : ℕ) (phase : Phase) → IsAnswered events outcome.replies before event (reply.Spent units phase) → units ≤ config.quantum
@@ -107,14 +107,14 @@ CyclesEnd config events = (before : List Event) →
     let collector = (machine_at config before).heap.collector in
     is_idle collector.phase ≡ false → EndsAfter config events before (most_quanta config - collector.quanta)
 
--- some quanta are told, and once so many have been run the cycle has ended
+-- some quanta are reported, and once so many have been run the cycle has ended
 pub record TellsTheEnd (config : Config) (events before : List Event) (given : Reply) : Type 0 where
   pub count : ℕ
   pub told : given ≡ reply.Left count
   pub some : 1 ≤ count
   pub ends : EndsAfter config events before count
 
--- Who asks for the quanta left is told the end of the cycle that runs, and 0 where none does
+-- Who asks for the quanta left is answered the end of the cycle that runs, and 0 if none does
 pub record LeftTellsTheEnd (config : Config) (events : List Event) (replies : List Reply) : Type 0 where
   pub running : (before : List Event) (given : Reply) → IsAnswered events replies before (event.Control control.Left) given → is_idle (machine_at config before).heap.collector.phase ≡ false → TellsTheEnd config events before given
   pub idle : (before : List Event) (given : Reply) → IsAnswered events replies before (event.Control control.Left) given → is_idle (machine_at config before).heap.collector.phase ≡ true → given ≡ reply.Left 0
@@ -127,7 +127,7 @@ pub record IsPromised (config : Config) (events : List Event) (outcome : Outcome
   pub answered : AreAnswered events outcome.replies
   -- replies are those of a heap that never collects or moves
   pub replies : AreTheWorlds config events outcome.replies
-  -- a full heap answers new objects alone, just where there is no place
+  -- a full heap answers new objects alone, just when there is no place
   pub full : FullIsNoPlace config events outcome.replies
   -- what is refused changes nothing
   pub refused : RefusedChangesNothing config events outcome.replies
@@ -141,9 +141,9 @@ pub record IsPromised (config : Config) (events : List Event) (outcome : Outcome
   pub moments : MomentsAreSafe config events
   -- a cycle that runs ends within its bound of quanta
   pub ends : CyclesEnd config events
-  -- and what is told of the quanta left is true
+  -- and what is reported of the quanta left is true
   pub left : LeftTellsTheEnd config events outcome.replies
-  -- where the scheduler runs quanta, the mutator has its share of the units
+  -- if the scheduler runs quanta, the mutator has its share of the units
   pub share : 0 < config.every → MutatorHasItsFloor config outcome
 
 -- What a run that stopped early promises: its replies are the machine's to the first of its events, and all of the above holds of these

@@ -15,7 +15,7 @@ IsNew service seat = IsOf service seat × (seat.log ≡ [])
 abbrev pub IsFresh : ServiceView → Racer → Type 0
 IsFresh service racer = IsNew service racer.seat × (racer.stop ≡ None)
 
--- The seat has made its first calls of some events in their order, and all of them where none was refused
+-- The seat has made its first calls of some events in their order, and all of them if none was refused
 pub record HasRun (events : List Event) (refused : Option Stop) (seat : LockSeatView Entry) : Type 0 where
   pub left : List Event
   pub made : events_of seat.log ++ left ≡ owned_by owner_of seat.number events

@@ -23,7 +23,7 @@ use std::sync::Wait;
 use std::thread;
 use std::thread::Threads;
 
-/// What a race leaves: the calls that were answered, in the order in which they were done, and, where calls were left out,
+/// What a race leaves: the calls that were answered, in the order in which they were done, and, if calls were left out,
 /// why.
 #[derive(Drop)]
 pub struct Raced {
@@ -72,7 +72,7 @@ fn racers_of(alloc: Global, seats: Vec<Seat>, events: &[Event]) -> Result<Racers
     Ok(Racers { busy, idle })
 }
 
-/// Each racer in a thread of its own, or all on the calling thread, where there is one thread. The calls of a racer whose
+/// Each racer in a thread of its own, or all on the calling thread, if there is one thread. The calls of a racer whose
 /// thread can't be started are made on another.
 fn run_all<R: Threads + Wait + Sync, G: CrewGate + Sync>(
     rt: &R,
@@ -93,8 +93,8 @@ fn run_all<R: Threads + Wait + Sync, G: CrewGate + Sync>(
     thread::for_each_mut(rt, racers.as_mut_slice(), threads, &one);
 }
 
-/// Moves the seats of racers behind those that are there, for which there is room, and gives the refusal that tells most:
-/// want of memory before a full history.
+/// Moves the seats of racers behind those that are there, for which there is room, and gives the gravest refusal:
+/// refused memory before a full history.
 fn take_seats(racers: Vec<Racer>, seats: &mut Vec<Seat>, stop: Option<Stop>) -> Option<Stop>
     requires room { vec_len seats.old + vec_len racers ≤ vec_capacity seats.old }
     ensures seats { seats.new.items ≡ seats.old.items ++ map (λ racer. racer.seat) racers.items }
@@ -114,7 +114,7 @@ fn take_seats(racers: Vec<Racer>, seats: &mut Vec<Seat>, stop: Option<Stop>) -> 
     most
 }
 
-/// Makes the calls of all seats, and gives them back, with the refusal that tells most, where some call was refused.
+/// Makes the calls of all seats, and gives them back, with the gravest refusal, if some call was refused.
 fn run_seats<R: Threads + Wait + Sync, G: CrewGate + Sync>(
     rt: &R,
     alloc: Global,
@@ -135,7 +135,7 @@ fn run_seats<R: Threads + Wait + Sync, G: CrewGate + Sync>(
     Ok((back, stop))
 }
 
-/// A call that is refused for a full history has found it full. No contract tells that the history left at the end is no
+/// A call that is refused for a full history has found it full. No contract says that the history left at the end is no
 /// shorter, so that is looked at here.
 #[tactic(auto, unfolding(mh_model::specs::Limits::most_entries))]
 fn stop_of(stop: Option<Stop>, entries: u64) -> Option<Stop>

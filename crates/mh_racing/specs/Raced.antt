@@ -33,7 +33,7 @@ abbrev pub RaceEndsAs : Option Text → Option Text → Option Text → End → 
 RaceEndsAs known old new Done = Races IsRaced known old new
 RaceEndsAs known old new (Refused line) = RefusesScript known old new line
 
--- a beginning of what a race of a script leaves was written, or of the line that refuses the script
+-- a prefix of what a race of a script leaves was written, or of the line that refuses the script
 abbrev pub BeginsRaceOf : Reading Meaning → Option Text → Option Text → Type 0
 BeginsRaceOf (BadLine line) old new = AppendsBeginning old new (line_text (bad_line_text line))
 BeginsRaceOf (Means script) old new = Writes (IsRaceBegun script) old new

@@ -22,8 +22,8 @@ use std::alloc::Global;
 use std::sync::Wait;
 use std::thread::Threads;
 
-/// Lets the sessions of a script race, and writes the history that they made as far as they came, or a beginning of it
-/// where memory was refused.
+/// Lets the sessions of a script race, and writes the history that they made as far as they came, or a prefix of it
+/// if memory was refused.
 fn write_race<R: Threads + Wait + Sync, W: Sink, G: CrewGate + Sync>(
     rt: &R,
     alloc: Global,

@@ -23,7 +23,7 @@ pub fn report(trace: &mut Trace, config: &Config, window: u64) -> Report
     }
 }
 
-/// The floor of a window, none where no quantum is scheduled.
+/// The floor of a window, none if no quantum is scheduled.
 #[tactic(auto, using(crate::proofs::FloorLemmas::in_limits))]
 fn floor_of(config: &Config, window: u64) -> Option<u64>
     ensures { result ≡ floor_of config.now window }

@@ -52,7 +52,7 @@ impl Walks {
         }
     }
 
-    /// Keeps it in place of that of its window, or of another one where there is no room.
+    /// Keeps it in place of that of its window, or of another one if there is no room.
     pub fn keep(&mut self, walk: Walk)
         ensures { (segments : List Segment) → All (IsWalk segments) self.old.walks.items → IsWalk segments walk → All (IsWalk segments) self.new.walks.items }
     {

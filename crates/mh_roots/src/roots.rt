@@ -52,14 +52,6 @@ impl Roots {
         self.slots[slot]
     }
 
-    /// What the scan of the roots finds at its cursor: it goes through the slots in their order.
-    pub fn cursor_slot(&self, cursor: usize) -> Option<Place>
-        requires { cursor < 144 }
-        ensures { result ≡ get_or self.now cursor None }
-    {
-        self.get(cursor)
-    }
-
     /// Lets a slot hold a reference.
     pub fn set(&mut self, slot: usize, reference: Option<Place>)
         requires { slot < 144 }

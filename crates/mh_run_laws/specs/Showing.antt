@@ -1,4 +1,4 @@
--- The laws of what a heap shows while it is collected: it changes only where the sweep begins, and then what is reachable stays.
+-- The laws of what a heap shows while it is collected: it changes only if the sweep begins, and then what is reachable stays.
 use Rattle.std.specs.Prelude.{◌≡◌, ℕ, true, false, []}
 use Rattle.mh_model.specs.declared.cycle.Phase.TheVariants.{Roots, Sweep, Defrag}
 use Rattle.mh_model.specs.World.{World, IsClosed}

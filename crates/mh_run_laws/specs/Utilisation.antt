@@ -20,7 +20,7 @@ pub record QuantaStayWithinTheirBound : Type 0 where
 abbrev pub HasShare : Config → TraceState → Type 0
 HasShare config trace = (window count : ℕ) → least_mutator window trace.letters ≡ Some count → floor config.every config.quantum window ≤ count
 
--- The mutator has its share of each stretch of the trace, where the scheduler runs quanta (Cheng and Blelloch 2001)
+-- The mutator has its share of each stretch of the trace, if the scheduler runs quanta (Cheng and Blelloch 2001)
 pub record MutatorHasItsShare : Type 0 where
   pub after_events : (config : Config) (events : List Event) → 0 < config.every → HasShare config (machine_after (first_machine config) events).trace
   pub after_commands : (config : Config) (events : List Event) (event : Event) → 0 < config.every → HasShare config (half_step (machine_after (first_machine config) events) event).trace

@@ -22,7 +22,7 @@ pub record StepsBeside (is_full : ℕ → ℕ → Bool) (view world : World) (wh
   pub reply : is_heap_full (heap_step is_full view who command).reply ≡ false → (heap_step is_full view who command).reply ≡ (world_step world who command).reply
   pub state : Agrees (heap_step is_full view who command).state (world_beside_event world (event.Session who command) (heap_step is_full view who command).reply)
 
--- The same where the heap may be full: the world takes no step where the answer was that it is
+-- The same if the heap may be full: the world takes no step if the answer was that it is
 abbrev pub FullHeapKeepsAgreement : Type 0
 FullHeapKeepsAgreement = (is_full : ℕ → ℕ → Bool) (view world : World) → Agrees view world → (who : ℕ) (command : Command) → StepsBeside is_full view world who command
 

@@ -1,5 +1,5 @@
 //! The laws of runs, beside the world of their commands and what the heap shows of it.
-//! Each is what a function with nothing to do ensures. They speak of the machine of the book, and not yet of code.
+//! Each is what a function with nothing to do ensures. They speak of the machine of the model, and not yet of code.
 #![tactic(auto)]
 
 pub mod beside_the_world;

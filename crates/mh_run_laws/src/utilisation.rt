@@ -6,7 +6,7 @@ pub fn quanta_stay_within_their_bound()
     ensures { QuantaStayWithinTheirBound }
 {}
 
-/// Where the scheduler runs quanta, the mutator has its share of each stretch of the trace.
+/// If the scheduler runs quanta, the mutator has its share of each stretch of the trace.
 pub fn mutator_has_its_share()
     ensures { MutatorHasItsShare }
 {}

@@ -38,7 +38,7 @@ pub record IsHired (claims : ClaimsView) (worker : Worker) : Type 0 where
   pub done : worker.done.items ≡ []
   pub granted : worker.refused ≡ false
 
--- A worker that is done: what it has is found. Where no memory was refused to it, it was answered at last that no piece is left, and has all others that it drew
+-- A worker that is done: what it has is found. If no memory was refused to it, it was answered at last that no piece is left, and has all others that it drew
 pub record HasWorked (claims : ClaimsView) (table : Table Block) (batch : List ℕ) (worker : Worker) : Type 0 where
   pub own : IsOf claims worker.seat
   pub found : All (IsFound table batch) worker.done.items

@@ -151,7 +151,7 @@ fn work_all<G: Gate + Sync, R: Threads>(
     on_each(rt, workers, &one);
 }
 
-/// The seats of all workers and all that they found, where memory was refused to none.
+/// The seats of all workers and all that they found, if memory was refused to none.
 fn gather(
     alloc: Global,
     claims: &Claims,
@@ -219,7 +219,7 @@ fn merge(
 }
 
 /// What `Scanner::scan` finds, by as many workers at most as are asked for. One of them is the calling thread, which does
-/// all where there is one piece or one worker. A gate's `scan_by_crew` is one call of this.
+/// all if there is one piece or one worker. A gate's `scan_by_crew` is one call of this.
 pub fn scan<G: Gate + Sync, R: Threads>(
     rt: &R,
     alloc: Global,

@@ -14,7 +14,7 @@ pub Buffers-trans : (a b c : Option Text) (rest buffer text : Text) → Buffers 
 Buffers-trans a b c rest buffer text held next =
     (held.0 ++ next.0, Appends-trans a b c held.0 next.0 held.1 next.1, append_assoc held.0 next.0 rest ∙ (ap (λ r. held.0 ++ r) next.2 ∙ held.2))
 
--- a beginning of what was taken in is a beginning of the whole
+-- a prefix of what was taken in is a prefix of the whole
 pub AppendsBeginning-buffers : (a b : Option Text) (buffer text more whole : Text) → Buffers a b buffer text → text ++ more ≡ whole → AppendsBeginning a b whole
 AppendsBeginning-buffers a b buffer text more whole held is =
     (held.0, buffer ++ more, sym (append_assoc held.0 buffer more) ∙ (ap (λ r. r ++ more) held.2 ∙ is), held.1)

@@ -43,7 +43,7 @@ record_bounded = record {
       ap (λ (b : Bool). cond b (BadLine 0) (recorded_of (cut_after 10 text))) is;
 }
 
--- bytes after a text change what it means only where it is not too long
+-- bytes after a text change what it means only if it is not too long
 read-append : {R : Type 0} (read : Text → R) (most : ℕ) → IsBounded read most → (text rest : Text) → (length text ≤ most → rest ≡ []) → read (text ++ rest) ≡ read text
 read-append {R} read most bounded text rest whole = go (nat_lt most (length text)) refl where
   go : (b : Bool) → nat_lt most (length text) ≡ b → read (text ++ rest) ≡ read text
@@ -72,7 +72,7 @@ pub reads_slice : {R : Type 0} (read : Text → R) (most : ℕ) → IsBounded re
     → (length items ≤ most → IsAtEnd rest) → Reads read known text
 reads_slice read most bounded known rest items text same consumed whole = subst (Reads read known) (sym same) (reads-consumed read most bounded known rest items consumed whole)
 
--- memory was wanting for a text that was read whole
+-- memory was refused for a text that was read whole
 pub wants_text : (Begins : Text → Type 0) (most : ℕ) (known rest : Option Text) (items text : Text) → text ≡ items → Consumes known rest items → (length items ≤ most → IsAtEnd rest) → length text ≤ most → Begins text
     → WantsMemory Begins known rest
 wants_text Begins most known rest items text same consumed whole short begins = ForText items consumed (whole (omega (arith, ap length same, short))) (subst Begins same begins)
@@ -89,7 +89,7 @@ runs_short text (inr script) = go (nat_lt 67108864 (length text)) refl where
       cc
   go false is = grind (arith, nat_tests)
 
--- memory was wanting for a text that is a script
+-- memory was refused for a text that is a script
 pub wants_script : (known rest : Option Text) (items text : Text) (script : Meaning) → text ≡ items → Consumes known rest items → (length items ≤ 67108864 → IsAtEnd rest) → reading text ≡ Means script → WantsMemory TakesToRun known rest
 wants_script known rest items text script same consumed whole means =
     let takes : TakesToRun text = inr (script, means) in
@@ -152,11 +152,11 @@ module _ {known : Option Text} {text : Text} (reads : Reads reading known text) 
   WritesBeginning-reads old new r is begun =
       (reads.whole, begun.0, begun.1, reads.is_text, begun.2 ∙ sym (output-reads r is), begun.3)
 
--- nothing is a beginning of any output
+-- nothing is a prefix of any output
 pub WritesBeginning-nothing : (known a : Option Text) → WritesBeginning known a a
 WritesBeginning-nothing known a = let text = some_text known in (text.0, [], output text.0, text.1, refl, Appends-nil a)
 
--- a text that was written whole is a beginning of itself
+-- a text that was written whole is a prefix of itself
 pub beginning_of : (old new : Option Text) (text : Text) → Appends old new text → AppendsBeginning old new text
 beginning_of old new text wrote = (text, [], append-nil text, wrote)
 

@@ -27,7 +27,7 @@ pub record Outputs (known old new : Option Text) (ended : Ending) : Type 0 where
   pub ends : ending script ≡ ended
   pub wrote : Appends old new (output script)
 
--- a beginning of the output of the source's script was written
+-- a prefix of the output of the source's script was written
 abbrev pub WritesBeginning : Option Text → Option Text → Option Text → Type 0
 WritesBeginning known old new = (script front rest : Text) × IsTextOf known script × (front ++ rest ≡ output script) × Appends old new front
 

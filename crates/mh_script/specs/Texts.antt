@@ -14,7 +14,7 @@ use Rattle.mh_script.specs.declared.fault.WriteError.TheVariants as error
 abbrev pub Buffers : Option Text → Option Text → Text → Text → Type 0
 Buffers old new buffer text = (front : Text) × Appends old new front × (front ++ buffer ≡ text)
 
--- the bytes that a source had left are the text, where they are known
+-- the bytes that a source had left are the text, if they are known
 abbrev pub IsTextOf : Option Text → Text → Type 0
 IsTextOf known text = IfSome known (λ bytes. bytes ≡ text)
 
@@ -22,31 +22,31 @@ IsTextOf known text = IfSome known (λ bytes. bytes ≡ text)
 abbrev pub ReadsText : ℕ → Option Text → Option Text → Type 0
 ReadsText most old new = (text : Text) × Consumes old new text × (length text ≤ most → IsAtEnd new)
 
--- the source is read as far as its text goes, unless it failed or memory was wanting
+-- the source is read as far as its text goes, unless it failed or memory was refused
 abbrev pub LeavesSource : {X : Type 0} → ℕ → Option Text → Option Text → Result X ScriptFault → Type 0
 LeavesSource most old new (Err Read) = ConsumesBeginning old new
 LeavesSource most old new (Err NoMemory) = ConsumesBeginning old new
 LeavesSource most old new _ = ReadsText most old new
 
--- Memory was wanting for bytes that a source gave, or for what its whole text is or begins with
+-- Memory was refused for bytes that a source gave, or for what its whole text is or begins with
 pub data WantsMemory (Begins : Text → Type 0) (old new : Option Text) : Type 0 where
   ForBytes : ConsumesSome old new → WantsMemory Begins old new
   ForText : (text : Text) → Consumes old new text → IsAtEnd new → Begins text → WantsMemory Begins old new
 
--- by their counts of failures a device failed only where it is blamed
+-- by their counts of failures a device failed only if it is blamed
 abbrev pub Blames : {X : Type 0} → (source source' sink sink' : ℕ) → Result X ScriptFault → Type 0
 Blames source source' sink sink' (Err Read) = (source < source') × (sink' ≡ sink)
 Blames source source' sink sink' (Err Write) = (source' ≡ source) × (sink < sink')
 Blames source source' sink sink' _ = (source' ≡ source) × (sink' ≡ sink)
 
--- the same where no sink was written to, so that reading or want of memory alone is the fault
+-- the same if no sink was written to, so that reading or refused memory alone is the fault
 abbrev pub BlamesSource : {X : Type 0} → (source source' : ℕ) → Result X ScriptFault → Type 0
 BlamesSource source source' (Ok text) = source' ≡ source
 BlamesSource source source' (Err Read) = source < source'
 BlamesSource source source' (Err NoMemory) = source' ≡ source
 BlamesSource source source' (Err _) = ⊥
 
--- the same where no source was read, so that writing, want of memory or a full history alone is the fault
+-- the same if no source was read, so that writing, refused memory or a full history alone is the fault
 abbrev pub BlamesSink : {X : Type 0} → (sink sink' : ℕ) → Result X ScriptFault → Type 0
 BlamesSink sink sink' (Err Read) = ⊥
 BlamesSink sink sink' (Err Write) = sink < sink'
@@ -56,7 +56,7 @@ BlamesSink sink sink' _ = sink' ≡ sink
 abbrev pub Writes : (Text → Type 0) → Option Text → Option Text → Type 0
 Writes Is old new = (written : Text) × Is written × Appends old new written
 
--- a sink that failed, or want of memory, as a fault
+-- a sink that failed, or refused memory, as a fault
 abbrev pub IsWriteFault : WriteError → ScriptFault → Type 0
 IsWriteFault error.Device fault = fault ≡ Write
 IsWriteFault error.NoMemory fault = fault ≡ NoMemory

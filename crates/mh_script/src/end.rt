@@ -2,6 +2,6 @@
 #[derive(Clone, Copy, Debug, PartialEq, Eq)]
 pub enum End {
     Done,
-    /// The script's least bad line, counted from 1; 0 where the script is too long.
+    /// The script's first bad line, counted from 1; 0 if the script is too long.
     Refused(u64),
 }

@@ -3,7 +3,7 @@ use mh_state::machine::Stop;
 use mh_text::device::DeviceFailed;
 use thiserror::Error;
 
-/// The line that tells that the source failed.
+/// The line that says that the source failed.
 pub const READ_FAILED: &str = "metroheap: read failed\n";
 
 pub const WRITE_FAILED: &str = "metroheap: write failed\n";

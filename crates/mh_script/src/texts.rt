@@ -88,7 +88,7 @@ pub fn flush<W: Sink>(sink: &mut W, text: &mut String) -> Result<(), DeviceFaile
     }
 }
 
-/// Writes the text that waits where it has filled its buffer.
+/// Writes the text that waits if it has filled its buffer.
 pub fn flush_full<W: Sink>(sink: &mut W, text: &mut String) -> Result<(), DeviceFailed>
     requires { W.failures sink.old < 2 ^ 62 }
     ensures kept { OnOk result (Buffers (W.written sink.old) (W.written sink.new) (string_bytes text.new) (string_bytes text.old)) }

@@ -1,4 +1,4 @@
--- The rule of the claim word, of a table of one word, and the claim state of the book that the table shows.
+-- The rule of the claim word, of a table of one word, and the claim state of the model that the table shows.
 use Rattle.std.specs.Prelude.{◌≡◌, ℕ, ◌+◌, ◌^◌, ◌<◌, List, [], ◌∷◌, flat_map, length, slice_index}
 use mathlib.Core.Option.{some}
 use lib.ListN.{get_elem?}

@@ -27,7 +27,7 @@ WordStaysNearItsBound = (bound : ℕ) (claim : ClaimState) → IsDrawn bound cla
 abbrev pub AllHaveEnded : ℕ → ClaimState → Type 0
 AllHaveEnded bound claim = (seat : ℕ) → seat < length claim.drawn → has_ended bound (get_or claim.drawn seat []) ≡ true
 
--- Where there are seats and every one has ended, each number below the bound stands in the seats' lists exactly once
+-- If there are seats and every one has ended, each number below the bound stands in the seats' lists exactly once
 abbrev pub FinishedClaimIsDrawnOnce : Type 0
 FinishedClaimIsDrawnOnce = (bound : ℕ) (claim : ClaimState) → IsDrawn bound claim → 0 < length claim.drawn → AllHaveEnded bound claim → (number : ℕ) → number < bound → times_drawn number claim.drawn ≡ 1
 
@@ -41,7 +41,7 @@ LockIsKept T E O = (owner : E → ℕ) (entries : T → List E) (origin : T → 
 abbrev pub TakeKeepsTheLock : Type 0
 TakeKeepsTheLock = (owner : Entry → ℕ) (lock : LockState Entry) (seat : ℕ) → seat < length lock.taken → IsKeptBy owner lock → IsKeptBy owner (with_take lock seat)
 
--- The lock's rule is kept where the seat that has the value gives it back, with an entry of its own or with none
+-- The lock's rule is kept if the seat that has the value gives it back, with an entry of its own or with none
 abbrev pub GiveKeepsTheLock : Type 0
 GiveKeepsTheLock = (owner : Entry → ℕ) (lock : LockState Entry) (entry : Option Entry) (out : IsOut owner lock) → ((e : Entry) → entry ≡ Some e → owner e ≡ out.holder) → IsKeptBy owner (with_give lock out.holder entry)
 

@@ -1,4 +1,4 @@
--- The rule of the lock, of a table of one word and one slot, and the lock of the book that the table shows.
+-- The rule of the lock, of a table of one word and one slot, and the lock of the model that the table shows.
 use Rattle.std.specs.Prelude.{◌≡◌, ◌≢◌, ℕ, ◌+◌, ◌<◌, ◌⊎◌, List, [], ◌∷◌, All, Some, None, get_or, length, slice_index, slice_index_or}
 use mathlib.Core.Option.{some}
 use lib.ListN.{get_elem?}
@@ -73,7 +73,7 @@ module _ {E : Type 0} (owner : E → ℕ) where
       pub numbers : (h : ℕ → ℕ) → total (λ view. weigh_numbers h view.logs) table.views ≡ weigh_below h about.0
       pub place : HasHome about table ⊎ HasHolder about table
 
--- A lock of the book is what a table shows: the same word, each log at its seat's number, the history that a holder found as taken at its number, and the entries of a value at home
+-- A lock of the model is what a table shows: the same word, each log at its seat's number, the history that a holder found as taken at its number, and the entries of a value at home
 pub record Shows {T E O : Type 0} (entries : T → List E) (seats : ℕ) (table : State T (SeatView E O)) (lock : LockState E) : Type 0 where
   pub word : lock.word ≡ slice_index table.words 0
   pub many : length lock.logs ≡ seats

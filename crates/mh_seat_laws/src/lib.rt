@@ -1,4 +1,4 @@
-//! The rules of the claim word and of the lock as tables of `atomic_table` keep them, and the laws of the book's rules.
+//! The rules of the claim word and of the lock as tables of `atomic_table` keep them, and the laws of the model's rules.
 //! Each law is what a function with nothing to do ensures.
 #![tactic(auto)]
 

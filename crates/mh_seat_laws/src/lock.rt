@@ -1,7 +1,7 @@
 //! Laws of the lock.
 ghost use Rattle.mh_seat_laws.specs.Laws.{EventsHaveOneOwner, GiveKeepsTheLock, LockIsKept, LogsMergeToTheHistory, TakeKeepsTheLock};
 
-/// A table that keeps the rule of the lock shows a lock that keeps the book's rule.
+/// A table that keeps the rule of the lock shows a lock that keeps the model's rule.
 pub fn lock_is_kept<T, E, O>()
     ensures { LockIsKept T E O }
 {}

@@ -29,7 +29,7 @@ pub record IsDone (event : Event) (found : Stored) (given : Reply) (left : Store
   pub step : event_step found.machine event ≡ says given left.machine
   pub entered : left.history ≡ with_entry found.history event given
 
--- An event was refused: the state is unchanged; a full history is the reason just where it is full, and want of memory only where the event may ask for memory
+-- An event was refused: the state is unchanged; a full history is the reason just when it is full, and refused memory only if the event may ask for memory
 pub record IsRefused (event : Event) (found : Stored) (reason : Stop) (left : Stored) : Type 0 where
   pub unchanged : KeepsState found left
   pub full : (reason ≡ stop.HistoryFull) ↔ (length found.history ≡ most_entries)

@@ -140,7 +140,7 @@ impl<'a, G: CrewGate> Service<'a, G> {
         self.gate
     }
 
-    /// Ends the service once all nine seats are handed in; where one is missing, service and seats come back. It takes no
+    /// Ends the service once all nine seats are handed in; if one is missing, service and seats come back. It takes no
     /// memory.
     pub fn close(self, seats: Vec<Seat>) -> Result<Closed, MissingSeat<'a, G>>
         requires { All (IsOf self) seats.items }

@@ -115,7 +115,7 @@ shown_all {X} config event_of Lawful xs i judging all seen =
     subst P (take_all i xs all) seen
 
 module _ {X : Type 0} (config : Config) (event_of : X → Event) (Lawful : List X → Type 0) (xs : List X) (running : Running) where
-  -- where none is found to be bad they are lawful
+  -- if none is found to be bad they are lawful
   pub found_none : (found : Option ℕ) → found ≡ None → HasSeen config event_of Lawful xs (record { running = running; first_bad = found }) → Lawful xs
   found_none None is seen = seen.lawful
   found_none (Some number) is seen = cc

@@ -9,7 +9,7 @@ abbrev pub IsPlain : Reply → Type 0
 IsPlain (reply.Dump items) = ⊥
 IsPlain _ = Unit {0}
 
--- the dump that a reply is, where it is one
+-- the dump that a reply is, if it is one
 abbrev pub IsDumpOf : Reply → Option (List DumpItem) → Type 0
 IsDumpOf given None = IsPlain given
 IsDumpOf given (Some items) = given ≡ reply.Dump items

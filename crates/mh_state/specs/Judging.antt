@@ -1,4 +1,4 @@
--- The judging of histories: when an entry is right, what a judge knows of the entries that were shown, and what a fault tells.
+-- The judging of histories: when an entry is right, what a judge knows of the entries that were shown, and what a fault states.
 use Rattle.std.specs.Prelude.{◌≡◌, ◌≢◌, ◌⊎◌, ℕ, suc, Bool, true, false, Option, None, MatchOption, List, length, map}
 use Rattle.mh_model.specs.declared.command.Event.{Event}
 use Rattle.mh_model.specs.declared.config.Config.{Config}
@@ -21,12 +21,12 @@ HasItsReply machine entry = entry.reply ≡ (event_step machine entry.event).rep
 abbrev pub IsMeasured : Machine → Measured → Type 0
 IsMeasured machine measured = measured ≡ measured_step machine measured.entry.event (event_step machine measured.entry.event)
 
--- What the try of an event tells by a rule of its entry: the event was done and its entry is right, or else it is one event too many or its entry is wrong
+-- What the try of an event shows by a rule of its entry: the event was done and its entry is right, or else it is one event too many or its entry is wrong
 abbrev pub IsTried : Type 0 → Running → Event → Running → Bool → Type 0
 IsTried Right old event new true = (old.done ≢ most_entries) × Right × (new.machine ≡ (event_step old.machine event).state) × (new.done ≡ suc old.done)
 IsTried Right old event new false = (old.done ≡ most_entries) ⊎ ¬ Right
 
--- a machine, and the number of the first bad entry, where there was one
+-- a machine, and the number of the first bad entry, if there was one
 pub record Judging : Type 0 where
   pub running : Running
   pub first_bad : Option ℕ
@@ -53,7 +53,7 @@ HasSeenEntries config seen judging = HasSeen config (λ entry. entry.event) (IsL
 abbrev pub HasSeenMeasured : Config → List Measured → Judging → Type 0
 HasSeenMeasured config seen judging = HasSeen config (λ measured. measured.entry.event) (IsLegalRecord config) seen judging
 
--- A fault tells the first bad entry by a rule; want of memory tells nothing of the history
+-- A fault names the first bad entry by a rule; refused memory says nothing of the history
 abbrev pub TellsFirstBad : {X : Type 0} → (List X → Type 0) → List X → CheckFault → Type 0
 TellsFirstBad Lawful history (FirstBad number) = IsFirstBadOf Lawful history number
 TellsFirstBad Lawful history NoMemory = Unit {0}

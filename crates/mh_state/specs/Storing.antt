@@ -27,7 +27,7 @@ pub record KeepsState (old new : Stored) : Type 0 where
   pub machine : new.machine ≡ old.machine
   pub history : new.history ≡ old.history
 
--- an event may ask for memory: for itself, or for its entry where the history has no room for one
+-- an event may ask for memory: for itself, or for its entry if the history has no room for one
 abbrev pub MayWantMemory : Stored → Event → Type 0
 MayWantMemory stored event = MayAskForMemory stored.trace_room event ⊎ (stored.entry_room ≡ 0)
 

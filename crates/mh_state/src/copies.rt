@@ -72,7 +72,7 @@ impl Dumps {
     }
 }
 
-/// The dump that an event will be answered, where it asks for one.
+/// The dump that an event will be answered, if it asks for one.
 #[tactic(auto, unfolding(mh_model::specs::Machine::event_step, mh_model::specs::Machine::control_step))]
 pub(crate) fn dumps_for(
     alloc: Global,

@@ -143,7 +143,7 @@ impl Engine {
         Ok(reply)
     }
 
-    /// Runs a quantum by hand, where the scheduler runs none.
+    /// Runs a quantum on request, if the scheduler runs none.
     #[tactic(auto, unfolding(mh_model::specs::Machine::control_step))]
     fn quantum_by_hand<S: Scanner>(&mut self, config: &Config, scanner: &mut S) -> Reply
         requires config { config.now ≡ self.old.heap.kept.config }

@@ -37,7 +37,7 @@ impl From<NoMemory> for CheckFault {
     }
 }
 
-/// Does an entry's event, unless 1,000,000 were done, and tells whether it was answered with the entry's reply.
+/// Does an entry's event, unless 1,000,000 were done, and reports whether it was answered with the entry's reply.
 fn try_entry(machine: &mut Machine, scanner: &mut OneScan, entry: &Entry) -> Result<bool, NoMemory>
     ensures tried { IfOk result (IsTried (HasItsReply machine.old.machine entry.now) machine.old entry.now.event machine.new) }
     ensures stopped { OnErr result (machine.new ≡ machine.old) }
@@ -50,7 +50,7 @@ fn try_entry(machine: &mut Machine, scanner: &mut OneScan, entry: &Entry) -> Res
     }
 }
 
-/// The same, where the entry's units must be those that the event added too.
+/// The same, if the entry's units must be those that the event added too.
 fn try_measured(
     machine: &mut Machine,
     scanner: &mut OneScan,
@@ -117,7 +117,7 @@ impl Judge {
         Ok(())
     }
 
-    /// The same of an entry that tells its units.
+    /// The same of an entry that states its units.
     #[tactic(auto, unfolding(mh_model::specs::Limits::most_entries))]
     pub fn measured(&mut self, measured: &Measured) -> Result<(), NoMemory>
         ensures seen { OnOk result ((config : Config) (seen : List Measured) → HasSeenMeasured config seen self.old → HasSeenMeasured config (seen ++ measured.now ∷ []) self.new) }
@@ -134,7 +134,7 @@ impl Judge {
         Ok(())
     }
 
-    /// Shows it a whole history, and tells what it found.
+    /// Shows it a whole history, and reports what it found.
     fn settle(&mut self, history: &[Entry]) -> Result<(), CheckFault>
         ensures legal { OnOk result ((config : Config) → HasSeenEntries config [] self.old → IsLegal config history.now) }
         ensures bad { IfErr result (λ fault. (config : Config) → HasSeenEntries config [] self.old → TellsFirstBad (IsLegal config) history.now fault) }

@@ -35,7 +35,7 @@ pub struct Machine {
     done: u64,
 }
 
-// An owner proves one call where it drops the machine, and not each of its parts.
+// An owner proves one call if it drops the machine, and not each of its parts.
 impl Drop for Machine {
     fn drop(self) {
         let Machine {
@@ -73,7 +73,7 @@ impl Machine {
     }
 
     /// Does an event with the quantum that it makes due, and answers it. Memory is asked for before anything changes, and
-    /// only for a dump and for the trace, which has room for an event where its room is 2; what the scanner asks for is its
+    /// only for a dump and for the trace, which has room for an event if its room is 2; what the scanner asks for is its
     /// own, and a quantum never fails for it.
     #[tactic(auto, unfolding(mh_model::specs::Limits::most_entries))]
     pub fn step<S: Scanner>(&mut self, event: Event, scanner: &mut S) -> Result<Reply, Stop>

@@ -51,7 +51,7 @@ impl Model for State {
     ghost invariant = { λ s. IsStored s.machine s.history.items };
 }
 
-/// Makes room for an entry, and the dumps that its event will be answered, where it asks for one.
+/// Makes room for an entry, and the dumps that its event will be answered, if it asks for one.
 fn prepare(
     alloc: Global,
     history: &mut Vec<Entry>,

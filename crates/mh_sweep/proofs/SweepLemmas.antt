@@ -11,7 +11,7 @@ use Rattle.mh_model.specs.Collector.{survivor, judged_page, swept_page, swept_ta
 use Rattle.mh_table_laws.proofs.placing.Places.{with_block-self}
 use Rattle.mh_sweep.specs.Swept.{slot_swept, judged}
 
--- how many slots the page of this number has: none where it is free
+-- how many slots the page of this number has: none if it is free
 abbrev pub slot_count_in : Table Block → ℕ → ℕ
 slot_count_in table number = unwrap_or (option_map (λ page. length page.slots) (page_at table number)) 0
 

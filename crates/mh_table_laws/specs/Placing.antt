@@ -27,7 +27,7 @@ module _ {X : Type 0} where
       ((number : ℕ) × (number < length table) × (page_at table number ≡ None))
       ⊎ ((number : ℕ) × (slot : ℕ) × (page : Page X) × (page_at table number ≡ Some page) × (page.class_size ≡ size) × (slot < length page.slots) × (get_or page.slots slot None ≡ None))
 
-  -- the least of the first tier, or of the second where the first gives none, or of the third where neither does
+  -- the least of the first tier, or of the second if the first gives none, or of the third if neither does
   abbrev pub IsLeastOfItsTier : Table X → ℕ → ℕ → Type 0
   IsLeastOfItsTier table size place =
       IsFound (open_slot (is_dense size)) table place
@@ -43,7 +43,7 @@ module _ {X : Type 0} where
     pub unflagged : page.is_flagged ≡ false
     pub empty : IsFirstEmpty page.slots (slot_number place)
 
--- There is a least place for a class exactly where the table has room for it
+-- There is a least place for a class exactly when the table has room for it
 abbrev pub PlaceIsThereWhereRoomIs : Type 0
 PlaceIsThereWhereRoomIs = (table : Table Block) (size : ℕ) → HaveTheirSlots table → IsTrue (is_class_size size) → IsSome (least_place table size) ↔ HasRoom table size
 

@@ -41,7 +41,7 @@ pub record StandsStill (cycle : ℕ) (old new : Table Block) : Type 0 where
   pub empty : (place : ℕ) → block_at old place ≡ None → block_at new place ≡ None
   pub blocks : (place : ℕ) (block : Block) → block_at old place ≡ Some block → (left : Block) × (block_at new place ≡ Some left) × IsStillThere cycle block left
 
--- While roots are scanned and blocks are marked, a step moves no block, frees no place, and changes no page's class or flag; all references stay but those of the block that is marked through, the first of the grey list, which become where each led
+-- While roots are scanned and blocks are marked, a step moves no block, frees no place, and changes no page's class or flag; all references stay but those of the block that is marked through, the first of the grey list, which become if each led
 pub record MarkingMovesNothing : Type 0 where
   pub steps : (collector : Collector) → in_roots_or_mark collector.phase ≡ true → StandsStill collector.cycle collector.table (collector_step collector).table
   pub roots : (collector : Collector) → collector.phase ≡ Roots → (place : ℕ) → references_at (collector_step collector).table place ≡ references_at collector.table place

@@ -1,7 +1,7 @@
 //! Laws of the parts of new objects.
 ghost use Rattle.mh_table_laws.specs.NewObjects.{PartsFitTogether, PartIsMade, PartsAreMade, ObjectIsMade, ObjectLacksAPlace};
 
-/// The parts of an object fit together, and each has a class where the rules allow the object.
+/// The parts of an object fit together, and each has a class if the rules allow the object.
 pub fn parts_fit_together()
     ensures { PartsFitTogether }
 {}
@@ -21,7 +21,7 @@ pub fn object_is_made()
     ensures { ObjectIsMade }
 {}
 
-/// An object that the rules allow isn't made exactly where one of its parts finds no least place after those before it.
+/// An object that the rules allow isn't made exactly when one of its parts finds no least place after those before it.
 pub fn object_lacks_a_place()
     ensures { ObjectLacksAPlace }
 {}

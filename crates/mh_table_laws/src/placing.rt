@@ -1,7 +1,7 @@
 //! Laws of the least place of a class.
 ghost use Rattle.mh_table_laws.specs.Placing.{PlaceIsThereWhereRoomIs, LeastPlaceIsLeast, FirstTierIsDense, GivenBackIsAsBefore, OneBlockLess};
 
-/// There is a least place for a class exactly where a page is free or one of the class has a free slot.
+/// There is a least place for a class exactly when a page is free or one of the class has a free slot.
 pub fn place_is_there_where_room_is()
     ensures { PlaceIsThereWhereRoomIs }
 {}

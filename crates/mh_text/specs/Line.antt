@@ -1,4 +1,4 @@
--- Lines of the code, in the book's words.
+-- Lines of the code, in the model's words.
 use Rattle.mh_model.specs.Script as book
 use Rattle.mh_text.specs.declared.line.Line.{Line}
 use Rattle.mh_text.specs.declared.line.Line.TheVariants.{Blank, Calls, Asks, Wrong}

@@ -7,11 +7,11 @@ use Rattle.mh_model.specs.Bytes.{Text, Cut, cut_after, words}
 abbrev pub with_piece : Text → Cut → Cut
 with_piece piece cut = record { pieces = piece ∷ cut.pieces; rest = cut.rest }
 
--- the text that a reference points to, where there is one
+-- the text that a reference points to, if there is one
 abbrev pub text_shown : Option (Bor (List ℕ)) → Option Text
 text_shown text = option_map (λ text. text.now) text
 
--- the words of a text, where there is one
+-- the words of a text, if there is one
 abbrev pub words_left : Option Text → List Text
 words_left None = []
 words_left (Some text) = words text

@@ -4,7 +4,7 @@ use Rattle.mh_model.specs.Script.{Reading, BadLine}
 use Rattle.mh_text.specs.declared.text_error.TextError.{TextError}
 use Rattle.mh_text.specs.declared.text_error.TextError.TheVariants.{Line, NoMemory}
 
--- an error names the line at which a text is refused; want of memory says nothing of the text
+-- an error names the line at which a text is refused; refused memory says nothing of the text
 abbrev pub Refuses : {X : Type 0} → Reading X → TextError → Type 0
 Refuses reading (Line number) = reading ≡ BadLine number
 Refuses reading NoMemory = Unit {0}

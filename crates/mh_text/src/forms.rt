@@ -112,7 +112,7 @@ fn with_three(verb: &[u8], first: u32, second: u32, third: u64) -> Option<Comman
     }
 }
 
-/// The control that words are the form of, where the version knows it.
+/// The control that words are the form of, if the version knows it.
 #[tactic(auto, using(crate::proofs::FormLemmas::control_said, crate::proofs::FormLemmas::control_none))]
 pub fn control_of(version: Version, mut words: Words<'_>) -> Option<Control>
     ensures { result ≡ control_of version words.entry }

@@ -32,7 +32,7 @@ pub fn is_blank(line: &[u8]) -> bool
     }
 }
 
-/// The configuration that a line is, given without its end. None where it is none, or outside the limits.
+/// The configuration that a line is, given without its end. None if it is none, or outside the limits.
 #[tactic(auto, using(crate::proofs::LineLemmas::no_config))]
 pub fn config_line(line: &[u8]) -> Option<Config>
     ensures { result ≡ config_words (words line.now) }
@@ -66,7 +66,7 @@ fn configured(pages: u64, quantum: u64, trigger: u64, every: u64) -> Option<Conf
     )
 }
 
-/// What a line after the configuration says, given without its end. A name is told apart from others by its caller.
+/// What a line after the configuration says, given without its end. Its caller distinguishes names.
 pub fn line_of(line: &[u8]) -> Line<'_>
     ensures { line_shown result ≡ line_of line.now }
 {

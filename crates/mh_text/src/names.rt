@@ -10,7 +10,7 @@ use mh_model::memory::NoMemory;
 use std::alloc::Global;
 use std::marker::Model;
 
-/// How many names are told apart.
+/// How many names are distinguished.
 const NAMES: usize = SESSIONS;
 
 /// The first names of sessions that a script has, eight at most, and the name that was looked up last.

@@ -29,7 +29,7 @@ pub fn split_at_byte(text: &[u8], end: u8) -> Option<(&[u8], &[u8])>
     Some((&text[..place], &text[place + 1..]))
 }
 
-/// The bytes before the first word that is this one, and those after it. None where no word is there.
+/// The bytes before the first word that is this one, and those after it. None if no word is there.
 fn halves_of<'a>(line: &'a [u8], mark: &[u8]) -> Option<(Option<&'a [u8]>, Option<&'a [u8]>)>
     ensures some { IfSome result (λ halves. halves_at mark.now (words line.now)
         ≡ Some (record { before = words_left (text_shown halves.0); after = words_left (text_shown halves.1) })) }

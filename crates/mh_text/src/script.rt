@@ -46,7 +46,7 @@ impl Script {
 }
 
 /// Reads a script, up to its first bad line. It takes memory for events and their sessions' names alone, so a text that is
-/// refused before its first event is never answered with want of memory.
+/// refused before its first event is never answered with `NoMemory`.
 #[tactic(auto, using(mh_model::proofs::ScriptLemmas::reading_long, crate::proofs::ScriptLemmas::reading_left, crate::proofs::ScriptLemmas::begins_with_event))]
 pub fn parse(alloc: Global, text: &[u8]) -> Result<Script, TextError>
     ensures script { IfOk result (λ script. reading text.now ≡ Means script) }

@@ -9,7 +9,7 @@ use std::io::{ErrorKind, Write};
 
 /// Where bytes go.
 pub trait Sink {
-    // The bytes that were written, where they are known.
+    // The bytes that were written, if they are known.
     ghost written: { Self → Option (List ℕ) };
 
     // How often the device failed.
@@ -62,7 +62,7 @@ impl<W: Write> Sink for StdSink<W> {
     }
 }
 
-/// One write, tried again where it is interrupted.
+/// One write, tried again if it is interrupted.
 fn write_retrying<W: Write>(writer: &mut W, bytes: &[u8]) -> io::Result<usize>
     ensures bound { WritesAtMost result bytes.now }
     ensures bytes { WriteAppends (W.contents writer.old) (W.contents writer.new) result bytes.now }

@@ -9,7 +9,7 @@ use std::io::{ErrorKind, Read};
 
 /// Where bytes come from.
 pub trait Source {
-    // The bytes that are left, where they are known.
+    // The bytes that are left, if they are known.
     ghost rest: { Self → Option (List ℕ) };
 
     // How often the device failed.
@@ -62,7 +62,7 @@ impl<R: Read> Source for StdSource<R> {
     }
 }
 
-/// One read, tried again where it is interrupted.
+/// One read, tried again if it is interrupted.
 fn read_retrying<R: Read>(reader: &mut R, buffer: &mut [u8]) -> io::Result<usize>
     ensures bound { ReadsAtMost result buffer.new }
     ensures bytes { ReadConsumes (R.remaining reader.old) (R.remaining reader.new) result buffer.new }

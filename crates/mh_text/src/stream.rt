@@ -52,7 +52,7 @@ pub fn read_text<S: Source>(
     Ok(text)
 }
 
-/// Writes a text, or where the device fails a beginning of it.
+/// Writes a text, or if the device fails a prefix of it.
 pub fn write_text<W: Sink>(sink: &mut W, text: &[u8]) -> Result<(), DeviceFailed>
     requires { W.failures sink.old < 2 ^ 62 }
     ensures done { OnOk result (Appends (W.written sink.old) (W.written sink.new) text.now) }

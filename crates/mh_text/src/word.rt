@@ -51,7 +51,7 @@ fn is_numeral(word: &[u8]) -> bool
     }
 }
 
-/// The number that a word of digits writes, where it has at most 64 bits.
+/// The number that a word of digits writes, if it has at most 64 bits.
 #[tactic(auto, using(crate::proofs::WordLemmas::value_after_grows, crate::proofs::WordLemmas::value_next, crate::proofs::WordLemmas::value_end))]
 fn value(word: &[u8]) -> Option<u64>
     ensures { SomeIff result (value_after 0 word.now < 2 ^ 64) (value_after 0 word.now) }
@@ -72,7 +72,7 @@ pub fn number(word: &[u8]) -> Option<u64>
     if is_numeral(word) { value(word) } else { None }
 }
 
-/// The numbers that the words are, where there are no more than one line has.
+/// The numbers that the words are, if there are no more than one line has.
 #[tactic(auto, using(crate::proofs::WordLemmas::numbers_next, crate::proofs::WordLemmas::numbers_stop, crate::proofs::WordLemmas::numbers_end))]
 pub fn numbers(mut words: Words<'_>) -> Option<ArrayVec<u64, NUMBERS>>
     ensures some { IfSome result (λ found. few_numbers words.entry ≡ Some found.items) }

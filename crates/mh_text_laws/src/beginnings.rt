@@ -6,12 +6,12 @@ pub fn texts_are_their_lines()
     ensures { TextsAreTheirLines }
 {}
 
-/// A text has one least bad line at most.
+/// A text has one first bad line at most.
 pub fn least_bad_lines_are_one()
     ensures { LeastBadLinesAreOne }
 {}
 
-/// A script is refused with its least bad line: the lines before it begin a script, and no script begins with the lines up to it.
+/// A script is refused with its first bad line: the lines before it begin a script, and no script begins with the lines up to it.
 pub fn scripts_are_refused_by_their_least_bad_line()
     ensures { ScriptsAreRefusedByTheirLeastBadLine }
 {}

@@ -1,4 +1,4 @@
-//! Want of memory in the whole process.
+//! Refused memory in the whole process.
 
 use std::alloc::{AllocError, Global};
 

@@ -19,7 +19,7 @@ const PIECE: usize = 16;
 /// How many pieces a batch has at most.
 const MOST_PIECES: usize = 64;
 
-/// Waits until a counter has come to a count, for ever where it doesn't. A test that waits so is ended after 60 seconds.
+/// Waits until a counter has come to a count, for ever if it doesn't. A test that waits so is ended after 60 seconds.
 pub fn wait_for(counter: &AtomicU64, count: u64) {
     for _ in 0..u64::MAX {
         if counter.load(SeqCst) >= count {
@@ -71,7 +71,7 @@ impl Tally {
         self.kinds() == bound && self.is_below(bound) && self.count.load(SeqCst) == u64::from(bound)
     }
 
-    /// Waits until so many different numbers came, for ever where they don't.
+    /// Waits until so many different numbers came, for ever if they don't.
     pub fn wait_for(&self, kinds: u32) {
         for _ in 0..u64::MAX {
             if self.kinds() >= kinds {
@@ -82,7 +82,7 @@ impl Tally {
     }
 }
 
-/// A gate that holds each session until as many as are wanted have come. Where one thread does the work of two of them it
+/// A gate that holds each session until as many as are wanted have come. If one thread does the work of two of them it
 /// is held for ever.
 #[derive(Drop)]
 pub struct Arrivals {
@@ -138,7 +138,7 @@ impl CrewGate for Arrivals {
     }
 }
 
-/// A gate that holds the worker of the first piece until a later one was begun, for ever where no other worker draws it.
+/// A gate that holds the worker of the first piece until a later one was begun, for ever if no other worker draws it.
 #[derive(Drop)]
 pub struct Hold {
     until: u64,
@@ -185,7 +185,7 @@ impl CrewGate for Hold {
     }
 }
 
-/// A gate that sees which pieces of each batch pass, and with which workers. Where a batch has more than one piece it holds
+/// A gate that sees which pieces of each batch pass, and with which workers. If a batch has more than one piece it holds
 /// each piece until as many workers as are wanted have one. A crew of fewer threads is held for ever.
 #[derive(Drop)]
 pub struct Watch {
@@ -199,7 +199,7 @@ pub struct Watch {
 }
 
 /// What a gate has seen: how many pieces passed, how many batches had more than one, and how many batches were at fault.
-/// A batch is at fault where some piece didn't pass just once, or where it had fewer workers than are wanted, or one whose
+/// A batch is at fault if some piece didn't pass just once, or if it had fewer workers than are wanted, or one whose
 /// number isn't below the most that there may be.
 #[derive(Clone, Copy, Debug, PartialEq, Eq)]
 pub struct Seen {

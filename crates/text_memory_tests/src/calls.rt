@@ -46,7 +46,7 @@ pub struct Call<'a> {
 #[derive(Clone, Copy, Debug, PartialEq, Eq)]
 pub enum Outcome {
     Right,
-    /// Want of memory was told, and so many bytes were written, which are a beginning of what is right.
+    /// Refused memory was told, and so many bytes were written, which are a prefix of what is right.
     Refused(usize),
     Wrong,
 }
@@ -56,7 +56,7 @@ pub enum Outcome {
 enum Ending {
     /// With this status, and nothing was told.
     Quiet(u8),
-    /// For want of memory, which was told.
+    /// For refused memory, which was told.
     NoMemory,
     Other,
 }
@@ -143,7 +143,7 @@ impl Call<'_> {
         })
     }
 
-    /// A call whose history is judged when there is memory again: it has all entries, or for want of memory some or none.
+    /// A call whose history is judged when there is memory again: it has all entries, or for refused memory some or none.
     fn judge<R: Threads + Wait + Sync>(
         &self,
         rt: &R,

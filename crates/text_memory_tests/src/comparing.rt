@@ -1,7 +1,7 @@
 use std::io;
 use std::io::Write;
 
-/// A writer that takes no memory: it keeps nothing, and tells whether what was written is a beginning of a text.
+/// A writer that takes no memory: it keeps nothing, and tells whether what was written is a prefix of a text.
 #[derive(Drop)]
 pub struct Comparing<'a> {
     text: &'a [u8],
@@ -18,7 +18,7 @@ impl<'a> Comparing<'a> {
         }
     }
 
-    /// How many bytes were written, where they are a beginning of the text.
+    /// How many bytes were written, if they are a prefix of the text.
     pub fn begun(&self) -> Option<usize> {
         if self.differs {
             None

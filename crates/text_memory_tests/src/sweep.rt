@@ -32,7 +32,7 @@ pub struct Seen {
     pub refused: u64,
     /// How many of those that were refused had written something.
     pub begun: u64,
-    /// How many bytes were left where something else was answered first.
+    /// How many bytes were left if something else was answered first.
     pub wrong: Option<usize>,
 }
 

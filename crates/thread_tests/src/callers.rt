@@ -33,7 +33,7 @@ pub fn owner_of(event: &Event) -> usize {
     }
 }
 
-/// The answer to a call of its seat, which is none where there is no such seat.
+/// The answer to a call of its seat, which is none if there is no such seat.
 fn answer<R: Threads + Wait, G: CrewGate>(
     rt: &R,
     service: &Service<'_, G>,
@@ -64,7 +64,7 @@ impl<'a, R: Threads + Wait, G: CrewGate> Callers<'a, R, G> {
         Ok(Callers { rt, service, seats })
     }
 
-    /// The answer to a call of its seat, which is none where there is no such seat.
+    /// The answer to a call of its seat, which is none if there is no such seat.
     pub fn call(&mut self, event: Event) -> Option<Result<Reply, Stop>> {
         answer(self.rt, &self.service, &mut self.seats, event)
     }

@@ -8,7 +8,7 @@ use std::test::Fail;
 use std::thread::Threads;
 use test_support::gates::{Hold, Seen, Watch};
 
-/// What a gate sees of the graph's cycles where more than one worker marks them.
+/// What a gate sees of the graph's cycles if more than one worker marks them.
 pub const CYCLES_SEEN: Seen = Seen {
     passed: CYCLES_PIECES,
     cut: CYCLES_CUT,

@@ -139,7 +139,7 @@ fn are_by_turns(marks: &[Mark]) -> bool {
 }
 
 /// A sleeper whose wake is lost sleeps for ever, since the other thread waits for it before it calls again. So does the
-/// first thread where the other sleeps uncounted. The test is then ended after 60 seconds.
+/// first thread if the other sleeps uncounted. The test is then ended after 60 seconds.
 #[test]
 fn no_wake_is_lost(rt: HostRuntime) -> Result<(), Fail> {
     let marks = left_by(&rt, rt.alloc(), 2, 2_000, &Pace::in_rounds())?;

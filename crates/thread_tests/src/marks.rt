@@ -150,7 +150,7 @@ impl Work<Marks, Mark> for Add<'_> {
 #[derive(Clone, Copy)]
 pub struct NotAdded;
 
-/// Adds a mark where there is none.
+/// Adds a mark if there is none.
 #[derive(Clone, Copy)]
 pub struct AddFirst(pub Mark);
 

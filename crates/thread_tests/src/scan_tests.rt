@@ -82,7 +82,7 @@ fn batch_of(alloc: Global, places: &[Place], length: usize) -> Result<Vec<Place>
     Ok(batch)
 }
 
-/// Whether a crew, which is alone only where it is of one, finds what one thread finds.
+/// Whether a crew, which is alone only if it is of one, finds what one thread finds.
 fn finds_the_same<R: Threads, G: CrewGate>(
     rt: &R,
     alloc: Global,

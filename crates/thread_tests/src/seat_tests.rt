@@ -25,7 +25,7 @@ const ROUNDS: u64 = 48;
 const FOUR_ROUNDS: &[u8] =
     b"config 16 300 0 0\na new 0 1 1\nb new 0 1 1\nc new 0 1 1\nd new 0 1 1\ne new 0 1 1\nf new 0 1 1\ng new 0 1 1\nh new 0 1 1\n* start\na post 0 0\nb post 1 0\nc post 2 0\nd post 3 0\ne post 4 0\nf post 5 0\ng post 6 0\nh post 7 0\n* quantum\na take 1 1\nb take 1 2\nc take 1 3\nd take 1 4\ne take 1 5\nf take 1 6\ng take 1 7\nh take 1 0\n* stat\na put 0 0 1\nb put 0 0 1\nc put 0 0 1\nd put 0 0 1\ne put 0 0 1\nf put 0 0 1\ng put 0 0 1\nh put 0 0 1\n* dump\n";
 
-/// Where nine threads wait for one another before each round, for ever where there are fewer, and how many calls were
+/// Where nine threads wait for one another before each round, for ever if there are fewer, and how many calls were
 /// answered.
 #[derive(Drop)]
 struct Rounds<'a> {
@@ -44,7 +44,7 @@ impl Rounds<'_> {
     }
 }
 
-/// Makes a call where the event is one of the seat's.
+/// Makes a call if the event is one of the seat's.
 fn call<R: Threads + Wait>(
     rt: &R,
     service: &Service<'_, Open>,

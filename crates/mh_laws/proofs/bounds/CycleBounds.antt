@@ -150,7 +150,7 @@ steps-some (suc more) has_moved collector enough under runs = elim (cases_Bool (
 
 -- The count of quanta ----------------------------------------------------------------------------
 
--- the cycle's number stays, and its count of quanta, which is 0 where the cycle has ended
+-- the cycle's number stays, and its count of quanta, which is 0 if the cycle has ended
 pub record KeepsCount (old new : Collector) : Type 0 where
   pub cycle : new.cycle ≡ old.cycle
   pub running : is_idle new.phase ≡ false → new.quanta ≡ old.quanta
@@ -231,7 +231,7 @@ steps-number (suc more) left has_moved collector = elim (cases_Bool (is_idle col
       rw (steps-go more left has_moved collector goes) (rest ∙ (collector_step-count collector runs).cycle)
 ]
 
--- and a quantum raises it where it starts a cycle
+-- and a quantum raises it if it starts a cycle
 pub quantum-number : (config : Config) (collector : Collector) → (collector.cycle ≤ (quantum config collector).collector.cycle) × ((quantum config collector).collector.cycle ≤ collector.cycle + 1)
 unfolding quantum
 quantum-number config collector =

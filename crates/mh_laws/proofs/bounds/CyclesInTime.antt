@@ -143,7 +143,7 @@ quantum-idle config collector bounds idle = subst (IsQuantum config collector) (
   same = λ e runs. absurd (true≢false (sym idle ∙ runs));
 })
 
--- nothing is left where no cycle runs
+-- nothing is left if no cycle runs
 pub idle-left : (phase : Phase) (collector : Collector) → is_idle phase ≡ true → (steps_left phase collector ≡ 0) × (units_left phase collector ≡ 0)
 idle-left Idle collector idle = (refl, refl)
 idle-left Roots collector idle = absurd (true≢false (sym idle))

@@ -31,7 +31,7 @@ steps_left-positive collector under runs = go collector.phase under.stage runs
     go Sweep stage runs = omega (arith, stage.1)
     go Defrag stage runs = omega (arith, stage.1)
 
--- a collector with no grey place is sound where its pages are roomy
+-- a collector with no grey place is sound if its pages are roomy
 pub none_grey : (collector : Collector) → collector.grey ≡ [] → IsRoomy collector.table → IsGreySound (marking_of collector)
 unfolding IsDistinct
 none_grey collector none roomy = record {

@@ -28,7 +28,7 @@ answer_to_new : (heap : HeapState) (who slot : ℕ) → (many ended bad large : 
 answer_to_new heap who slot many ended bad large group =
     unless_refused (first_refusal ((many, TooManySessions) ∷ (ended, Ended) ∷ (bad, BadSlot) ∷ (large, TooLarge) ∷ (is_none group, HeapFull) ∷ [])) heap (done (unwrap_or (option_map (with_born heap (own_slot who slot)) group) heap))
 
--- A new object is answered by a full heap only where some part has no place
+-- A new object is answered by a full heap only if some part has no place
 pub new-full : (heap : HeapState) (who slot references numbers : ℕ) → (mutator_step heap who (command.New slot references numbers)).reply ≡ reply.Refused HeapFull → new_group heap references numbers ≡ None
 unfolding mutator_step heap_effect answer_to_new
 new-full heap who slot references numbers e = go (nat_le 8 who) (get_or heap.ended who false) (is_bad slot) (nat_lt (most_fields heap.config) (references + numbers)) (new_group heap references numbers) e
@@ -41,7 +41,7 @@ new-full heap who slot references numbers e = go (nat_le 8 who) (get_or heap.end
     go false false false false None h = refl
     go false false false false (Some made) h = cc
 
--- and where nothing else refuses it, by each heap that has none
+-- and if nothing else refuses it, by each heap that has none
 pub full-new : (heap : HeapState) (who slot references numbers : ℕ) → refusal (record (heap_sight heap) { is_full = never_full }) who (command.New slot references numbers) ≡ None → new_group heap references numbers ≡ None
     → (mutator_step heap who (command.New slot references numbers)).reply ≡ reply.Refused HeapFull
 unfolding mutator_step heap_effect answer_to_new
@@ -56,7 +56,7 @@ full-new heap who slot references numbers e none = go (nat_le 8 who) (get_or hea
     go false false false false None h is = refl
     go false false false false (Some made) h is = cc
 
--- and where it is done, its parts were made
+-- and when it is done, its parts were made
 pub new-done : (heap : HeapState) (who slot references numbers : ℕ) → (mutator_step heap who (command.New slot references numbers)).reply ≡ reply.Done → IsBorn heap who slot references numbers
 unfolding mutator_step heap_effect answer_to_new
 new-done heap who slot references numbers e = go (nat_le 8 who) (get_or heap.ended who false) (is_bad slot) (nat_lt (most_fields heap.config) (references + numbers)) (new_group heap references numbers) refl e refl

@@ -84,7 +84,7 @@ pub step_cost-bounded : (collector : Collector) (has_moved : Bool) → IsSized c
 unfolding step_cost
 step_cost-bounded collector has_moved sized = cost_in-bounded collector.phase collector has_moved sized
 
--- no step is taken where no cycle runs
+-- no step is taken if no cycle runs
 pub steps-idle : (more left : ℕ) (has_moved : Bool) (collector : Collector) → is_idle collector.phase ≡ true → steps more left has_moved collector ≡ record { units = 0; collector = collector }
 unfolding steps
 steps-idle zero left has_moved collector idle = refl
@@ -112,7 +112,7 @@ steps-enough (suc more) (suc more') left has_moved collector h h' = elim (cases_
       steps-go more left has_moved collector goes ∙ ap (with_units (step_cost collector has_moved)) rest ∙ sym (steps-go more' left has_moved collector goes)
 ]
 
--- Steps stop where no cycle runs or the next step doesn't fit, if their count is no less than what is left
+-- Steps stop if no cycle runs or the next step doesn't fit, if their count is no less than what is left
 steps-go_on : (more left : ℕ) (has_moved : Bool) (collector : Collector) → left ≤ more
     → IsTrue (is_idle (steps more left has_moved collector).collector.phase) ⊎ ((moved : Bool) × (left < (steps more left has_moved collector).units + step_cost (steps more left has_moved collector).collector moved))
 unfolding steps

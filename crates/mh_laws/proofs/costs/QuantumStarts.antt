@@ -37,7 +37,7 @@ begins config c = record {
     counted : (idle : Bool) → is_idle c.phase ≡ idle → with_count c ≡ (if idle then c else record c { quanta = c.quanta + 1 })
     counted idle e = ap (λ b. if b then c else record c { quanta = c.quanta + 1 }) e
 
--- A quantum where no cycle runs and none is due changes nothing
+-- A quantum if no cycle runs and none is due changes nothing
 pub quantum-rests : (config : Config) (c : Collector) → is_idle c.phase ≡ true → is_start_due config c ≡ false → (quantum config c).collector ≡ c
 unfolding quantum
 quantum-rests config c idle rests = elim (begins config c).case [

@@ -1,4 +1,4 @@
--- Where a defragmentation begins within a quantum no block is a forwarder, and each that its cycle leaves was made since.
+-- When a defragmentation begins within a quantum no block is a forwarder, and each that its cycle leaves was made since.
 use Rattle.std.proofs.Common.{◌≡◌, ◌⊎◌, ℕ, zero, suc, ◌-◌, ◌==◌, nat_lt, ◌||◌, if◌then◌else◌, Bool, true, false, inl, inr, List, [], ◌∷◌, Option, Some, None, option_and_then, refl, sym, ap, ◌∙◌, subst}
 use Rattle.std.proofs.lemmas.Bool.{false≢true, cases_Bool}
 use Rattle.mh_model.specs.declared.config.Config.{Config}
@@ -192,7 +192,7 @@ module _ (config : Config) (c : Collector) (steady : IsSteady c) where
   abbrev end : Collector
   end = (steps config.quantum config.quantum false start).collector
 
-  -- where a defragmentation begins no block is a forwarder
+  -- when a defragmentation begins no block is a forwarder
   begins-clean : (begun : Collector) → BeginsToDefragment config c begun → (place : ℕ) → forward_at begun.table place ≡ None
   begins-clean begun b place = elim (steps-more b.count config.quantum false start) [
     | inl none ↦ absurd (false≢true (sym (ap in_trace b.defragments) ∙ ap (λ (k : Collector). in_trace k.phase) (sym b.is ∙ none) ∙ ap in_trace b.sweeps))

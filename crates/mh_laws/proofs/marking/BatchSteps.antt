@@ -1,4 +1,4 @@
--- The steps of a quantum begin with a batch that fits, and end with it where the next block doesn't fit.
+-- The steps of a quantum begin with a batch that fits, and end with it if the next block doesn't fit.
 use Rattle.std.proofs.Common.{◌≡◌, ◌≢◌, ◌⊎◌, nat_le, if◌then◌else◌, inl, inr, ℕ, zero, suc, ◌+◌, ◌-◌, ◌<◌, ◌≤◌, ◌==◌, ◌||◌, nat_lt, Bool, true, false, List, [], ◌∷◌, ◌++◌, length, map, Option, refl, sym, ap, ◌∙◌, subst, arith}
 use Rattle.std.specs.List.{AllByRecursion, IsDistinct}
 use Rattle.std.proofs.lemmas.Bool.{leb-true, leb-false, false≢true, eq-eqb, le-ltb, lt-ltb}
@@ -84,7 +84,7 @@ after_mark-phase collector marking (place ∷ grey) = refl
 abbrev front_after : Collector → List ℕ → Marking → Collector
 front_after collector batch marking = let marked = batch_written marking batch (found_in marking.table batch) in after_mark (with_marking collector marked) marked.grey
 
--- the first step of a quantum, where its block fits
+-- the first step of a quantum, if its block fits
 first_step : (collector : Collector) (place : ℕ) (front : List ℕ) (marking : Marking) (left : ℕ) (has_moved : Bool) → collector.phase ≡ Mark → mark_cost marking.table place ≤ left
     → let old = with_marking collector (with_front (place ∷ front) marking) in
     let cost = mark_cost marking.table place in

@@ -21,7 +21,7 @@ use Rattle.mh_laws.proofs.marking.MarkingPaths.{Keeps, promises_stay}
 
 -- Reading ----------------------------------------------------------------------------------------
 
--- a place leads to itself where its block is no forwarder, and else to where that leads
+-- a place leads to itself if its block is no forwarder, and else to where that leads
 pub resolve-live : (table : Table Block) (place : ℕ) (block : Block) → block_at table place ≡ Some block → block.forward ≡ None → resolve table place ≡ place
 resolve-live table place block there live = ap (λ o. unwrap_or (option_and_then (λ x. x.forward) o) place) there ∙ ap (λ o. unwrap_or o place) live
 
@@ -86,7 +86,7 @@ alike_refl b = record { birth = refl; part = refl; header = refl; forward = refl
 child_alike : (shapes : ℕ → Shape) (b b' : Block) → Alike b b' → first_child (shapes b'.birth) b'.part ≡ first_child (shapes b.birth) b.part
 child_alike shapes b b' alike = ap₂ (λ birth part. first_child (shapes birth) part) alike.birth alike.part
 
--- The block at a place changes: it may be marked, and each of its references leads where one did or, if its fields are rewritten, to an object
+-- The block at a place changes: it may be marked, and each of its references leads if one did or, if its fields are rewritten, to an object
 pub record IsChange (c : Collector) (p : ℕ) (b b' : Block) (grey' : List ℕ) : Type 0 where
   pub here : block_at c.table p ≡ Some b
   pub alike : Alike b b'
@@ -239,7 +239,7 @@ module _ (c : Collector) (p : ℕ) (b b' : Block) (grey' : List ℕ) (change : I
         ]
       ]
 
-      -- the changed block isn't rewritten where it has children
+      -- the changed block isn't rewritten if it has children
       not_rewritten : (child : ℕ) → first_child (h.shapes b.birth) b.part ≡ Some child → change.rewrites ≡ false
       not_rewritten child spine = by change.rewrites refl
         where
@@ -310,7 +310,7 @@ module _ (c : Collector) (p : ℕ) (b b' : Block) (grey' : List ℕ) (change : I
     links = λ q t x e links. links-changed loses q t links;
   }
 
-  -- what has to be kept of the changed block: itself where it is marked, and where its new references lead
+  -- what has to be kept of the changed block: itself if it is marked, and if its new references lead
   pub record IsKeptChange (snapshot : World) (n : ℕ) : Type 0 where
     pub loses : in_roots_or_mark c.phase ≡ true → LosesOnlyMarked
     pub kept : is_idle c.phase ≡ false → b'.stamp ≡ c.cycle → IsKept snapshot n b.birth

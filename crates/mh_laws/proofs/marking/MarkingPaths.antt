@@ -6,7 +6,7 @@ use Rattle.mh_model.specs.Table.{Block}
 use Rattle.mh_model.specs.Collector.{Collector}
 use Rattle.mh_model.specs.Invariant.{IsIn, IsMarkedAt, Links, IsFromRoot, IsFromGrey, IsWay, IsPromised}
 
--- what becomes of a block: it stays but for its stamp and its fields, and where it is marked anew it is grey
+-- what becomes of a block: it stays but for its stamp and its fields, and if it is marked anew it is grey
 abbrev pub StaysAt : Collector → Collector → ℕ → Block → Type 0
 StaysAt c d place block = (new : Block) × (block_at d.table place ≡ Some new) × (new.birth ≡ block.birth) × (new.forward ≡ block.forward) × ((new.stamp ≡ block.stamp) ⊎ ((new.stamp ≡ c.cycle) × IsIn place d.grey))
 

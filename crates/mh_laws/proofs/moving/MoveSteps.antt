@@ -104,7 +104,7 @@ module _ (snapshot : World) (n : ℕ) (c : Collector) (defrags : c.phase ≡ Def
       let (old, at', size', flag') = pages-with_block c.table q (Some b) number one at in
       (old, at', size ∙ size', flag ∙ flag')
 
-  -- a place with a block isn't the target, and one in a page that isn't flagged isn't where the block was
+  -- a place with a block isn't the target, and one in a page that isn't flagged isn't if the block was
   not_q : (x : ℕ) (y : Block) → block_at c.table x ≡ Some y → x ≢ q
   not_q x y e k = none-some y (sym is.free ∙ ap (block_at c.table) (sym k) ∙ e)
 
@@ -143,7 +143,7 @@ module _ (snapshot : World) (n : ℕ) (c : Collector) (defrags : c.phase ≡ Def
           go None there i = k i
           go (Some x) there i = by_forward x there x.forward refl i
 
-  -- where a block is from
+  -- if a block is from
   record IsFrom (x : ℕ) (y : Block) : Type 0 where
     place : ℕ
     old : Block

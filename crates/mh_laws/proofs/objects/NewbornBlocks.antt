@@ -56,7 +56,7 @@ flags-made_parts (part ∷ more) table birth stamp index made e = by_class (clas
 
 -- Newborn objects --------------------------------------------------------------------------------
 
--- a block of an object that was just born, whose parts are at these places: its references are to its children, where it has any, and else null, and its numbers are 0
+-- a block of an object that was just born, whose parts are at these places: its references are to its children, if it has any, and else null, and its numbers are 0
 pub record IsNewborn (birth stamp : ℕ) (shape : Shape) (places : List ℕ) (index : ℕ) (block : Block) : Type 0 where
   pub birth_is : block.birth ≡ birth
   pub part_is : block.part ≡ index

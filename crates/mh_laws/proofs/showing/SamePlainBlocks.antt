@@ -1,4 +1,4 @@
--- Two states show the same where each has the plain blocks of the other, with references that lead to the same blocks.
+-- Two states show the same if each has the plain blocks of the other, with references that lead to the same blocks.
 use Rattle.std.proofs.Common.{◌≡◌, ℕ, zero, suc, ◌<◌, nat_le, if◌then◌else◌, ◌&&◌, Bool, true, false, inl, inr, List, [], ◌∷◌, ◌++◌, get_or, map, flat_map, Option, Some, None, option_map, refl, sym, ap, ◌∙◌, subst, eq-eqb, eqb-true}
 use Rattle.std.specs.Prelude.{option_to_list}
 use Rattle.std.proofs.lemmas.Bool.{false≢true, leb-false}

@@ -24,7 +24,7 @@ use Rattle.mh_laws.proofs.snapshots.CycleStarts.{snapshot-started}
 use Rattle.mh_laws.proofs.showing.SamePlainBlocks.{plain-held, held-plain}
 use Rattle.mh_laws.proofs.costs.QuantumStarts.{idle_is, quantum-rests, begins}
 
--- where no cycle runs, a sound state keeps any snapshot
+-- if no cycle runs, a sound state keeps any snapshot
 pub snapshot-idle : (snapshot : World) (n : ℕ) (c : Collector) → c.phase ≡ Idle → births snapshot ≤ n → IsSound n c → KeepsSnapshot snapshot n c
 snapshot-idle snapshot n c idle before sound = record {
   sound = sound;

@@ -37,7 +37,7 @@ each_fails (test ∷ list) e = go test.0 refl e (λ f. each_fails list f)
     go true is f ih = absurd (none-some test.1 (sym f))
     go false is f ih = (is, ih f)
 
--- where a field lies, by whether the block is a spine
+-- if a field lies, by whether the block is a spine
 abbrev position_if : Collector → ℕ → ℕ → Bool → Position
 position_if collector place field spine = if spine then record { place = arraylet_place collector.table place field; index = field % 60 } else record { place = place; index = field }
 
@@ -78,13 +78,13 @@ module _ (snapshot : World) (heap : HeapState) (h : KeepsSnapshot snapshot heap.
       go None root f = absurd (none-some s f)
       go (Some r) root f = at_block r root (block_at c.table r) refl f
 
-  -- where a reference's field lies: in a block that has fields
+  -- if a reference's field lies: in a block that has fields
   fields_at : (place : ℕ) (x : Block) → IsPlainAt c place x → x.part ≡ 0 → (in_roots_or_mark c.phase ≡ true → IsKept snapshot heap.next_birth x.birth) → (field : ℕ) → field < x.header.references → HasFields snapshot heap.next_birth c (position_of c.table place field).place
   fields_at place x plain first kept field below =
       let l = laid heap.next_birth c h.sound place x plain first field (omega (arith, below)) in
       record { block = l.block; has = has_fields heap.next_birth c h.sound place x plain first field l; kept = λ m. subst (IsKept snapshot heap.next_birth) (sym l.birth) (kept m) }
 
-  -- where a reference of a plain block leads there is one
+  -- if a reference of a plain block leads there is one
   child_plain : (q : ℕ) (y : Block) (i : ℕ) → IsPlainAt c q y → (x : Block) × IsPlainAt c (child_place c.table q i) x
   child_plain q y i plain = go (get_or y.references i None) refl
     where
@@ -95,7 +95,7 @@ module _ (snapshot : World) (heap : HeapState) (h : KeepsSnapshot snapshot heap.
       go None e = (y, subst (λ k. IsPlainAt c k y) (sym (at_word None e)) plain)
       go (Some r) e = let (x, plain') = leads heap.next_birth c h.sound q y plain i r e in (x, subst (λ k. IsPlainAt c k x) (sym (at_word (Some r) e)) plain')
 
-  -- where any field lies there is a block
+  -- if any field lies there is a block
   block_of_field : (place : ℕ) (x : Block) → IsPlainAt c place x → (field : ℕ) → (y : Block) × (block_at c.table (position_of c.table place field).place ≡ Some y) × (y.forward ≡ None)
   block_of_field place x plain field = go (is_at is_spine c.table place)
     where

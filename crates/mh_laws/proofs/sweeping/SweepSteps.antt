@@ -85,7 +85,7 @@ module _ (snapshot : World) (n : ℕ) (c : Collector) (marks : in_roots_or_mark 
     };
   }
 
--- marking goes on or ends, where no root is left
+-- marking goes on or ends, if no root is left
 pub snapshot-after_mark : (snapshot : World) (n : ℕ) (c : Collector) → in_roots_or_mark c.phase ≡ true → ((q : ℕ) → IsFromRoot c q → ⊥) → KeepsSnapshot snapshot n c → KeepsSnapshot snapshot n (after_mark c c.grey)
 snapshot-after_mark snapshot n c marks no_root h = go c.grey refl
   where

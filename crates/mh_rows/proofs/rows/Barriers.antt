@@ -45,25 +45,25 @@ pub cleared_before_its_scan : lines 4 209 0 0 (session 7 (New 0 0 7) ∷ start �
 unfolding worked
 cleared_before_its_scan = refl
 
--- and where another object is made in its slot
+-- and if another object is made in its slot
 pub new_object_in_its_slot : lines 4 209 0 0 (session 7 (New 0 0 7) ∷ start ∷ quantum_asked ∷ session 7 (New 0 0 3) ∷ quantum_asked ∷ stat ∷ [])
     ≡ codes "ok\nok\nspent 208 phase roots\nok\nspent 146 phase idle\nfree 2 live 2 old 0 phase idle cycle 1\n"
 unfolding worked
 new_object_in_its_slot = refl
 
--- and where its slot gets a reference
+-- and if its slot gets a reference
 pub got_in_its_slot : lines 4 209 0 0 (session 7 (New 0 0 7) ∷ session 7 (New 1 1 0) ∷ start ∷ quantum_asked ∷ session 7 (Get 0 1 0) ∷ quantum_asked ∷ stat ∷ [])
     ≡ codes "ok\nok\nok\nspent 208 phase roots\nok\nspent 163 phase idle\nfree 2 live 2 old 0 phase idle cycle 1\n"
 unfolding worked
 got_in_its_slot = refl
 
--- and where its slot takes a slot of the board
+-- and if its slot takes a slot of the board
 pub taken_in_its_slot : lines 4 209 0 0 (session 7 (New 0 0 7) ∷ start ∷ quantum_asked ∷ session 7 (Take 0 0) ∷ quantum_asked ∷ stat ∷ [])
     ≡ codes "ok\nok\nspent 208 phase roots\nok\nspent 111 phase idle\nfree 3 live 1 old 0 phase idle cycle 1\n"
 unfolding worked
 taken_in_its_slot = refl
 
--- and where its session ends, of the first slot and of the last
+-- and if its session ends, of the first slot and of the last
 pub ended_before_its_scan : lines 4 209 0 0 (session 7 (New 0 0 7) ∷ session 7 (New 15 0 9) ∷ start ∷ quantum_asked ∷ session 7 End ∷ quantum_asked ∷ stat ∷ [])
     ≡ codes "ok\nok\nok\nspent 208 phase roots\nok\nspent 130 phase idle\nfree 2 live 2 old 0 phase idle cycle 1\n"
 unfolding worked

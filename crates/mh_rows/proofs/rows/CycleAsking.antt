@@ -3,7 +3,7 @@ use Rattle.std.proofs.Common.{[], codes, refl, ◌∷◌, ◌≡◌}
 use Rattle.mh_model.specs.declared.command.Command.TheVariants.{Clear, New}
 use Rattle.mh_rows.proofs.rows.Worked.{a, lines, quantum_asked, report, start, stat, worked}
 
--- a quantum starts a cycle only where one is asked for, a cycle that is asked for while one runs is kept for later, and each asking starts one
+-- a quantum starts a cycle only if one is asked for, a cycle that is asked for while one runs is kept for later, and each asking starts one
 pub asked_twice : lines 4 209 0 0 (quantum_asked ∷ start ∷ quantum_asked ∷ start ∷ quantum_asked ∷ stat ∷ quantum_asked ∷ quantum_asked ∷ quantum_asked ∷ stat ∷ report 1 ∷ [])
     ≡ codes "spent 0 phase idle\nok\nspent 208 phase roots\nok\nspent 88 phase idle\nfree 4 live 0 old 0 phase idle cycle 1\nspent 208 phase roots\nspent 88 phase idle\nspent 0 phase idle\nfree 4 live 0 old 0 phase idle cycle 2\nmutator 0 collector 592 quanta 6 greatest 208 window 1 least 0 floor none\n"
 unfolding worked

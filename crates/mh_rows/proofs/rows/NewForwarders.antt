@@ -21,7 +21,7 @@ one_page first second = Some (record { class_size = 64; is_flagged = false; slot
 abbrev forwarded : Table Block
 forwarded = one_page (block None) (block (Some 0))
 
--- the forwarder is new where its block was none, and where no block was
+-- the forwarder is new if its block was none, and if no block was
 pub made_since : ForwardersAreNew (one_page (block None) (block None)) forwarded × ForwardersAreNew (one_page (block None) None) forwarded
 made_since = (λ place target e. from_block (page_number place) (slot_number place), λ place target e. from_none (page_number place) (slot_number place))
   where

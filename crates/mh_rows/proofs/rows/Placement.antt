@@ -21,7 +21,7 @@ pub least_free_page : lines 4 1000 0 0 (a (New 0 0 60) ∷ a (New 1 0 0) ∷ a (
 unfolding worked
 least_free_page = refl
 
--- each class has its own pages, also where another has as many slots
+-- each class has its own pages, also if another has as many slots
 pub classes_with_as_many_slots : lines 8 1000 0 0 (a (New 0 0 40) ∷ a (New 1 0 46) ∷ a (New 2 0 53) ∷ a (New 3 0 60) ∷ a (New 4 0 36) ∷ dump ∷ [])
     ≡ (oks 5 ++ codes "dump P0 C44 - 0=0.0 1=4.0 P1 C50 - 0=1.0 P2 C57 - 0=2.0 P3 C64 - 0=3.0\n")
 unfolding worked

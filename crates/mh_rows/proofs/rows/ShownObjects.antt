@@ -12,7 +12,7 @@ use Rattle.mh_rows.proofs.rows.Worked.{a, b, quantum_asked, session, start, work
 abbrev ended_shown : Option Config → List Event → Option (List Bool)
 ended_shown config events = option_map (λ moment. (heap_view moment.machine.heap).ended ++ moment.world.ended) (moment_of config events)
 
--- objects that are still to be swept away are not shown, and one is that was made where the sweep has not come
+-- objects that are still to be swept away are not shown, and one is that was made if the sweep has not come
 pub condemned : shown (configured 1 290 0 0) (a (New 0 0 60) ∷ a (New 1 0 60) ∷ a (New 2 0 60) ∷ a (Clear 1) ∷ a (Clear 2) ∷ start ∷ quantum_asked ∷ a (New 3 0 60) ∷ []) ≡ Some (true ∷ false ∷ false ∷ true ∷ [])
 unfolding worked
 condemned = refl

@@ -3,7 +3,7 @@ use Rattle.std.proofs.Common.{[], codes, refl, ◌++◌, ◌∷◌, ◌≡◌}
 use Rattle.mh_model.specs.declared.command.Command.TheVariants.{Clear, Copy, End, New, Post, Same, Shape, Take}
 use Rattle.mh_rows.proofs.rows.Worked.{a, b, lines, oks, quantum_asked, session, start, stat, worked}
 
--- slots are the same where both are empty or name one object, whatever their numbers
+-- slots are the same if both are empty or name one object, whatever their numbers
 pub same_object : lines 4 209 0 0 (a (Same 0 1) ∷ a (New 0 0 0) ∷ a (New 1 0 0) ∷ a (Same 0 1) ∷ a (Copy 2 0) ∷ a (Same 0 2) ∷ a (Same 2 3) ∷ a (Same 3 2) ∷ a (Same 0 0) ∷ [])
     ≡ codes "yes\nok\nok\nno\nok\nyes\nno\nno\nyes\n"
 unfolding worked

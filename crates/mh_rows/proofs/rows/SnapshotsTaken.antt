@@ -10,7 +10,7 @@ pub taken_after_the_command : snapped (configured 4 209 4 1) (a (New 0 0 0) ∷ 
 unfolding worked
 taken_after_the_command = refl
 
--- where no quantum is due no snapshot is taken, though a cycle is asked for
+-- if no quantum is due no snapshot is taken, though a cycle is asked for
 pub not_taken_by_asking : snapped (configured 4 209 0 2) (a (New 0 0 0) ∷ start ∷ quantum_asked ∷ []) ≡ Some []
 unfolding worked
 not_taken_by_asking = refl

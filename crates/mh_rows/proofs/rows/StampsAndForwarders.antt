@@ -15,7 +15,7 @@ block stamp forward = Some (a_block stamp forward)
 abbrev one_page : Option Block → Option Block → Table Block
 one_page first second = Some (record { class_size = 64; is_flagged = false; slots = first ∷ None ∷ second ∷ None ∷ [] }) ∷ []
 
--- the stamp of the block at a place, and 0 where there is none
+-- the stamp of the block at a place, and 0 if there is none
 pub stamps : (stamp_at (one_page (block 4 None) (block 5 None)) 2 ≡ 5) × (stamp_at (one_page (block 4 None) (block 5 None)) 1 ≡ 0)
 stamps = (refl, refl)
 

@@ -8,7 +8,7 @@ pub windows : lines 4 353 0 0 (a (New 0 0 0) ∷ start ∷ quantum_asked ∷ qua
 unfolding worked
 windows = refl
 
--- a quantum is run after each two units, and none by hand
+-- a quantum is run after each two units, and none on request
 pub scheduled_quanta : lines 4 353 0 2 (a (New 0 0 0) ∷ start ∷ a (Shape 0) ∷ a (Shape 0) ∷ a (Shape 0) ∷ quantum_asked ∷ report 355 ∷ report 500 ∷ [])
     ≡ codes "ok\nok\nshape 0 0\nshape 0 0\nshape 0 0\nspent 0 phase idle\nmutator 4 collector 360 quanta 2 greatest 353 window 355 least 2 floor 2\nmutator 4 collector 360 quanta 2 greatest 353 window 500 least none floor 2\n"
 unfolding worked

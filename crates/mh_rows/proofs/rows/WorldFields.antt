@@ -28,7 +28,7 @@ pub references_in_two_arraylets : world_lines (a (New 0 61 2) ∷ a (New 1 0 5) 
 unfolding worked
 references_in_two_arraylets = refl
 
--- a reference is null at first and where an empty slot was put into it, and a slot that gets it is emptied
+-- a reference is null at first and if an empty slot was put into it, and a slot that gets it is emptied
 pub null_references : world_lines (a (New 0 2 0) ∷ a (New 1 0 3) ∷ a (Copy 2 1) ∷ a (Get 2 0 1) ∷ a (Shape 2) ∷ a (Put 0 1 1) ∷ a (Get 2 0 1) ∷ a (Shape 2) ∷ a (Put 0 1 15) ∷ a (Get 2 0 1) ∷ a (Shape 2) ∷ a (Get 1 0 0) ∷ a (Shape 1) ∷ [])
     ≡ codes "ok\nok\nok\nok\nrefused 2 null\nok\nok\nshape 0 3\nok\nok\nrefused 2 null\nok\nrefused 2 null\n"
 unfolding worked

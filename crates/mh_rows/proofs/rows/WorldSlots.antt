@@ -4,7 +4,7 @@ use Rattle.mh_model.specs.declared.command.Command.TheVariants.{Clear, Copy, End
 use Rattle.mh_rows.proofs.rows.Worked.{a, b, oks, session, worked}
 use Rattle.mh_rows.proofs.rows.WorldLines.{world_lines}
 
--- slots are the same where both are empty or name one object, whatever their numbers
+-- slots are the same if both are empty or name one object, whatever their numbers
 pub same_object : world_lines (a (Same 0 1) ∷ a (New 0 0 0) ∷ a (New 1 0 0) ∷ a (Same 0 1) ∷ a (Copy 2 0) ∷ a (Same 0 2) ∷ a (Same 2 3) ∷ a (Same 3 2) ∷ a (Same 0 0) ∷ [])
     ≡ codes "yes\nok\nok\nno\nok\nyes\nno\nno\nyes\n"
 unfolding worked

@@ -60,7 +60,7 @@ births-mutator_step heap who command = go (refusal (heap_sight heap) who command
     go None = births-heap_effect heap who command
     go (Some refused) = omega arith
 
--- a new object is as many units as it has blocks, where it is made, or one
+-- a new object is as many units as it has blocks, if it is made, or one
 new_units-few : (rules : Rules) (answer : Reply) (blocks : ℕ) → (answer ≡ reply.Done → blocks ≤ most_blocks) → new_units rules answer blocks ≤ most_blocks
 new_units-few First answer blocks few = omega arith
 new_units-few Second reply.Done blocks few = few refl

@@ -91,7 +91,7 @@ pub record EffectFollows (heap : HeapState) (who : ℕ) (command : Command) : Ty
 abbrev Both : HeapState → ℕ → Command → Option Refusal → Option Refusal → Type 0
 Both heap who command o o' = ((unless_refused o heap (heap_effect heap who command)).reply ≡ (unless_refused o' (heap_view heap) (effect (heap_view heap) who command)).reply) × (heap_view (unless_refused o heap (heap_effect heap who command)).state ≡ (unless_refused o' (heap_view heap) (effect (heap_view heap) who command)).state)
 
--- a command that is refused alike, and does the same where it isn't
+-- a command that is refused alike, and does the same if it isn't
 pub follows : (heap : HeapState) (who : ℕ) (command : Command) → refusal (heap_sight heap) who command ≡ refusal (sight_of (has_no_place heap) (heap_view heap)) who command
     → (refusal (heap_sight heap) who command ≡ None → EffectFollows heap who command) → Follows heap who command
 unfolding mutator_step heap_step
@@ -179,7 +179,7 @@ module _ (heap : HeapState) (keeping : IsKeeping heap) where
   unfolding heap_effect
   end-follows who = follows heap who command.End (refused_end who) (λ e. record { reply = refl; state = view_ended who })
 
-  -- two roots hold the same place just where the same birth shows at them
+  -- two roots hold the same place just when the same birth shows at them
   names_alike : (left right : ℕ) → names_same (root_at heap left) (root_at heap right) ≡ names_same (birth_named c.table (root_at heap left)) (birth_named c.table (root_at heap right))
   names_alike left right = go (root_at heap left) refl (root_at heap right) refl
     where
@@ -311,7 +311,7 @@ module _ (heap : HeapState) (keeping : IsKeeping heap) where
   has_number None index s e lacks = absurd (none-some s e)
   has_number (Some t) index s e lacks = let same = ap (λ (x : Shape). x.numbers) (same_Some t s e) in omega (arith, same, leb-false t.numbers index lacks)
 
-  -- the tests of the command alone, where it isn't refused
+  -- the tests of the command alone, if it isn't refused
   pub own_tests : (who : ℕ) (command : Command) → refusal (heap_sight heap) who command ≡ None → first_refusal (tests (heap_sight heap) who command) ≡ None
   own_tests who command e = by (nat_le 8 who) (get_or heap.ended who false) e
     where

@@ -179,7 +179,7 @@ module _ (n : ℕ) (c : Collector) (h : IsSound n c) (q : ℕ) (old new : Block)
     part : block.part ≡ z.part
     blocks : AreSameBut Changes k (field_blocks t z) (field_blocks t' block)
 
-  -- where the block has its fields itself, it is the one that changes
+  -- if the block has its fields itself, it is the one that changes
   here_itself : (Changes : Block → Block → Type 0) → Changes old new → (p : ℕ) (z : Block) → IsPlainAt c p z → z.part ≡ 0 → (k : ℕ) → slice_get (field_blocks t z) k ≡ Some old → is_spine z ≡ false → IsHere Changes p z k
   here_itself Changes changes p z plain first k at flat =
       let (k_is, z_is) = only k (ap (λ b. slice_get (blocks_if t z b) k) (sym flat) ∙ at) in
@@ -266,7 +266,7 @@ module _ (n : ℕ) (c : Collector) (h : IsSound n c) (q : ℕ) (old new : Block)
 
 -- Numbers ----------------------------------------------------------------------------------------
 
--- an object's number is another where one number of the block in which it lies is another
+-- an object's number is another if one number of the block in which it lies is another
 abbrev NumberChanges : ℕ → ℕ → Block → Block → Type 0
 NumberChanges j number x x' = SetsNumber j number x x' × (x'.references ≡ x.references)
 
@@ -349,7 +349,7 @@ module _ (heap : HeapState) (keeping : IsKeeping heap) where
 
 -- References -------------------------------------------------------------------------------------
 
--- an object's reference is another where one reference of the block in which it lies is another
+-- an object's reference is another if one reference of the block in which it lies is another
 abbrev ReferenceChanges : (Option ℕ → Option ℕ) → ℕ → Option ℕ → Block → Block → Type 0
 ReferenceChanges g j name x x' = SetsReference g j name x x' × (x'.numbers ≡ x.numbers)
 

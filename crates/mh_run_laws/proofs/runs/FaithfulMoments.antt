@@ -1,4 +1,4 @@
--- Runs beside the ever-growing world: where each command does on the pages what it does on what the heap shows, the view agrees with the world at each moment, and replies are the world's.
+-- Runs beside the ever-growing world: if each command does on the pages what it does on what the heap shows, the view agrees with the world at each moment, and replies are the world's.
 use Rattle.std.proofs.Common.{◌≡◌, ℕ, ◌==◌, Bool, true, false, if◌then◌else◌, inl, inr, List, [], ◌∷◌, refl, sym, ap, ◌∙◌}
 use Rattle.std.proofs.lemmas.Bool.{false≢true, and_parts}
 use Rattle.std.proofs.lemmas.Option.{none-some}

@@ -126,7 +126,7 @@ module _ (first : Table Block) where
   bare-back None p same x is = absurd (none-some (bare x) (same ∙ ap (option_map bare) is))
   bare-back (Some z) p same x is = (z, refl, same_Some (bare z) (bare x) (same ∙ ap (option_map bare) is))
 
-  -- the block of an alike table where the first has one, and back
+  -- the block of an alike table if the first has one, and back
   pub alike-forth : (table : Table Block) → IsAlike table → (p : ℕ) (x : Block) → block_at first p ≡ Some x → (z : Block) × (block_at table p ≡ Some z) × (bare z ≡ bare x)
   alike-forth table alike p x there = bare-back (block_at table p) (block_at first p) (alike p) x there
 

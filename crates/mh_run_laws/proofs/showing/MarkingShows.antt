@@ -15,7 +15,7 @@ use Rattle.mh_run_laws.proofs.showing.AlikeTables.{bare, IsAlike, resolve-alike,
 
 -- What shows the same ----------------------------------------------------------------------------
 
--- a heap with another collector shows the same where each birth and the slots do
+-- a heap with another collector shows the same if each birth and the slots do
 pub same-view : (heap : HeapState) (d : Collector) → ((birth : ℕ) → object_shown d birth ≡ object_shown heap.collector birth) → map (birth_named d.table) d.slots ≡ map (birth_named heap.collector.table) heap.collector.slots
     → heap_view (record heap { collector = d }) ≡ heap_view heap
 unfolding heap_view

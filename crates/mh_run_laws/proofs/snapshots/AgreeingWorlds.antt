@@ -85,7 +85,7 @@ continues-start_agreeing heap world agrees idle due sound =
 
 -- Moments ----------------------------------------------------------------------------------------
 
--- a quantum, with the world as the snapshot where it starts a cycle
+-- a quantum, with the world as the snapshot if it starts a cycle
 keeps-quantum : (heap : HeapState) (world snapshot : World) → Agrees (heap_view heap) world → HeapKeeps snapshot heap → HeapKeeps (if is_start_due heap.config heap.collector then world else snapshot) (record heap { collector = (quantum heap.config heap.collector).collector })
 keeps-quantum heap world snapshot agrees h = go (is_start_due heap.config heap.collector) refl
   where
@@ -106,7 +106,7 @@ unfolding half_moment command_step
 keeps-half_moment moment (event.Session who command) h = snapshot-mutator_step moment.snapshot moment.machine.heap h who command
 keeps-half_moment moment (event.Control control) h = h
 
--- And so does the event, where the view agrees with the world at its half moment
+-- And so does the event, if the view agrees with the world at its half moment
 pub keeps-next_moment : (moment : Moment) (e : Event) → Agrees (heap_view (half_moment moment e).machine.heap) (half_moment moment e).world → HeapKeeps moment.snapshot moment.machine.heap → HeapKeeps (next_moment moment e).snapshot (next_moment moment e).machine.heap
 unfolding next_moment half_moment event_step control_step command_step
 keeps-next_moment moment (event.Session who command) agrees h = go (is_quantum_due (command_step moment.machine who command).state)

@@ -27,7 +27,7 @@ first_refusal-last (test ∷ before) holds last = go test.0 (first_refusal-last 
     go true h = inr refl
     go false h = h
 
--- a command is refused by a full heap, or as it is where there is always a place
+-- a command is refused by a full heap, or as it is if there is always a place
 refusal-full : (is_full : ℕ → ℕ → Bool) (world : World) (who : ℕ) (command : Command)
     → (refusal (sight_of is_full world) who command ≡ Some HeapFull) ⊎ (refusal (sight_of is_full world) who command ≡ refusal (sight_of never_full world) who command)
 refusal-full is_full world who (command.New slot references numbers) =

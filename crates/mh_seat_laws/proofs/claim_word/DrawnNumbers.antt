@@ -1,4 +1,4 @@
--- How far the claim word goes past its bound, and which numbers are drawn where a seat has ended.
+-- How far the claim word goes past its bound, and which numbers are drawn if a seat has ended.
 use Rattle.std.proofs.Common.{◌≡◌, ℕ, zero, suc, ◌+◌, ◌<◌, ◌≤◌, ◌==◌, Bool, true, false, ◌||◌, ◌&&◌, nat_lt, nat_le, if◌then◌else◌, inl, inr, List, [], ◌∷◌, length, get_or, flat_map, count_by, arith, refl, ◌∙◌}
 use Rattle.std.proofs.lemmas.Bool.{cases_lt, false≢true}
 use Rattle.std.proofs.lemmas.Bool.Decides.{nat_tests}
@@ -18,7 +18,7 @@ past bound list = count_by (nat_le bound) list
 abbrev between : ℕ → ℕ → List ℕ → ℕ
 between bound end list = count_by (λ other. nat_le bound other && nat_lt other end) list
 
--- one number more counts where it passes the test
+-- one number more counts if it passes the test
 pub count-cons : (test : ℕ → Bool) (number : ℕ) (list : List ℕ) → count_by test (number ∷ list) ≡ (if test number then 1 else 0) + count_by test list
 count-cons test number list = sum_by-cons (λ x. if test x then 1 else 0) number list
 
@@ -108,7 +108,7 @@ list-counts (list ∷ lists) (suc seat) number = omega (arith, sum_by-append (λ
 pub drawn-below : (bound : ℕ) (claim : ClaimState) → IsDrawn bound claim → (seat number : ℕ) → 1 ≤ counts number (get_or claim.drawn seat []) → number < claim.word
 drawn-below bound claim rule seat number drawn = below_drawn number claim.word (omega (arith, list-counts claim.drawn seat number, rule.each_once number))
 
--- Where every seat has ended, each number below the bound is drawn once
+-- If every seat has ended, each number below the bound is drawn once
 pub ended-drawn_once : (bound : ℕ) (claim : ClaimState) → IsDrawn bound claim → 0 < length claim.drawn → AllHaveEnded bound claim → (number : ℕ) → number < bound → times_drawn number claim.drawn ≡ 1
 ended-drawn_once bound claim rule some ended number lt =
     let found = ended-past bound (get_or claim.drawn 0 []) (ended 0 some) in

@@ -1,4 +1,4 @@
--- The rule of the lock gives the lock's rule of the book.
+-- The rule of the lock gives the lock's rule of the model.
 use Rattle.std.proofs.Common.{arith, ◌≡◌, inl, inr, ℕ, zero, suc, ◌+◌, ◌<◌, ◌≤◌, cond, eqb, List, [], ◌∷◌, length, get_or, set, replicate, Some, None, Option, sym, refl, ap, ◌∙◌, length-set, get_or-set_same, eq-eqb, ne_eqb, ⊎_elim, Bool, false}
 use mathlib.Core.Logic.{dite}
 use native.Mathlib.Decide.{ℕ_discrete, dec_lt}

@@ -30,7 +30,7 @@ given_with_entry = refl
 pub given_after_others : with_give (with_take free 0) 0 (Some 7) ≡ record { word = 0; home = Some (5 ∷ 7 ∷ []); logs = (5 ∷ 7 ∷ []) ∷ [] ∷ []; taken = None ∷ None ∷ [] }
 given_after_others = refl
 
--- and as it was where the call has no entry
+-- and as it was if the call has no entry
 pub given_without_entry : with_give taken_by_second 1 None ≡ free
 given_without_entry = refl
 

@@ -18,8 +18,8 @@ entries value = value.0
 abbrev origin : List ℕ × ℕ → ℕ
 origin value = value.1
 
-abbrev IsKept : ℕ × ℕ → State (List ℕ × ℕ) (SeatView ℕ ℕ) → Type 0
-IsKept about table = IsLocked owner entries origin about table
+abbrev IsLockedTable : ℕ × ℕ → State (List ℕ × ℕ) (SeatView ℕ ℕ) → Type 0
+IsLockedTable about table = IsLocked owner entries origin about table
 
 -- what a seat knows that stands for two, of which the first has an entry
 abbrev both_seats : Option (Found ℕ ℕ) → SeatView ℕ ℕ
@@ -51,7 +51,7 @@ abbrev out_from : ℕ → State (List ℕ × ℕ) (SeatView ℕ ℕ)
 out_from start = record { words = 1 ∷ []; homes = none ∷ []; views = with_value start ∷ [] }
 
 -- the value is at home with the origin that the lock was opened with
-pub kept_at_home : IsKept (2, 7) at_home
+pub kept_at_home : IsLockedTable (2, 7) at_home
 kept_at_home = record {
   words = refl;
   slots = refl;
@@ -68,7 +68,7 @@ kept_at_home = record {
 }
 
 -- a seat has it, and found that origin
-pub kept_out : IsKept (2, 7) (out_from 7)
+pub kept_out : IsLockedTable (2, 7) (out_from 7)
 kept_out = record {
   words = refl;
   slots = refl;
@@ -88,13 +88,13 @@ kept_out = record {
 }
 
 -- the value at home has another origin
-pub another_at_home : ¬ IsKept (2, 8) at_home
+pub another_at_home : ¬ IsLockedTable (2, 8) at_home
 another_at_home kept = ⊎_elim
     (λ home. let same : some (some (0 ∷ [], 7)) ≡ some (some home.value) = home.at_home in let value : (0 ∷ [], 7) ≡ home.value = cc in let start : 7 ≡ 8 = ap origin value ∙ home.same_origin in omega arith)
     (λ out. let word : 0 ≡ 1 = out.word in omega arith) kept.place
 
 -- the seat that has the value found another origin
-pub another_found : ¬ IsKept (2, 7) (out_from 8)
+pub another_found : ¬ IsLockedTable (2, 7) (out_from 8)
 another_found kept = ⊎_elim
     (λ home. let word : 1 ≡ 0 = home.word in omega arith)
     (λ out. let seat : with_value 8 ≡ out.view = only_view (λ view. with_value 8 ≡ view) (with_value 8) refl out.holder out.view out.holder_view in

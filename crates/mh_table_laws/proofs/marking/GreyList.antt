@@ -141,7 +141,7 @@ module _ (table : Table Block) (place : ℕ) (old new : Block) (at : block_at ta
   class-rewritten : (number size : ℕ) → class_at table number ≡ Some size → class_at after number ≡ Some size
   class-rewritten number size e = class-with_block table place (Some new) number size e
 
-  -- Soundness stays where the stamp does
+  -- Soundness stays if the stamp does
   pub rewritten-carries : (grey : List ℕ) (cycle : ℕ) → new.stamp ≡ old.stamp → IsGreySound (record { table = table; grey = grey; cycle = cycle }) → Carries (record { table = table; grey = grey; cycle = cycle }) (record { table = after; grey = grey; cycle = cycle })
   rewritten-carries grey cycle stamps sound = record {
     sound = record {
@@ -161,7 +161,7 @@ module _ (table : Table Block) (place : ℕ) (old new : Block) (at : block_at ta
           let there : slot_weight price cycle (block_at table place) ≡ slot_weight price cycle (Some old) = ap (slot_weight price cycle) at in
           omega (arith, same, there, weight-with_block price cycle table place (Some new) (block-slot table place old at), grey_weight-same price table after grey (all-of (λ p. count_at after p ≡ count_at table p) count-rewritten grey))
 
-  -- and where it becomes the cycle's number and its place grey
+  -- and if it becomes the cycle's number and its place grey
   pub shaded-carries : (grey : List ℕ) (cycle : ℕ) → new.stamp ≡ cycle → (old.stamp == cycle) ≡ false → IsGreySound (record { table = table; grey = grey; cycle = cycle })
       → Carries (record { table = table; grey = grey; cycle = cycle }) (record { table = after; grey = grey ++ place ∷ []; cycle = cycle })
   shaded-carries grey cycle stamps unmarked sound = record {

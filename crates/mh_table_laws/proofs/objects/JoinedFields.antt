@@ -126,7 +126,7 @@ named_at table (o ∷ rs) each (suc i) r y e there =
     ap (λ b. slice_get (option_to_list b ++ blocks_named table rs) (suc i)) (ap (block_named table) e' ∙ there')
     ∙ named_at table rs (λ j below. each (suc j) (omega (arith, below))) i r y e there
 
--- where a reference of a plain block leads
+-- if a reference of a plain block leads
 pub child_place-is : (c : Collector) (q : ℕ) (y : Block) (i r : ℕ) → IsPlainAt c q y → get_or y.references i None ≡ Some r → child_place c.table q i ≡ resolve c.table r
 child_place-is c q y i r plain e =
     ap (λ o. unwrap_or (target_of c.table (get_or (unwrap_or (option_map (λ (x : Block). x.references) o) []) i None)) q) plain.there ∙ ap (λ o. unwrap_or (target_of c.table o) q) e
@@ -196,7 +196,7 @@ module _ (n : ℕ) (c : Collector) (h : IsSound n c) (p : ℕ) (z : Block) (plai
         children = child_is (h.shapes y.birth) y.part part_y.part part_y.is;
       }
 
-  -- the middle spine of each run of arraylets, where the object is tall
+  -- the middle spine of each run of arraylets, if the object is tall
   pub record IsMiddle (i : ℕ) : Type 0 where
     pub reference : ℕ
     pub word : get_or z.references i None ≡ Some reference
@@ -248,7 +248,7 @@ module _ (n : ℕ) (c : Collector) (h : IsSound n c) (p : ℕ) (z : Block) (plai
         | inr k ↦ runs_named c.table (run_count size) 0 z.references 0 (λ i below. let m = a_middle tall i below in let j : i ≡ 0 + i = omega arith in (m.reference, m.block, m.word, m.leads.there, subst (λ x. IsRun (run_count size) 0 x m.block) j m.run)) (omega (arith, own, k.2))
       ]
 
-  -- the arraylet of each run, where the block is a spine, and the spine that refers to it
+  -- the arraylet of each run, if the block is a spine, and the spine that refers to it
   pub record IsArraylet (i : ℕ) : Type 0 where
     pub reference : ℕ
     pub word : get_or (arraylet_words c.table z) i None ≡ Some reference
@@ -399,7 +399,7 @@ module _ (n : ℕ) (c : Collector) (h : IsSound n c) (p : ℕ) (z : Block) (plai
     pub birth : block.birth ≡ z.birth
     pub flat : first_child z.header block.part ≡ None
 
-  -- where a field lies, by whether the block is a spine
+  -- if a field lies, by whether the block is a spine
   abbrev position_by : ℕ → Bool → Position
   position_by field spine = if spine then record { place = arraylet_place c.table p field; index = field % 60 } else record { place = p; index = field }
 

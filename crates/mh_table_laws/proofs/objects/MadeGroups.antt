@@ -119,7 +119,7 @@ some_made table birth stamp index part parts first rest one more = record {
       | inr at ↦ inr (suc at.0, at.1)
     ]
 
--- All parts are made or none: where they are, they are new blocks at places that were free
+-- All parts are made or none: if they are, they are new blocks at places that were free
 pub made_parts-are : (parts : List Part) (table : Table Block) (birth stamp index : ℕ) → IsShaped table → (made : MadeParts) → made_parts table birth stamp index parts ≡ Some made → AreMade table birth stamp index parts made
 made_parts-are [] table birth stamp index shaped made e = subst (AreMade table birth stamp index []) (same_Some (record { places = []; table = table }) made e) (none_made table birth stamp index)
 made_parts-are (part ∷ parts) table birth stamp index shaped made e =
@@ -185,7 +185,7 @@ find_place (first ∷ places) place = elim (cases_eq place first) [
     go none apart zero other e same = apart (same ∙ sym (same_Some first other e))
     go none apart (suc i) other e same = none i other e same
 
--- a part has as many references as it counts, where its children are among the parts
+-- a part has as many references as it counts, if its children are among the parts
 pub length-words_of : (places : List ℕ) (count : ℕ) (children : Option ℕ) → ((child : ℕ) → children ≡ Some child → child + count ≤ length places) → length (words_of places count children) ≡ count
 length-words_of places count None inside = length-replicate count None
 length-words_of places count (Some child) inside =

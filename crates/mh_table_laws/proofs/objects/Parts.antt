@@ -324,7 +324,7 @@ most_fields-few : (rules : Rules) → most_fields_under rules ≤ 216000
 most_fields-few First = omega arith
 most_fields-few Second = omega arith
 
--- The parts of an object fit together, and each has a class where the object isn't too large
+-- The parts of an object fit together, and each has a class if the object isn't too large
 pub parts_fit : PartsFitTogether
 parts_fit = record {
   header = λ r n part e. (first_part r n part e).header;

@@ -18,7 +18,7 @@ joined first rest = record { places = first.place ∷ rest.places; table = rest.
 abbrev placed : Table Block → ℕ → Block → ℕ → Made
 placed table size block place = record { place = place; table = with_taken table size place block }
 
--- a part with a class isn't made where there is no least place for it
+-- a part with a class isn't made if there is no least place for it
 part-none : (table : Table Block) (birth stamp index : ℕ) (part : Part) (size : ℕ) → class_of (part_words part) ≡ Some size → made_part table birth stamp index part ≡ None → least_place table size ≡ None
 part-none table birth stamp index part size class none = go (least_place table size) (sym (ap (option_and_then (made_in_class table (new_block birth stamp index part))) class) ∙ none)
   where
@@ -101,7 +101,7 @@ none-made_parts (first ∷ parts) table birth stamp index (suc count) before par
     by_first None h more = refl
     by_first (Some m) h more = by_rest m (made_parts m.table birth stamp (suc index) (take count parts)) refl h more
 
--- parts that are made have a first place where there is a first part
+-- parts that are made have a first place if there is a first part
 first_place-made : (parts : List Part) (table : Table Block) (birth stamp : ℕ) (made : MadeParts) → 0 < length parts → made_parts table birth stamp 0 parts ≡ Some made → group_of made.table made.places parts ≡ None → ⊥
 first_place-made [] table birth stamp made some e none = omega (arith, some)
 first_place-made (part ∷ parts) table birth stamp made some e none = by_first (made_part table birth stamp 0 part) e
@@ -118,7 +118,7 @@ first_place-made (part ∷ parts) table birth stamp made some e none = by_first 
 
 -- Objects ----------------------------------------------------------------------------------------
 
--- An object isn't made exactly where one of its parts finds no place after those before it
+-- An object isn't made exactly when one of its parts finds no place after those before it
 pub object_lacks : ObjectLacksAPlace
 object_lacks rules table birth stamp references numbers allowed = (forth (made_parts table birth stamp 0 all) refl, back)
   where

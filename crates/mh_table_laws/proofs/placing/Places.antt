@@ -43,7 +43,7 @@ module _ {X : Type 0} where
       ap (option_and_then (block_in (slot_number place))) (get_or-set_same table number new None inside ∙ ap (option_map (page_with (slot_number place) content)) slot.in_use)
       ∙ get_or-set_same slot.page.slots (slot_number place) content None slot.within
 
-  -- where a block is, it is exchanged
+  -- if a block is, it is exchanged
   pub block_at-with_block_there : (table : Table X) (place : ℕ) (content : Option X) → IsSome (block_at table place) → block_at (with_block table place content) place ≡ content
   block_at-with_block_there table place content there = let (block, is) = from_some (block_at table place) there in block_at-with_block_same table place content (block-slot table place block is)
 
@@ -258,7 +258,7 @@ module _ {X : Type 0} where
       go None is (Some q) is' h = fresh-free table size some_slot place (is' ∙ h)
       go None is None is' h = open-free (is_sparse size) table size (sparse-class size) shaped place h
 
-  -- A place is found where there is a free page
+  -- A place is found if there is a free page
   pub least_place-free_page : (table : Table X) (size number : ℕ) → number < length table → page_at table number ≡ None → IsSome (least_place table size)
   least_place-free_page table size number inside free =
       option_or-right (least_dense_place table size) _ (option_or-left (least fresh_slot table) _ (least-some fresh_slot table number inside (ap (λ p. is_some (fresh_slot p)) free)))
@@ -267,7 +267,7 @@ module _ {X : Type 0} where
   open-some test table number slot page at passes within empty =
       least-some (open_slot test) table number (below_length table number page at) (ap (λ p. is_some (open_slot test p)) at ∙ ap (λ b. is_some (if b then empty_slot page.slots else None)) passes ∙ empty_slot-some page.slots slot within empty)
 
-  -- and where a page of the class has a slot without a block
+  -- and if a page of the class has a slot without a block
   pub least_place-open_slot : (table : Table X) (size number slot : ℕ) (page : Page X) → page_at table number ≡ Some page → page.class_size ≡ size → slot < length page.slots → get_or page.slots slot None ≡ None → IsSome (least_place table size)
   least_place-open_slot table size number slot page at of_class within empty = by_flag page.is_flagged refl
     where
@@ -279,7 +279,7 @@ module _ {X : Type 0} where
           let passes : is_sparse size page ≡ true = rw (e, eq-eqb page.class_size size of_class) refl in
           option_or-right (least_dense_place table size) _ (option_or-right (least fresh_slot table) _ (open-some (is_sparse size) table number slot page at passes within empty))
 
-  -- A place is found for a class exactly where it has room
+  -- A place is found for a class exactly when it has room
   pub least_place-has_room : (table : Table X) (size : ℕ) → HasRoom table size → IsSome (least_place table size)
   least_place-has_room table size (inl (number, inside, free)) = least_place-free_page table size number inside free
   least_place-has_room table size (inr (number, slot, page, at, of_class, within, empty)) = least_place-open_slot table size number slot page at of_class within empty
@@ -381,7 +381,7 @@ module _ {X : Type 0} where
   block_count-removed (None ∷ slots) (suc slot) e = block_count-removed slots slot e
   block_count-removed (Some block ∷ slots) (suc slot) e = omega (arith, block_count-removed slots slot e)
 
-  -- and where none has a block each slot is empty
+  -- and if none has a block each slot is empty
   pub block_count-none : (slots : List (Option X)) (slot : ℕ) → block_count slots ≡ 0 → get_or slots slot None ≡ None
   block_count-none [] slot none = refl
   block_count-none (None ∷ slots) zero none = refl

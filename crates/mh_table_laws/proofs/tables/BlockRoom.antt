@@ -181,7 +181,7 @@ swept-roomy cycle table place roomy = set-roomy table (page_number place) _ room
 set_same : {X : Type 0} (xs : List (Option X)) (index : ℕ) (x : Option X) → get_or xs index None ≡ x → set xs index x ≡ xs
 set_same xs index x e = ap (λ y. set xs index y) (sym e) ∙ set-get_or xs index None
 
--- nothing written where nothing is
+-- nothing written if nothing is
 pub with_block-none : (table : Table Block) (place : ℕ) → block_at table place ≡ None → with_block table place None ≡ table
 with_block-none table place e = set_same table (page_number place) _ (go (page_at table (page_number place)) e)
   where

@@ -58,7 +58,7 @@ word-faithful written forms all word x h = first (written x) (formed-faithful (�
 
 -- Forms of numbers -------------------------------------------------------------------------------
 
--- what these numbers make is written with them, and passes where they are below the bounds
+-- what these numbers make is written with them, and passes if they are below the bounds
 abbrev pub IsOfNumbers : {X : Type 0} → (X → List Text) → (X → Bool) → Text → List ℕ → (List ℕ → X) → List ℕ → Type 0
 IsOfNumbers written passes verb bounds made ns = (written (made ns) ≡ verb ∷ map decimal ns) × (passes (made ns) ≡ are_below bounds ns)
 

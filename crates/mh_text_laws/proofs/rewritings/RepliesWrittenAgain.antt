@@ -98,7 +98,7 @@ values_are (key ∷ keys) (value ∷ word ∷ words) more h = by (is_text word k
 abbrev IsReply : Version → List Text → Reply → Type 0
 IsReply version = IsOf reply_words (is_reply version)
 
--- a form of values between keys is faithful where what its values make is
+-- a form of values between keys is faithful if what its values make is
 keyed-faithful : (version : Version) (verb : Text) (keys : List Text) (made : List Text → Option Reply)
     → ((more : List Text) (r : Reply) → made more ≡ Some r → IsReply version (verb ∷ keyed keys more) r)
     → IsFaithful reply_words (is_reply version) (record { verb = verb; meaning = λ words. option_and_then made (values keys words) })

@@ -1,4 +1,4 @@
--- Scripts that are refused with their least bad line.
+-- Scripts that are refused with their first bad line.
 use Rattle.std.proofs.Common.{ap, codes, if◌then◌else◌, length, nat_lt, refl, ◌≡◌}
 use Rattle.mh_model.specs.Bytes.{Text, cut_after}
 use Rattle.mh_model.specs.Output.{output}
@@ -60,7 +60,7 @@ pub lines_after_the_configuration : output (codes "config 4 209 0 0\n\n#\na\n") 
 unfolding output reading worked
 lines_after_the_configuration = refl
 
--- the least bad line is named, and nothing is answered
+-- the first bad line is named, and nothing is answered
 pub first_of_two_bad_lines : output (codes "config 4 209 0 0\na new 0 0 0\na new 00 0 0\na  end\n") ≡ codes "refused 10 line 3\n"
 unfolding output reading worked
 first_of_two_bad_lines = refl
@@ -70,7 +70,7 @@ pub last_line_without_its_end : output (codes "config 4 209 0 0\na new 0 0 0") �
 unfolding output reading worked
 last_line_without_its_end = refl
 
--- also where it is a comment
+-- also if it is a comment
 pub comment_without_its_end : output (codes "config 4 209 0 0\n#") ≡ codes "refused 10 line 2\n"
 unfolding output reading worked
 comment_without_its_end = refl

@@ -70,7 +70,7 @@ pub refusals_in_words : output (codes "config 1 209 0 0\na shape 16\na shape 0\n
 unfolding output reading worked
 refusals_in_words = refl
 
--- with a schedule no quantum is run by hand, and a window has a floor
+-- with a schedule no quantum is run on request, and a window has a floor
 pub every_above_0 : output (codes "config 4 209 0 2\na end\n* quantum\n* report 1\n")
     ≡ codes "ok\nspent 0 phase idle\nmutator 1 collector 0 quanta 0 greatest 0 window 1 least 1 floor 0\n"
 unfolding output reading worked

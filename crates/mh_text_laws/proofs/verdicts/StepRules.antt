@@ -41,7 +41,7 @@ pub record IsRule {S X : Type 0} (Fits : S → X → Type 0) (next : S → X →
   pub few : (xs : List X) → Lawful xs → length xs ≤ 1000000
   pub follows : (xs : List X) → Lawful xs → Follows Fits next state xs
 
--- a beginning of what is lawful is lawful
+-- a prefix of what is lawful is lawful
 pub rule-begins : {S X : Type 0} (Fits : S → X → Type 0) (next : S → X → S) (state : S) (Lawful : List X → Type 0) → IsRule Fits next state Lawful
     → (n : ℕ) (xs : List X) → Lawful xs → Lawful (take n xs)
 rule-begins Fits next state Lawful rule n xs h = rule.lawful (take n xs) (omega (arith, rule.few xs h, length-take n xs)) (follows-take Fits next n state xs (rule.follows xs h))
