@@ -2,6 +2,7 @@
 #![tactic(auto)]
 
 use mh_program::launch::launch;
+use mh_program::prompt::Prompting;
 use std::io;
 use std::process::ExitCode;
 
@@ -11,7 +12,7 @@ fn main(rt: HostRuntime) -> ExitCode {
         &rt,
         rt.alloc(),
         &rt,
-        rt.stdin(),
+        Prompting::new(rt.stdin(), io::writer(&stderr)),
         io::writer(&rt),
         io::writer(&stderr),
     );

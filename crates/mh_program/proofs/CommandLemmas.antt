@@ -1,6 +1,6 @@
 -- A command with its subcommands, one after another.
 use Rattle.std.proofs.Common.{◌≡◌, ◌∙◌, ap}
-use Rattle.std.specs.Prelude.{Result, Ok, Err, IfOk}
+use Rattle.std.specs.Prelude.{Result, Ok, Err, IfOk, IsOkAnd}
 use Rattle.clap.specs.Simple.{App, app_of, with_subcommand}
 use Rattle.clap.specs.declared.builder.command.Command.{Command}
 
@@ -8,6 +8,12 @@ use Rattle.clap.specs.declared.builder.command.Command.{Command}
 pub same-with : (a b s t : App) → a ≡ b → s ≡ t → with_subcommand a s.top ≡ with_subcommand b t.top
 same-with a b s t command subcommand = ap (λ a. with_subcommand a s.top) command ∙ ap (λ s. with_subcommand b s.top) subcommand
 
-pub IfOk-same : {E : Type 0} (made : Result Command E) (a b : App) → a ≡ b → IfOk made (λ command. app_of command ≡ a) → IfOk made (λ command. app_of command ≡ b)
-IfOk-same (Ok command) a b same is = is ∙ same
-IfOk-same (Err e) a b same is = tt
+-- a command that has a subcommand more, if that one was made
+pub grown : {E : Type 0} (made : Result Command E) (more a b s : App) → a ≡ b → IfOk made (λ m. app_of m ≡ s) → IsOkAnd made (λ m. more ≡ with_subcommand a (app_of m).top) → more ≡ with_subcommand b s.top
+grown (Ok m) more a b s same is has = has ∙ same-with a b (app_of m) s same is
+grown (Err e) more a b s same is has = absurd has
+
+pub IfOk-grown : {E F : Type 0} (result : Result Command F) (made : Result Command E) (a b s : App) → a ≡ b → IfOk made (λ m. app_of m ≡ s)
+    → IfOk result (λ more. IsOkAnd made (λ m. app_of more ≡ with_subcommand a (app_of m).top)) → IfOk result (λ more. app_of more ≡ with_subcommand b s.top)
+IfOk-grown (Ok more) made a b s same is has = grown made (app_of more) a b s same is has
+IfOk-grown (Err e) made a b s same is has = tt

@@ -1,7 +1,7 @@
 -- The numbers of the options, as they are read and held.
-use Rattle.std.proofs.Common.{◌≡◌, ◌∙◌, ◌≤◌, ℕ, Bool, true, false, List, [], ◌∷◌, Option, Some, None, refl, sym, ap, inl, inr, arith, codes}
-use Rattle.std.specs.Prelude.{IsSomeAnd}
-use Rattle.std.proofs.lemmas.Bool.{ltb-true, leb-true, lt-ltb}
+use Rattle.std.proofs.Common.{◌≡◌, ◌∙◌, ◌≤◌, ◌<◌, ℕ, Bool, true, false, List, [], ◌∷◌, Option, Some, None, refl, sym, ap, inl, inr, arith, codes}
+use Rattle.std.specs.Prelude.{IsSomeAnd, nat_le}
+use Rattle.std.proofs.lemmas.Bool.{ltb-true, leb-false, leb-true, le-leb, lt-ltb}
 use Rattle.std.specs.Char.{digit_value, is_digit}
 use Rattle.std.specs.List.{list_all}
 use Rattle.std.specs.Str.Parse.{AllDigits}
@@ -13,8 +13,10 @@ use Rattle.mh_model.specs.Limits.{is_configuration}
 use Rattle.mh_model.specs.declared.config.Config.{Config}
 use Rattle.mh_model.specs.declared.config.Rules.TheVariants.{First}
 use Rattle.mh_program.specs.Line.{HoldsNumber, IsHeld, IsNumber, ReadsNumber, number_in}
-use Rattle.mh_program.specs.Orders.{MakesConfig}
+use Rattle.mh_program.specs.Orders.{HasOutside, IsBlamed, IsOutsideBy, MakesConfig}
 use Rattle.mh_program.specs.declared.options.OptionNumber.{OptionNumber}
+use Rattle.mh_program.specs.declared.line.ConfigOption.{ConfigOption}
+use Rattle.mh_program.specs.declared.line.ConfigOption.TheVariants.{Pages, Quantum, Trigger, Every}
 
 -- Digits -----------------------------------------------------------------------------------------
 
@@ -95,4 +97,47 @@ makes rows p q t e made hp hq ht he is =
       has_trigger = c.given;
       has_every = d.given;
       makes = same_config _ _ _ _ p q t e a.is_held b.is_held c.is_held d.is_held ∙ is;
+    }
+
+-- The option that is blamed ------------------------------------------------------------------------
+
+-- the trigger, if these are no configuration and all else is within its limits
+trigger_outside : (p q t e : ℕ) → (is_configuration p q t e ≡ true → ⊥) → 1 ≤ p → p ≤ 4096 → 209 ≤ q → q ≤ 1000000 → e ≤ 1000000 → p < t
+trigger_outside p q t e never a b c d f = go (nat_le t p) refl where
+  go : (x : Bool) → nat_le t p ≡ x → p < t
+  go true is = absurd (never (rw (le-leb 1 p a, le-leb p 4096 b, le-leb 209 q c, le-leb q 1000000 d, is, le-leb e 1000000 f) refl))
+  go false is = leb-false t p is
+
+beyond : (option : ConfigOption) (p q t e p' q' t' e' : ℕ) → IsHeld p p' → IsHeld q q' → IsHeld t t' → IsHeld e e' → (is_configuration p' q' t' e' ≡ true → ⊥) → IsBlamed p' q' e' option → IsOutsideBy option p q t e
+beyond Pages p q t e p' q' t' e' (inl a) b c d never (inl low) = inl (omega (arith, a.1, low))
+beyond Pages p q t e p' q' t' e' (inl a) b c d never (inr high) = inr (omega (arith, a.1, high))
+beyond Pages p q t e p' q' t' e' (inr a) b c d never is = inr (omega (arith, a.0))
+beyond Quantum p q t e p' q' t' e' a (inl b) c d never (inl low) = inl (omega (arith, b.1, low))
+beyond Quantum p q t e p' q' t' e' a (inl b) c d never (inr high) = inr (omega (arith, b.1, high))
+beyond Quantum p q t e p' q' t' e' a (inr b) c d never is = inr (omega (arith, b.0))
+beyond Every p q t e p' q' t' e' a b c (inl d) never is = omega (arith, d.1, is)
+beyond Every p q t e p' q' t' e' a b c (inr d) never is = omega (arith, d.0)
+beyond Trigger p q t e p' q' t' e' (inr a) b c d never is = absurd (omega (arith, a.1, is.1))
+beyond Trigger p q t e p' q' t' e' (inl a) b c d never is = go c (trigger_outside p' q' t' e' never is.0 is.1 is.2 is.3 is.4) where
+  go : IsHeld t t' → p' < t' → p < t
+  go (inl c) above = omega (arith, a.1, c.1, above)
+  go (inr c) above = omega (arith, a.1, is.1, c.0)
+
+pub lies_outside : (rows : List Row) (p q t e : ℕ) (option : ConfigOption) → HoldsNumber rows (codes "pages") p → HoldsNumber rows (codes "quantum") q → HoldsNumber rows (codes "trigger") t → HoldsNumber rows (codes "every") e
+    → (is_configuration p q t e ≡ true → ⊥) → IsBlamed p q e option → HasOutside rows option
+lies_outside rows p q t e option hp hq ht he never is =
+    let a = exact (one_of (codes "pages") rows) p hp in
+    let b = exact (one_of (codes "quantum") rows) q hq in
+    let c = exact (one_of (codes "trigger") rows) t ht in
+    let d = exact (one_of (codes "every") rows) e he in
+    record {
+      pages = a.number;
+      quantum = b.number;
+      trigger = c.number;
+      every = d.number;
+      has_pages = a.given;
+      has_quantum = b.given;
+      has_trigger = c.given;
+      has_every = d.given;
+      outside = beyond option _ _ _ _ p q t e a.is_held b.is_held c.is_held d.is_held never is;
     }

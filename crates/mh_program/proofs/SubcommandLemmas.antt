@@ -19,11 +19,13 @@ use Rattle.std.proofs.lemmas.Bool.{or_parts}
 use Rattle.mh_program.specs.declared.fault.LineFault.{LineFault}
 use Rattle.mh_program.specs.declared.fault.LineFault.TheVariants.{Words, NotText, Configuration, NoMemory}
 use Rattle.mh_program.specs.declared.line.Order.{Order}
+use Rattle.mh_program.specs.declared.line.Order.TheVariants.{Version}
+use Rattle.mh_program.specs.declared.line.ConfigOption.{ConfigOption}
 use Rattle.mh_program.specs.declared.options.OptionFault.{OptionFault}
 use Rattle.mh_program.specs.declared.options.OptionFault.TheVariants.{NoNumber, Outside}
 use Rattle.std.specs.Borrow.{Bor}
 use Rattle.clap.specs.declared.error.kind.ErrorKind.{ErrorKind}
-use Rattle.mh_program.specs.Orders.{AsksNoNumber, AsksOutside, GivesOrder, HasFewWorkers, HasFirstRules, HasNoNumber, HasOptionFault, IsFault, IsOrder, IsOutside, NotNumbers, NotTaken, Refuses, RefusesOptions}
+use Rattle.mh_program.specs.Orders.{AsksNoNumber, AsksOutside, AsksVersion, GivesOrder, HasFewWorkers, HasFirstRules, HasNoNumber, HasOptionFault, IsFault, IsOrder, IsOutside, Named, NotNumbers, NotTaken, Refuses, RefusesOptions}
 use Rattle.mh_program.specs.Line.{IsAsked, NamesOne, Nothing, Numbers, TakesNumbers, TakesWorkers, Workers, any_text, config_app, metroheap, worker_numbers, workers_app}
 use Rattle.mh_program.proofs.OptionLemmas.{AreRead, level-read, never, none_first, none_next, safe-help, safe-value, value-may, value-must}
 
@@ -116,7 +118,7 @@ no_subcommand true wants_subcommand wants_argument is e = never _ _ e
 no_subcommand false true wants_argument is e = never _ _ e
 no_subcommand false false wants_argument is e = false≢true is
 
--- where no fault is found and a subcommand is wanted, there is one
+-- if no fault is found and a subcommand is wanted, there is one
 some_asked : (s : Shape) (rows : List Row) (matched : Option (Text × List Row)) → s.subcommand_required ≡ true → check_fault s rows (is_some matched) ≡ [] → IfAsked matched → NamesOne matched
 some_asked s rows None wanted e is =
     absurd (no_subcommand (s.arg_required_else_help && not (list_any (λ r. explicit_source r.source) rows)) s.subcommand_required
@@ -149,11 +151,11 @@ module _ (a : App) (words : List Text) (m : ArgMatches) (is : a ≡ metroheap) (
   pub gives_order : (order : Order) → IsSomeAnd (subcommand_rows_of m) (λ subcommand. IsOrder subcommand.0 subcommand.1 order) → HasFewWorkers order → HasFirstRules order → GivesOrder words order
   gives_order order named few rules =
       let P : Option (Text × List Row) → Type 0 = λ matched. IsSomeAnd matched (λ subcommand. IsOrder subcommand.0 subcommand.1 order) in
-      record { taken = no_fault; named = subst P (sym rows_are) named; few = few; rules = rules }
+      record { meant = Named no_fault (subst P (sym rows_are) named); few = few; rules = rules }
 
-  pub asks_outside : IsSomeAnd (subcommand_rows_of m) (λ subcommand. IsOutside subcommand.0 subcommand.1) → AsksOutside words
-  asks_outside named =
-      let P : Option (Text × List Row) → Type 0 = λ matched. IsSomeAnd matched (λ subcommand. IsOutside subcommand.0 subcommand.1) in
+  pub asks_outside : (option : ConfigOption) → IsSomeAnd (subcommand_rows_of m) (λ subcommand. IsOutside subcommand.0 subcommand.1 option) → AsksOutside words option
+  asks_outside option named =
+      let P : Option (Text × List Row) → Type 0 = λ matched. IsSomeAnd matched (λ subcommand. IsOutside subcommand.0 subcommand.1 option) in
       record { taken = no_fault; named = subst P (sym rows_are) named }
 
   asks_no_number : IsSomeAnd (subcommand_rows_of m) (λ subcommand. HasNoNumber subcommand.0 subcommand.1) → AsksNoNumber words
@@ -171,18 +173,27 @@ module _ (a : App) (words : List Text) (m : ArgMatches) (is : a ≡ metroheap) (
   options_refused (NoNumber name text) (Words error) has told = NotNumbers (asks_no_number (has_no_number name text (subcommand_rows_of m) has)) told
   options_refused (NoNumber name text) NoMemory has told = tt
   options_refused (NoNumber name text) NotText has told = absurd told
-  options_refused (NoNumber name text) Configuration has told = absurd told
-  options_refused Outside Configuration has told = asks_outside has
-  options_refused Outside (Words error) has told = absurd told
-  options_refused Outside NotText has told = absurd told
-  options_refused Outside NoMemory has told = absurd told
+  options_refused (NoNumber name text) (Configuration option) has told = absurd told
+  options_refused (Outside option) (Configuration refused) has told =
+      let P : ConfigOption → Type 0 = λ option. AsksOutside words option in
+      subst P (sym told) (asks_outside option has)
+  options_refused (Outside option) (Words error) has told = absurd told
+  options_refused (Outside option) NotText has told = absurd told
+  options_refused (Outside option) NoMemory has told = absurd told
 
--- a fault of such a command, but want of memory, is one of the faults of the words
+-- a fault of such a command, but refused memory, is one of the faults of the words
 refuses : (a : App) (words : List Text) (e : Error) → a ≡ metroheap → (is_simple_and_free a ≡ true → HasKind (fault_of a words) e) → (kind_of e ≡ kind.OutOfMemory → ⊥) → IsAmong (kind_of e) (fault_of metroheap words)
 refuses a words e is has other = go (subst (λ a. HasKind (fault_of a words) e) is (has (ap is_simple_and_free is))) where
   go : HasKind (fault_of metroheap words) e → IsAmong (kind_of e) (fault_of metroheap words)
   go (inl memory) = absurd (other memory)
   go (inr among) = among
+
+abbrev is_version : ErrorKind → Bool
+is_version kind.DisplayVersion = true
+is_version _ = false
+
+version_is_no_memory : kind.DisplayVersion ≡ kind.OutOfMemory → ⊥
+version_is_no_memory e = false≢true (sym (ap is_version e))
 
 -- words that `clap` doesn't take are refused so
 pub words_refused : (a : App) (words : List Text) (e : Error) (line : LineFault) → a ≡ metroheap → (is_simple_and_free a ≡ true → HasKind (fault_of a words) e) → Refuses (kind_of e) line → IsFault words line
@@ -191,4 +202,11 @@ words_refused a words e (Words told) is has refused =
     NotTaken (subst P (sym refused.1) (refuses a words e is has refused.0))
 words_refused a words e NoMemory is has refused = tt
 words_refused a words e NotText is has refused = absurd refused
-words_refused a words e Configuration is has refused = absurd refused
+words_refused a words e (Configuration option) is has refused = absurd refused
+
+-- words of which `clap` finds that they ask for the version give that order
+pub version_asked : (a : App) (words : List Text) (e : Error) → a ≡ metroheap → (is_simple_and_free a ≡ true → HasKind (fault_of a words) e) → kind_of e ≡ kind.DisplayVersion → GivesOrder words Version
+version_asked a words e is has version =
+    let P : ErrorKind → Type 0 = λ k. IsAmong k (fault_of metroheap words) in
+    let other : kind_of e ≡ kind.OutOfMemory → ⊥ = λ memory. version_is_no_memory (sym version ∙ memory) in
+    record { meant = AsksVersion refl (subst P version (refuses a words e is has other)); few = tt; rules = tt }

@@ -1,5 +1,5 @@
 pub mod Line
 pub mod Orders
 pub mod Program
-pub mod Shown
+pub mod Printable
 pub mod Status

@@ -1,4 +1,4 @@
--- The command line as `clap` is told it, and what the options in its matches say.
+-- The command line as `clap` is given it, and what the options in its matches say.
 use Rattle.std.specs.Prelude.{◌≡◌, ◌⊎◌, ◌<◌, ◌≤◌, ℕ, List, Option, Some, true, false, codes, IfSome, IsSomeAnd, Result, Ok, Err}
 use Rattle.std.specs.Option.{option_map_or}
 use Rattle.std.specs.Str.Parse.{IsNumeral, digits_value, without_leading_plus}
@@ -18,9 +18,13 @@ worker_numbers = Unsigned 1 64
 abbrev pub any_text : ValueParser
 any_text = String
 
+-- an option that is called by its name
+abbrev pub named_rule : Text → Rule
+named_rule name = record (new_rule name) { long = Some name }
+
 -- an option that is given with one value
 abbrev pub option_rule : Text → Rule
-option_rule name = record (new_rule name) { long = Some name; value_names = 1 }
+option_rule name = record (named_rule name) { value_names = 1 }
 
 -- the option `--workers W`, which may be left out
 abbrev pub workers_rule : Rule
@@ -50,9 +54,13 @@ optional_app =
     (new_app (codes "audit")).top)
     (config_app (codes "migrate")).top
 
+-- a program that has a version
+abbrev pub versioned : App → App
+versioned app = record app { top = record app.top { has_version = true } }
+
 -- the program, whose words name a subcommand; `help` is none
 abbrev pub metroheap : App
-metroheap = record optional_app { top = record optional_app.top { subcommand_required = true; disable_help_subcommand = true } }
+metroheap = let app : App = versioned optional_app in record app { top = record app.top { subcommand_required = true; disable_help_subcommand = true } }
 
 -- Numbers ----------------------------------------------------------------------------------------
 
@@ -60,7 +68,7 @@ metroheap = record optional_app { top = record optional_app.top { subcommand_req
 abbrev pub number_in : Text → ℕ
 number_in text = digits_value 10 (without_leading_plus text)
 
--- how many workers the matches ask for, which is 1 where they don't say
+-- how many workers the matches ask for, which is 1 if they don't say
 abbrev pub workers_of : List Row → ℕ
 workers_of rows = option_map_or number_in (one_of (codes "workers") rows) 1
 
@@ -80,7 +88,7 @@ LacksNumber rows name = IsSomeAnd (one_of name rows) (λ text. ¬ (IsNumber text
 abbrev pub IsConfigOption : Text → Type 0
 IsConfigOption name = (name ≡ codes "pages") ⊎ (name ≡ codes "quantum") ⊎ (name ≡ codes "trigger") ⊎ (name ≡ codes "every")
 
--- a number as 32 bits hold it: itself, or the largest where it is larger
+-- a number as 32 bits hold it: itself, or the largest if it is larger
 abbrev pub IsHeld : ℕ → ℕ → Type 0
 IsHeld n held = ((n ≤ 4294967295) × (held ≡ n)) ⊎ ((4294967295 < n) × (held ≡ 4294967295))
 

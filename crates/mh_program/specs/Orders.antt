@@ -1,7 +1,7 @@
 -- The order that the matches of a command line give, and why other words give none.
-use Rattle.std.specs.Prelude.{◌≡◌, ◌≢◌, ◌<◌, ◌≤◌, ℕ, List, [], Option, Some, None, Result, Ok, Err, codes, IsSomeAnd}
+use Rattle.std.specs.Prelude.{◌≡◌, ◌≢◌, ◌⊎◌, ◌<◌, ◌≤◌, ℕ, List, [], Option, Some, None, Result, Ok, Err, codes, IsSomeAnd}
 use Rattle.clap.specs.declared.error.kind.ErrorKind.{ErrorKind}
-use Rattle.clap.specs.declared.error.kind.ErrorKind.TheVariants.{OutOfMemory, ValueValidation}
+use Rattle.clap.specs.declared.error.kind.ErrorKind.TheVariants.{DisplayVersion, OutOfMemory, ValueValidation}
 use Rattle.clap.specs.Words.{Row, Text, subcommand_of, fault_of, kind_of, IsAmong}
 use Rattle.mh_model.specs.Configs.{configured_first}
 use Rattle.mh_model.specs.declared.config.Config.{Config}
@@ -9,7 +9,9 @@ use Rattle.mh_model.specs.declared.config.Rules.TheVariants.{First}
 use Rattle.mh_program.specs.declared.fault.LineFault.{LineFault}
 use Rattle.mh_program.specs.declared.fault.LineFault.TheVariants.{Words, NotText, Configuration, NoMemory}
 use Rattle.mh_program.specs.declared.line.Order.{Order}
-use Rattle.mh_program.specs.declared.line.Order.TheVariants.{Run, Race, Check, Audit, Migrate}
+use Rattle.mh_program.specs.declared.line.Order.TheVariants.{Run, Race, Check, Audit, Migrate, Version}
+use Rattle.mh_program.specs.declared.line.ConfigOption.{ConfigOption}
+use Rattle.mh_program.specs.declared.line.ConfigOption.TheVariants.{Pages, Quantum, Trigger, Every}
 use Rattle.mh_program.specs.declared.options.OptionFault.{OptionFault}
 use Rattle.mh_program.specs.declared.options.OptionFault.TheVariants.{NoNumber, Outside}
 use Rattle.mh_program.specs.Line.{HasNumber, IsConfigOption, LacksNumber, TakesNumbers, metroheap, workers_of}
@@ -35,18 +37,42 @@ IsOrder name rows (Race workers) = (name ≡ codes "race") × (workers ≡ worke
 IsOrder name rows (Check config) = (name ≡ codes "check") × MakesConfig rows (Some config)
 IsOrder name rows Audit = name ≡ codes "audit"
 IsOrder name rows (Migrate config) = (name ≡ codes "migrate") × MakesConfig rows (Some config)
+IsOrder name rows Version = ⊥
 
--- the subcommand takes the numbers of a configuration, and they are outside the limits
-abbrev pub IsOutside : Text → List Row → Type 0
-IsOutside name rows = TakesNumbers name × MakesConfig rows None
+-- an option of a configuration is outside its limits: that of the trigger if it is above that of the pages
+abbrev pub IsOutsideBy : ConfigOption → (pages quantum trigger every : ℕ) → Type 0
+IsOutsideBy Pages pages quantum trigger every = (pages < 1) ⊎ (4096 < pages)
+IsOutsideBy Quantum pages quantum trigger every = (quantum < 209) ⊎ (1000000 < quantum)
+IsOutsideBy Trigger pages quantum trigger every = pages < trigger
+IsOutsideBy Every pages quantum trigger every = 1000000 < every
 
--- from 1 to 64 workers, where the order has workers
+-- the number that this option has in the matches is outside its limits
+pub record HasOutside (rows : List Row) (option : ConfigOption) : Type 0 where
+  pub pages : ℕ
+  pub quantum : ℕ
+  pub trigger : ℕ
+  pub every : ℕ
+  pub has_pages : HasNumber rows (codes "pages") pages
+  pub has_quantum : HasNumber rows (codes "quantum") quantum
+  pub has_trigger : HasNumber rows (codes "trigger") trigger
+  pub has_every : HasNumber rows (codes "every") every
+  pub outside : IsOutsideBy option pages quantum trigger every
+
+-- the numbers make no configuration, and this one is outside its limits
+abbrev pub AreOutside : List Row → ConfigOption → Type 0
+AreOutside rows option = MakesConfig rows None × HasOutside rows option
+
+-- the subcommand takes the numbers of a configuration, and this one is outside its limits
+abbrev pub IsOutside : Text → List Row → ConfigOption → Type 0
+IsOutside name rows option = TakesNumbers name × (AreOutside rows option)
+
+-- from 1 to 64 workers, if the order has workers
 abbrev pub HasFewWorkers : Order → Type 0
 HasFewWorkers (Run workers) = (0 < workers) × (workers ≤ 64)
 HasFewWorkers (Race workers) = (0 < workers) × (workers ≤ 64)
 HasFewWorkers order = Unit {0}
 
--- the first rules, where the order has a configuration
+-- the first rules, if the order has a configuration
 abbrev pub HasFirstRules : Order → Type 0
 HasFirstRules (Check config) = config.rules ≡ First
 HasFirstRules (Migrate config) = config.rules ≡ First
@@ -54,10 +80,15 @@ HasFirstRules order = Unit {0}
 
 -- Faults -----------------------------------------------------------------------------------------
 
--- what is wrong with the options of a configuration: one is no number, or the numbers are outside the limits
+-- the option that is blamed of numbers that are no configuration: one that is outside its limits, and that of the trigger if no other is
+abbrev pub IsBlamed : (pages quantum every : ℕ) → ConfigOption → Type 0
+IsBlamed pages quantum every Trigger = (1 ≤ pages) × (pages ≤ 4096) × (209 ≤ quantum) × (quantum ≤ 1000000) × (every ≤ 1000000)
+IsBlamed pages quantum every option = IsOutsideBy option pages quantum 0 every
+
+-- what is wrong with the options of a configuration: one is no number, or one is outside its limits
 abbrev pub IsOptionFault : List Row → OptionFault → Type 0
 IsOptionFault rows (NoNumber name text) = IsConfigOption name.now × LacksNumber rows name.now
-IsOptionFault rows Outside = MakesConfig rows None
+IsOptionFault rows (Outside option) = AreOutside rows option
 
 -- the subcommand takes the numbers of a configuration, and an option is no number
 abbrev pub HasNoNumber : Text → List Row → Type 0
@@ -65,17 +96,21 @@ HasNoNumber name rows = TakesNumbers name × ((option : Text) × IsConfigOption 
 
 -- Words ------------------------------------------------------------------------------------------
 
--- `clap` takes the words, and their subcommand gives the order
+-- what words mean: `clap` takes them, and their subcommand gives the order; or `clap` finds that they ask for the version
+pub data Mean (words : List Text) (order : Order) : Type 0 where
+  Named : fault_of metroheap words ≡ [] → IsSomeAnd (subcommand_of metroheap words) (λ subcommand. IsOrder subcommand.0 subcommand.1 order) → Mean words order
+  AsksVersion : order ≡ Version → IsAmong DisplayVersion (fault_of metroheap words) → Mean words order
+
+-- words give an order
 pub record GivesOrder (words : List Text) (order : Order) : Type 0 where
-  pub taken : fault_of metroheap words ≡ []
-  pub named : IsSomeAnd (subcommand_of metroheap words) (λ subcommand. IsOrder subcommand.0 subcommand.1 order)
+  pub meant : Mean words order
   pub few : HasFewWorkers order
   pub rules : HasFirstRules order
 
--- `clap` takes the words, and the numbers of their subcommand are outside the limits of a configuration
-pub record AsksOutside (words : List Text) : Type 0 where
+-- `clap` takes the words, and this option of their subcommand is outside the limits of a configuration
+pub record AsksOutside (words : List Text) (option : ConfigOption) : Type 0 where
   pub taken : fault_of metroheap words ≡ []
-  pub named : IsSomeAnd (subcommand_of metroheap words) (λ subcommand. IsOutside subcommand.0 subcommand.1)
+  pub named : IsSomeAnd (subcommand_of metroheap words) (λ subcommand. IsOutside subcommand.0 subcommand.1 option)
 
 -- `clap` takes the words, and an option of their configuration is no number
 pub record AsksNoNumber (words : List Text) : Type 0 where
@@ -87,15 +122,15 @@ pub data AreRefused (words : List Text) (kind : ErrorKind) : Type 0 where
   NotTaken : IsAmong kind (fault_of metroheap words) → AreRefused words kind
   NotNumbers : AsksNoNumber words → kind ≡ ValueValidation → AreRefused words kind
 
--- words are refused only where `clap` doesn't take them, with one of the kinds of fault that it finds first, or where their
+-- words are refused only if `clap` doesn't take them, with one of the kinds of fault that it finds first, or if their
 -- configuration is outside the limits
 abbrev pub IsFault : List Text → LineFault → Type 0
 IsFault words (Words error) = AreRefused words (kind_of error)
 IsFault words NotText = ⊥
-IsFault words Configuration = AsksOutside words
+IsFault words (Configuration option) = AsksOutside words option
 IsFault words NoMemory = Unit {0}
 
--- what may be wrong with words that can't be read: one isn't text, or memory was wanting
+-- what may be wrong with words that can't be read: one isn't text, or memory was refused
 abbrev pub IsUnread : LineFault → Type 0
 IsUnread NotText = Unit {0}
 IsUnread NoMemory = Unit {0}
@@ -116,10 +151,10 @@ HasOptionFault name rows fault = TakesNumbers name × IsOptionFault rows fault
 abbrev pub RefusesOptions : OptionFault → LineFault → Type 0
 RefusesOptions (NoNumber name text) (Words error) = kind_of error ≡ ValueValidation
 RefusesOptions (NoNumber name text) NoMemory = Unit {0}
-RefusesOptions Outside Configuration = Unit {0}
+RefusesOptions (Outside option) (Configuration refused) = refused ≡ option
 RefusesOptions fault line = ⊥
 
--- what is said of words that `clap` refuses with this kind of fault: that, or that memory was wanting
+-- what is said of words that `clap` refuses with this kind of fault: that, or that memory was refused
 abbrev pub Refuses : ErrorKind → LineFault → Type 0
 Refuses kind (Words error) = (kind ≢ OutOfMemory) × (kind_of error ≡ kind)
 Refuses kind NoMemory = Unit {0}

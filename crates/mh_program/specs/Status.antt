@@ -21,9 +21,9 @@ verdict_status_of (Ok (verdict.Refused line)) = 1
 verdict_status_of (Ok (verdict.FirstBad entry)) = 4
 verdict_status_of (Err fault) = 3
 
--- 2 for words that are refused, 3 for want of memory
+-- 2 for words that are refused, 3 if memory was refused
 abbrev pub line_status_of : LineFault → ℕ
 line_status_of (Words error) = 2
 line_status_of NotText = 2
-line_status_of Configuration = 2
+line_status_of (Configuration option) = 2
 line_status_of NoMemory = 3

@@ -1,61 +1,100 @@
-ghost use Rattle.std.specs.Prelude.{◌≡◌, IfOk, false, codes};
+ghost use Rattle.std.specs.Prelude.{◌≡◌, IfOk, IsOkAnd, false, codes};
 ghost use Rattle.clap.specs.Words.{app_of, new_app, rule_of, with_rule, with_subcommand};
 ghost use Rattle.clap.specs.declared.builder.command.Command.TheViews.{out-Command};
-ghost use Rattle.mh_program.specs.Line.{config_app, metroheap, number_rule, option_rule, optional_app, workers_app, workers_rule};
+ghost use Rattle.mh_program.specs.Line.{config_app, metroheap, named_rule, number_rule, option_rule, optional_app, versioned, workers_app, workers_rule};
 
 use clap::builder::ValueParser;
 use clap::{Arg, Command};
 use mh_model::limits::MOST_WORKERS;
 use std::alloc::{AllocError, Global};
 
+const ABOUT: &str =
+    "An executable reference of the Metronome collector: runs scripts of mutator commands and collector quanta, and judges histories";
+
+const MANUAL: &str =
+    "Scripts and histories are read from standard input. Their grammar, each command's cost and all exit statuses are in `man metroheap` and in docs/MANUAL.md.";
+
 const ABOUT_RUN: &str =
-    "Reads a script from standard input and prints the reply to each of its events, or the line that refuses the script";
+    "Run a script: print the reply to each of its events, or the line that refuses the script";
 
 const ABOUT_RACE: &str =
-    "Reads a script from standard input, lets its sessions race and prints the history of what they did, or the line that refuses the script";
+    "Run a script with each session in a thread of its own: print the history that they make, or the line that refuses the script";
 
 const ABOUT_CHECK: &str =
-    "Reads a history of version 1 from standard input and prints how many entries it has where it is legal, its first bad entry where it is not, or the line that refuses it";
+    "Judge a history of version 1: print how many entries a legal one has, the first bad entry, or the line that refuses it";
 
 const ABOUT_AUDIT: &str =
-    "Reads a history of version 2 from standard input and prints how many entries it has where it is legal, its first bad entry where it is not, or the line that refuses it";
+    "Judge a history of version 2, with its units: print how many entries a legal one has, the first bad entry, or the line that refuses it";
 
 const ABOUT_MIGRATE: &str =
-    "Reads a history of version 1 from standard input and prints it as version 2 where it is legal, or else what check prints of it";
+    "Print a legal history of version 1 as one of version 2; of any other, print what check prints";
 
 const SCRIPT_STATUSES: &str =
-    "Exit status: 0 where the script was run, 1 where it was refused, 2 where the command line was, 3 where memory was wanting, a device failed or the history was full";
+    "Exit status: 0 if all events were answered, 1 if the script was refused, 2 if the command line was, 3 if memory was refused, a device failed or the history was full";
 
 const HISTORY_STATUSES: &str =
-    "Exit status: 0 where the history is legal, 1 where the text was refused, 2 where the command line was, 3 where memory was wanting or a device failed, 4 where the history is not legal";
+    "Exit status: 0 if the history is legal, 1 if the text was refused, 2 if the command line was, 3 if memory was refused or a device failed, 4 if the history is not legal";
+
+/// An option that is called by its name.
+fn named<'a>(alloc: Global, name: &'a str) -> Arg<'a>
+    ensures rule { rule_of result ≡ named_rule name.entry.now }
+    ensures local { result.global ≡ false }
+{
+    Arg::new(alloc, name).long(name)
+}
+
+/// The option, with what help calls its value and says of it.
+fn explained<'a>(option: Arg<'a>, value: &'a str, help: &'a str) -> Arg<'a>
+    ensures rule { rule_of result ≡ record (rule_of option.entry) { value_names = 1 } }
+    ensures local { result.global ≡ option.entry.global }
+{
+    option.value_name(value).help(help)
+}
 
 /// An option that is given with one value.
 fn option<'a>(alloc: Global, name: &'a str, value: &'a str, help: &'a str) -> Arg<'a>
     ensures rule { rule_of result ≡ option_rule name.entry.now }
     ensures local { result.global ≡ false }
 {
-    Arg::new(alloc, name)
-        .long(name)
-        .value_name(value)
-        .help(help)
+    explained(named(alloc, name), value, help)
 }
 
 fn workers<'a>(alloc: Global) -> Arg<'a>
     ensures rule { rule_of result ≡ workers_rule }
     ensures local { result.global ≡ false }
 {
-    let help = "How many threads scan at a time at most, from 1 to 64; 1 where it is not given";
+    let help = "How many threads scan at a time at most, from 1 to 64; 1 if it is not given";
     option(alloc, "workers", "W", help).value_parser(ValueParser::unsigned(1, MOST_WORKERS))
 }
 
+/// A subcommand with what help says of it.
+fn subcommand<'a>(
+    alloc: Global,
+    name: &'a str,
+    about: &'a str,
+    usage: &'a str,
+    statuses: &'a str,
+) -> Command<'a>
+    ensures app { app_of result ≡ new_app name.entry.now }
+    ensures local { (out-Command result).has_globals ≡ false }
+{
+    Command::new(alloc, name)
+        .about(about)
+        .override_usage(usage)
+        .after_help(statuses)
+}
+
 /// A subcommand with a number of workers.
-fn with_workers<'a>(alloc: Global, name: &'a str, about: &'a str) -> Result<Command<'a>, AllocError>
+fn with_workers<'a>(
+    alloc: Global,
+    name: &'a str,
+    about: &'a str,
+    usage: &'a str,
+) -> Result<Command<'a>, AllocError>
     ensures app { IfOk result (λ command. app_of command ≡ workers_app name.entry.now) }
     ensures local { IfOk result (λ command. (out-Command command).has_globals ≡ false) }
 {
-    let command = Command::new(alloc, name)
-        .about(about)
-        .after_help(SCRIPT_STATUSES);
+    let command = subcommand(alloc, name, about, usage, SCRIPT_STATUSES);
     command.arg(workers(alloc))
 }
 
@@ -85,13 +124,16 @@ fn with_number<'a>(
 }
 
 /// A subcommand with the numbers of a configuration.
-fn with_config<'a>(alloc: Global, name: &'a str, about: &'a str) -> Result<Command<'a>, AllocError>
+fn with_config<'a>(
+    alloc: Global,
+    name: &'a str,
+    about: &'a str,
+    usage: &'a str,
+) -> Result<Command<'a>, AllocError>
     ensures app { IfOk result (λ command. app_of command ≡ config_app name.entry.now) }
     ensures local { IfOk result (λ command. (out-Command command).has_globals ≡ false) }
 {
-    let command = Command::new(alloc, name)
-        .about(about)
-        .after_help(HISTORY_STATUSES);
+    let command = subcommand(alloc, name, about, usage, HISTORY_STATUSES);
     let command = with_number(
         command,
         alloc,
@@ -111,7 +153,7 @@ fn with_config<'a>(alloc: Global, name: &'a str, about: &'a str) -> Result<Comma
         alloc,
         "trigger",
         "T",
-        "A quantum starts a cycle where no more pages than these are free, from 0 to P",
+        "A quantum starts a cycle if no more pages than these are free, from 0 to P",
     )?;
     with_number(
         command,
@@ -122,45 +164,102 @@ fn with_config<'a>(alloc: Global, name: &'a str, about: &'a str) -> Result<Comma
     )
 }
 
+fn run<'a>(alloc: Global) -> Result<Command<'a>, AllocError>
+    ensures app { IfOk result (λ command. app_of command ≡ workers_app (codes "run")) }
+    ensures local { IfOk result (λ command. (out-Command command).has_globals ≡ false) }
+{
+    with_workers(
+        alloc,
+        "run",
+        ABOUT_RUN,
+        "metroheap run [--workers <W>] < SCRIPT",
+    )
+}
+
+fn race<'a>(alloc: Global) -> Result<Command<'a>, AllocError>
+    ensures app { IfOk result (λ command. app_of command ≡ workers_app (codes "race")) }
+    ensures local { IfOk result (λ command. (out-Command command).has_globals ≡ false) }
+{
+    with_workers(
+        alloc,
+        "race",
+        ABOUT_RACE,
+        "metroheap race [--workers <W>] < SCRIPT",
+    )
+}
+
+fn check<'a>(alloc: Global) -> Result<Command<'a>, AllocError>
+    ensures app { IfOk result (λ command. app_of command ≡ config_app (codes "check")) }
+    ensures local { IfOk result (λ command. (out-Command command).has_globals ≡ false) }
+{
+    with_config(
+        alloc,
+        "check",
+        ABOUT_CHECK,
+        "metroheap check --pages <P> --quantum <K> --trigger <T> --every <E> < HISTORY",
+    )
+}
+
+fn migrate<'a>(alloc: Global) -> Result<Command<'a>, AllocError>
+    ensures app { IfOk result (λ command. app_of command ≡ config_app (codes "migrate")) }
+    ensures local { IfOk result (λ command. (out-Command command).has_globals ≡ false) }
+{
+    with_config(
+        alloc,
+        "migrate",
+        ABOUT_MIGRATE,
+        "metroheap migrate --pages <P> --quantum <K> --trigger <T> --every <E> < HISTORY",
+    )
+}
+
 fn audit<'a>(alloc: Global) -> Command<'a>
     ensures app { app_of result ≡ new_app (codes "audit") }
     ensures local { (out-Command result).has_globals ≡ false }
 {
-    Command::new(alloc, "audit")
-        .about(ABOUT_AUDIT)
-        .after_help(HISTORY_STATUSES)
+    subcommand(
+        alloc,
+        "audit",
+        ABOUT_AUDIT,
+        "metroheap audit < HISTORY",
+        HISTORY_STATUSES,
+    )
 }
 
+/// The command with a subcommand more, if that one was made.
 fn with_subcommand<'a>(
     command: Command<'a>,
-    subcommand: Command<'a>,
+    subcommand: Result<Command<'a>, AllocError>,
 ) -> Result<Command<'a>, AllocError>
-    requires { (out-Command subcommand).has_globals ≡ false }
-    ensures { IfOk result (λ more. app_of more ≡ with_subcommand (app_of command.entry) (app_of subcommand.entry).top) }
+    requires { IfOk subcommand (λ made. (out-Command made).has_globals ≡ false) }
+    ensures { IfOk result (λ more. IsOkAnd subcommand.entry (λ made. app_of more ≡ with_subcommand (app_of command.entry) (app_of made).top)) }
 {
-    command.subcommand(subcommand)
+    command.subcommand(subcommand?)
 }
 
+// One command is at hand at a time: each that were there at a `?` would have to be dropped there.
 fn optional<'a>(alloc: Global) -> Result<Command<'a>, AllocError>
     ensures { IfOk result (λ command. app_of command ≡ optional_app) }
 {
-    let run = with_workers(alloc, "run", ABOUT_RUN)?;
-    let race = with_workers(alloc, "race", ABOUT_RACE)?;
-    let check = with_config(alloc, "check", ABOUT_CHECK)?;
-    let audit = audit(alloc);
-    let migrate = with_config(alloc, "migrate", ABOUT_MIGRATE)?;
-    let first = with_subcommand(Command::new(alloc, "metroheap"), run)?;
-    let second = with_subcommand(first, race)?;
-    let third = with_subcommand(second, check)?;
-    let fourth = with_subcommand(third, audit)?;
-    with_subcommand(fourth, migrate)
+    let app = Command::new(alloc, "metroheap");
+    let app = with_subcommand(app, run(alloc))?;
+    let app = with_subcommand(app, race(alloc))?;
+    let app = with_subcommand(app, check(alloc))?;
+    let app = with_subcommand(app, Ok(audit(alloc)))?;
+    with_subcommand(app, migrate(alloc))
+}
+
+/// The command with what help says of the program, and with its version.
+fn described<'a>(command: Command<'a>) -> Command<'a>
+    ensures { app_of result ≡ versioned (app_of command.entry) }
+{
+    command.about(ABOUT).after_help(MANUAL).version("1.0.0")
 }
 
 /// The program's command line, which has to name a subcommand.
 pub fn command<'a>(alloc: Global) -> Result<Command<'a>, AllocError>
     ensures { IfOk result (λ command. app_of command ≡ metroheap) }
 {
-    let command = optional(alloc)?;
+    let command = described(optional(alloc)?);
     Ok(
         command
             .subcommand_required(true)

@@ -1,3 +1,4 @@
+use crate::line::ConfigOption;
 use thiserror::Error;
 
 /// Why a command line gave no order. The text of words that are refused is that of `clap`, which ends with its line.
@@ -8,9 +9,9 @@ pub enum LineFault {
     /// A word isn't UTF-8.
     #[error("metroheap: a word is not text\n")]
     NotText,
-    /// The numbers of a configuration are outside its limits.
-    #[error("metroheap: bad configuration\n")]
-    Configuration,
+    /// The number of this option is outside the limits of a configuration.
+    #[error("metroheap: bad configuration: {0}\n")]
+    Configuration(ConfigOption),
     #[error("metroheap: no memory\n")]
     NoMemory,
 }

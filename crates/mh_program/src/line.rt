@@ -1,4 +1,5 @@
 use mh_model::config::Config;
+use thiserror::Error;
 
 /// What the program is to do.
 #[derive(Clone, Copy, Debug, PartialEq, Eq)]
@@ -13,4 +14,19 @@ pub enum Order {
     Audit,
     /// Write the history on standard input, of version 1, as version 2.
     Migrate(Config),
+    /// Write the version of the program.
+    Version,
+}
+
+/// An option that gives a number of a configuration, with its limits.
+#[derive(Clone, Copy, Debug, PartialEq, Eq, Error)]
+pub enum ConfigOption {
+    #[error("--pages goes from 1 to 4096")]
+    Pages,
+    #[error("--quantum goes from 209 to 1000000")]
+    Quantum,
+    #[error("--trigger goes from 0 to the number of pages")]
+    Trigger,
+    #[error("--every goes from 0 to 1000000")]
+    Every,
 }

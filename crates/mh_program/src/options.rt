@@ -4,8 +4,9 @@ ghost use Rattle.std.specs.List.{list_all};
 ghost use Rattle.std.specs.Str.Parse.{without_leading_plus};
 ghost use Rattle.clap.specs.Words.{found_of, rows_of};
 ghost use Rattle.mh_program.specs.Line.{AreGiven, AsksForFew, HoldsNumber, IsConfigOption, IsGiven, IsNumber, ReadsNumber, workers_of};
-ghost use Rattle.mh_program.specs.Orders.{IsOptionFault, MakesConfig};
+ghost use Rattle.mh_program.specs.Orders.{IsBlamed, IsOptionFault, MakesConfig};
 
+use crate::line::ConfigOption;
 use clap::ArgMatches;
 use mh_model::config::Config;
 use std::str::FromStr;
@@ -15,8 +16,8 @@ use std::str::FromStr;
 pub(crate) enum OptionFault<'a> {
     /// The option with this name has a text that is no number.
     NoNumber(&'static str, &'a str),
-    /// The numbers are outside the limits.
-    Outside,
+    /// The number of this option is outside its limits.
+    Outside(ConfigOption),
 }
 
 /// A text that is no number.
@@ -86,6 +87,21 @@ fn number_given<'a>(matches: &ArgMatches<'a>, name: &'static str) -> Result<u32,
     }
 }
 
+/// An option that is outside its limits, of numbers that are no configuration.
+fn outside(pages: u32, quantum: u32, every: u32) -> ConfigOption
+    ensures { IsBlamed pages quantum every result }
+{
+    if !(1..=4096).contains(&pages) {
+        ConfigOption::Pages
+    } else if !(209..=1_000_000).contains(&quantum) {
+        ConfigOption::Quantum
+    } else if every > 1_000_000 {
+        ConfigOption::Every
+    } else {
+        ConfigOption::Trigger
+    }
+}
+
 /// The configuration of a subcommand's options.
 pub(crate) fn config_given<'a>(matches: &ArgMatches<'a>) -> Result<Config, OptionFault<'a>>
     requires { AreGiven (rows_of (found_of matches.now)) }
@@ -98,6 +114,6 @@ pub(crate) fn config_given<'a>(matches: &ArgMatches<'a>) -> Result<Config, Optio
     let every = number_given(matches, "every")?;
     match Config::first(pages, quantum, trigger, every) {
         Some(config) => Ok(config),
-        None => Err(OptionFault::Outside),
+        None => Err(OptionFault::Outside(outside(pages, quantum, every))),
     }
 }

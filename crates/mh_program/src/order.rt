@@ -9,7 +9,7 @@ use crate::command::command;
 use crate::fault::LineFault;
 use crate::line::Order;
 use crate::options::{OptionFault, config_given, workers_asked};
-use crate::shown::{are_plain, shown, shown_words};
+use crate::quoted::{are_plain, quoted, quoted_words};
 use clap::ArgMatches;
 use clap::error::ErrorKind;
 use std::alloc::{AllocError, Global};
@@ -50,7 +50,7 @@ fn order_of<'a>(matches: &ArgMatches<'a>) -> Result<Order, OptionFault<'a>>
 fn no_number(alloc: Global, name: &str, text: &str) -> Result<clap::Error, AllocError>
     ensures { IfOk result (λ error. kind_of error ≡ ValueValidation) }
 {
-    let text = shown(alloc, text)?;
+    let text = quoted(alloc, text)?;
     let message = format!(in alloc; "invalid value '{text}' for '--{name}': not a number")?;
     let mut command = command(alloc)?;
     command.error(ErrorKind::ValueValidation, message.as_str())
@@ -60,7 +60,7 @@ fn refused_options(alloc: Global, fault: OptionFault<'_>) -> LineFault
     ensures { RefusesOptions fault.entry result }
 {
     match fault {
-        OptionFault::Outside => LineFault::Configuration,
+        OptionFault::Outside(option) => LineFault::Configuration(option),
         OptionFault::NoNumber(name, text) => match no_number(alloc, name, text) {
             Ok(error) => LineFault::Words(error),
             Err(_) => LineFault::NoMemory,
@@ -82,9 +82,9 @@ fn unquoted(alloc: Global, kind: ErrorKind) -> Result<clap::Error, AllocError>
     command.error(kind, "a word is not as it should be")
 }
 
-/// The refusal of words with all that it quotes as it can be shown, which is that of the words as they are shown. Where that
+/// The refusal of words with all that it quotes as it can be printed, which is that of the words as they are quoted. If that
 /// is another, a refusal that quotes nothing.
-fn shown_refusal<T: AsStr>(
+fn quoted_refusal<T: AsStr>(
     alloc: Global,
     words: &[T],
     error: clap::Error,
@@ -94,7 +94,7 @@ fn shown_refusal<T: AsStr>(
     if are_plain(words) {
         return Ok(error);
     }
-    let words = shown_words(alloc, words)?;
+    let words = quoted_words(alloc, words)?;
     if let Some(told) = refusal(alloc, words.as_slice())? {
         if told.kind() == error.kind() {
             return Ok(told);
@@ -109,7 +109,7 @@ fn refused_words<T: AsStr>(alloc: Global, words: &[T], error: clap::Error) -> Li
     if error.kind() == ErrorKind::OutOfMemory {
         return LineFault::NoMemory;
     }
-    match shown_refusal(alloc, words, error) {
+    match quoted_refusal(alloc, words, error) {
         Ok(error) => LineFault::Words(error),
         Err(_) => LineFault::NoMemory,
     }
@@ -128,6 +128,7 @@ pub fn order<T: AsStr>(alloc: Global, words: &[T]) -> Result<Order, LineFault>
             Ok(order) => Ok(order),
             Err(fault) => Err(refused_options(alloc, fault)),
         },
+        Err(error) if error.kind() == ErrorKind::DisplayVersion => Ok(Order::Version),
         Err(error) => Err(refused_words(alloc, words, error)),
     }
 }

@@ -4,8 +4,8 @@ ghost use Rattle.mh_model.specs.Bytes.{line_text};
 ghost use Rattle.mh_program.specs.declared.fault.LineFault.{LineFault};
 ghost use Rattle.mh_program.specs.declared.line.Order.{Order};
 ghost use Rattle.mh_program.specs.Orders.{HasFewWorkers, HasFirstRules, OrdersBy};
-ghost use Rattle.mh_program.specs.Program.{fault_text, Obeys, Serves, Tells, TellsLine, TellsRun, TellsWords};
-ghost use Rattle.mh_program.specs.Shown.{IsShown};
+ghost use Rattle.mh_program.specs.Program.{fault_text, outside_text, Obeys, Serves, Tells, TellsLine, TellsRun, TellsWords, WritesVersion};
+ghost use Rattle.mh_program.specs.Printable.{IsPrintable};
 ghost use Rattle.mh_program.specs.Status.{status_of, verdict_status_of};
 ghost use Rattle.mh_model.specs.declared.config.Rules.TheVariants.{First};
 ghost use Rattle.mh_judging.specs.Judged.{IsAuditing, IsChecking, IsMigrating};
@@ -13,15 +13,17 @@ ghost use Rattle.mh_racing.specs.Raced.{IsRaceRun};
 ghost use Rattle.mh_script.specs.Run.{device, IsRun};
 
 use crate::fault::LineFault;
-use crate::line::Order;
+use crate::line::{ConfigOption, Order};
 use crate::order::line_order;
-use crate::shown::printable;
+use crate::quoted::printable;
 use crate::status::{line_status, status, verdict_status};
+use crate::version::VERSION_LINE;
 use mh_judging::judge::{audit_script, check_script};
 use mh_judging::migrate::migrate_script;
 use mh_model::config::Config;
 use mh_racing::race::race_script;
 use mh_scan::crew_scan::CrewGate;
+use mh_script::end::End;
 use mh_script::fault::{HISTORY_FULL, NO_MEMORY, READ_FAILED, ScriptFault, WRITE_FAILED};
 use mh_script::run::run_script;
 use mh_text::sink::Sink;
@@ -31,7 +33,7 @@ use std::alloc::{AllocError, Global};
 use std::sync::Wait;
 use std::thread::Threads;
 
-/// The line that tells a fault of a run.
+/// The line that names a fault of a run.
 fn fault_line(fault: ScriptFault) -> &'static [u8]
     ensures { result.now ≡ line_text (fault_text fault) }
 {
@@ -43,7 +45,7 @@ fn fault_line(fault: ScriptFault) -> &'static [u8]
     }
 }
 
-/// Tells a text. Where standard error fails there is nobody left to tell.
+/// Writes a text to standard error. If that fails there is nobody left to hear.
 fn tell<E: Sink>(errors: &mut E, text: &[u8])
     requires { E.failures errors.old < 2 ^ 62 }
     ensures { Tells (device (E.written errors.old) (E.failures errors.old)) (device (E.written errors.new) (E.failures errors.new)) text.now }
@@ -62,13 +64,13 @@ fn tell_fault<T, E: Sink>(errors: &mut E, ended: &Result<T, ScriptFault>)
 }
 
 fn words_text(alloc: Global, error: &clap::Error) -> Result<Vec<u8>, AllocError>
-    ensures { IfOk result (λ text. IsShown text.items) }
+    ensures { IfOk result (λ text. IsPrintable text.items) }
 {
     let text = format!(in alloc; "{error}")?;
     printable(alloc, text.as_str())
 }
 
-/// Tells what `clap` says of words, or where there is no memory for that, that they are bad.
+/// Writes what `clap` says of words, or if there is no memory for that, that they are bad.
 fn tell_words<E: Sink>(alloc: Global, errors: &mut E, error: &clap::Error)
     requires { E.failures errors.old < 2 ^ 62 }
     ensures { TellsWords (device (E.written errors.old) (E.failures errors.old)) (device (E.written errors.new) (E.failures errors.new)) }
@@ -79,6 +81,20 @@ fn tell_words<E: Sink>(alloc: Global, errors: &mut E, error: &clap::Error)
     }
 }
 
+/// The line for an option that is outside the limits of a configuration.
+fn outside_line(option: ConfigOption) -> &'static [u8]
+    ensures { result.now ≡ line_text (outside_text option) }
+{
+    match option {
+        ConfigOption::Pages => b"metroheap: bad configuration: --pages goes from 1 to 4096\n",
+        ConfigOption::Quantum =>
+            b"metroheap: bad configuration: --quantum goes from 209 to 1000000\n",
+        ConfigOption::Trigger =>
+            b"metroheap: bad configuration: --trigger goes from 0 to the number of pages\n",
+        ConfigOption::Every => b"metroheap: bad configuration: --every goes from 0 to 1000000\n",
+    }
+}
+
 fn tell_line<E: Sink>(alloc: Global, errors: &mut E, fault: &LineFault)
     requires { E.failures errors.old < 2 ^ 62 }
     ensures { TellsLine (device (E.written errors.old) (E.failures errors.old)) (device (E.written errors.new) (E.failures errors.new)) fault.now }
@@ -86,7 +102,7 @@ fn tell_line<E: Sink>(alloc: Global, errors: &mut E, fault: &LineFault)
     match fault {
         LineFault::Words(error) => tell_words(alloc, errors, error),
         LineFault::NotText => tell(errors, b"metroheap: a word is not text\n"),
-        LineFault::Configuration => tell(errors, b"metroheap: bad configuration\n"),
+        LineFault::Configuration(option) => tell(errors, outside_line(*option)),
         LineFault::NoMemory => tell(errors, b"metroheap: no memory\n"),
     }
 }
@@ -114,7 +130,7 @@ fn run<R: Threads, S: Source, W: Sink, E: Sink, G: CrewGate>(
     status(&ended)
 }
 
-/// Lets the sessions of a script race, and tells a fault of the race.
+/// Lets the sessions of a script race, and reports a fault of the race.
 fn race<R: Threads + Wait + Sync, S: Source, W: Sink, E: Sink, G: CrewGate + Sync>(
     rt: &R,
     alloc: Global,
@@ -138,7 +154,7 @@ fn race<R: Threads + Wait + Sync, S: Source, W: Sink, E: Sink, G: CrewGate + Syn
     status(&ended)
 }
 
-/// Checks a history, and tells a fault of that.
+/// Checks a history, and reports a fault of that.
 fn check<S: Source, W: Sink, E: Sink>(
     alloc: Global,
     config: Config,
@@ -159,7 +175,7 @@ fn check<S: Source, W: Sink, E: Sink>(
     verdict_status(&ended)
 }
 
-/// Audits a history, and tells a fault of that.
+/// Audits a history, and reports a fault of that.
 fn audit<S: Source, W: Sink, E: Sink>(
     alloc: Global,
     source: &mut S,
@@ -179,7 +195,7 @@ fn audit<S: Source, W: Sink, E: Sink>(
     verdict_status(&ended)
 }
 
-/// Migrates a history, and tells a fault of that.
+/// Migrates a history, and reports a fault of that.
 fn migrate<S: Source, W: Sink, E: Sink>(
     alloc: Global,
     config: Config,
@@ -201,7 +217,29 @@ fn migrate<S: Source, W: Sink, E: Sink>(
     verdict_status(&ended)
 }
 
-/// Does what the command line asks for, tells on `errors` what went wrong, and gives the exit status.
+fn written_version<W: Sink>(sink: &mut W) -> Result<End, ScriptFault>
+    requires { W.failures sink.old < 2 ^ 62 }
+    ensures { WritesVersion (device (W.written sink.old) (W.failures sink.old)) (device (W.written sink.new) (W.failures sink.new)) result }
+{
+    match write_text(sink, VERSION_LINE.as_bytes()) {
+        Ok(()) => Ok(End::Done),
+        Err(_) => Err(ScriptFault::Write),
+    }
+}
+
+/// Writes the version, and reports a fault of that.
+fn version<W: Sink, E: Sink>(sink: &mut W, errors: &mut E) -> u8
+    requires sink_count { W.failures sink.old < 2 ^ 62 }
+    requires errors_count { E.failures errors.old < 2 ^ 62 }
+    ensures { Obeys (WritesVersion (device (W.written sink.old) (W.failures sink.old)) (device (W.written sink.new) (W.failures sink.new))) status_of
+        (device (E.written errors.old) (E.failures errors.old)) (device (E.written errors.new) (E.failures errors.new)) result }
+{
+    let ended = written_version(sink);
+    tell_fault(errors, &ended);
+    status(&ended)
+}
+
+/// Does what the command line asks for, writes to `errors` what went wrong, and gives the exit status.
 pub fn serve<R: Threads + Wait + Sync, S: Source, W: Sink, E: Sink, G: CrewGate + Sync>(
     rt: &R,
     alloc: Global,
@@ -227,6 +265,7 @@ pub fn serve<R: Threads + Wait + Sync, S: Source, W: Sink, E: Sink, G: CrewGate 
         Ok(Order::Check(config)) => check(alloc, config, source, sink, errors),
         Ok(Order::Audit) => audit(alloc, source, sink, errors),
         Ok(Order::Migrate(config)) => migrate(alloc, config, source, sink, errors),
+        Ok(Order::Version) => version(sink, errors),
         Err(fault) => {
             tell_line(alloc, errors, &fault);
             line_status(&fault)
@@ -234,7 +273,7 @@ pub fn serve<R: Threads + Wait + Sync, S: Source, W: Sink, E: Sink, G: CrewGate 
     }
 }
 
-/// The program: does what the words of the command line ask for, of which the first is its own name, tells on `errors` what
+/// The program: does what the words of the command line ask for, of which the first is its own name, writes to `errors` what
 /// went wrong, and gives the exit status.
 pub fn program<R: Threads + Wait + Sync, S: Source, W: Sink, E: Sink, G: CrewGate + Sync>(
     rt: &R,

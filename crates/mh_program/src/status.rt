@@ -34,7 +34,7 @@ pub fn line_status(fault: &LineFault) -> u8
     ensures { result ≡ line_status_of fault.now }
 {
     match fault {
-        LineFault::Words(_) | LineFault::NotText | LineFault::Configuration => 2,
+        LineFault::Words(_) | LineFault::NotText | LineFault::Configuration(_) => 2,
         LineFault::NoMemory => 3,
     }
 }

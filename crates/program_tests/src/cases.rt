@@ -7,7 +7,7 @@ pub struct Case<'a> {
     pub input: &'a [u8],
     /// One output, and for a race of two sessions its other order.
     pub outputs: &'a [&'a [u8]],
-    /// How what is told of the words begins, where they are refused.
+    /// How what is told of the words begins, if they are refused.
     pub told: &'a [u8],
     pub status: u8,
 }
@@ -22,7 +22,7 @@ impl Case<'_> {
         false
     }
 
-    /// Whether this is less than an output, and a beginning of it.
+    /// Whether this is less than an output, and a prefix of it.
     pub fn is_begun(&self, written: &[u8]) -> bool {
         for output in self.outputs {
             if written.len() < output.len() && output.starts_with(written) {
@@ -147,7 +147,7 @@ pub const CASES: &[Case<'static>] = &[
         told: NONE,
         status: 0,
     },
-    // A script with a bad line after lines that are answered where it stands alone.
+    // A script with a bad line after lines that are answered if it stands alone.
     Case {
         words: RUN,
         input: b"config 4 209 0 0\na new 0 0 1\n# a comment\n\na read 0 0\n\n\n\n\n\n\na walk\n",

@@ -43,11 +43,11 @@ pub const SOUND_DEVICES: Devices = Devices {
 /// How the program ended.
 #[derive(Clone, Copy, Debug, PartialEq, Eq)]
 pub enum Outcome {
-    /// As it does where no device fails.
+    /// As it does if no device fails.
     Right,
     /// With nothing written, and a line that tells that a read failed.
     ReadFailed,
-    /// With less than the output, a beginning of it, and a line that tells that a write failed.
+    /// With less than the output, a prefix of it, and a line that tells that a write failed.
     WriteFailed,
     /// With nothing read or written, and what is wrong with the words told.
     WordsRefused,
@@ -70,7 +70,7 @@ const READ_FAILED: &[u8] = b"metroheap: read failed\n";
 
 const WRITE_FAILED: &[u8] = b"metroheap: write failed\n";
 
-/// Whether this was told, or a beginning of it where standard error failed.
+/// Whether this was told, or a prefix of it if standard error failed.
 fn is_told(errors: &Troubled<'_>, text: &[u8]) -> bool {
     let told = errors.taken.as_slice();
     told == text || (errors.at > 0 && errors.at == errors.calls && text.starts_with(told))

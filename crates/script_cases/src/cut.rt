@@ -14,7 +14,7 @@ fn number_after(line: &[u8], words: &[u8]) -> Option<usize> {
     str::from_utf8(digits).ok()?.parse::<usize>().ok()
 }
 
-/// The answer to whole lines of which so many say something, where the answer to all lines decides it. That a text is refused
+/// The answer to whole lines of which so many say something, if the answer to all lines decides it. That a text is refused
 /// doesn't tell what its first lines are answered, nor does a history that isn't legal tell what they are migrated to.
 fn answer_to_lines(
     alloc: Global,

@@ -22,9 +22,9 @@
 //! | `% answer STATUS` | the status, and the output |
 //! | `% audited` | the status is 0, and these lines are what `audit` writes of the output |
 //! | `% holds` | a line that the output has |
-//! | `% errors`, `% errors begin` | what standard error is told, or how that begins; where neither stands, nothing |
+//! | `% errors`, `% errors begin` | what standard error is told, or how that begins; if neither stands, nothing |
 //!
-//! Types that own many texts have a `drop` of their own, which takes them apart: who owns one proves one call where it is dropped.
+//! Types that own many texts have a `drop` of their own, which takes them apart: who owns one proves one call if it is dropped.
 #![tactic(auto)]
 
 mod alter;
@@ -49,6 +49,7 @@ use crate::report::Report;
 use crate::trial::try_cases;
 use anyhow::Result;
 use mh_program::fault::LineFault;
+use mh_program::line::ConfigOption;
 use mh_script::fault::ScriptFault;
 use std::sync::Wait;
 use std::thread::Threads;
@@ -74,7 +75,14 @@ fn print_faults(rt: &HostRuntime) -> Result<()> {
         print!(rt; "{fault}")?;
     }
     print!(rt; "{}", LineFault::NotText)?;
-    print!(rt; "{}", LineFault::Configuration)?;
+    for option in [
+        ConfigOption::Pages,
+        ConfigOption::Quantum,
+        ConfigOption::Trigger,
+        ConfigOption::Every,
+    ] {
+        print!(rt; "{}", LineFault::Configuration(option))?;
+    }
     print!(rt; "{}", LineFault::NoMemory)?;
     Ok(())
 }

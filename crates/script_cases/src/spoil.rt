@@ -24,7 +24,7 @@ fn with_byte(alloc: Global, text: &[u8], at: usize, byte: u8) -> Result<Vec<u8>,
     Ok(spoiled)
 }
 
-/// Makes the call on the text with another byte at one place. Where that stands in a comment, nothing changes.
+/// Makes the call on the text with another byte at one place. If that stands in a comment, nothing changes.
 fn spoil_at<R: Threads + Wait + Sync>(
     rt: &R,
     trial: &Trial<'_>,

@@ -137,7 +137,7 @@ fn try_trial<R: Threads + Wait + Sync>(
     }
 }
 
-/// What fills holes at this turn; where nothing does, they are left.
+/// What fills holes at this turn; if nothing does, they are left.
 fn filling(words: &[Vec<u8>], turn: usize) -> &[u8] {
     match words.get(turn) {
         Some(word) => word.as_slice(),

@@ -1,5 +1,6 @@
 use Rattle.std.proofs.Common.{sym}
-use Rattle.mh_program.proofs.NumberLemmas.{makes}
+use Rattle.std.proofs.lemmas.Bool.{false≢true}
+use Rattle.mh_program.proofs.NumberLemmas.{lies_outside, makes}
 use Rattle.mh_program.proofs.options.config_given.Goals as goal
 
 pub returns-in-Some-clause-config : goal.returns-in-Some-clause-config
@@ -7,5 +8,8 @@ returns-in-Some-clause-config c =
     makes _ _ _ _ _ _ c.in_ok-pages.ensures.number c.in_ok-quantum.ensures.number c.in_ok-trigger.ensures.number c.in_ok-every.ensures.number (sym c.in-Some.ensures.value)
 
 pub returns-in-None-clause-fault : goal.returns-in-None-clause-fault
-returns-in-None-clause-fault c =
-    makes _ _ _ _ _ _ c.in_ok-pages.ensures.number c.in_ok-quantum.ensures.number c.in_ok-trigger.ensures.number c.in_ok-every.ensures.number (sym c.in-None.ensures.value)
+returns-in-None-clause-fault c = (
+  makes _ _ _ _ _ _ c.in_ok-pages.ensures.number c.in_ok-quantum.ensures.number c.in_ok-trigger.ensures.number c.in_ok-every.ensures.number (sym c.in-None.ensures.value),
+  lies_outside _ _ _ _ _ _ c.in_ok-pages.ensures.number c.in_ok-quantum.ensures.number c.in_ok-trigger.ensures.number c.in_ok-every.ensures.number
+      (λ is. false≢true (c.in-None.ensures.within.1 is)) c.outside.ensures,
+)

@@ -1,4 +1,5 @@
-use Rattle.mh_program.proofs.SubcommandLemmas.{gives_order, matched_one, options_refused, words_refused}
+use Rattle.std.proofs.Common.{rules}
+use Rattle.mh_program.proofs.SubcommandLemmas.{gives_order, matched_one, options_refused, version_asked, words_refused}
 use Rattle.mh_program.proofs.order.order.Goals as goal
 
 pub order_of-requires : goal.order_of-requires
@@ -17,3 +18,6 @@ returns-in-Ok-try_get_matches_from-clause-fault g c =
 
 pub returns-clause-fault : goal.returns-clause-fault
 returns-clause-fault g c = words_refused _ _ c.in-Err.error _ c.in-Ok.ensures c.in-Err.ensures.kinds c.refused_words.ensures
+
+pub returns-in-Err-clause-order : goal.returns-in-Err-clause-order
+returns-in-Err-clause-order g c = version_asked _ _ c.in-Err.error c.in-Ok.ensures c.in-Err.ensures.kinds (search rules)

@@ -1,6 +1,7 @@
 use Rattle.std.proofs.Common.{sym, subst}
 use Rattle.mh_script.specs.Run.{device}
-use Rattle.mh_program.specs.Program.{TellsLine}
+use Rattle.mh_model.specs.Bytes.{Text}
+use Rattle.mh_program.specs.Program.{Tells, TellsLine}
 use Rattle.mh_program.specs.declared.fault.LineFault.{LineFault}
 use Rattle.mh_program.proofs.program.tell_line.Goals as goal
 
@@ -17,7 +18,8 @@ returns-in-NotText g c =
 pub returns-in-Configuration : goal.returns-in-Configuration
 returns-in-Configuration g c =
     let P : LineFault → Type 0 = λ fault. TellsLine (device (g.E.Sink.written c.args.errors.now) (g.E.Sink.failures c.args.errors.now)) (device (g.E.Sink.written c.tell-in-Configuration.new.errors) (g.E.Sink.failures c.tell-in-Configuration.new.errors)) fault in
-    subst P (sym c.in-Configuration.is) c.tell-in-Configuration.ensures
+    let Q : Text → Type 0 = λ text. Tells (device (g.E.Sink.written c.args.errors.now) (g.E.Sink.failures c.args.errors.now)) (device (g.E.Sink.written c.tell-in-Configuration.new.errors) (g.E.Sink.failures c.tell-in-Configuration.new.errors)) text in
+    subst P (sym c.in-Configuration.is) (subst Q c.outside_line.ensures c.tell-in-Configuration.ensures)
 
 pub returns-in-NoMemory : goal.returns-in-NoMemory
 returns-in-NoMemory g c =

@@ -1,4 +1,4 @@
--- What can be shown on standard error.
+-- What can be printed on standard error.
 use Rattle.std.specs.Prelude.{◌≡◌, ◌≤◌, ◌⊎◌, ℕ, Bool, List, ◌&&◌, nat_le}
 use Rattle.std.specs.List.{All}
 
@@ -7,9 +7,9 @@ abbrev pub is_printable : ℕ → Bool
 is_printable byte = nat_le 32 byte && nat_le byte 126
 
 -- the byte ends a line, or can be printed
-abbrev pub IsShownByte : ℕ → Type 0
-IsShownByte byte = (byte ≡ 10) ⊎ ((32 ≤ byte) × (byte ≤ 126))
+abbrev pub IsPrintableByte : ℕ → Type 0
+IsPrintableByte byte = (byte ≡ 10) ⊎ ((32 ≤ byte) × (byte ≤ 126))
 
 -- a text in which nothing but the ends of lines can't be printed
-abbrev pub IsShown : List ℕ → Type 0
-IsShown text = All IsShownByte text
+abbrev pub IsPrintable : List ℕ → Type 0
+IsPrintable text = All IsPrintableByte text
