@@ -19,7 +19,7 @@ const SCRIPT: &[u8] =
 const ANSWERS: &str =
     "ok\nok\nok\nok\nnumber 7\nshape 1 1\nok\nok\nok\nok\nno\nok\nrefused 6 ended\nok\nspent 339 phase idle\nleft 0\nfree 3 live 1 old 0 phase idle cycle 1\ndump P0 C6 - 0=0.0\nmutator 13 collector 339 quanta 1 greatest 339 window 300 least 0 floor none\n";
 
-/// The replies of a run, of which no clause tells: what those of `run` tell is long.
+/// The replies of a run, of which no clause speaks: what those of `run` say is long.
 fn replies_of<R: Threads>(
     rt: &R,
     alloc: Global,

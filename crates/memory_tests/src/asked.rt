@@ -12,7 +12,7 @@ use mh_text::script::Script;
 use std::alloc::Global;
 use std::test::Fail;
 
-/// Whether a state answers an event. No clause tells of it: what that of `apply` leads to is long.
+/// Whether a state answers an event. No clause speaks of it: what that of `apply` leads to is long.
 fn answers<S: Scanner>(state: &mut State, event: Event, scanner: &mut S) -> bool {
     state.apply(event, scanner).is_ok()
 }
@@ -139,11 +139,11 @@ pub fn lines_of(alloc: Global, replies: &[Reply]) -> Result<String, Fail> {
 
 /// A way through the events of a script.
 pub trait Course {
-    /// What there is to tell at its end.
+    /// What there is to report at its end.
     fn run(&mut self, asked: &mut Asked<'_>) -> Result<String, Fail>;
 }
 
-/// What is told of a state that goes this way through the events of a script.
+/// What is reported of a state that goes this way through the events of a script.
 pub fn told_by<C: Course>(alloc: Global, script: &Script, course: &mut C) -> Result<String, Fail> {
     let mut asked = Asked::new(alloc, script)?;
     course.run(&mut asked)

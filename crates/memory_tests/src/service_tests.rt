@@ -20,7 +20,7 @@ fn call_all<A: Attempt>(called: &mut A, famine: Option<&mut Famine>) -> Result<(
     Ok(())
 }
 
-/// What is told after all calls.
+/// What is reported after all calls.
 fn told_after<A: Attempt + Drop>(
     mut called: A,
     famine: Option<&mut Famine>,

@@ -29,8 +29,8 @@ use mh_text::text_error::TextError;
 use mh_text_laws::verdicts::{texts_are_audited, texts_are_checked};
 use std::alloc::Global;
 
-/// An entry of some version, as a judge is shown it.
-trait Shown: FromLine + Drop {
+/// An entry of some version, which a judge can be shown.
+trait JudgedEntry: FromLine + Drop {
     // What a judge who was shown entries knows, and which are lawful.
     ghost has_seen: { Config → List Self → Judging → Type 0 };
 
@@ -47,7 +47,7 @@ trait Shown: FromLine + Drop {
     ghost judged: { (judging : Judging) (verdict : Verdict) → Finds judging verdict → (config : Config) (seen : List Self) → has_seen config seen judging → IsJudged (lawful config) seen verdict };
 }
 
-impl Shown for Entry {
+impl JudgedEntry for Entry {
     ghost has_seen = { HasSeenEntries };
 
     ghost lawful = { IsLegal };
@@ -63,7 +63,7 @@ impl Shown for Entry {
     ghost judged = { λ judging verdict finds. finds.entries };
 }
 
-impl Shown for Measured {
+impl JudgedEntry for Measured {
     ghost has_seen = { HasSeenMeasured };
 
     ghost lawful = { IsLegalRecord };
@@ -80,7 +80,7 @@ impl Shown for Measured {
 }
 
 /// Shows a judge an entry, and then those that are left, each as it is read.
-fn replay<E: Shown>(
+fn replay<E: JudgedEntry>(
     alloc: Global,
     judge: &mut Judge,
     first: &E,
@@ -98,7 +98,7 @@ fn replay<E: Shown>(
 }
 
 /// The verdict on the entries that are left of a history. No machine is opened before there is one.
-fn judge_lines<E: Shown>(
+fn judge_lines<E: JudgedEntry>(
     alloc: Global,
     config: Config,
     mut lines: Lines<'_>,

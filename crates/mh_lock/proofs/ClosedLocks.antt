@@ -44,7 +44,7 @@ module _ {X E : Type 0} (seat_of : X → LockSeatView E) where
   logs_of-stand logs (seat ∷ seats) stand zero other below = stand.0
   logs_of-stand logs (seat ∷ seats) stand (suc k) other below = logs_of-stand logs seats stand.1 k other (omega arith)
 
-  -- what the end of a lock tells
+  -- what the end of a lock says
   pub record Tells {O : Type 0} (owner : E → ℕ) (lock : LockView O) (seats : List X) (history : List E) (origin : O) : Type 0 where
     pub numbers : (number : ℕ) → number < lock.seats → count_by (λ seat. (seat_of seat).number == number) seats ≡ 1
     pub logs : All (λ seat. (seat_of seat).log ≡ owned_by owner (seat_of seat).number history) seats

@@ -1,4 +1,4 @@
--- What a seat knows over a call, and what a closed lock tells of its seats.
+-- What a seat knows over a call, and what a closed lock says of its seats.
 use Rattle.std.proofs.Common.{arith, ◌≡◌, List, [], ◌∷◌, ◌++◌, ℕ, suc, ◌+◌, ◌<◌, length, get_or, take, drop, None, sym, refl, ap, ◌∙◌, subst}
 use mathlib.Core.Logic.{dite}
 use native.Mathlib.Decide.{ℕ_discrete}

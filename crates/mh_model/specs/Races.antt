@@ -35,7 +35,7 @@ pub record IsRacedFull (script : Meaning) (written : Text) : Type 0 where
   pub calls : BeginsTheCalls script.events entries
   pub text : written ≡ recorded_text (record { config = script.config; entries = entries })
 
--- A beginning of what a race writes that has made the first calls of its seats
+-- A prefix of what a race writes that has made the first calls of its seats
 pub record IsRaceBegun (script : Meaning) (written : Text) : Type 0 where
   pub entries : List Measured
   pub legal : IsLegalRecord script.config entries

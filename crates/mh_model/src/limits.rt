@@ -1,5 +1,17 @@
 //! The numbers of the rules, each named once for the code. The model has them where it speaks of them.
 
+/// The most pages of a heap.
+pub const MOST_PAGES: u32 = 4096;
+
+/// The least units of a quantum: those of the dearest step.
+pub const LEAST_QUANTUM: u32 = 209;
+
+/// The most units of a quantum.
+pub const MOST_QUANTUM: u32 = 1_000_000;
+
+/// The most units of the mutator between two quanta that the scheduler runs.
+pub const MOST_EVERY: u32 = 1_000_000;
+
 /// The words of a page.
 pub const PAGE_WORDS: usize = 256;
 

@@ -196,7 +196,7 @@ impl KeptHeap {
         u64::from(self.cycle.config().quantum)
     }
 
-    /// What the laws tell of this heap. It does nothing when it runs.
+    /// What the laws say of this heap. It does nothing when it runs.
     pub(crate) fn told(&self)
         ensures { IsTold self.now }
     {

@@ -20,7 +20,7 @@ use mh_model::stat::Stat;
 use mh_scan::scan::Scanner;
 use std::alloc::Global;
 
-/// The heap of pages, with what the laws tell of it at each moment.
+/// The heap of pages, with what the laws say of it at each moment.
 #[derive(Drop)]
 pub struct PagedHeap {
     pub kept: KeptHeap,

@@ -13,7 +13,7 @@ use Rattle.mh_model.specs.Limits.{is_configuration}
 use Rattle.mh_model.specs.declared.config.Config.{Config}
 use Rattle.mh_model.specs.declared.config.Rules.TheVariants.{First}
 use Rattle.mh_program.specs.Line.{HoldsNumber, IsHeld, IsNumber, ReadsNumber, number_in}
-use Rattle.mh_program.specs.Orders.{HasOutside, IsBlamed, IsOutsideBy, MakesConfig}
+use Rattle.mh_program.specs.Orders.{AreOutside, HasNumbers, IsBlamed, IsOutsideBy, MakesConfig, ConfigNumbers, first_config}
 use Rattle.mh_program.specs.declared.options.OptionNumber.{OptionNumber}
 use Rattle.mh_program.specs.declared.line.ConfigOption.{ConfigOption}
 use Rattle.mh_program.specs.declared.line.ConfigOption.TheVariants.{Pages, Quantum, Trigger, Every}
@@ -80,24 +80,38 @@ exact : (found : Option Text) (held : ℕ) → IsSomeAnd found (λ text. IsNumbe
 exact None held h = absurd h
 exact (Some text) held h = record { number = number_in text; given = (h.0, refl); is_held = h.1 }
 
-pub makes : (rows : List Row) (p q t e : ℕ) (made : Option Config) → HoldsNumber rows (codes "pages") p → HoldsNumber rows (codes "quantum") q → HoldsNumber rows (codes "trigger") t → HoldsNumber rows (codes "every") e
-    → configured_first p q t e ≡ made → MakesConfig rows made
-makes rows p q t e made hp hq ht he is =
+-- the numbers that are held as these
+record AreHeld (rows : List Row) (p q t e : ℕ) : Type 0 where
+  numbers : ConfigNumbers
+  has : HasNumbers rows numbers
+  pages : IsHeld numbers.pages p
+  quantum : IsHeld numbers.quantum q
+  trigger : IsHeld numbers.trigger t
+  every : IsHeld numbers.every e
+
+held : (rows : List Row) (p q t e : ℕ) → HoldsNumber rows (codes "pages") p → HoldsNumber rows (codes "quantum") q → HoldsNumber rows (codes "trigger") t → HoldsNumber rows (codes "every") e → AreHeld rows p q t e
+held rows p q t e hp hq ht he =
     let a = exact (one_of (codes "pages") rows) p hp in
     let b = exact (one_of (codes "quantum") rows) q hq in
     let c = exact (one_of (codes "trigger") rows) t ht in
     let d = exact (one_of (codes "every") rows) e he in
     record {
-      pages = a.number;
-      quantum = b.number;
-      trigger = c.number;
-      every = d.number;
-      has_pages = a.given;
-      has_quantum = b.given;
-      has_trigger = c.given;
-      has_every = d.given;
-      makes = same_config _ _ _ _ p q t e a.is_held b.is_held c.is_held d.is_held ∙ is;
+      numbers = record { pages = a.number; quantum = b.number; trigger = c.number; every = d.number };
+      has = record { pages = a.given; quantum = b.given; trigger = c.given; every = d.given };
+      pages = a.is_held;
+      quantum = b.is_held;
+      trigger = c.is_held;
+      every = d.is_held;
     }
+
+same_first : (rows : List Row) (p q t e : ℕ) (are : AreHeld rows p q t e) → first_config are.numbers ≡ configured_first p q t e
+same_first rows p q t e are = same_config _ _ _ _ p q t e are.pages are.quantum are.trigger are.every
+
+pub makes : (rows : List Row) (p q t e : ℕ) (config : Config) → HoldsNumber rows (codes "pages") p → HoldsNumber rows (codes "quantum") q → HoldsNumber rows (codes "trigger") t → HoldsNumber rows (codes "every") e
+    → configured_first p q t e ≡ Some config → MakesConfig rows config
+makes rows p q t e config hp hq ht he is =
+    let are = held rows p q t e hp hq ht he in
+    record { numbers = are.numbers; has = are.has; makes = same_first rows p q t e are ∙ is }
 
 -- The option that is blamed ------------------------------------------------------------------------
 
@@ -108,36 +122,28 @@ trigger_outside p q t e never a b c d f = go (nat_le t p) refl where
   go true is = absurd (never (rw (le-leb 1 p a, le-leb p 4096 b, le-leb 209 q c, le-leb q 1000000 d, is, le-leb e 1000000 f) refl))
   go false is = leb-false t p is
 
-beyond : (option : ConfigOption) (p q t e p' q' t' e' : ℕ) → IsHeld p p' → IsHeld q q' → IsHeld t t' → IsHeld e e' → (is_configuration p' q' t' e' ≡ true → ⊥) → IsBlamed p' q' e' option → IsOutsideBy option p q t e
-beyond Pages p q t e p' q' t' e' (inl a) b c d never (inl low) = inl (omega (arith, a.1, low))
-beyond Pages p q t e p' q' t' e' (inl a) b c d never (inr high) = inr (omega (arith, a.1, high))
-beyond Pages p q t e p' q' t' e' (inr a) b c d never is = inr (omega (arith, a.0))
-beyond Quantum p q t e p' q' t' e' a (inl b) c d never (inl low) = inl (omega (arith, b.1, low))
-beyond Quantum p q t e p' q' t' e' a (inl b) c d never (inr high) = inr (omega (arith, b.1, high))
-beyond Quantum p q t e p' q' t' e' a (inr b) c d never is = inr (omega (arith, b.0))
-beyond Every p q t e p' q' t' e' a b c (inl d) never is = omega (arith, d.1, is)
-beyond Every p q t e p' q' t' e' a b c (inr d) never is = omega (arith, d.0)
-beyond Trigger p q t e p' q' t' e' (inr a) b c d never is = absurd (omega (arith, a.1, is.1))
-beyond Trigger p q t e p' q' t' e' (inl a) b c d never is = go c (trigger_outside p' q' t' e' never is.0 is.1 is.2 is.3 is.4) where
-  go : IsHeld t t' → p' < t' → p < t
+beyond : (option : ConfigOption) (n : ConfigNumbers) (p' q' t' e' : ℕ) → IsHeld n.pages p' → IsHeld n.quantum q' → IsHeld n.trigger t' → IsHeld n.every e' → (is_configuration p' q' t' e' ≡ true → ⊥) → IsBlamed p' q' e' option → IsOutsideBy option n
+beyond Pages n p' q' t' e' (inl a) b c d never (inl low) = inl (omega (arith, a.1, low))
+beyond Pages n p' q' t' e' (inl a) b c d never (inr high) = inr (omega (arith, a.1, high))
+beyond Pages n p' q' t' e' (inr a) b c d never is = inr (omega (arith, a.0))
+beyond Quantum n p' q' t' e' a (inl b) c d never (inl low) = inl (omega (arith, b.1, low))
+beyond Quantum n p' q' t' e' a (inl b) c d never (inr high) = inr (omega (arith, b.1, high))
+beyond Quantum n p' q' t' e' a (inr b) c d never is = inr (omega (arith, b.0))
+beyond Every n p' q' t' e' a b c (inl d) never is = omega (arith, d.1, is)
+beyond Every n p' q' t' e' a b c (inr d) never is = omega (arith, d.0)
+beyond Trigger n p' q' t' e' (inr a) b c d never is = absurd (omega (arith, a.1, is.1))
+beyond Trigger n p' q' t' e' (inl a) b c d never is = go c (trigger_outside p' q' t' e' never is.0 is.1 is.2 is.3 is.4) where
+  go : IsHeld n.trigger t' → p' < t' → n.pages < n.trigger
   go (inl c) above = omega (arith, a.1, c.1, above)
   go (inr c) above = omega (arith, a.1, is.1, c.0)
 
 pub lies_outside : (rows : List Row) (p q t e : ℕ) (option : ConfigOption) → HoldsNumber rows (codes "pages") p → HoldsNumber rows (codes "quantum") q → HoldsNumber rows (codes "trigger") t → HoldsNumber rows (codes "every") e
-    → (is_configuration p q t e ≡ true → ⊥) → IsBlamed p q e option → HasOutside rows option
-lies_outside rows p q t e option hp hq ht he never is =
-    let a = exact (one_of (codes "pages") rows) p hp in
-    let b = exact (one_of (codes "quantum") rows) q hq in
-    let c = exact (one_of (codes "trigger") rows) t ht in
-    let d = exact (one_of (codes "every") rows) e he in
+    → configured_first p q t e ≡ None → (is_configuration p q t e ≡ true → ⊥) → IsBlamed p q e option → AreOutside rows option
+lies_outside rows p q t e option hp hq ht he none never is =
+    let are = held rows p q t e hp hq ht he in
     record {
-      pages = a.number;
-      quantum = b.number;
-      trigger = c.number;
-      every = d.number;
-      has_pages = a.given;
-      has_quantum = b.given;
-      has_trigger = c.given;
-      has_every = d.given;
-      outside = beyond option _ _ _ _ p q t e a.is_held b.is_held c.is_held d.is_held never is;
+      numbers = are.numbers;
+      has = are.has;
+      none = same_first rows p q t e are ∙ none;
+      outside = beyond option are.numbers p q t e are.pages are.quantum are.trigger are.every never is;
     }

@@ -1,6 +1,6 @@
 -- What `clap` finds in words that it takes for the program's: one of its subcommands, with what that one's options may be.
 use Rattle.std.proofs.Common.{◌≡◌, ◌∙◌, Bool, true, false, not, if◌then◌else◌, ◌&&◌, List, [], ◌∷◌, Option, Some, None, is_some, option_map, refl, sym, ap, subst, inl, inr, codes}
-use Rattle.std.specs.Prelude.{IfSome, IsSomeAnd, find}
+use Rattle.std.specs.Prelude.{◌≢◌, IfSome, IsSomeAnd, find}
 use Rattle.std.specs.Option.{option_map_or}
 use Rattle.std.specs.List.{list_any}
 use Rattle.std.proofs.lemmas.Bool.{false≢true}
@@ -137,6 +137,13 @@ names_one words e =
     some_asked top (finished top.rules end.held) (entered (built metroheap) end.stopped) refl (none_next defaults _ (none_next settles _ (none_next below _ after)))
     (entered-asked (built metroheap) sound-metroheap end.stopped (none_first below _ after))
 
+abbrev is_version : ErrorKind → Bool
+is_version kind.DisplayVersion = true
+is_version _ = false
+
+other_kind : (k : ErrorKind) → is_version k ≡ false → k ≢ kind.DisplayVersion
+other_kind k other e = false≢true (sym other ∙ ap is_version e)
+
 -- what `clap` matched, of a command that is the program's
 module _ (a : App) (words : List Text) (m : ArgMatches) (is : a ≡ metroheap) (matches : HasMatchesOf a words m) (taken : is_simple_and_free a ≡ true → fault_of a words ≡ []) where
   no_fault : fault_of metroheap words ≡ []
@@ -170,7 +177,7 @@ module _ (a : App) (words : List Text) (m : ArgMatches) (is : a ≡ metroheap) (
 
   -- options with a fault are refused so
   pub options_refused : (fault : OptionFault) (line : LineFault) → IsSomeAnd (subcommand_rows_of m) (λ subcommand. HasOptionFault subcommand.0 subcommand.1 fault) → RefusesOptions fault line → IsFault words line
-  options_refused (NoNumber name text) (Words error) has told = NotNumbers (asks_no_number (has_no_number name text (subcommand_rows_of m) has)) told
+  options_refused (NoNumber name text) (Words error) has told = (other_kind (kind_of error) (ap is_version told), NotNumbers (asks_no_number (has_no_number name text (subcommand_rows_of m) has)) told)
   options_refused (NoNumber name text) NoMemory has told = tt
   options_refused (NoNumber name text) NotText has told = absurd told
   options_refused (NoNumber name text) (Configuration option) has told = absurd told
@@ -188,25 +195,18 @@ refuses a words e is has other = go (subst (λ a. HasKind (fault_of a words) e) 
   go (inl memory) = absurd (other memory)
   go (inr among) = among
 
-abbrev is_version : ErrorKind → Bool
-is_version kind.DisplayVersion = true
-is_version _ = false
-
-version_is_no_memory : kind.DisplayVersion ≡ kind.OutOfMemory → ⊥
-version_is_no_memory e = false≢true (sym (ap is_version e))
-
 -- words that `clap` doesn't take are refused so
-pub words_refused : (a : App) (words : List Text) (e : Error) (line : LineFault) → a ≡ metroheap → (is_simple_and_free a ≡ true → HasKind (fault_of a words) e) → Refuses (kind_of e) line → IsFault words line
-words_refused a words e (Words told) is has refused =
+pub words_refused : (a : App) (words : List Text) (e : Error) (line : LineFault) → a ≡ metroheap → (is_simple_and_free a ≡ true → HasKind (fault_of a words) e) → kind_of e ≢ kind.DisplayVersion → Refuses (kind_of e) line → IsFault words line
+words_refused a words e (Words told) is has asks refused =
     let P : ErrorKind → Type 0 = λ k. IsAmong k (fault_of metroheap words) in
-    NotTaken (subst P (sym refused.1) (refuses a words e is has refused.0))
-words_refused a words e NoMemory is has refused = tt
-words_refused a words e NotText is has refused = absurd refused
-words_refused a words e (Configuration option) is has refused = absurd refused
+    ((λ version. asks (sym refused.1 ∙ version)), NotTaken (subst P (sym refused.1) (refuses a words e is has refused.0)))
+words_refused a words e NoMemory is has asks refused = tt
+words_refused a words e NotText is has asks refused = absurd refused
+words_refused a words e (Configuration option) is has asks refused = absurd refused
 
 -- words of which `clap` finds that they ask for the version give that order
 pub version_asked : (a : App) (words : List Text) (e : Error) → a ≡ metroheap → (is_simple_and_free a ≡ true → HasKind (fault_of a words) e) → kind_of e ≡ kind.DisplayVersion → GivesOrder words Version
 version_asked a words e is has version =
     let P : ErrorKind → Type 0 = λ k. IsAmong k (fault_of metroheap words) in
-    let other : kind_of e ≡ kind.OutOfMemory → ⊥ = λ memory. version_is_no_memory (sym version ∙ memory) in
+    let other : kind_of e ≡ kind.OutOfMemory → ⊥ = λ memory. other_kind (kind_of e) (ap is_version memory) version in
     record { meant = AsksVersion refl (subst P version (refuses a words e is has other)); few = tt; rules = tt }

@@ -18,49 +18,52 @@ use Rattle.mh_program.specs.Line.{HasNumber, IsConfigOption, LacksNumber, TakesN
 
 -- Orders -----------------------------------------------------------------------------------------
 
--- what the four numbers in the matches make under the first rules: a configuration, or none outside the limits
-pub record MakesConfig (rows : List Row) (made : Option Config) : Type 0 where
+-- the numbers of a configuration, in the limits or not
+pub record ConfigNumbers : Type 0 where
   pub pages : ℕ
   pub quantum : ℕ
   pub trigger : ℕ
   pub every : ℕ
-  pub has_pages : HasNumber rows (codes "pages") pages
-  pub has_quantum : HasNumber rows (codes "quantum") quantum
-  pub has_trigger : HasNumber rows (codes "trigger") trigger
-  pub has_every : HasNumber rows (codes "every") every
-  pub makes : configured_first pages quantum trigger every ≡ made
+
+-- each stands in the matches under the name of its option
+pub record HasNumbers (rows : List Row) (numbers : ConfigNumbers) : Type 0 where
+  pub pages : HasNumber rows (codes "pages") numbers.pages
+  pub quantum : HasNumber rows (codes "quantum") numbers.quantum
+  pub trigger : HasNumber rows (codes "trigger") numbers.trigger
+  pub every : HasNumber rows (codes "every") numbers.every
+
+-- the configuration of these numbers under the first rules, none outside the limits
+abbrev pub first_config : ConfigNumbers → Option Config
+first_config numbers = configured_first numbers.pages numbers.quantum numbers.trigger numbers.every
+
+-- the numbers in the matches make this configuration
+pub record MakesConfig (rows : List Row) (config : Config) : Type 0 where
+  pub numbers : ConfigNumbers
+  pub has : HasNumbers rows numbers
+  pub makes : first_config numbers ≡ Some config
 
 -- the order of a subcommand with its matches
 abbrev pub IsOrder : Text → List Row → Order → Type 0
 IsOrder name rows (Run workers) = (name ≡ codes "run") × (workers ≡ workers_of rows)
 IsOrder name rows (Race workers) = (name ≡ codes "race") × (workers ≡ workers_of rows)
-IsOrder name rows (Check config) = (name ≡ codes "check") × MakesConfig rows (Some config)
+IsOrder name rows (Check config) = (name ≡ codes "check") × MakesConfig rows config
 IsOrder name rows Audit = name ≡ codes "audit"
-IsOrder name rows (Migrate config) = (name ≡ codes "migrate") × MakesConfig rows (Some config)
+IsOrder name rows (Migrate config) = (name ≡ codes "migrate") × MakesConfig rows config
 IsOrder name rows Version = ⊥
 
 -- an option of a configuration is outside its limits: that of the trigger if it is above that of the pages
-abbrev pub IsOutsideBy : ConfigOption → (pages quantum trigger every : ℕ) → Type 0
-IsOutsideBy Pages pages quantum trigger every = (pages < 1) ⊎ (4096 < pages)
-IsOutsideBy Quantum pages quantum trigger every = (quantum < 209) ⊎ (1000000 < quantum)
-IsOutsideBy Trigger pages quantum trigger every = pages < trigger
-IsOutsideBy Every pages quantum trigger every = 1000000 < every
+abbrev pub IsOutsideBy : ConfigOption → ConfigNumbers → Type 0
+IsOutsideBy Pages numbers = (numbers.pages < 1) ⊎ (4096 < numbers.pages)
+IsOutsideBy Quantum numbers = (numbers.quantum < 209) ⊎ (1000000 < numbers.quantum)
+IsOutsideBy Trigger numbers = numbers.pages < numbers.trigger
+IsOutsideBy Every numbers = 1000000 < numbers.every
 
--- the number that this option has in the matches is outside its limits
-pub record HasOutside (rows : List Row) (option : ConfigOption) : Type 0 where
-  pub pages : ℕ
-  pub quantum : ℕ
-  pub trigger : ℕ
-  pub every : ℕ
-  pub has_pages : HasNumber rows (codes "pages") pages
-  pub has_quantum : HasNumber rows (codes "quantum") quantum
-  pub has_trigger : HasNumber rows (codes "trigger") trigger
-  pub has_every : HasNumber rows (codes "every") every
-  pub outside : IsOutsideBy option pages quantum trigger every
-
--- the numbers make no configuration, and this one is outside its limits
-abbrev pub AreOutside : List Row → ConfigOption → Type 0
-AreOutside rows option = MakesConfig rows None × HasOutside rows option
+-- the numbers in the matches make no configuration, and that of this option is outside its limits
+pub record AreOutside (rows : List Row) (option : ConfigOption) : Type 0 where
+  pub numbers : ConfigNumbers
+  pub has : HasNumbers rows numbers
+  pub none : first_config numbers ≡ None
+  pub outside : IsOutsideBy option numbers
 
 -- the subcommand takes the numbers of a configuration, and this one is outside its limits
 abbrev pub IsOutside : Text → List Row → ConfigOption → Type 0
@@ -83,7 +86,7 @@ HasFirstRules order = Unit {0}
 -- the option that is blamed of numbers that are no configuration: one that is outside its limits, and that of the trigger if no other is
 abbrev pub IsBlamed : (pages quantum every : ℕ) → ConfigOption → Type 0
 IsBlamed pages quantum every Trigger = (1 ≤ pages) × (pages ≤ 4096) × (209 ≤ quantum) × (quantum ≤ 1000000) × (every ≤ 1000000)
-IsBlamed pages quantum every option = IsOutsideBy option pages quantum 0 every
+IsBlamed pages quantum every option = IsOutsideBy option (record { pages = pages; quantum = quantum; trigger = 0; every = every })
 
 -- what is wrong with the options of a configuration: one is no number, or one is outside its limits
 abbrev pub IsOptionFault : List Row → OptionFault → Type 0
@@ -123,9 +126,9 @@ pub data AreRefused (words : List Text) (kind : ErrorKind) : Type 0 where
   NotNumbers : AsksNoNumber words → kind ≡ ValueValidation → AreRefused words kind
 
 -- words are refused only if `clap` doesn't take them, with one of the kinds of fault that it finds first, or if their
--- configuration is outside the limits
+-- configuration is outside the limits; words that ask for the version are never refused for that
 abbrev pub IsFault : List Text → LineFault → Type 0
-IsFault words (Words error) = AreRefused words (kind_of error)
+IsFault words (Words error) = (kind_of error ≢ DisplayVersion) × AreRefused words (kind_of error)
 IsFault words NotText = ⊥
 IsFault words (Configuration option) = AsksOutside words option
 IsFault words NoMemory = Unit {0}

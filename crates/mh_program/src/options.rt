@@ -9,6 +9,7 @@ ghost use Rattle.mh_program.specs.Orders.{IsBlamed, IsOptionFault, MakesConfig};
 use crate::line::ConfigOption;
 use clap::ArgMatches;
 use mh_model::config::Config;
+use mh_model::limits::{LEAST_QUANTUM, MOST_EVERY, MOST_PAGES, MOST_QUANTUM};
 use std::str::FromStr;
 
 /// Why the options of a configuration give none.
@@ -91,11 +92,11 @@ fn number_given<'a>(matches: &ArgMatches<'a>, name: &'static str) -> Result<u32,
 fn outside(pages: u32, quantum: u32, every: u32) -> ConfigOption
     ensures { IsBlamed pages quantum every result }
 {
-    if !(1..=4096).contains(&pages) {
+    if !(1..=MOST_PAGES).contains(&pages) {
         ConfigOption::Pages
-    } else if !(209..=1_000_000).contains(&quantum) {
+    } else if !(LEAST_QUANTUM..=MOST_QUANTUM).contains(&quantum) {
         ConfigOption::Quantum
-    } else if every > 1_000_000 {
+    } else if every > MOST_EVERY {
         ConfigOption::Every
     } else {
         ConfigOption::Trigger
@@ -105,7 +106,7 @@ fn outside(pages: u32, quantum: u32, every: u32) -> ConfigOption
 /// The configuration of a subcommand's options.
 pub(crate) fn config_given<'a>(matches: &ArgMatches<'a>) -> Result<Config, OptionFault<'a>>
     requires { AreGiven (rows_of (found_of matches.now)) }
-    ensures config { IfOk result (λ config. MakesConfig (rows_of (found_of matches.now)) (Some config)) }
+    ensures config { IfOk result (MakesConfig (rows_of (found_of matches.now))) }
     ensures fault { IfErr result (IsOptionFault (rows_of (found_of matches.now))) }
 {
     let pages = number_given(matches, "pages")?;

@@ -47,6 +47,6 @@ pub half-machine : (moment : Moment) (event : Event) → (half_moment moment eve
 unfolding half_moment
 half-machine moment event = refl
 
--- who asks for the quanta left is told them
+-- who asks for the quanta left is answered with them
 pub told-left : QuantaLeftEndTheCycle → (machine : Machine) (given : Reply) → given ≡ (event_step machine (event.Control control.Left)).reply → given ≡ reply.Left (left_of machine)
 told-left law machine given same = same ∙ control-reply machine control.Left ∙ ap (λ (a : Answer Machine). a.reply) (law.told machine)

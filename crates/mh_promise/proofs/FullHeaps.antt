@@ -1,13 +1,13 @@
--- A full heap answers no command but a new object.
-use Rattle.std.proofs.Common.{◌≡◌, ℕ, if◌then◌else◌, Bool, true, false, Option, Some, None, List, [], ◌∷◌, get_or, nat_le, refl, sym, ap, ◌∙◌}
+-- A full heap answers no command but a new object, and none that another test refuses.
+use Rattle.std.proofs.Common.{◌≡◌, ℕ, ◌+◌, if◌then◌else◌, Bool, true, false, Option, Some, None, List, [], ◌∷◌, get_or, nat_le, nat_lt, refl, sym, ap, ◌∙◌}
 use Rattle.std.proofs.lemmas.Bool.{false≢true}
 use Rattle.mh_model.specs.declared.command.Command.{Command}
 use Rattle.mh_model.specs.declared.command.Command.TheVariants as command
 use Rattle.mh_model.specs.declared.reply.Refusal.{Refusal}
-use Rattle.mh_model.specs.declared.reply.Refusal.TheVariants.{Ended, HeapFull, TooManySessions}
+use Rattle.mh_model.specs.declared.reply.Refusal.TheVariants.{BadSlot, Ended, HeapFull, TooLarge, TooManySessions}
 use Rattle.mh_model.specs.declared.reply.Reply.TheVariants as reply
 use Rattle.mh_model.specs.declared.shape.Shape.{Shape}
-use Rattle.mh_model.specs.World.{Answer, own_slot, first_refusal, tests, names_same, refusal, unless_refused}
+use Rattle.mh_model.specs.World.{Answer, own_slot, first_refusal, is_bad, never_full, tests, names_same, refusal, unless_refused}
 use Rattle.mh_model.specs.Mutator.{HeapState, root_at, shape_at, heap_sight, heap_effect, mutator_step}
 use Rattle.mh_model.specs.Snapshot.{is_heap_full}
 use Rattle.mh_run_laws.proofs.worlds.FullHeaps.{yes_or_no-other, shape_reply-other}
@@ -55,3 +55,27 @@ module _ (heap : HeapState) (who : ℕ) where
   new-alone (command.Post board slot) e = other-command (command.Post board slot) (refl, (refl, (refl, (refl, tt)))) refl e
   new-alone (command.Take slot board) e = other-command (command.Take slot board) (refl, (refl, (refl, (refl, tt)))) refl e
   new-alone command.End e = other-command command.End (refl, (refl, tt)) refl e
+
+-- The tests of a new object ----------------------------------------------------------------------
+
+-- its tests in order, with what they find
+abbrev new_tests : (many ended bad large full : Bool) → List (Bool × Refusal)
+new_tests many ended bad large full = (many, TooManySessions) ∷ (ended, Ended) ∷ (bad, BadSlot) ∷ (large, TooLarge) ∷ (full, HeapFull) ∷ []
+
+refused-other : (refused : Refusal) (heap : HeapState) (answer : Answer HeapState) → is_heap_full (reply.Refused refused) ≡ false → ¬ ((unless_refused (Some refused) heap answer).reply ≡ reply.Refused HeapFull)
+refused-other refused heap answer plain e = false≢true (sym plain ∙ ap is_heap_full e)
+
+-- no test but the last refuses what a full heap refuses
+last-alone : (many ended bad large full : Bool) (heap : HeapState) (answer : Answer HeapState) → (unless_refused (first_refusal (new_tests many ended bad large full)) heap answer).reply ≡ reply.Refused HeapFull
+    → first_refusal (new_tests many ended bad large false) ≡ None
+last-alone true ended bad large full heap answer e = absurd (refused-other TooManySessions heap answer refl e)
+last-alone false true bad large full heap answer e = absurd (refused-other Ended heap answer refl e)
+last-alone false false true large full heap answer e = absurd (refused-other BadSlot heap answer refl e)
+last-alone false false false true full heap answer e = absurd (refused-other TooLarge heap answer refl e)
+last-alone false false false false full heap answer e = refl
+
+-- what a full heap refuses, no other test refuses
+pub full-alone : (heap : HeapState) (who slot references numbers : ℕ) → (mutator_step heap who (command.New slot references numbers)).reply ≡ reply.Refused HeapFull
+    → refusal (record (heap_sight heap) { is_full = never_full }) who (command.New slot references numbers) ≡ None
+unfolding mutator_step
+full-alone heap who slot references numbers e = last-alone (nat_le 8 who) (get_or (heap_sight heap).ended who false) (is_bad slot) (nat_lt (heap_sight heap).most (references + numbers)) ((heap_sight heap).is_full references numbers) heap (heap_effect heap who (command.New slot references numbers)) e

@@ -18,7 +18,7 @@ use Rattle.mh_model.specs.Machine.{Machine, quantum_run, control_step, event_ste
 use Rattle.mh_laws.specs.Costs.{QuantumKeepsItsLimit}
 use Rattle.mh_promise.proofs.AnsweredEvents.{session-reply, control-reply}
 
--- the units that a reply tells of a quantum
+-- the units that a reply states of a quantum
 pub units_of : Reply → ℕ
 units_of (reply.Spent units phase) = units
 units_of _ = 0
@@ -72,7 +72,7 @@ module _ (keeps : QuantumKeepsItsLimit) where
   control-units machine control.Left = omega arith
   control-units machine (control.Report window) = omega arith
 
-  -- No reply tells more units than are configured
+  -- No reply states more units than are configured
   pub event-units : (machine : Machine) (event : Event) → units_of (event_step machine event).reply ≤ machine.heap.config.quantum
   event-units machine (event.Session who command) = let none = ap units_of (session-reply machine who command) ∙ mutator-units machine.heap who command in omega (arith, none)
   event-units machine (event.Control control) = subst (λ r. units_of r ≤ machine.heap.config.quantum) (sym (control-reply machine control)) (control-units machine control)

@@ -1,4 +1,4 @@
--- What a run promises of its outcome. If a clause speaks of the events before another, it holds at each beginning of the run.
+-- What a run promises of its outcome. If a clause speaks of the events before another, it holds at each moment of the run.
 use Rattle.std.specs.Prelude.{◌≡◌, ℕ, ◌-◌, ◌<◌, ◌≤◌, true, false, Some, None, List, [], ◌∷◌, ◌++◌, length}
 use Rattle.mh_model.specs.declared.command.Command.{Command}
 use Rattle.mh_model.specs.declared.command.Command.TheVariants as command
@@ -40,14 +40,16 @@ abbrev pub IsNew : Command → Type 0
 IsNew (command.New slot references numbers) = Unit {0}
 IsNew _ = ⊥
 
--- A full heap answers new objects alone, only if some part of the object has no place, and each that no other test refuses if one has none
+-- A full heap answers new objects alone, only if some part of the object has no place and no other test refuses it, and then always
 pub record FullIsNoPlace (config : Config) (events : List Event) (replies : List Reply) : Type 0 where
   pub new : (before : List Event) (who : ℕ) (asked : Command) → IsAnswered events replies before (event.Session who asked) (reply.Refused HeapFull) → IsNew asked
   pub only : (before : List Event) (who slot references numbers : ℕ) → IsAnswered events replies before (event.Session who (command.New slot references numbers)) (reply.Refused HeapFull) → new_group (machine_at config before).heap references numbers ≡ None
+  pub alone : (before : List Event) (who slot references numbers : ℕ) → IsAnswered events replies before (event.Session who (command.New slot references numbers)) (reply.Refused HeapFull)
+      → refusal (record (heap_sight (machine_at config before).heap) { is_full = never_full }) who (command.New slot references numbers) ≡ None
   pub each : (before : List Event) (who slot references numbers : ℕ) (given : Reply) → IsAnswered events replies before (event.Session who (command.New slot references numbers)) given
       → refusal (record (heap_sight (machine_at config before).heap) { is_full = never_full }) who (command.New slot references numbers) ≡ None → new_group (machine_at config before).heap references numbers ≡ None → given ≡ reply.Refused HeapFull
 
--- A command that is refused, by a full heap too, changes nothing of the heap: only the quantum that it makes due may
+-- A command that is refused, by a full heap too, leaves the heap as it was; only the quantum that it makes due may change it. Its unit counts
 abbrev pub RefusedChangesNothing : Config → List Event → List Reply → Type 0
 RefusedChangesNothing config events replies = (before : List Event) (who : ℕ) (command : Command) (refused : Refusal) → IsAnswered events replies before (event.Session who command) (reply.Refused refused)
     → (half_step (machine_at config before) (event.Session who command)).heap ≡ (machine_at config before).heap
@@ -127,9 +129,9 @@ pub record IsPromised (config : Config) (events : List Event) (outcome : Outcome
   pub answered : AreAnswered events outcome.replies
   -- replies are those of a heap that never collects or moves
   pub replies : AreTheWorlds config events outcome.replies
-  -- a full heap answers new objects alone, just when there is no place
+  -- a full heap answers new objects alone, exactly if there is no place and nothing else refuses them
   pub full : FullIsNoPlace config events outcome.replies
-  -- what is refused changes nothing
+  -- a command that is refused leaves the heap as it was
   pub refused : RefusedChangesNothing config events outcome.replies
   -- no quantum is longer than configured
   pub limit : QuantaKeepTheirLimit config events outcome
@@ -137,11 +139,11 @@ pub record IsPromised (config : Config) (events : List Event) (outcome : Outcome
   pub cycles : CyclesLeaveWhatIsKept config events
   -- and no forwarder that it didn't make itself
   pub forwarders : CyclesMakeTheirForwarders config events
-  -- at each moment the snapshot is kept, what sessions see is the world's, and no reference leads to a freed place
+  -- at each moment the snapshot is kept, what sessions see is the world's, and each reference of a root or of a held block leads to a held block in one hop at most
   pub moments : MomentsAreSafe config events
   -- a cycle that runs ends within its bound of quanta
   pub ends : CyclesEnd config events
-  -- and what is reported of the quanta left is true
+  -- and once as many quanta as are reported to be left have been run, it has ended
   pub left : LeftTellsTheEnd config events outcome.replies
   -- if the scheduler runs quanta, the mutator has its share of the units
   pub share : 0 < config.every → MutatorHasItsFloor config outcome

@@ -8,7 +8,7 @@ use Rattle.mh_model.specs.Mutator.{HeapState, new_group, heap_sight, mutator_ste
 use Rattle.mh_model.specs.View.{heap_view}
 use Rattle.mh_model.specs.Invariant.{IsKeeping}
 
--- the parts of a new object have no places
+-- not all parts of a new object find a place
 abbrev pub has_no_place : HeapState → ℕ → ℕ → Bool
 has_no_place heap references numbers = is_none (new_group heap references numbers)
 

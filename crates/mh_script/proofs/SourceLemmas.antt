@@ -1,4 +1,4 @@
--- What was read of a source tells how its whole text reads.
+-- What was read of a source settles how its whole text reads.
 use Rattle.std.proofs.Common.{◌≡◌, ℕ, List, ◌<◌, ◌≤◌, Bool, true, false, if◌then◌else◌, cond, nat_lt, inl, inr, [], ◌++◌, length, Option, Some, None, refl, subst, ap, sym, ◌∙◌, append-nil, length-append, arith}
 use Rattle.std.proofs.KnownBytes.{Appends-nil}
 use Rattle.std.proofs.lemmas.Bool.Decides.{nat_tests}

@@ -61,7 +61,7 @@ module _ (law : EventsKeepTheReplay) where
         promise = law.promise config (events_of stored.history) (replies_of stored.history) stored.machine is.replay;
       }
 
--- what the state tells of an event
+-- what the state says of an event
 pub answered : (found left : Stored) (event : Event) (answer : Result Reply Stop) → IfOk answer (λ given. event_step found.machine event ≡ says given left.machine) → IfOk answer (λ given. left.history ≡ with_entry found.history event given)
     → OnErr answer (KeepsState found left) → (IsErrOf answer stop.HistoryFull → length found.history ≡ most_entries) → (length found.history ≡ most_entries → IsErrOf answer stop.HistoryFull)
     → (IsErrOf answer stop.NoMemory → MayWantMemory found event) → MatchResult answer (λ reply. IsDone event found reply left) (λ reason. IsRefused event found reason left)
@@ -72,14 +72,14 @@ answered found left event (Err reason) step entered stopped full ends memory = r
   memory = λ is. memory (ap Err is);
 }
 
--- a full history is told as full
+-- a full history is reported as full
 full-refuses : (config : Config) (event : Event) (answer : Result Reply Stop) (found left : Stored) → IsLegal config left.history → MatchResult answer (λ reply. IsDone event found reply left) (λ reason. IsRefused event found reason left) → length found.history ≡ most_entries → IsErrOf answer stop.HistoryFull
 full-refuses config event (Ok reply) found left legal done full =
     let entry : Entry = record { event = event; reply = reply } in
     absurd (omega (arith, full, legal.few, ap length done.entered, length-append found.history (entry ∷ [])))
 full-refuses config event (Err reason) found left legal done full = ap Err ((done.full).1 full)
 
--- what a call that took the lock tells
+-- what a call that took the lock says
 pub call-served : (service : ServiceView) (before after : LockSeatView Entry) (event : Event) (answer : Result Reply Stop) (found left : Stored) → found.machine.heap.config ≡ service.config → left.machine.heap.config ≡ service.config
     → IsReplayOf found.machine.heap.config found → IsReplayOf left.machine.heap.config left → before.log ≡ owned_by (λ entry. owner_of entry.event) before.number found.history
     → after.log ≡ owned_by (λ entry. owner_of entry.event) after.number left.history → MatchResult answer (λ reply. IsDone event found reply left) (λ reason. IsRefused event found reason left)

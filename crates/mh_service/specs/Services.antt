@@ -44,7 +44,7 @@ pub record AreMerged (seats : List (LockSeatView Entry)) (history : List Entry) 
   pub each : All (λ seat. get_or logs seat.number [] ≡ seat.log) seats
   pub merge : IsMerge logs history
 
--- A call that took the lock: it found the replay of a history under the service's configuration, and left the replay of one, in each of which the seat owns just its log. If it was answered, its event was done in the state found, and where it was refused, that state is left; a full history is told as full
+-- A call that took the lock: it found the replay of a history under the service's configuration, and left the replay of one, in each of which the seat owns just its log. If it was answered, its event was done in the state found, and where it was refused, that state is left; a full history is reported as full
 pub record IsServed (service : ServiceView) (before after : LockSeatView Entry) (event : Event) (answer : Result Reply Stop) : Type 0 where
   pub found : Stored
   pub left : Stored

@@ -28,7 +28,7 @@ pub record HasDone (config : Config) (events : List Event) (count : ℕ) (replie
   pub answered : length replies ≡ count
   pub few : count ≤ most_entries
 
--- some of the events were done, and the one after them was refused: for the full history exactly where that was full
+-- some of the events were done, and the one after them was refused: for the full history exactly if that was full
 pub record IsStopped (config : Config) (events : List Event) (replies : List Reply) (running : Running) (stop : Stop) : Type 0 where
   pub count : ℕ
   pub has : HasDone config events count replies running

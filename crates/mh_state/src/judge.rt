@@ -183,7 +183,7 @@ pub fn check(alloc: Global, config: Config, history: &[Entry]) -> Result<(), Che
     judge.settle(history)
 }
 
-/// Replays a history whose entries tell their units, with one worker. An entry past the 1,000,000th is bad.
+/// Replays a history whose entries state their units, with one worker. An entry past the 1,000,000th is bad.
 pub fn audit(alloc: Global, config: Config, entries: &[Measured]) -> Result<(), CheckFault>
     ensures legal { OnOk result (IsLegalRecord config entries.now) }
     ensures bad { IfErr result (TellsFirstBad (IsLegalRecord config) entries.now) }

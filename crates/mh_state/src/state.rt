@@ -106,7 +106,7 @@ impl State {
         }
     }
 
-    /// What the laws tell of this state. It does nothing when it runs.
+    /// What the laws say of this state. It does nothing when it runs.
     fn told(&self)
         ensures legal { IsLegal self.now.machine.heap.config self.now.history }
         ensures replay { IsTheReplay self.now }

@@ -2,4 +2,4 @@ pub mod WholeLines
 pub mod LineReaders
 pub mod ScriptLines
 pub mod HistoryLines
-pub mod LeastBadLine
+pub mod FirstBadLine

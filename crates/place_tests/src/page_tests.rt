@@ -43,7 +43,7 @@ fn flag(pages: &mut Pages) {
     }
 }
 
-/// One word tells that a set has no page, two words tell its least page, and one the free places of a page.
+/// One word shows that a set has no page, two words its least page, and one the free places of a page.
 #[test]
 fn a_search_reads_few_words(rt: HostRuntime) -> Result<(), Fail> {
     let class = class_of(10).ok_or("a class")?;

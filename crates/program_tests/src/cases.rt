@@ -7,7 +7,7 @@ pub struct Case<'a> {
     pub input: &'a [u8],
     /// One output, and for a race of two sessions its other order.
     pub outputs: &'a [&'a [u8]],
-    /// How what is told of the words begins, if they are refused.
+    /// How what is reported of the words begins, if they are refused.
     pub told: &'a [u8],
     pub status: u8,
 }
@@ -33,7 +33,7 @@ impl Case<'_> {
     }
 }
 
-/// Nothing is told.
+/// Nothing is reported.
 pub const NONE: &[u8] = b"";
 
 pub const RUN: &[&[u8]] = &[b"metroheap", b"run"];
@@ -85,7 +85,7 @@ const FIRST_BAD: &[u8] = b"first bad 4\n";
 const OTHER_VERSION: &[u8] = b"refused 10 line 1\n";
 
 pub const CASES: &[Case<'static>] = &[
-    // A cycle over one object, told by a report.
+    // A cycle over one object, shown by a report.
     Case {
         words: RUN,
         input: b"config 4 353 0 0\na new 0 0 0\n* start\n* quantum\n* quantum\n* report 361\n",

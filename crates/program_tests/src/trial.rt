@@ -45,11 +45,11 @@ pub const SOUND_DEVICES: Devices = Devices {
 pub enum Outcome {
     /// As it does if no device fails.
     Right,
-    /// With nothing written, and a line that tells that a read failed.
+    /// With nothing written, and a line that says that a read failed.
     ReadFailed,
-    /// With less than the output, a prefix of it, and a line that tells that a write failed.
+    /// With less than the output, a prefix of it, and a line that says that a write failed.
     WriteFailed,
-    /// With nothing read or written, and what is wrong with the words told.
+    /// With nothing read or written, and what is wrong with the words reported.
     WordsRefused,
     Other,
 }
@@ -70,13 +70,13 @@ const READ_FAILED: &[u8] = b"metroheap: read failed\n";
 
 const WRITE_FAILED: &[u8] = b"metroheap: write failed\n";
 
-/// Whether this was told, or a prefix of it if standard error failed.
+/// Whether this was reported, or a prefix of it if standard error failed.
 fn is_told(errors: &Troubled<'_>, text: &[u8]) -> bool {
     let told = errors.taken.as_slice();
     told == text || (errors.at > 0 && errors.at == errors.calls && text.starts_with(told))
 }
 
-/// Whether what was told begins so, or as far as standard error took it.
+/// Whether what was reported begins so, or as far as standard error took it.
 fn begins_to_tell(errors: &Troubled<'_>, text: &[u8]) -> bool {
     is_told(errors, text) || (errors.calls > 0 && errors.taken.as_slice().starts_with(text))
 }

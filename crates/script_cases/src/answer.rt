@@ -1,6 +1,6 @@
 use std::alloc::{AllocError, Global};
 
-/// What the program is to write and to tell, and its status.
+/// What the program is to write and to report, and its status.
 pub struct Answer {
     pub status: u8,
     /// What is written, or what `audit` writes of that.
@@ -8,7 +8,7 @@ pub struct Answer {
     pub is_audited: bool,
     /// A line of what is written.
     pub held: Vec<u8>,
-    /// What standard error is told, or how that begins.
+    /// What standard error gets, or how that begins.
     pub errors: Vec<u8>,
     pub errors_go_on: bool,
 }
@@ -27,7 +27,7 @@ impl Drop for Answer {
 }
 
 impl Answer {
-    /// An answer that is written so, and of which standard error is told nothing.
+    /// An answer that is written so, and of which standard error gets nothing.
     pub fn new(alloc: Global, status: u8, output: Vec<u8>) -> Answer {
         Answer {
             status,

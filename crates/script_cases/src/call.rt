@@ -5,7 +5,7 @@ use std::sync::Wait;
 use std::thread::Threads;
 use test_support::environment::Words;
 
-/// What the program wrote and told, and its status.
+/// What the program wrote and reported, and its status.
 pub struct Written {
     pub status: u8,
     pub output: Vec<u8>,

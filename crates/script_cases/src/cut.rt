@@ -15,7 +15,7 @@ fn number_after(line: &[u8], words: &[u8]) -> Option<usize> {
 }
 
 /// The answer to whole lines of which so many say something, if the answer to all lines decides it. That a text is refused
-/// doesn't tell what its first lines are answered, nor does a history that isn't legal tell what they are migrated to.
+/// doesn't show what its first lines are answered, nor does a history that isn't legal show what they are migrated to.
 fn answer_to_lines(
     alloc: Global,
     line: &[u8],

@@ -1,4 +1,4 @@
-//! Prints what faults show, and tries the cases of the files that its words name: what the program writes, tells and answers on
+//! Prints what faults show, and tries the cases of the files that its words name: what the program writes, reports and answers on
 //! texts.
 //!
 //! A line that begins with `%` is a heading, and the lines under it are its own, each with its end. In headings and lines
@@ -22,7 +22,7 @@
 //! | `% answer STATUS` | the status, and the output |
 //! | `% audited` | the status is 0, and these lines are what `audit` writes of the output |
 //! | `% holds` | a line that the output has |
-//! | `% errors`, `% errors begin` | what standard error is told, or how that begins; if neither stands, nothing |
+//! | `% errors`, `% errors begin` | what standard error gets, or how that begins; if neither stands, nothing |
 //!
 //! Types that own many texts have a `drop` of their own, which takes them apart: who owns one proves one call if it is dropped.
 #![tactic(auto)]
@@ -55,7 +55,7 @@ use std::sync::Wait;
 use std::thread::Threads;
 use std::{env, fs};
 
-/// Tries the cases of one file, and tells how many calls there were and which of them were wrong.
+/// Tries the cases of one file, and reports how many calls there were and which of them were wrong.
 fn try_file<R: Threads + Wait + Sync>(rt: &HostRuntime, threads: &R, name: &str) -> Result<()> {
     let text = fs::read_to_string(rt, name)?;
     let cases = read_cases(rt.alloc(), text.as_str())?;

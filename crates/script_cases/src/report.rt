@@ -3,7 +3,7 @@ use crate::trial::Trial;
 use std::alloc::{AllocError, Global};
 use std::fmt;
 
-/// The most wrong answers that are told.
+/// The most wrong answers that are listed.
 const MOST_TOLD: u64 = 20;
 
 /// How many calls were made, how many answers were wrong, and a line for each of the first of these.

@@ -46,7 +46,7 @@ pub struct Call<'a> {
 #[derive(Clone, Copy, Debug, PartialEq, Eq)]
 pub enum Outcome {
     Right,
-    /// Refused memory was told, and so many bytes were written, which are a prefix of what is right.
+    /// Refused memory was reported, and so many bytes were written, which are a prefix of what is right.
     Refused(usize),
     Wrong,
 }
@@ -54,9 +54,9 @@ pub enum Outcome {
 /// How the program ended.
 #[derive(Clone, Copy)]
 enum Ending {
-    /// With this status, and nothing was told.
+    /// With this status, and nothing was reported.
     Quiet(u8),
-    /// For refused memory, which was told.
+    /// For refused memory, which was reported.
     NoMemory,
     Other,
 }

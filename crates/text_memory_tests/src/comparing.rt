@@ -1,7 +1,7 @@
 use std::io;
 use std::io::Write;
 
-/// A writer that takes no memory: it keeps nothing, and tells whether what was written is a prefix of a text.
+/// A writer that takes no memory: it keeps nothing, and reports whether what was written is a prefix of a text.
 #[derive(Drop)]
 pub struct Comparing<'a> {
     text: &'a [u8],

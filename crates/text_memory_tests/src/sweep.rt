@@ -72,7 +72,7 @@ impl<'a> Sweep<'a> {
         })
     }
 
-    /// Makes one attempt with so many bytes left, and tells whether it was right.
+    /// Makes one attempt with so many bytes left, and reports whether it was right.
     fn attempt<R: Threads + Wait + Sync>(
         &mut self,
         rt: &R,

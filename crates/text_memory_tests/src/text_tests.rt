@@ -149,7 +149,7 @@ fn a_crew_without_threads_and_with_them(rt: HostRuntime) -> Result<(), Fail> {
     Ok(())
 }
 
-/// A beginning of the output is written before memory is refused.
+/// A prefix of the output is written before memory is refused.
 fn check_beginnings<R: Threads + Wait + Sync + Abort>(
     rt: &R,
     alloc: Global,

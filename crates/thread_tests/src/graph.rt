@@ -78,7 +78,7 @@ pub const SCHEDULED_CUT: u64 = 7;
 /// How many pieces the batches of the scheduled quanta have.
 pub const SCHEDULED_PIECES: u64 = 98;
 
-/// The lines of the scheduled script's history that tell of quanta.
+/// The lines of the scheduled script's history that speak of quanta.
 pub const SCHEDULED_QUANTA: &[u8] =
     b"s0 put 2 0 1 = ok units 1 999\ns0 new 2 1 0 = ok units 1 1000\ns0 shape 0 = shape 8 0 units 1 296\ns0 shape 0 = shape 8 0 units 1 999\ns0 shape 0 = shape 8 0 units 1 1000\ns0 shape 0 = shape 8 0 units 1 334\ns0 shape 0 = shape 8 0 units 1 999\ns0 shape 0 = shape 8 0 units 1 1000\n";
 

@@ -50,7 +50,7 @@ fn a_session_passes_its_gate_before_its_first_call(rt: HostRuntime) -> Result<()
     Ok(())
 }
 
-/// The lines of a history that tell of units of the collector.
+/// The lines of a history that state units of the collector.
 fn quanta_of(alloc: Global, history: &[u8]) -> Result<Vec<u8>, Fail> {
     let mut quanta = Vec::new(alloc);
     for line in history.split_inclusive(|byte| *byte == b'\n').skip(1) {
@@ -61,7 +61,7 @@ fn quanta_of(alloc: Global, history: &[u8]) -> Result<Vec<u8>, Fail> {
     Ok(quanta)
 }
 
-/// The lines that tell of quanta in the history of a race.
+/// The lines that speak of quanta in the history of a race.
 fn quanta_of_race<R: Threads + Wait + Sync>(
     rt: &R,
     alloc: Global,

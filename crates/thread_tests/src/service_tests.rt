@@ -56,7 +56,7 @@ fn desk_script(alloc: Global) -> Result<Vec<u8>, Fail> {
     Ok(script)
 }
 
-/// What it is told.
+/// What it is given.
 fn desk_output(alloc: Global) -> Result<String, Fail> {
     let mut output = String::new(alloc);
     output.push_str("ok\n")?;

@@ -373,7 +373,7 @@ cycle_ends = record {
       (machine_after-keeps (IsLater config machine) (command-later config machine) (quantum-later config machine) (asking-later config machine) more machine (first-later config machine (run-stays config events))) run;
 }
 
--- and tells so while it runs
+-- and reports so while it runs
 quanta_left-running : (config : Config) (machine : Machine) → machine.heap.config ≡ config → is_idle machine.heap.collector.phase ≡ false → left_of machine ≡ most_quanta config - machine.heap.collector.quanta
 quanta_left-running config machine same runs = ap (λ idle. if idle then 0 else most_quanta machine.heap.config - machine.heap.collector.quanta) runs ∙ ap (λ c. most_quanta c - machine.heap.collector.quanta) same
 

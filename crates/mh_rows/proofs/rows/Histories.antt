@@ -17,7 +17,7 @@ small = record { pages = 4; quantum = 209; trigger = 0; every = 0; rules = Secon
 abbrev entry : Event → Reply → Entry
 entry event reply = record { event = event; reply = reply }
 
--- an object that the one session posts and the other takes, and what the other is told of its shape
+-- an object that the one session posts and the other takes, and what the other is answered of its shape
 abbrev posted : Reply → List Entry
 posted told = entry (a (New 0 0 1)) reply.Done ∷ entry (a (Write 0 0 5)) reply.Done ∷ entry (a (Post 0 0)) reply.Done ∷ entry (b (Take 0 0)) reply.Done ∷ entry (b (Shape 0)) told ∷ []
 

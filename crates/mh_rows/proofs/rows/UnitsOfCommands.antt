@@ -45,7 +45,7 @@ pub controls_are_no_units : lines 4 209 0 2 (a (Clear 0) ∷ start ∷ stat ∷ 
 unfolding worked
 controls_are_no_units = refl
 
--- if quanta are scheduled an asked one tells the phase, runs nothing and leaves the count
+-- if quanta are scheduled an asked one reports the phase, runs nothing and leaves the count
 pub scheduled_quanta_alone : lines 4 209 0 2 (start ∷ a (Clear 0) ∷ quantum_asked ∷ a (Clear 0) ∷ quantum_asked ∷ a (Clear 0) ∷ quantum_asked ∷ report 1 ∷ a (Clear 0) ∷ stat ∷ [])
     ≡ codes "ok\nok\nspent 0 phase idle\nok\nspent 0 phase roots\nok\nspent 0 phase roots\nmutator 3 collector 208 quanta 1 greatest 208 window 1 least 0 floor 0\nok\nfree 4 live 0 old 0 phase idle cycle 1\n"
 unfolding worked

@@ -53,6 +53,6 @@ log_with_anothers_entry kept = ⊎_elim
 pub at_home_and_out : ¬ IsKeptBy owner (record out { home = Some (0 ∷ []) })
 at_home_and_out kept = ⊎_elim (λ home. let word : 1 ≡ 0 = home.word in omega arith) (λ away. let none : Some (0 ∷ []) ≡ None = away.home in cc) kept
 
--- a word that tells that the value is out, if it is at home
+-- a word that says that the value is out, if it is at home
 pub wrong_word : ¬ IsKeptBy owner (record at_home { word = 1 })
 wrong_word kept = ⊎_elim (λ home. let word : 1 ≡ 0 = home.word in omega arith) (λ away. let none : Some (0 ∷ []) ≡ None = away.home in cc) kept

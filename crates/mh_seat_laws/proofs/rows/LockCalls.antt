@@ -18,7 +18,7 @@ taken = refl
 pub tried : with_take taken_by_second 0 ≡ taken_by_second
 tried = refl
 
--- whether it is at home is told by the word
+-- the word says whether it is at home
 pub tried_by_the_word : with_take (record free { word = 1 }) 1 ≡ record free { word = 1 }
 tried_by_the_word = refl
 

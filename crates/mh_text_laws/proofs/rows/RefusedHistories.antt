@@ -91,7 +91,7 @@ pub pages_descend : IsChecked two_pages (codes "history 1\n* dump = dump P1 C4 -
 unfolding history_reading worked
 pages_descend = refl
 
--- so none is told twice
+-- so none is listed twice
 pub page_twice : IsChecked two_pages (codes "history 1\n* dump = dump P1 C4 - P1 C4 -\n") (Refused 2)
 unfolding history_reading worked
 page_twice = refl
@@ -101,7 +101,7 @@ pub slots_descend : IsChecked two_pages (codes "history 1\n* dump = dump P1 C4 -
 unfolding history_reading worked
 slots_descend = refl
 
--- of which none is told twice
+-- of which none is listed twice
 pub slot_twice : IsChecked two_pages (codes "history 1\n* dump = dump P1 C4 - 3=0.0 3=1.0\n") (Refused 2)
 unfolding history_reading worked
 slot_twice = refl
@@ -116,7 +116,7 @@ pub forwarder_before_its_page : IsChecked two_pages (codes "history 1\n* dump = 
 unfolding history_reading worked
 forwarder_before_its_page = refl
 
--- a page is told with its flag
+-- a page is written with its flag
 pub page_without_a_flag : IsChecked two_pages (codes "history 1\n* dump = dump P1 C4\n") (Refused 2)
 unfolding history_reading worked
 page_without_a_flag = refl
@@ -136,7 +136,7 @@ pub other_word_for_phase : IsChecked two_pages (codes "history 1\n* quantum = sp
 unfolding history_reading worked
 other_word_for_phase = refl
 
--- what is no number is told by its word
+-- what is no number is known by its word
 pub other_word_for_none : IsChecked two_pages (codes "history 1\n* report 1 = mutator 0 collector 0 quanta 0 greatest 0 window 1 least none floor nothing\n") (Refused 2)
 unfolding history_reading worked
 other_word_for_none = refl

@@ -76,19 +76,19 @@ pub every_above_0 : output (codes "config 4 209 0 2\na end\n* quantum\n* report 
 unfolding output reading worked
 every_above_0 = refl
 
--- the quanta that are left are told before a cycle, while it runs, and after it
+-- the quanta that are left are reported before a cycle, while it runs, and after it
 pub quanta_left : output (codes "config 4 353 0 0\n* left\na new 0 0 0\n* start\n* left\n* quantum\n* left\n* quantum\n* left\n")
     ≡ codes "left 0\nok\nok\nleft 0\nspent 353 phase sweep\nleft 911\nspent 7 phase idle\nleft 0\n"
 unfolding output reading worked
 quanta_left = refl
 
--- the phase in which blocks are marked is told
+-- the phase in which blocks are marked is reported
 pub marking_told : output (codes "config 4 300 0 0\na new 0 60 0\n* start\n* quantum\n* stat\n")
     ≡ codes "ok\nok\nspent 288 phase mark\nfree 3 live 1 old 0 phase mark cycle 1\n"
 unfolding output reading worked
 marking_told = refl
 
--- a dump tells blocks and forwarders by their pages, and a stat counts them
+-- a dump lists blocks and forwarders by their pages, and a stat counts them
 pub stat_and_dump : output (codes "config 4 209 0 0\na new 0 1 59\na new 1 1 59\na new 2 1 59\na new 3 1 59\na new 4 1 59\na put 0 0 4\na clear 1\n* start\n* quantum\n* quantum\n* quantum\n* quantum\n* dump\n* stat\n")
     ≡ codes "ok\nok\nok\nok\nok\nok\nok\nok\nspent 208 phase roots\nspent 99 phase defrag\nspent 209 phase defrag\nspent 5 phase idle\ndump P0 C64 - 0=0.0 1=4.0 2=2.0 3=3.0 P1 C64 + 0>0.1\nfree 2 live 4 old 1 phase idle cycle 1\n"
 unfolding output reading worked

@@ -5,7 +5,7 @@ use Rattle.mh_judging.proofs.judge.judge_lines.Goals as goal
 
 pub returns-clause-verdict : goal.returns-clause-verdict
 returns-clause-verdict g c =
-    let none = g.met.E.Shown.none_seen c.args.config _ (record { entries = c.in_ok-judge.ensures.entries; measured = c.in_ok-judge.ensures.measured }) in
+    let none = g.met.E.JudgedEntry.none_seen c.args.config _ (record { entries = c.in_ok-judge.ensures.entries; measured = c.in_ok-judge.ensures.measured }) in
     IfOk-weaker c.replay.result _ _ (λ verdict judged. verdict_taken _ _ _ _ _ verdict (rw c.in-Some.is at c.in_ok-first.ensures.taken) (judged c.args.config none)) c.replay.ensures.verdict
 
 pub returns-clause-line : goal.returns-clause-line

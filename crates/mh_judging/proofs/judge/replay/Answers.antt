@@ -14,5 +14,5 @@ loop-entry-preserved g c =
 pub returns-clause-verdict : goal.returns-clause-verdict
 returns-clause-verdict g c =
     let end : entries_left g.E.FromLine.of_line c.loop-entry.lines ≡ Means [] = search rules in
-    λ config none. shown_end c.loop-entry.invariant (g.E.Shown.lawful config) _ end
-    (λ seen has. g.met.E.Shown.judged _ _ (record { entries = c.verdict.ensures.entries; measured = c.verdict.ensures.measured }) config seen (has config none))
+    λ config none. shown_end c.loop-entry.invariant (g.E.JudgedEntry.lawful config) _ end
+    (λ seen has. g.met.E.JudgedEntry.judged _ _ (record { entries = c.verdict.ensures.entries; measured = c.verdict.ensures.measured }) config seen (has config none))

@@ -17,7 +17,7 @@ returns-in-Ok-try_get_matches_from-clause-fault g c =
     c.in-Err-order_of.fault _ c.in-Err-order_of.ensures.fault c.refused_options.ensures
 
 pub returns-clause-fault : goal.returns-clause-fault
-returns-clause-fault g c = words_refused _ _ c.in-Err.error _ c.in-Ok.ensures c.in-Err.ensures.kinds c.refused_words.ensures
+returns-clause-fault g c = words_refused _ _ c.in-Err.error _ c.in-Ok.ensures c.in-Err.ensures.kinds (search rules) c.refused_words.ensures
 
 pub returns-in-Err-clause-order : goal.returns-in-Err-clause-order
 returns-in-Err-clause-order g c = version_asked _ _ c.in-Err.error c.in-Ok.ensures c.in-Err.ensures.kinds (search rules)

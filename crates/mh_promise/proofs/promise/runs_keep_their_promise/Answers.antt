@@ -16,7 +16,7 @@ use Rattle.mh_promise.specs.Runs.{machine_at, moment_at}
 use Rattle.mh_promise.proofs.RunsByEvents.{after_more, replies-length}
 use Rattle.mh_run_laws.proofs.forwarders.RunForwarders.{event-quantum}
 use Rattle.mh_promise.proofs.AnsweredEvents.{answered-is, beside-is, session-reply, told-left, half-heap, half-machine}
-use Rattle.mh_promise.proofs.FullHeaps.{new-alone}
+use Rattle.mh_promise.proofs.FullHeaps.{full-alone, new-alone}
 use Rattle.mh_promise.proofs.SpentUnits.{told-units}
 use Rattle.mh_promise.proofs.promise.runs_keep_their_promise.Goals as goal
 
@@ -36,6 +36,9 @@ returns c config events outcome is = record {
     only = λ before who slot references numbers answered.
         let same = answered-is config events outcome.replies before (event.Session who (command.New slot references numbers)) (reply.Refused HeapFull) is.replies answered in
         c.full_heap_has_no_place.ensures (machine_at config before).heap who slot references numbers (sym (same ∙ session-reply (machine_at config before) who (command.New slot references numbers)));
+    alone = λ before who slot references numbers answered.
+        let same = answered-is config events outcome.replies before (event.Session who (command.New slot references numbers)) (reply.Refused HeapFull) is.replies answered in
+        full-alone (machine_at config before).heap who slot references numbers (sym (same ∙ session-reply (machine_at config before) who (command.New slot references numbers)));
     each = λ before who slot references numbers given answered others none.
         let same = answered-is config events outcome.replies before (event.Session who (command.New slot references numbers)) given is.replies answered in
         same ∙ session-reply (machine_at config before) who (command.New slot references numbers) ∙ c.no_place_is_a_full_heap.ensures (machine_at config before).heap who slot references numbers others none;

@@ -6,7 +6,7 @@ use Rattle.std.proofs.lemmas.Grind.{flat_map-append}
 use Rattle.mh_model.specs.Bytes.{Text, Cut, cut_after, line_text, lines_text}
 use Rattle.mh_model.specs.Script.{Reading, BadLine, Means, script_of, reading}
 use Rattle.mh_model.specs.HistoryTexts.{history_of, history_reading, recorded_of, recorded_reading}
-use Rattle.mh_text_laws.specs.Beginnings.{front, Begins, IsLeastBad, HasOneLeastBadLine, LeastBadLinesAreOne}
+use Rattle.mh_text_laws.specs.Beginnings.{front, Begins, IsFirstBad, HasOneFirstBadLine, FirstBadLinesAreOne}
 use Rattle.mh_text_laws.proofs.ListLemmas.{all-take}
 use Rattle.mh_text_laws.proofs.round_trips.WordRoundTrips.{is_free, cut-lines}
 use Rattle.mh_text_laws.proofs.round_trips.HistoryRoundTrips.{cut-text}
@@ -31,10 +31,10 @@ begins-shorter read n m text within begins =
     sym (append_assoc (front n text) between begins.0) ∙ ap (λ (found : Text). found ++ begins.0) (lines-between n m (cut_after 10 text).pieces within) in
     (between ++ begins.0, begins.1, ap (λ (found : Text). read (cut_after 10 found)) same ∙ begins.2)
 
-no_earlier_line : {X : Type 0} (read : Cut → Reading X) (text : Text) (n m : ℕ) → n < m → IsLeastBad read text n → IsLeastBad read text m → ⊥
+no_earlier_line : {X : Type 0} (read : Cut → Reading X) (text : Text) (n m : ℕ) → n < m → IsFirstBad read text n → IsFirstBad read text m → ⊥
 no_earlier_line read text n m below h k = h.bad (omega (arith, k.within)) (begins-shorter read n (m - 1) text (omega arith) k.before)
 
-one-least : {X : Type 0} (read : Cut → Reading X) → HasOneLeastBadLine read
+one-least : {X : Type 0} (read : Cut → Reading X) → HasOneFirstBadLine read
 one-least read text n m h k =
     elim (cases_order n m) as (λ _. n ≡ m) [
       | inl same ↦ same
@@ -44,7 +44,7 @@ one-least read text n m h k =
       ]
     ]
 
-pub lines-one : LeastBadLinesAreOne
+pub lines-one : FirstBadLinesAreOne
 lines-one = (one-least script_of, one-least history_of, one-least recorded_of)
 
 -- The line with which a text is refused ----------------------------------------------------------
@@ -58,7 +58,7 @@ front-cut n text more = cut-lines (take n (cut_after 10 text).pieces) more (all-
 abbrev BreaksAt : {X : Type 0} → (Cut → Reading X) → Text → ℕ → Type 0
 BreaksAt read text m = Breaks (λ lines rest. read (record { pieces = lines; rest = rest })) 1 (cut_after 10 text).pieces m
 
-least : {X : Type 0} (read : Cut → Reading X) (text : Text) (m : ℕ) → read (cut_after 10 text) ≡ BadLine m → BreaksAt read text m → IsLeastBad read text m
+least : {X : Type 0} (read : Cut → Reading X) (text : Text) (m : ℕ) → read (cut_after 10 text) ≡ BadLine m → BreaksAt read text m → IsFirstBad read text m
 least read text m is h =
     let one : m - 1 ≡ h.place = omega (arith, h.number) in
     let next : m ≡ suc h.place = omega (arith, h.number) in
@@ -77,28 +77,28 @@ least read text m is h =
     }
 
 least-only : {X : Type 0} (read : Cut → Reading X) (text : Text) (found : Reading X) (line : ℕ) → read (cut_after 10 text) ≡ found
-    → ((m : ℕ) → found ≡ BadLine m → IsLeastBad read text m) → IsLeastBad read text line → found ≡ BadLine line
+    → ((m : ℕ) → found ≡ BadLine m → IsFirstBad read text m) → IsFirstBad read text line → found ≡ BadLine line
 least-only read text (Means x) line is least_of h = absurd (h.unread x is)
 least-only read text (BadLine m) line is least_of h = ap BadLine (one-least read text m line (least_of m refl) h)
 
 refused-least : {X : Type 0} (read : Cut → Reading X) (found : Reading X) (text : Text) (line : ℕ) → found ≡ read (cut_after 10 text)
-    → ((m : ℕ) → read (cut_after 10 text) ≡ BadLine m → BreaksAt read text m) → (found ≡ BadLine line) ↔ IsLeastBad read text line
+    → ((m : ℕ) → read (cut_after 10 text) ≡ BadLine m → BreaksAt read text m) → (found ≡ BadLine line) ↔ IsFirstBad read text line
 refused-least read found text line same breaks =
-    let least_of : (m : ℕ) → found ≡ BadLine m → IsLeastBad read text m = λ m h. least read text m (sym same ∙ h) (breaks m (sym same ∙ h)) in
+    let least_of : (m : ℕ) → found ≡ BadLine m → IsFirstBad read text m = λ m h. least read text m (sym same ∙ h) (breaks m (sym same ∙ h)) in
     (least_of line, least-only read text found line (sym same) least_of)
 
 reading-short : (text : Text) → length text ≤ 67108864 → reading text ≡ script_of (cut_after 10 text)
 unfolding reading
 reading-short text few = rw (le-ltb 67108864 (length text) few) refl
 
-pub scripts-least : (text : Text) (line : ℕ) → length text ≤ 67108864 → (reading text ≡ BadLine line) ↔ IsLeastBad script_of text line
+pub scripts-least : (text : Text) (line : ℕ) → length text ≤ 67108864 → (reading text ≡ BadLine line) ↔ IsFirstBad script_of text line
 scripts-least text line few =
     refused-least script_of (reading text) text line (reading-short text few) (script-breaks 1 (cut_after 10 text).pieces (cut_after 10 text).rest)
 
-pub histories-least : (text : Text) (line : ℕ) → length text ≤ 1073741824 → (history_reading text ≡ BadLine line) ↔ IsLeastBad history_of text line
+pub histories-least : (text : Text) (line : ℕ) → length text ≤ 1073741824 → (history_reading text ≡ BadLine line) ↔ IsFirstBad history_of text line
 histories-least text line few =
     refused-least history_of (history_reading text) text line (history_reading-short text few) (history-breaks (cut_after 10 text).pieces (cut_after 10 text).rest)
 
-pub records-least : (text : Text) (line : ℕ) → length text ≤ 2147483648 → (recorded_reading text ≡ BadLine line) ↔ IsLeastBad recorded_of text line
+pub records-least : (text : Text) (line : ℕ) → length text ≤ 2147483648 → (recorded_reading text ≡ BadLine line) ↔ IsFirstBad recorded_of text line
 records-least text line few =
     refused-least recorded_of (recorded_reading text) text line (recorded_reading-short text few) (recorded-breaks (cut_after 10 text).pieces (cut_after 10 text).rest)
