@@ -1,4 +1,4 @@
-//! Tests of the heap that never collects, of quanta, of runs, and of the judging of histories.
+//! Tests of the heap that never collects, of quanta, of runs, of lines that are answered one by one, and of the judging of histories.
 #![tactic(auto)]
 
 #[cfg(test)]
@@ -7,6 +7,8 @@ mod answers;
 mod cycle_tests;
 #[cfg(test)]
 mod judge_tests;
+#[cfg(test)]
+mod live_tests;
 #[cfg(test)]
 mod plain_tests;
 #[cfg(test)]

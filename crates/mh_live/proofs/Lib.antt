@@ -1,0 +1,6 @@
+pub mod NameLemmas
+pub mod CutLemmas
+pub mod TurnLemmas
+pub mod FeedLemmas
+pub mod LineTurns
+pub mod RunAnswers

@@ -1,0 +1,160 @@
+-- The turn of a line by what it says.
+use Rattle.std.proofs.Common.{◌≡◌, ◌∙◌, ◌≤◌, ◌<◌, ℕ, if◌then◌else◌, ◌&&◌, ◌||◌, nat_lt, Bool, true, false, Option, Some, None, List, [], ◌∷◌, length, refl, sym, ap, subst, arith}
+use Rattle.std.specs.Prelude.{codes, Result, Ok, Err, IfOk, OnErr, OnOk}
+use Rattle.std.specs.Result.{is_err}
+use Rattle.std.proofs.lemmas.Bool.{false≢true}
+use Rattle.std.proofs.lemmas.Bool.{and_parts, lt-ltb, ltb-true}
+use Rattle.std.proofs.lemmas.Bool.Decides.{nat_tests}
+use Rattle.mh_model.specs.declared.command.Command.{Command}
+use Rattle.mh_model.specs.declared.command.Control.{Control}
+use Rattle.mh_model.specs.declared.command.Event.{Event}
+use Rattle.mh_model.specs.declared.command.Event.TheVariants as event
+use Rattle.mh_model.specs.declared.config.Config.{Config}
+use Rattle.std.specs.List.{list_all}
+use Rattle.mh_model.specs.Bytes.{Text, is_digit, is_letter, is_name, is_text, line_text, words}
+use Rattle.mh_model.specs.Forms.{command_of, control_of}
+use Rattle.mh_model.specs.declared.history.Version.TheVariants.{Two}
+use Rattle.mh_model.specs.Limits.{most_entries}
+use Rattle.mh_model.specs.declared.command.Control.TheVariants as control
+use Rattle.mh_model.specs.declared.reply.Reply.{Reply}
+use Rattle.mh_model.specs.declared.reply.Reply.TheVariants as reply
+use Rattle.mh_state.specs.declared.machine.Stop.{Stop}
+use Rattle.mh_model.specs.World.{says}
+use Rattle.mh_model.specs.Machine.{Machine, control_step, dump_pages, event_step, first_machine}
+use Rattle.mh_model.specs.Replies.{bad_line_text, reply_text}
+use Rattle.mh_model.specs.Script.{Line, Blank, Calls, Asks, Wrong, asks, calls, config_words, is_blank, line_of, line_words, session_number, with_name}
+use Rattle.mh_state.specs.Running.{Running, Does, first_running}
+use Rattle.mh_live.specs.Answers.{Done, Full, IsAnswered, Starved, starved_line}
+use Rattle.mh_live.specs.Live.{Live, IsTurn, Runs, Taken, Turn, Waits, event_turn, has_event, line_turn, turn}
+use Rattle.mh_live.specs.Live.{Starved as starved}
+
+-- a turn, in other words
+taken : (n : ℕ) (live : Live) (line : Text) (is : Turn) → turn n live line ≡ is → IsTurn n live line is
+taken n live line is same = subst (λ t. IsTurn n live line t) same Taken
+
+not_below : (n most : ℕ) → n ≡ most → nat_lt n most ≡ false
+not_below n most same = grind (arith, nat_tests)
+
+wrong-calls : {name : Text} {said : Command} → Wrong ≡ Calls name said → ⊥
+wrong-calls e = cc
+
+blank-calls : {name : Text} {said : Command} → Blank ≡ Calls name said → ⊥
+blank-calls e = cc
+
+asks-calls : {name : Text} {said : Command} (control : Option Control) → asks control ≡ Calls name said → ⊥
+asks-calls None e = wrong-calls e
+asks-calls (Some control) e = cc
+
+-- Before the configuration -----------------------------------------------------------------------
+
+blank_turn : (n : ℕ) (live : Live) (line : Text) → is_blank line ≡ true → turn n live line ≡ record { text = []; live = live }
+unfolding turn
+blank_turn n Waits line blank = rw blank refl
+blank_turn n (Runs machine names count) line blank = rw blank refl
+
+refused_turn : (n : ℕ) (line : Text) → is_blank line ≡ false → config_words (words line) ≡ None → turn n Waits line ≡ record { text = line_text (bad_line_text n); live = Waits }
+unfolding turn
+refused_turn n line some none = rw (some, none) refl
+
+opened_turn : (n : ℕ) (line : Text) (config : Config) → is_blank line ≡ false → config_words (words line) ≡ Some config → turn n Waits line ≡ record { text = []; live = Runs (first_machine config) [] 0 }
+unfolding turn
+opened_turn n line config some found = rw (some, found) refl
+
+pub blank_line : (n : ℕ) (live : Live) (line text : Text) → is_blank line ≡ true → text ≡ [] → IsTurn n live line (record { text = text; live = live })
+blank_line n live line text blank none = taken n live line _ (rw none (blank_turn n live line blank))
+
+pub refused_waits : (n : ℕ) (line text : Text) → is_blank line ≡ false → config_words (words line) ≡ None → text ≡ line_text (bad_line_text n) → IsTurn n Waits line (record { text = text; live = Waits })
+refused_waits n line text some none is = taken n Waits line _ (rw is (refused_turn n line some none))
+
+pub opened_waits : (n : ℕ) (line text : Text) (config : Config) (running : Running) → is_blank line ≡ false → config_words (words line) ≡ Some config → text ≡ [] → running ≡ first_running config
+    → IsTurn n Waits line (record { text = text; live = Runs running.machine [] running.done })
+opened_waits n line text config running some found none first = taken n Waits line _ (rw (none, first) (opened_turn n line config some found))
+
+pub starved_waits : (n : ℕ) (line text : Text) (config : Config) → is_blank line ≡ false → config_words (words line) ≡ Some config → text ≡ starved_line → IsTurn n Waits line (record { text = text; live = Waits })
+starved_waits n line text config some found is = rw is (starved (rw (some, found) refl))
+
+-- After it ---------------------------------------------------------------------------------------
+
+module _ (n : ℕ) (old : Running) (names : List Text) (line : Text) where
+  abbrev before : Live
+  before = Runs old.machine names old.done
+
+  by_line : (says : Line) → line_of line ≡ says → turn n before line ≡ line_turn n old.machine names old.done says
+  unfolding turn
+  by_line says is = ap (line_turn n old.machine names old.done) is
+
+  pub blank_runs : (text : Text) → line_of line ≡ Blank → text ≡ [] → IsTurn n before line (record { text = text; live = before })
+  blank_runs text is none = taken n before line _ (rw none (by_line Blank is))
+
+  pub wrong_runs : (text : Text) → line_of line ≡ Wrong → text ≡ line_text (bad_line_text n) → IsTurn n before line (record { text = text; live = before })
+  wrong_runs text is same = taken n before line _ (rw same (by_line Wrong is))
+
+  -- an event that was answered, with the names that are seen if it was done
+  module _ (says : Line) (is : line_of line ≡ says) (event : Event) (seen : List Text) (turns : line_turn n old.machine names old.done says ≡ event_turn old.machine names old.done seen event) where
+    by_event : turn n before line ≡ event_turn old.machine names old.done seen event
+    by_event = by_line says is ∙ turns
+
+    pub event_runs : (new : Running) (text : Text) (is_done : Bool) (after : List Text) → has_event says ≡ true → IsAnswered old event text new is_done → after ≡ (if is_done then seen else names)
+        → IsTurn n before line (record { text = text; live = Runs new.machine after new.done })
+    event_runs new text _ after has (Done reply below does same) named = taken n before line _ (by_event ∙ rw (lt-ltb old.done most_entries below, does.step, same, does.done, named) refl)
+    event_runs new text _ after has (Full full same kept) named = taken n before line _ (by_event ∙ rw (not_below old.done most_entries full, same, kept, named) refl)
+    event_runs new text _ after has (Starved same kept) named = rw (same, kept, named) (starved (rw is has))
+
+  pub asks_runs : (control : Control) (new : Running) (text : Text) (is_done : Bool) → line_of line ≡ Asks control → IsAnswered old (event.Control control) text new is_done
+      → IsTurn n before line (record { text = text; live = Runs new.machine names new.done })
+  asks_runs control new text is_done is answered = event_runs (Asks control) is (event.Control control) names refl new text is_done names refl answered (same_either is_done) where
+    same_either : (b : Bool) → names ≡ (if b then names else names)
+    same_either true = refl
+    same_either false = refl
+
+  pub calls_runs : (name : Text) (command : Command) (new : Running) (text : Text) (is_done : Bool) (after : List Text) → line_of line ≡ Calls name command → IsAnswered old (event.Session (session_number names name) command) text new is_done
+      → after ≡ (if is_done then with_name names name else names) → IsTurn n before line (record { text = text; live = Runs new.machine after new.done })
+  calls_runs name command new text is_done after is = event_runs (Calls name command) is (event.Session (session_number names name) command) (with_name names name) refl new text is_done after refl
+
+-- An answer that may have failed for its text ------------------------------------------------------
+
+pub OnOk-then : {X E : Type 0} (result : Result X E) (P Q : Type 0) → OnOk result P → (P → Q) → OnOk result Q
+OnOk-then (Ok x) P Q is then_is = then_is is
+OnOk-then (Err e) P Q is then_is = tt
+
+pub OnErr-always : {X E : Type 0} (result : Result X E) (P : Type 0) → P → OnErr result P
+OnErr-always (Ok x) P is = tt
+OnErr-always (Err e) P is = is
+
+-- A dump's reply is what the machine shows, whatever step it is asked in ---------------------------
+
+dump_reply : (machine new : Machine) (given : Reply) → event_step machine (event.Control control.Dump) ≡ says given new → reply.Dump (dump_pages 0 machine.heap.collector.table) ≡ given
+unfolding event_step control_step
+dump_reply machine new given e = ap (λ answer. answer.reply) e
+
+pub dump_done : (old new : Running) (result : Result Reply Stop) (text : Text) → old.done < most_entries → IfOk result (λ given. Does old (event.Control control.Dump) given new) → is_err result ≡ false
+    → text ≡ line_text (reply_text (reply.Dump (dump_pages 0 old.machine.heap.collector.table))) → IsAnswered old (event.Control control.Dump) text new true
+dump_done old new (Ok given) text below does ok is = Done given below does (is ∙ ap (λ r. line_text (reply_text r)) (dump_reply old.machine new.machine given does.step))
+dump_done old new (Err stop) text below does ok is = absurd (false≢true (sym ok))
+
+-- Names ------------------------------------------------------------------------------------------
+
+short-name : (name : Text) → is_name name ≡ true → length name ≤ 16
+short-name [] is = omega arith
+short-name (byte ∷ bytes) is =
+    let rest : (list_all (λ c. is_letter c || is_digit c) bytes && nat_lt (length bytes) 16) ≡ true = (and_parts (is_letter byte) _ is).1 in
+    let short : length bytes < 16 = ltb-true (length bytes) 16 (and_parts (list_all (λ c. is_letter c || is_digit c) bytes) (nat_lt (length bytes) 16) rest).1 in
+    omega (arith, short)
+
+calls-name : (named : Bool) (word : Text) (command : Option Command) (name : Text) (said : Command) → calls named word command ≡ Calls name said → (named ≡ true → length word ≤ 16) → length name ≤ 16
+calls-name true word (Some command) name said e short = let same : word ≡ name = cc in subst (λ (t : Text). length t ≤ 16) same (short refl)
+calls-name true word None name said e short = absurd (wrong-calls e)
+calls-name false word command name said e short = absurd (wrong-calls e)
+
+pub line-name : (line name : Text) (said : Command) → line_of line ≡ Calls name said → length name ≤ 16
+line-name line name said = by_blank (is_blank line) where
+  by_words : (parts : List Text) → line_words parts ≡ Calls name said → length name ≤ 16
+  by_words [] e = absurd (wrong-calls e)
+  by_words (word ∷ parts) e = by_star (is_text word (codes "*")) e where
+    by_star : (star : Bool) → (if star then asks (control_of Two parts) else calls (is_name word) word (command_of parts)) ≡ Calls name said → length name ≤ 16
+    by_star true e = absurd (asks-calls (control_of Two parts) e)
+    by_star false e = calls-name (is_name word) word (command_of parts) name said e (short-name word)
+
+  by_blank : (blank : Bool) → (if blank then Blank else line_words (words line)) ≡ Calls name said → length name ≤ 16
+  by_blank true e = absurd (blank-calls e)
+  by_blank false e = by_words (words line) e

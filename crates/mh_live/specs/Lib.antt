@@ -1,0 +1,4 @@
+pub mod Live
+pub mod Answers
+pub mod Feeding
+pub mod Laws

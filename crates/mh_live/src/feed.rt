@@ -1,0 +1,148 @@
+//! Lines that are read from a source as they come, each answered before the next is read.
+ghost use Rattle.std.specs.Prelude.{◌≡◌, ◌<◌, ◌≤◌, ◌^◌, ◌++◌, [], Option, OnOk, OnErr, IsErrOf};
+ghost use Rattle.mh_model.specs.Bytes.{Text};
+ghost use Rattle.mh_live.specs.Feeding.{AnswersAll, AnswersFront, AnswersSome, HasAnswered, IsFed, TakesTurn, TurnsPartly};
+ghost use Rattle.mh_live.specs.Live.{Waits, unended_text};
+ghost use Rattle.mh_script.specs.Texts.{Blames};
+ghost use Rattle.mh_text.specs.Stream.{AppendsBeginning};
+ghost use Rattle.std.specs.Io.KnownBytes.{Appends};
+
+use crate::answer::refused;
+use crate::live::Live;
+use mh_scan::crew_scan::{CrewGate, CrewScan};
+use mh_scan::scan::Scanner;
+use mh_script::fault::{ScriptFault, WriteError};
+use mh_text::pieces::split_at_byte;
+use mh_text::sink::Sink;
+use mh_text::source::Source;
+use mh_text::stream::write_text;
+use std::alloc::Global;
+use std::thread::Threads;
+
+/// The most bytes that are read at a time.
+const CHUNK: usize = 65_536;
+
+/// The run, the number of the line that has begun, what came of it, and the answer that is being made.
+#[derive(Drop)]
+pub(crate) struct Feed {
+    live: Live,
+    number: u64,
+    begun: Vec<u8>,
+    answer: String,
+}
+
+impl Feed {
+    fn new(alloc: Global) -> Feed
+        ensures live { result.live ≡ Waits }
+        ensures number { result.number ≡ 1 }
+        ensures begun { result.begun.items ≡ [] }
+    {
+        Feed {
+            live: Live::new(alloc),
+            number: 1,
+            begun: Vec::new(alloc),
+            answer: String::new(alloc),
+        }
+    }
+
+    /// Answers the line that has begun, and whose end has come.
+    fn line<S: Scanner, W: Sink>(&mut self, scanner: &mut S, sink: &mut W) -> Result<(), WriteError>
+        requires { W.failures sink.old < 2 ^ 62 }
+        ensures done { OnOk result (TakesTurn self.old self.new (W.written sink.old) (W.written sink.new)) }
+        ensures begun { OnErr result (TurnsPartly self.old (W.written sink.old) (W.written sink.new)) }
+        ensures no_failure { OnOk result (W.failures sink.new ≡ W.failures sink.old) }
+        ensures blamed { IsErrOf result WriteError.Device → W.failures sink.old < W.failures sink.new }
+        ensures not_blamed { IsErrOf result WriteError.NoMemory → W.failures sink.new ≡ W.failures sink.old }
+    {
+        let Some(next) = self.number.checked_add(1) else {
+            return Err(WriteError::NoMemory);
+        };
+        self.answer.clear();
+        let line = self.begun.as_slice();
+        self.live
+            .line(self.number, line, scanner, &mut self.answer)?;
+        write_text(sink, self.answer.as_bytes())?;
+        self.begun.clear();
+        self.number = next;
+        Ok(())
+    }
+
+    /// Answers the lines whose ends are among bytes that came, and keeps what follows the last of them.
+    fn bytes<S: Scanner, W: Sink>(
+        &mut self,
+        bytes: &[u8],
+        scanner: &mut S,
+        sink: &mut W,
+    ) -> Result<(), WriteError>
+        requires { W.failures sink.old < 2 ^ 62 }
+        ensures done { OnOk result ((text : Text) (first : Option Text) → IsFed text first (W.written sink.old) self.old → IsFed (text ++ bytes.now) first (W.written sink.new) self.new) }
+        ensures begun { OnErr result ((text : Text) (first : Option Text) → IsFed text first (W.written sink.old) self.old → AnswersSome (text ++ bytes.now) first (W.written sink.new)) }
+        ensures no_failure { OnOk result (W.failures sink.new ≡ W.failures sink.old) }
+        ensures blamed { IsErrOf result WriteError.Device → W.failures sink.old < W.failures sink.new }
+        ensures not_blamed { IsErrOf result WriteError.NoMemory → W.failures sink.new ≡ W.failures sink.old }
+    {
+        let mut rest = bytes;
+        while let Some((piece, next)) = split_at_byte(rest, b'\n') {
+            if self.begun.extend_from_slice(piece).is_err() {
+                return Err(WriteError::NoMemory);
+            }
+            self.line(scanner, sink)?;
+            rest = next;
+        }
+        if self.begun.extend_from_slice(rest).is_err() {
+            return Err(WriteError::NoMemory);
+        }
+        Ok(())
+    }
+
+    /// Refuses a last line without its end.
+    fn end<W: Sink>(&mut self, sink: &mut W) -> Result<(), WriteError>
+        requires { W.failures sink.old < 2 ^ 62 }
+        ensures done { OnOk result (Appends (W.written sink.old) (W.written sink.new) (unended_text self.old.number self.old.begun.items)) }
+        ensures begun { OnErr result (AppendsBeginning (W.written sink.old) (W.written sink.new) (unended_text self.old.number self.old.begun.items)) }
+        ensures no_failure { OnOk result (W.failures sink.new ≡ W.failures sink.old) }
+        ensures blamed { IsErrOf result WriteError.Device → W.failures sink.old < W.failures sink.new }
+        ensures not_blamed { IsErrOf result WriteError.NoMemory → W.failures sink.new ≡ W.failures sink.old }
+    {
+        if self.begun.is_empty() {
+            return Ok(());
+        }
+        self.answer.clear();
+        refused(self.number, &mut self.answer)?;
+        write_text(sink, self.answer.as_bytes())?;
+        Ok(())
+    }
+}
+
+/// Reads lines to the end of the source, and answers each before it reads the next. At most `workers` threads scan at a
+/// time. Neither their number nor the gate changes an answer.
+pub fn run_live<R: Threads, S: Source, W: Sink, G: CrewGate>(
+    rt: &R,
+    alloc: Global,
+    source: &mut S,
+    sink: &mut W,
+    workers: usize,
+    gate: &G,
+) -> Result<(), ScriptFault>
+    requires workers { (0 < workers) × (workers ≤ 64) }
+    requires source_count { S.failures source.old < 2 ^ 62 }
+    requires sink_count { W.failures sink.old < 2 ^ 62 }
+    ensures answered { OnOk result (AnswersAll (S.rest source.old) (S.rest source.new) (W.written sink.old) (W.written sink.new)) }
+    ensures begun { OnErr result (AnswersFront (S.rest source.old) (S.rest source.new) (W.written sink.old) (W.written sink.new)) }
+    ensures blames { Blames (S.failures source.old) (S.failures source.new) (W.failures sink.old) (W.failures sink.new) result }
+{
+    let mut scanner = CrewScan::new(rt, alloc, workers, gate);
+    let mut feed = Feed::new(alloc);
+    let mut chunk = [0u8; CHUNK];
+    for _ in 0..u64::MAX {
+        let Ok(count) = source.read(&mut chunk) else {
+            return Err(ScriptFault::Read);
+        };
+        if count == 0 {
+            feed.end(sink)?;
+            return Ok(());
+        }
+        feed.bytes(&chunk[..count], &mut scanner, sink)?;
+    }
+    Err(ScriptFault::NoMemory)
+}

@@ -1,0 +1,12 @@
+//! Laws of answers line by line.
+ghost use Rattle.mh_live.specs.Laws.{ScriptsAreAnsweredAsRun, TextsHaveAnswers};
+
+/// A script of at most 1,000,000 events is answered with the output of its run, if memory is never refused.
+pub fn scripts_are_answered_as_run()
+    ensures { ScriptsAreAnsweredAsRun }
+{}
+
+/// Each text can be answered so.
+pub fn texts_have_answers()
+    ensures { TextsHaveAnswers }
+{}

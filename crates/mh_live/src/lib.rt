@@ -1,0 +1,8 @@
+//! Scripts whose lines are answered one by one, as they come.
+#![tactic(auto)]
+
+mod answer;
+pub mod feed;
+pub mod laws;
+pub mod live;
+mod names;
