@@ -51,7 +51,7 @@ same_entries r xs ys is also = cc
 -- the first of the entries that are read, as many as the machine has done events, were written again, and the others are left
 pub record WritesAgain (first now : Recording) (all left : Reading (List Entry)) (old new : Option Text) : Type 0 where
   pub left_is : (entries : List Entry) → all ≡ Means entries → left ≡ Means (drop now.machine.done entries)
-  pub written : (entries : List Entry) → all ≡ Means entries → HasWritten first now entries old new
+  pub written : (entries : List Entry) → all ≡ Means entries → HasWritten (λ (entry : Entry). entry.event) first now entries old new
 
 pub none_again : (first : Recording) (all : Reading (List Entry)) (old : Option Text) → first.machine.done ≡ 0 → WritesAgain first first all all old old
 none_again first all old none = record { left_is = λ entries is. rw none is; written = λ entries is. none_written first entries old none }

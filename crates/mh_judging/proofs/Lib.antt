@@ -2,4 +2,5 @@ pub mod AgainLemmas
 pub mod JudgedLemmas
 pub mod MigratedLemmas
 pub mod RecordingLemmas
+pub mod RunHistoryLemmas
 pub mod ShownLemmas

@@ -1,7 +1,8 @@
-//! Histories as texts: judged, and migrated from the first version to the second.
+//! Histories as texts: judged, migrated from the first version to the second, and written of runs.
 #![tactic(auto)]
 
 pub mod judge;
 pub mod migrate;
 pub mod record;
 mod recording;
+pub mod run_history;

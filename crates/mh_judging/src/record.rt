@@ -1,16 +1,19 @@
-//! Histories that are replayed, and written as records of version 2.
+//! Histories that are replayed and runs that are made, and written as records of version 2.
 ghost use Rattle.std.specs.Prelude.{◌≡◌, ◌<◌, ◌≤◌, ◌^◌, List, length, OnOk, OnErr, IsErrOf};
 ghost use Rattle.std.specs.Io.KnownBytes.{Appends};
 ghost use Rattle.mh_history.specs.Beginnings.{entries_left, entry_line};
 ghost use Rattle.mh_model.specs.declared.history.Entry.{Entry};
 ghost use Rattle.mh_model.specs.HistoryTexts.{migrated, recorded_text};
 ghost use Rattle.mh_model.specs.Limits.{most_entries};
+ghost use Rattle.mh_model.specs.RunHistories.{recorded_run};
 ghost use Rattle.mh_model.specs.Script.{Means};
 ghost use Rattle.mh_text.specs.Stream.{AppendsBeginning};
 
 use crate::recording::Recording;
+use mh_model::command::Event;
 use mh_model::config::Config;
 use mh_model::history::Entry;
+use mh_scan::scan::{OneScan, Scanner};
 use mh_script::fault::WriteError;
 use mh_text::pieces::Lines;
 use mh_text::sink::Sink;
@@ -33,7 +36,7 @@ pub fn write_record<W: Sink>(
     ensures not_blamed { IsErrOf result WriteError.NoMemory → W.failures sink.new ≡ W.failures sink.old }
 {
     let mut recording = Recording::open(alloc, config)?;
-    recording.write_entries(entries, sink)
+    recording.write_entries(entries, &mut OneScan::new(alloc), sink)
 }
 
 /// The same of the entries that lines are read as, of which one at a time is kept.
@@ -54,5 +57,25 @@ pub fn write_lines<W: Sink>(
     ensures not_blamed { IsErrOf result WriteError.NoMemory → W.failures sink.new ≡ W.failures sink.old }
 {
     let mut recording = Recording::open(alloc, config)?;
-    recording.write_lines(alloc, lines, sink)
+    recording.write_lines(alloc, lines, &mut OneScan::new(alloc), sink)
+}
+
+/// Does events from the first machine on, and writes each with its reply and its units as a history of version 2.
+pub fn write_run<C: Scanner, W: Sink>(
+    alloc: Global,
+    config: Config,
+    events: &[Event],
+    scanner: &mut C,
+    sink: &mut W,
+) -> Result<(), WriteError>
+    requires few { length events.now ≤ most_entries }
+    requires count { W.failures sink.old < 2 ^ 62 }
+    ensures done { OnOk result (Appends (W.written sink.old) (W.written sink.new) (recorded_text (recorded_run config events.now))) }
+    ensures begun { OnErr result (AppendsBeginning (W.written sink.old) (W.written sink.new) (recorded_text (recorded_run config events.now))) }
+    ensures no_failure { OnOk result (W.failures sink.new ≡ W.failures sink.old) }
+    ensures blamed { IsErrOf result WriteError.Device → W.failures sink.old < W.failures sink.new }
+    ensures not_blamed { IsErrOf result WriteError.NoMemory → W.failures sink.new ≡ W.failures sink.old }
+{
+    let mut recording = Recording::open(alloc, config)?;
+    recording.write_events(events, scanner, sink)
 }

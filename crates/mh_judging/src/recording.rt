@@ -5,6 +5,7 @@ ghost use Rattle.std.specs.String.{string_bytes};
 ghost use Rattle.mh_history.specs.Beginnings.{entries_left, entry_before, entry_line};
 ghost use Rattle.mh_model.specs.declared.history.Entry.{Entry};
 ghost use Rattle.mh_model.specs.Bytes.{joined, line_text};
+ghost use Rattle.mh_model.specs.History.{events_of};
 ghost use Rattle.mh_model.specs.HistoryTexts.{header_words};
 ghost use Rattle.mh_model.specs.Limits.{most_entries};
 ghost use Rattle.mh_model.specs.Script.{Means};
@@ -18,7 +19,7 @@ use mh_model::command::Event;
 use mh_model::config::Config;
 use mh_model::history::{Entry, Measured};
 use mh_model::memory::NoMemory;
-use mh_scan::scan::OneScan;
+use mh_scan::scan::Scanner;
 use mh_script::fault::WriteError;
 use mh_script::texts::{flush, flush_full};
 use mh_state::machine::{Machine, Stop};
@@ -56,7 +57,6 @@ fn entry_again(alloc: Global, lines: &mut Lines<'_>) -> Result<Option<Entry>, No
 /// A record that is being written.
 pub(crate) struct Recording {
     machine: Machine,
-    scanner: OneScan,
     text: String,
 }
 
@@ -65,7 +65,6 @@ impl Drop for Recording {
     fn drop(self) {
         let Recording {
             machine: _,
-            scanner: _,
             text: _,
         } = self;
     }
@@ -79,20 +78,19 @@ impl Recording {
         let text = header(alloc, config)?;
         Ok(Recording {
             machine: Machine::open(alloc, config)?,
-            scanner: OneScan::new(alloc),
             text,
         })
     }
 
     /// Does an event, and adds its line to the text that waits.
-    fn measure(&mut self, event: Event) -> Result<(), NoMemory>
+    fn measure<C: Scanner>(&mut self, event: Event, scanner: &mut C) -> Result<(), NoMemory>
         requires { self.old.machine.done < most_entries }
         ensures machine { OnOk result (Advances self.old event self.new) }
         ensures text { OnOk result (string_bytes self.new.text ≡ string_bytes self.old.text ++ event_line self.old.machine.machine event) }
     {
         let mutator = self.machine.trace().mutator_count();
         let collector = self.machine.trace().collector_count();
-        let reply = match self.machine.step(event, &mut self.scanner) {
+        let reply = match self.machine.step(event, scanner) {
             Ok(reply) => reply,
             Err(Stop::NoMemory) => return Err(NoMemory),
             Err(Stop::HistoryFull) => unreachable!(),
@@ -109,7 +107,12 @@ impl Recording {
     }
 
     /// Does an event and writes its line, once the buffer is full.
-    fn add<W: Sink>(&mut self, event: Event, sink: &mut W) -> Result<(), WriteError>
+    fn add<C: Scanner, W: Sink>(
+        &mut self,
+        event: Event,
+        scanner: &mut C,
+        sink: &mut W,
+    ) -> Result<(), WriteError>
         requires room { self.old.machine.done < most_entries }
         requires count { W.failures sink.old < 2 ^ 62 }
         ensures machine { OnOk result (Advances self.old event self.new) }
@@ -119,7 +122,7 @@ impl Recording {
         ensures blamed { IsErrOf result WriteError.Device → W.failures sink.old < W.failures sink.new }
         ensures not_blamed { IsErrOf result WriteError.NoMemory → W.failures sink.new ≡ W.failures sink.old }
     {
-        self.measure(event)?;
+        self.measure(event, scanner)?;
         flush_full(sink, &mut self.text)?;
         Ok(())
     }
@@ -137,32 +140,56 @@ impl Recording {
         Ok(())
     }
 
+    /// Writes the whole record of a run of events.
+    pub(crate) fn write_events<C: Scanner, W: Sink>(
+        &mut self,
+        events: &[Event],
+        scanner: &mut C,
+        sink: &mut W,
+    ) -> Result<(), WriteError>
+        requires first { self.old.machine.done ≡ 0 }
+        requires few { length events.now ≤ most_entries }
+        requires count { W.failures sink.old < 2 ^ 62 }
+        ensures done { OnOk result (WritesRecord Appends self.old events.now (W.written sink.old) (W.written sink.new)) }
+        ensures begun { OnErr result (WritesRecord AppendsBeginning self.old events.now (W.written sink.old) (W.written sink.new)) }
+        ensures no_failure { OnOk result (W.failures sink.new ≡ W.failures sink.old) }
+        ensures blamed { IsErrOf result WriteError.Device → W.failures sink.old < W.failures sink.new }
+        ensures not_blamed { IsErrOf result WriteError.NoMemory → W.failures sink.new ≡ W.failures sink.old }
+    {
+        for event in events {
+            self.add(*event, scanner, sink)?;
+        }
+        self.finish(sink)
+    }
+
     /// Writes the whole record of a history.
-    pub(crate) fn write_entries<W: Sink>(
+    pub(crate) fn write_entries<C: Scanner, W: Sink>(
         &mut self,
         entries: &[Entry],
+        scanner: &mut C,
         sink: &mut W,
     ) -> Result<(), WriteError>
         requires first { self.old.machine.done ≡ 0 }
         requires few { length entries.now ≤ most_entries }
         requires count { W.failures sink.old < 2 ^ 62 }
-        ensures done { OnOk result (WritesRecord Appends self.old entries.now (W.written sink.old) (W.written sink.new)) }
-        ensures begun { OnErr result (WritesRecord AppendsBeginning self.old entries.now (W.written sink.old) (W.written sink.new)) }
+        ensures done { OnOk result (WritesRecord Appends self.old (events_of entries.now) (W.written sink.old) (W.written sink.new)) }
+        ensures begun { OnErr result (WritesRecord AppendsBeginning self.old (events_of entries.now) (W.written sink.old) (W.written sink.new)) }
         ensures no_failure { OnOk result (W.failures sink.new ≡ W.failures sink.old) }
         ensures blamed { IsErrOf result WriteError.Device → W.failures sink.old < W.failures sink.new }
         ensures not_blamed { IsErrOf result WriteError.NoMemory → W.failures sink.new ≡ W.failures sink.old }
     {
         for entry in entries {
-            self.add(entry.event, sink)?;
+            self.add(entry.event, scanner, sink)?;
         }
         self.finish(sink)
     }
 
     /// The same of the entries that lines are read as, of which one at a time is kept.
-    pub(crate) fn write_lines<W: Sink>(
+    pub(crate) fn write_lines<C: Scanner, W: Sink>(
         &mut self,
         alloc: Global,
         mut lines: Lines<'_>,
+        scanner: &mut C,
         sink: &mut W,
     ) -> Result<(), WriteError>
         requires first { self.old.machine.done ≡ 0 }
@@ -175,7 +202,7 @@ impl Recording {
         ensures not_blamed { IsErrOf result WriteError.NoMemory → W.failures sink.new ≡ W.failures sink.old }
     {
         while let Some(entry) = entry_again(alloc, &mut lines)? {
-            self.add(entry.event, sink)?;
+            self.add(entry.event, scanner, sink)?;
         }
         self.finish(sink)
     }

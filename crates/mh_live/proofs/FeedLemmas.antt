@@ -6,7 +6,7 @@ use Rattle.std.proofs.KnownBytes.{Appends-nil, Appends-trans, Consumes-trans}
 use Rattle.std.specs.Io.KnownBytes.{Appends, Consumes, IsAtEnd}
 use Rattle.mh_model.specs.Bytes.{Text, Cut, cut_after}
 use Rattle.mh_text.specs.Stream.{AppendsBeginning}
-use Rattle.mh_live.specs.Live.{Live, Turn, Waits, IsTurn, AreTurns, IsLive, Ended, Taken, turn, unended_text}
+use Rattle.mh_model.specs.Live.{Live, Turn, Waits, IsTurn, AreTurns, IsLive, Ended, Taken, turn, unended_text}
 use Rattle.mh_live.specs.declared.feed.Feed.{Feed}
 use Rattle.mh_live.specs.Feeding.{AnswersAll, AnswersFront, AnswersSome, End, HasAnswered, IsFed, Lines, TakesTurn, TurnsPartly}
 use Rattle.mh_live.proofs.CutLemmas.{cut-append, followed}

@@ -1,4 +1,3 @@
-pub mod NameLemmas
 pub mod CutLemmas
 pub mod TurnLemmas
 pub mod FeedLemmas

@@ -23,10 +23,10 @@ use Rattle.mh_model.specs.World.{says}
 use Rattle.mh_model.specs.Machine.{Machine, control_step, dump_pages, event_step, first_machine}
 use Rattle.mh_model.specs.Replies.{bad_line_text, reply_text}
 use Rattle.mh_model.specs.Script.{Line, Blank, Calls, Asks, Wrong, asks, calls, config_words, is_blank, line_of, line_words, session_number, with_name}
-use Rattle.mh_state.specs.Running.{Running, Does, first_running}
+use Rattle.mh_state.specs.Running.{Running, Does, MayAskForMemory, first_running}
 use Rattle.mh_live.specs.Answers.{Done, Full, IsAnswered, Starved, starved_line}
-use Rattle.mh_live.specs.Live.{Live, IsTurn, Runs, Taken, Turn, Waits, event_turn, has_event, line_turn, turn}
-use Rattle.mh_live.specs.Live.{Starved as starved}
+use Rattle.mh_model.specs.Live.{Live, IsTurn, Runs, Taken, Turn, Waits, event_turn, needs_memory, line_turn, turn}
+use Rattle.mh_model.specs.Live.{Starved as starved}
 
 -- a turn, in other words
 taken : (n : ℕ) (live : Live) (line : Text) (is : Turn) → turn n live line ≡ is → IsTurn n live line is
@@ -75,6 +75,15 @@ starved_waits n line text config some found is = rw is (starved (rw (some, found
 
 -- After it ---------------------------------------------------------------------------------------
 
+-- a control that may ask for memory is one for which the line needs it
+control_asks : (says : Control) (room : ℕ) → MayAskForMemory room (event.Control says) → needs_memory (Asks says) ≡ true
+control_asks control.Quantum room asks = refl
+control_asks control.Start room asks = absurd asks
+control_asks control.Stat room asks = absurd asks
+control_asks control.Dump room asks = refl
+control_asks control.Left room asks = absurd asks
+control_asks (control.Report window) room asks = absurd asks
+
 module _ (n : ℕ) (old : Running) (names : List Text) (line : Text) where
   abbrev before : Live
   before = Runs old.machine names old.done
@@ -94,28 +103,24 @@ module _ (n : ℕ) (old : Running) (names : List Text) (line : Text) where
     by_event : turn n before line ≡ event_turn old.machine names old.done seen event
     by_event = by_line says is ∙ turns
 
-    pub event_runs : (new : Running) (text : Text) (is_done : Bool) (after : List Text) → has_event says ≡ true → IsAnswered old event text new is_done → after ≡ (if is_done then seen else names)
+    pub event_runs : (new : Running) (text : Text) (is_done : Bool) (after : List Text) → (MayAskForMemory old.room event → needs_memory says ≡ true) → IsAnswered old event text new is_done → after ≡ (if is_done then seen else names)
         → IsTurn n before line (record { text = text; live = Runs new.machine after new.done })
     event_runs new text _ after has (Done reply below does same) named = taken n before line _ (by_event ∙ rw (lt-ltb old.done most_entries below, does.step, same, does.done, named) refl)
     event_runs new text _ after has (Full full same kept) named = taken n before line _ (by_event ∙ rw (not_below old.done most_entries full, same, kept, named) refl)
-    event_runs new text _ after has (Starved same kept) named = rw (same, kept, named) (starved (rw is has))
+    event_runs new text _ after has (Starved asks same kept) named = rw (same, kept, named) (starved (rw is (has asks)))
 
   pub asks_runs : (control : Control) (new : Running) (text : Text) (is_done : Bool) → line_of line ≡ Asks control → IsAnswered old (event.Control control) text new is_done
       → IsTurn n before line (record { text = text; live = Runs new.machine names new.done })
-  asks_runs control new text is_done is answered = event_runs (Asks control) is (event.Control control) names refl new text is_done names refl answered (same_either is_done) where
+  asks_runs control new text is_done is answered = event_runs (Asks control) is (event.Control control) names refl new text is_done names (control_asks control old.room) answered (same_either is_done) where
     same_either : (b : Bool) → names ≡ (if b then names else names)
     same_either true = refl
     same_either false = refl
 
   pub calls_runs : (name : Text) (command : Command) (new : Running) (text : Text) (is_done : Bool) (after : List Text) → line_of line ≡ Calls name command → IsAnswered old (event.Session (session_number names name) command) text new is_done
       → after ≡ (if is_done then with_name names name else names) → IsTurn n before line (record { text = text; live = Runs new.machine after new.done })
-  calls_runs name command new text is_done after is = event_runs (Calls name command) is (event.Session (session_number names name) command) (with_name names name) refl new text is_done after refl
+  calls_runs name command new text is_done after is = event_runs (Calls name command) is (event.Session (session_number names name) command) (with_name names name) refl new text is_done after (λ _. refl)
 
 -- An answer that may have failed for its text ------------------------------------------------------
-
-pub OnOk-then : {X E : Type 0} (result : Result X E) (P Q : Type 0) → OnOk result P → (P → Q) → OnOk result Q
-OnOk-then (Ok x) P Q is then_is = then_is is
-OnOk-then (Err e) P Q is then_is = tt
 
 pub OnErr-always : {X E : Type 0} (result : Result X E) (P : Type 0) → P → OnErr result P
 OnErr-always (Ok x) P is = tt

@@ -12,7 +12,7 @@ use Rattle.mh_model.specs.Output.{output, output_of}
 use Rattle.mh_model.specs.Replies.{replies_text, reply_text}
 use Rattle.mh_model.specs.Script.{Asks, BadLine, Blank, Calls, Line, Meaning, Means, Reading, Wrong, after_config, config_words, events_from, is_blank, line_of, reading, reading_map, script_from, script_of, session_number, with_event, with_name}
 use Rattle.mh_live.specs.Laws.{ScriptsAreAnsweredAsRun, TextsHaveAnswers}
-use Rattle.mh_live.specs.Live.{AreTurns, Ended, Live, Runs, Taken, Turn, Turned, Waits, event_turn, line_turn, live_from, live_output, turn, unended_text}
+use Rattle.mh_model.specs.Live.{AreTurns, Ended, Live, Runs, Taken, Turn, Turned, Waits, event_turn, line_turn, live_from, live_output, turn, unended_text}
 
 -- what a reading of a bad line means
 bad-means : {X : Type 0} {n : ℕ} {x : X} → BadLine n ≡ Means x → ⊥

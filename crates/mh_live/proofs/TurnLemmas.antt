@@ -2,7 +2,7 @@
 use Rattle.std.proofs.Common.{◌≡◌, ℕ, suc, ◌+◌, List, [], ◌∷◌, ◌++◌, length, sym, subst, append_assoc, arith}
 use Rattle.std.proofs.lemmas.List.{append-nil}
 use Rattle.mh_model.specs.Bytes.{Text}
-use Rattle.mh_live.specs.Live.{Live, Turn, IsTurn, AreTurns, Ended, Turned}
+use Rattle.mh_model.specs.Live.{Live, Turn, IsTurn, AreTurns, Ended, Turned}
 
 -- lines and then one more
 pub one_more : (n : ℕ) (live : Live) (lines : List Text) (answers : Text) (mid : Live) (number : ℕ) (line : Text) (turn : Turn) → AreTurns n live lines answers mid → number ≡ n + length lines

@@ -5,8 +5,8 @@ use Rattle.mh_model.specs.declared.reply.Reply.{Reply}
 use Rattle.mh_model.specs.Bytes.{Text, line_text}
 use Rattle.mh_model.specs.Limits.{most_entries}
 use Rattle.mh_model.specs.Replies.{reply_text}
-use Rattle.mh_state.specs.Running.{Running, Does}
-use Rattle.mh_live.specs.Live.{Live, Waits, Runs}
+use Rattle.mh_state.specs.Running.{Running, Does, MayAskForMemory}
+use Rattle.mh_model.specs.Live.{Live, Waits, Runs}
 use Rattle.mh_live.specs.declared.live.Attended.{Attended}
 
 -- the lines of an event that isn't done
@@ -16,11 +16,11 @@ full_line = line_text (codes "refused 8 history full")
 abbrev pub starved_line : Text
 starved_line = line_text (codes "refused 9 no memory")
 
--- an event, what it is answered, and whether it was done: else all is as it was
+-- an event, what it is answered, and whether it was done: else all is as it was. Memory is refused only for an event that may ask for it
 pub data IsAnswered (old : Running) (event : Event) (text : Text) (new : Running) : Bool → Type 0 where
   Done : (reply : Reply) → old.done < most_entries → Does old event reply new → text ≡ line_text (reply_text reply) → IsAnswered old event text new true
   Full : old.done ≡ most_entries → text ≡ full_line → new ≡ old → IsAnswered old event text new false
-  Starved : text ≡ starved_line → new ≡ old → IsAnswered old event text new false
+  Starved : MayAskForMemory old.room event → text ≡ starved_line → new ≡ old → IsAnswered old event text new false
 
 abbrev pub live_of : Option Attended → Live
 live_of None = Waits

@@ -1,10 +1,13 @@
 -- What the lines that came so far were answered.
-use Rattle.std.specs.Prelude.{◌≡◌, ℕ, suc, Option, [], length, take}
+use Rattle.std.specs.Prelude.{◌≡◌, ℕ, suc, Option, [], length, take, Result, OnErr, OnOk}
 use Rattle.std.specs.Io.KnownBytes.{Appends, Consumes, IsAtEnd}
 use Rattle.mh_model.specs.Bytes.{Text, cut_after}
 use Rattle.mh_text.specs.Stream.{AppendsBeginning}
-use Rattle.mh_live.specs.Live.{Live, Turn, Waits, IsTurn, AreTurns, IsLive}
+use Rattle.mh_model.specs.Live.{Live, Turn, Waits, IsTurn, AreTurns, IsLive}
 use Rattle.mh_live.specs.declared.feed.Feed.{Feed}
+use Rattle.mh_script.specs.declared.fault.ScriptFault.{ScriptFault}
+use Rattle.mh_script.specs.Run.{Device}
+use Rattle.mh_script.specs.Texts.{Blames}
 
 -- the whole lines of a text were answered, and what follows the last of them is kept
 pub record HasAnswered (text : Text) (old new : Option Text) (number : ℕ) (live : Live) (begun : Text) : Type 0 where
@@ -59,3 +62,9 @@ pub record AnswersFront (source source' sink sink' : Option Text) : Type 0 where
   pub text : Text
   pub read : Consumes source source' text
   pub some : AnswersPartly text sink sink'
+
+-- Lines of a source were answered as they came, and how that ended
+pub record IsLiveRun (source source' sink sink' : Device) (ended : Result Unit ScriptFault) : Type 0 where
+  pub answered : OnOk ended (AnswersAll source.bytes source'.bytes sink.bytes sink'.bytes)
+  pub begun : OnErr ended (AnswersFront source.bytes source'.bytes sink.bytes sink'.bytes)
+  pub blames : Blames source.failures source'.failures sink.failures sink'.failures ended

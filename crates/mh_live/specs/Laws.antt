@@ -4,7 +4,7 @@ use Rattle.mh_model.specs.Bytes.{Text}
 use Rattle.mh_model.specs.Limits.{most_entries}
 use Rattle.mh_model.specs.Output.{output}
 use Rattle.mh_model.specs.Script.{Meaning, Means, reading}
-use Rattle.mh_live.specs.Live.{IsLive, live_output}
+use Rattle.mh_model.specs.Live.{IsLive, live_output}
 
 -- A script whose events a history has room for is answered with the output of its run
 abbrev pub ScriptsAreAnsweredAsRun : Type 0

@@ -1,4 +1,3 @@
-pub mod Live
 pub mod Answers
 pub mod Feeding
 pub mod Laws

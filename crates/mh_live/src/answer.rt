@@ -15,7 +15,7 @@ use mh_model::limits::MOST_EVENTS;
 use mh_model::memory::NoMemory;
 use mh_model::reply::Reply;
 use mh_scan::scan::Scanner;
-use mh_state::machine::Machine;
+use mh_state::machine::{Machine, Stop};
 use mh_text::reply_text::ReplyText;
 use std::alloc::Global;
 use std::fmt::Write;
@@ -101,9 +101,13 @@ fn attempt<S: Scanner>(
     requires empty { string_bytes text.old ≡ [] }
     ensures { IfOk result (IsAnswered machine.old event (string_bytes text.new) machine.new) }
 {
-    let Ok(reply) = machine.step(event, scanner) else {
-        starved(text)?;
-        return Ok(false);
+    let reply = match machine.step(event, scanner) {
+        Ok(reply) => reply,
+        Err(Stop::NoMemory) => {
+            starved(text)?;
+            return Ok(false);
+        }
+        Err(Stop::HistoryFull) => unreachable!(),
     };
     write_reply(&reply, text)?;
     Ok(true)

@@ -1,8 +1,8 @@
-//! Lines that are read from a source as they come, each answered before the next is read.
+//! Lines that are read from a source as they come. Those whose ends have come are answered before more bytes are read.
 ghost use Rattle.std.specs.Prelude.{◌≡◌, ◌<◌, ◌≤◌, ◌^◌, ◌++◌, [], Option, OnOk, OnErr, IsErrOf};
 ghost use Rattle.mh_model.specs.Bytes.{Text};
 ghost use Rattle.mh_live.specs.Feeding.{AnswersAll, AnswersFront, AnswersSome, HasAnswered, IsFed, TakesTurn, TurnsPartly};
-ghost use Rattle.mh_live.specs.Live.{Waits, unended_text};
+ghost use Rattle.mh_model.specs.Live.{Waits, unended_text};
 ghost use Rattle.mh_script.specs.Texts.{Blames};
 ghost use Rattle.mh_text.specs.Stream.{AppendsBeginning};
 ghost use Rattle.std.specs.Io.KnownBytes.{Appends};
@@ -114,8 +114,8 @@ impl Feed {
     }
 }
 
-/// Reads lines to the end of the source, and answers each before it reads the next. At most `workers` threads scan at a
-/// time. Neither their number nor the gate changes an answer.
+/// Reads lines to the end of the source. Those whose ends have come are answered before more bytes are read. At most
+/// `workers` threads scan at a time. Neither their number nor the gate changes an answer.
 pub fn run_live<R: Threads, S: Source, W: Sink, G: CrewGate>(
     rt: &R,
     alloc: Global,

@@ -5,4 +5,4 @@ mod answer;
 pub mod feed;
 pub mod laws;
 pub mod live;
-mod names;
+pub mod names;

@@ -1,10 +1,9 @@
 //! The machine that lines drive.
 ghost use Rattle.std.specs.Prelude.{◌≡◌, [], false, OnOk, Some};
 ghost use Rattle.std.specs.String.{string_bytes};
-ghost use Rattle.mh_model.specs.Script as model;
 ghost use Rattle.mh_model.specs.Script.{is_blank, line_of};
 ghost use Rattle.mh_live.specs.Answers.{live_of};
-ghost use Rattle.mh_live.specs.Live.{Waits, IsTurn};
+ghost use Rattle.mh_model.specs.Live.{Waits, IsTurn};
 
 use crate::answer::{answer, refused, starved};
 use crate::names::Names;
@@ -64,7 +63,7 @@ pub struct Live {
 
 impl Model for Live {
     ghost use Rattle.mh_live.specs.Answers.{live_of};
-    ghost use Rattle.mh_live.specs.Live.{Live};
+    ghost use Rattle.mh_model.specs.Live.{Live};
 
     ghost Value = { Live };
 
@@ -100,7 +99,7 @@ impl Live {
 
     /// Answers a line with this number, given without its end. A line that is blank, or the configuration, is answered with
     /// nothing. If memory is refused for a line's event, it is answered so and nothing is changed. If it is refused for the
-    /// text of an answer, the call fails.
+    /// text of an answer, the call fails, and the run is not to go on.
     pub fn line<S: Scanner>(
         &mut self,
         number: u64,

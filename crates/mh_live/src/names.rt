@@ -12,7 +12,7 @@ const NAME_BYTES: usize = 16;
 
 /// The first names of sessions that were seen, eight at most. They take no memory.
 #[derive(Drop)]
-pub(crate) struct Names {
+pub struct Names {
     seen: ArrayVec<ArrayVec<u8, NAME_BYTES>, SESSIONS>,
 }
 
@@ -32,7 +32,8 @@ fn place_in(seen: &[ArrayVec<u8, NAME_BYTES>], name: &[u8]) -> Option<usize>
 }
 
 impl Names {
-    pub(crate) fn new() -> Names
+    /// No names, which is how a script begins.
+    pub fn new() -> Names
         ensures { result ≡ [] }
     {
         Names {
@@ -41,7 +42,7 @@ impl Names {
     }
 
     /// The number of the session with this name: its place among those seen, or how many they are.
-    pub(crate) fn number(&self, name: &[u8]) -> u8
+    pub fn number(&self, name: &[u8]) -> u8
         ensures { result ≡ session_number self.now name.now }
     {
         match place_in(self.seen.as_slice(), name) {
@@ -51,7 +52,7 @@ impl Names {
     }
 
     /// The name is seen from now on, if there is room.
-    pub(crate) fn see(&mut self, name: &[u8])
+    pub fn see(&mut self, name: &[u8])
         requires { length name.now ≤ 16 }
         ensures { self.new ≡ with_name self.old name.now }
     {

@@ -8,12 +8,12 @@ use Rattle.std.specs.Str.Parse.{AllDigits}
 use Rattle.clap.proofs.WalkLemmas.{both}
 use Rattle.clap.specs.Matches.{ReadsOne}
 use Rattle.clap.specs.Walk.{Row, Text, one_of}
-use Rattle.mh_model.specs.Configs.{configured_by, configured_first}
+use Rattle.mh_model.specs.Configs.{configured_by, configured_under}
 use Rattle.mh_model.specs.Limits.{is_configuration}
 use Rattle.mh_model.specs.declared.config.Config.{Config}
-use Rattle.mh_model.specs.declared.config.Rules.TheVariants.{First}
+use Rattle.mh_model.specs.declared.config.Rules.{Rules}
 use Rattle.mh_program.specs.Line.{HoldsNumber, IsHeld, IsNumber, ReadsNumber, number_in}
-use Rattle.mh_program.specs.Orders.{AreOutside, HasNumbers, IsBlamed, IsOutsideBy, MakesConfig, ConfigNumbers, first_config}
+use Rattle.mh_program.specs.Orders.{AreOutside, HasNumbers, IsBlamed, IsOutsideBy, MakesConfig, ConfigNumbers, config_under}
 use Rattle.mh_program.specs.declared.options.OptionNumber.{OptionNumber}
 use Rattle.mh_program.specs.declared.line.ConfigOption.{ConfigOption}
 use Rattle.mh_program.specs.declared.line.ConfigOption.TheVariants.{Pages, Quantum, Trigger, Every}
@@ -30,15 +30,18 @@ pub digits-back : (ds : List ℕ) → AllDigits 10 ds → list_all (λ d. is_dig
 digits-back [] h = refl
 digits-back (d ∷ ds) h = rw (lt-ltb (digit_value d) 10 h.0) (digits-back ds h.1)
 
+some-none : {A : Type 0} {x : A} → Some x ≡ None → ⊥
+some-none e = cc
+
 -- What the option of the matches is read as ----------------------------------------------------------
 
-pub number-held : (found : Option Text) (number : OptionNumber) (given : Text → Type 0) → IsSomeAnd found given → ((t : Text) → found ≡ Some t → ReadsOne ReadsNumber t (Some number)) → IsSomeAnd found (λ text. IsNumber text × IsHeld (number_in text) number.value)
-number-held None number given is reads = absurd is
-number-held (Some text) number given is reads = reads text refl
+pub number-held : (found : Option Text) (number : OptionNumber) → (found ≡ None → Some number ≡ None) → ((t : Text) → found ≡ Some t → ReadsOne ReadsNumber t (Some number)) → IsSomeAnd found (λ text. IsNumber text × IsHeld (number_in text) number.value)
+number-held None number none reads = absurd (some-none (none refl))
+number-held (Some text) number none reads = reads text refl
 
-pub number-lacking : (found : Option Text) (given : Text → Type 0) → IsSomeAnd found given → ((t : Text) → found ≡ Some t → ReadsOne ReadsNumber t None) → IsSomeAnd found (λ text. IsNumber text → ⊥)
-number-lacking None given is reads = absurd is
-number-lacking (Some text) given is reads = (reads text refl).1
+pub number-lacking : (found : Option Text) (text : Text) → found ≡ Some text → ((t : Text) → found ≡ Some t → ReadsOne ReadsNumber t None) → IsSomeAnd found (λ text. IsNumber text → ⊥)
+number-lacking None text there reads = absurd (some-none (sym there))
+number-lacking (Some other) text there reads = (reads other refl).1
 
 -- Held numbers make what the numbers make -------------------------------------------------------------
 
@@ -54,21 +57,21 @@ within p q t e w =
     let f = both _ _ d.1 in
     (leb-true _ _ b.0, leb-true _ _ d.0, leb-true _ _ f.0, leb-true _ _ f.1)
 
-none_by : (p q t e : ℕ) (b : Bool) (is : is_configuration p q t e ≡ b) → (b ≡ true → ⊥) → configured_by First p q t e b is ≡ None
-none_by p q t e true is never = absurd (never refl)
-none_by p q t e false is never = refl
+none_by : (rules : Rules) (p q t e : ℕ) (b : Bool) (is : is_configuration p q t e ≡ b) → (b ≡ true → ⊥) → configured_by rules p q t e b is ≡ None
+none_by rules p q t e true is never = absurd (never refl)
+none_by rules p q t e false is never = refl
 
-none_outside : (p q t e : ℕ) → (IsWithin p q t e → ⊥) → configured_first p q t e ≡ None
-none_outside p q t e never = none_by p q t e (is_configuration p q t e) refl (λ w. never (within p q t e w))
+none_outside : (rules : Rules) (p q t e : ℕ) → (IsWithin p q t e → ⊥) → configured_under rules p q t e ≡ None
+none_outside rules p q t e never = none_by rules p q t e (is_configuration p q t e) refl (λ w. never (within p q t e w))
 
-same_config : (p q t e p' q' t' e' : ℕ) → IsHeld p p' → IsHeld q q' → IsHeld t t' → IsHeld e e' → configured_first p q t e ≡ configured_first p' q' t' e'
-same_config p q t e p' q' t' e' (inr a) b c d = none_outside p q t e (λ (w : IsWithin p q t e). omega arith) ∙ sym (none_outside p' q' t' e' (λ (w : IsWithin p' q' t' e'). omega arith))
-same_config p q t e p' q' t' e' (inl a) (inr b) c d = none_outside p q t e (λ (w : IsWithin p q t e). omega arith) ∙ sym (none_outside p' q' t' e' (λ (w : IsWithin p' q' t' e'). omega arith))
-same_config p q t e p' q' t' e' (inl a) (inl b) (inr c) d = none_outside p q t e (λ (w : IsWithin p q t e). omega arith) ∙ sym (none_outside p' q' t' e' (λ (w : IsWithin p' q' t' e'). omega arith))
-same_config p q t e p' q' t' e' (inl a) (inl b) (inl c) (inr d) = none_outside p q t e (λ (w : IsWithin p q t e). omega arith) ∙ sym (none_outside p' q' t' e' (λ (w : IsWithin p' q' t' e'). omega arith))
-same_config p q t e p' q' t' e' (inl a) (inl b) (inl c) (inl d) =
-    ap (λ n. configured_first n q t e) (sym a.1) ∙ ap (λ n. configured_first p' n t e) (sym b.1)
-    ∙ ap (λ n. configured_first p' q' n e) (sym c.1) ∙ ap (λ n. configured_first p' q' t' n) (sym d.1)
+same_config : (rules : Rules) (p q t e p' q' t' e' : ℕ) → IsHeld p p' → IsHeld q q' → IsHeld t t' → IsHeld e e' → configured_under rules p q t e ≡ configured_under rules p' q' t' e'
+same_config rules p q t e p' q' t' e' (inr a) b c d = none_outside rules p q t e (λ (w : IsWithin p q t e). omega arith) ∙ sym (none_outside rules p' q' t' e' (λ (w : IsWithin p' q' t' e'). omega arith))
+same_config rules p q t e p' q' t' e' (inl a) (inr b) c d = none_outside rules p q t e (λ (w : IsWithin p q t e). omega arith) ∙ sym (none_outside rules p' q' t' e' (λ (w : IsWithin p' q' t' e'). omega arith))
+same_config rules p q t e p' q' t' e' (inl a) (inl b) (inr c) d = none_outside rules p q t e (λ (w : IsWithin p q t e). omega arith) ∙ sym (none_outside rules p' q' t' e' (λ (w : IsWithin p' q' t' e'). omega arith))
+same_config rules p q t e p' q' t' e' (inl a) (inl b) (inl c) (inr d) = none_outside rules p q t e (λ (w : IsWithin p q t e). omega arith) ∙ sym (none_outside rules p' q' t' e' (λ (w : IsWithin p' q' t' e'). omega arith))
+same_config rules p q t e p' q' t' e' (inl a) (inl b) (inl c) (inl d) =
+    ap (λ n. configured_under rules n q t e) (sym a.1) ∙ ap (λ n. configured_under rules p' n t e) (sym b.1)
+    ∙ ap (λ n. configured_under rules p' q' n e) (sym c.1) ∙ ap (λ n. configured_under rules p' q' t' n) (sym d.1)
 
 -- the number that is held
 record IsExact (found : Option Text) (held : ℕ) : Type 0 where
@@ -104,14 +107,14 @@ held rows p q t e hp hq ht he =
       every = d.is_held;
     }
 
-same_first : (rows : List Row) (p q t e : ℕ) (are : AreHeld rows p q t e) → first_config are.numbers ≡ configured_first p q t e
-same_first rows p q t e are = same_config _ _ _ _ p q t e are.pages are.quantum are.trigger are.every
+same_under : (rules : Rules) (rows : List Row) (p q t e : ℕ) (are : AreHeld rows p q t e) → config_under rules are.numbers ≡ configured_under rules p q t e
+same_under rules rows p q t e are = same_config rules _ _ _ _ p q t e are.pages are.quantum are.trigger are.every
 
-pub makes : (rows : List Row) (p q t e : ℕ) (config : Config) → HoldsNumber rows (codes "pages") p → HoldsNumber rows (codes "quantum") q → HoldsNumber rows (codes "trigger") t → HoldsNumber rows (codes "every") e
-    → configured_first p q t e ≡ Some config → MakesConfig rows config
-makes rows p q t e config hp hq ht he is =
+pub makes : (rules : Rules) (rows : List Row) (p q t e : ℕ) (config : Config) → HoldsNumber rows (codes "pages") p → HoldsNumber rows (codes "quantum") q → HoldsNumber rows (codes "trigger") t → HoldsNumber rows (codes "every") e
+    → configured_under rules p q t e ≡ Some config → MakesConfig rules rows config
+makes rules rows p q t e config hp hq ht he is =
     let are = held rows p q t e hp hq ht he in
-    record { numbers = are.numbers; has = are.has; makes = same_first rows p q t e are ∙ is }
+    record { numbers = are.numbers; has = are.has; makes = same_under rules rows p q t e are ∙ is }
 
 -- The option that is blamed ------------------------------------------------------------------------
 
@@ -138,12 +141,12 @@ beyond Trigger n p' q' t' e' (inl a) b c d never is = go c (trigger_outside p' q
   go (inr c) above = omega (arith, a.1, is.1, c.0)
 
 pub lies_outside : (rows : List Row) (p q t e : ℕ) (option : ConfigOption) → HoldsNumber rows (codes "pages") p → HoldsNumber rows (codes "quantum") q → HoldsNumber rows (codes "trigger") t → HoldsNumber rows (codes "every") e
-    → configured_first p q t e ≡ None → (is_configuration p q t e ≡ true → ⊥) → IsBlamed p q e option → AreOutside rows option
-lies_outside rows p q t e option hp hq ht he none never is =
+    → (is_configuration p q t e ≡ true → ⊥) → IsBlamed p q e option → AreOutside rows option
+lies_outside rows p q t e option hp hq ht he never is =
     let are = held rows p q t e hp hq ht he in
     record {
       numbers = are.numbers;
       has = are.has;
-      none = same_first rows p q t e are ∙ none;
+      none = λ rules. same_under rules rows p q t e are ∙ none_by rules p q t e (is_configuration p q t e) refl never;
       outside = beyond option are.numbers p q t e are.pages are.quantum are.trigger are.every never is;
     }

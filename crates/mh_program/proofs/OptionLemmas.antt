@@ -6,9 +6,6 @@ use Rattle.std.specs.Str.{bytes_eq, chars}
 use Rattle.clap.specs.Lexer.{long_of, short_of}
 use Rattle.clap.specs.Values.{Accepts, read_as, reading_of, refused_kind}
 use Rattle.clap.specs.ValueTests.{accepts}
-use Rattle.std.proofs.lemmas.Bool.{false≢true}
-use Rattle.clap.specs.Facts.{explicit_source}
-use Rattle.clap.specs.Takes.{is_given}
 use Rattle.clap.specs.Kinds.{Kinds, or_else, range_kinds, value_kinds, values_kinds}
 use Rattle.clap.specs.Walk.{Held, Names, Outcome, Row, Rule, Step, Text, Waiting, Walk, after_flag, after_step, arg_by_id, arg_by_index, arg_by_long, arg_by_short, at_row, attached_value, bundle_met, bundle_step, finished, flag_met, has_row, is_pending, long_met, long_or_other, more_values, nothing_held, one_of, option_met, option_word, plain_word, positional_held, reacted, row_text, rows_after, rows_of, settled, settled_rows, short_met, short_or_plain, subcommand_met, subcommand_or_other, takes_several, takes_values, to_positional, used, used_by_id, values_or_missing, walk_from, walked, with_default, with_values, without, word_met}
 use Rattle.clap.specs.Walk as walk
@@ -16,6 +13,9 @@ use Rattle.clap.specs.Simple.{Shape, filled, help_rule, new_rule, with_index}
 use Rattle.clap.specs.Walk.{answers_to}
 use Rattle.clap.specs.Faults.{bundle_fault, bundle_step_fault, flag_word_fault, flags_fault, level_fault, long_fault, option_fault, other_fault, positional_fault, react_fault, repeat_fault, settle_fault, short_fault, step_fault, stray_fault, turn_fault, use_fault, walk_fault, word_fault}
 use Rattle.clap.specs.declared.builder.value_parser.ValueParser.{ValueParser}
+use Rattle.clap.specs.declared.builder.value_parser.ValueParser.TheVariants as vp
+use Rattle.std.proofs.lemmas.Slice.Eq.{bytes_eq-Decides}
+use Rattle.mh_program.specs.Line.{flag_rule}
 use Rattle.clap.specs.declared.builder.value_parser.Reading.{Reading}
 use Rattle.clap.specs.declared.builder.value_parser.Reading.TheVariants.{AsWritten}
 use Rattle.clap.specs.declared.error.kind.ErrorKind.{ErrorKind}
@@ -41,8 +41,13 @@ none_if true k e = refl
 none_if false k e = absurd (never k [] e)
 
 -- an option with one value
-abbrev pub value_rule : ValueParser → Text → Bool → Rule
-value_rule p name needed = record (new_rule name) { long = Some name; value_names = 1; parser = Some p; required = needed }
+abbrev pub value_rule : ValueParser → Text → Rule
+value_rule p name = record (new_rule name) { long = Some name; value_names = 1; parser = Some p }
+
+-- a use of a flag has a value, which it needn't be given
+flag_value : (option : Rule) (texts : List Text) → 0 < length option.missing → 0 < length (values_or_missing option texts)
+flag_value option [] some = some
+flag_value option (text ∷ texts) some = omega arith
 
 -- a use with one value has one
 some_value : (option : Rule) (texts : List Text) → range_kinds 1 1 (length texts) ≡ [] → 0 < length (values_or_missing option texts)
@@ -55,47 +60,49 @@ IfSome-from P (Some x) is = is
 
 -- Values -----------------------------------------------------------------------------------------
 
--- what is found for options whose values pass one parser, and are read as they were written
-module _ (p : ValueParser) (plain : reading_of p ≡ AsWritten) where
-  abbrev pub PassEach : List Text → Type 0
-  PassEach [] = Unit {0}
-  PassEach (text ∷ texts) = (accepts false p text ≡ true) × PassEach texts
+-- what is found for options, each of whose values passes the parser of its name, and is read as it was written
+module _ (p : Text → ValueParser) (plain : (id : Text) → reading_of (p id) ≡ AsWritten) where
+  abbrev pub PassEach : Text → List Text → Type 0
+  PassEach id [] = Unit {0}
+  PassEach id (text ∷ texts) = (accepts false (p id) text ≡ true) × PassEach id texts
 
   abbrev pub IsRead : Row → Type 0
-  IsRead row = PassEach row.values × (row.reading ≡ AsWritten) × (0 < length row.values)
+  IsRead row = PassEach row.id row.values × (row.reading ≡ AsWritten) × (0 < length row.values)
 
   abbrev pub AreRead : List Row → Type 0
   AreRead [] = Unit {0}
   AreRead (row ∷ rows) = IsRead row × AreRead rows
 
-  PassEach-taken : (texts : List Text) → values_kinds false p texts ≡ [] → PassEach texts
-  PassEach-taken [] e = tt
-  PassEach-taken (text ∷ texts) e = (
-    none_if (accepts false p text) (refused_kind p) (none_first (value_kinds false p text) (values_kinds false p texts) e),
-    PassEach-taken texts (none_next (value_kinds false p text) (values_kinds false p texts) e),
+  PassEach-taken : (id : Text) (texts : List Text) → values_kinds false (p id) texts ≡ [] → PassEach id texts
+  PassEach-taken id [] e = tt
+  PassEach-taken id (text ∷ texts) e = (
+    none_if (accepts false (p id) text) (refused_kind (p id)) (none_first (value_kinds false (p id) text) (values_kinds false (p id) texts) e),
+    PassEach-taken id texts (none_next (value_kinds false (p id) text) (values_kinds false (p id) texts) e),
   )
 
-  PassEach-append : (xs ys : List Text) → PassEach xs → PassEach ys → PassEach (xs ++ ys)
-  PassEach-append [] ys a b = b
-  PassEach-append (x ∷ xs) ys a b = (a.0, PassEach-append xs ys a.1 b)
+  PassEach-append : (id : Text) (xs ys : List Text) → PassEach id xs → PassEach id ys → PassEach id (xs ++ ys)
+  PassEach-append id [] ys a b = b
+  PassEach-append id (x ∷ xs) ys a b = (a.0, PassEach-append id xs ys a.1 b)
 
   AreRead-append : (xs ys : List Row) → AreRead xs → AreRead ys → AreRead (xs ++ ys)
   AreRead-append [] ys a b = b
   AreRead-append (x ∷ xs) ys a b = (a.0, AreRead-append xs ys a.1 b)
 
-  AreRead-at_row : (id : Text) (change : Row → List Row) (missing rows : List Row) → ((row : Row) → IsRead row → AreRead (change row)) → AreRead missing → AreRead rows → AreRead (at_row id change missing rows)
+  AreRead-at_row : (id : Text) (change : Row → List Row) (missing rows : List Row) → ((row : Row) → row.id ≡ id → IsRead row → AreRead (change row)) → AreRead missing → AreRead rows → AreRead (at_row id change missing rows)
   AreRead-at_row id change missing [] changed new all = new
-  AreRead-at_row id change missing (row ∷ rows) changed new all = go (bytes_eq row.id id) (AreRead-at_row id change missing rows changed new all.1) where
-    go : (b : Bool) → AreRead (at_row id change missing rows) → AreRead (if b then change row ++ rows else row ∷ at_row id change missing rows)
-    go true rest = AreRead-append (change row) rows (changed row all.0) all.1
-    go false rest = (all.0, rest)
+  AreRead-at_row id change missing (row ∷ rows) changed new all = go (bytes_eq row.id id) refl (AreRead-at_row id change missing rows changed new all.1) where
+    go : (b : Bool) → bytes_eq row.id id ≡ b → AreRead (at_row id change missing rows) → AreRead (if b then change row ++ rows else row ∷ at_row id change missing rows)
+    go true same rest = AreRead-append (change row) rows (changed row ((bytes_eq-Decides row.id id).0 same) all.0) all.1
+    go false same rest = (all.0, rest)
 
   AreRead-without : (id : Text) (rows : List Row) → AreRead rows → AreRead (without id rows)
-  AreRead-without id rows all = AreRead-at_row id (λ _. []) [] rows (λ row h. tt) tt all
+  AreRead-without id rows all = AreRead-at_row id (λ _. []) [] rows (λ row same h. tt) tt all
 
-  AreRead-with_values : (id : Text) (how : Reading) (source : ValueSource) (texts : List Text) (rows : List Row) → how ≡ AsWritten → 0 < length texts → PassEach texts → AreRead rows → AreRead (with_values id how source texts rows)
+  AreRead-with_values : (id : Text) (how : Reading) (source : ValueSource) (texts : List Text) (rows : List Row) → how ≡ AsWritten → 0 < length texts → PassEach id texts → AreRead rows → AreRead (with_values id how source texts rows)
   AreRead-with_values id how source texts rows is some passed all =
-      AreRead-at_row id (more_values source texts) _ rows (λ row h. ((PassEach-append row.values texts h.0 passed, h.1, omega (arith, length-append row.values texts, some)), tt)) ((passed, is, some), tt) all
+      AreRead-at_row id (more_values source texts) _ rows
+      (λ row same h. ((PassEach-append row.id row.values texts h.0 (subst (λ name. PassEach name texts) (sym same) passed), h.1, omega (arith, length-append row.values texts, some)), tt))
+      ((passed, is, some), tt) all
 
   -- Options ----------------------------------------------------------------------------------------
 
@@ -108,19 +115,37 @@ module _ (p : ValueParser) (plain : reading_of p ≡ AsWritten) where
   AreSafe [] = Unit {0}
   AreSafe (option ∷ options) = IsSafe option × AreSafe options
 
+  either : (b : Bool) (rows others : List Row) → AreRead rows → AreRead others → AreRead (if b then rows else others)
+  either true rows others all more = all
+  either false rows others all more = more
+
   same_either : (b : Bool) (rows : List Row) → AreRead rows → AreRead (if b then rows else rows)
   same_either true rows all = all
   same_either false rows all = all
 
-  pub safe-value : (name : Text) (needed : Bool) (i : ℕ) → IsSafe (with_index i (filled (value_rule p name needed)))
-  safe-value name needed i = record {
+  -- an option with one value, of the parser of its name
+  pub safe-value : (name : Text) (i : ℕ) → IsSafe (with_index i (filled (value_rule (p name) name)))
+  safe-value name i = record {
     uses = λ again texts rows e all.
-        let option : Rule = with_index i (filled (value_rule p name needed)) in
+        let option : Rule = with_index i (filled (value_rule (p name) name)) in
         let one : range_kinds 1 1 (length texts) ≡ [] = none_first (range_kinds 1 1 (length texts)) _ e in
-        let passed : PassEach (values_or_missing option texts) =
-        PassEach-taken (values_or_missing option texts) (none_next (repeat_fault again option.id rows) (values_kinds false p (values_or_missing option texts)) (none_next (range_kinds 1 1 (length texts)) _ e)) in
-        AreRead-with_values _ _ _ _ _ plain (some_value option texts one) passed (AreRead-without _ rows all);
+        let passed : PassEach name (values_or_missing option texts) =
+        PassEach-taken name (values_or_missing option texts) (none_next (repeat_fault again option.id rows) (values_kinds false (p name) (values_or_missing option texts)) (none_next (range_kinds 1 1 (length texts)) _ e)) in
+        AreRead-with_values _ _ _ _ _ (plain name) (some_value option texts one) passed (AreRead-without _ rows all);
     defaults = λ rows all. same_either (has_row name rows) rows all;
+  }
+
+  -- a flag, which has one value if it is left out too
+  pub safe-flag : (name : Text) (i : ℕ) → p name ≡ vp.Bool → IsSafe (with_index i (filled (flag_rule name)))
+  safe-flag name i is = record {
+    uses = λ again texts rows e all.
+        let option : Rule = with_index i (filled (flag_rule name)) in
+        let kinds : values_kinds false vp.Bool (values_or_missing option texts) ≡ [] = none_next (repeat_fault again option.id rows) (values_kinds false vp.Bool (values_or_missing option texts)) (none_next (range_kinds 0 0 (length texts)) _ e) in
+        let passed : PassEach name (values_or_missing option texts) = PassEach-taken name (values_or_missing option texts) (subst (λ parser. values_kinds false parser (values_or_missing option texts) ≡ []) (sym is) kinds) in
+        AreRead-with_values name AsWritten _ (values_or_missing option texts) _ refl (flag_value option texts (omega arith)) passed (AreRead-without name rows all);
+    defaults = λ rows all.
+        let off : PassEach name (codes "false" ∷ []) = (subst (λ parser. accepts false parser (codes "false") ≡ true) (sym is) refl, tt) in
+        either (has_row name rows) rows _ all (AreRead-with_values name AsWritten _ (codes "false" ∷ []) rows refl (omega arith) off all);
   }
 
   pub safe-help : (i : ℕ) → IsSafe (with_index i (filled help_rule))
@@ -274,31 +299,28 @@ module _ (p : ValueParser) (plain : reading_of p ≡ AsWritten) where
 
   -- What is found ----------------------------------------------------------------------------------
 
-  IsRead-find : (test : Row → Bool) (rows : List Row) → AreRead rows → IfSome (find test rows) IsRead
+  abbrev FoundRead : (Row → Bool) → Row → Type 0
+  FoundRead test row = (test row ≡ true) × IsRead row
+
+  IsRead-find : (test : Row → Bool) (rows : List Row) → AreRead rows → IfSome (find test rows) (FoundRead test)
   IsRead-find test [] all = tt
-  IsRead-find test (row ∷ rows) all = go (test row) (IsRead-find test rows all.1) where
-    go : (b : Bool) → IfSome (find test rows) IsRead → IfSome (if b then Some row else find test rows) IsRead
-    go true rest = all.0
-    go false rest = rest
+  IsRead-find test (row ∷ rows) all = go (test row) refl (IsRead-find test rows all.1) where
+    go : (b : Bool) → test row ≡ b → IfSome (find test rows) (FoundRead test) → IfSome (if b then Some row else find test rows) (FoundRead test)
+    go true same rest = (same, all.0)
+    go false same rest = rest
 
-  first-read : (texts : List Text) (how : Reading) → how ≡ AsWritten → 0 < length texts → PassEach texts → IsSomeAnd (option_map (read_as how) (slice_get texts 0)) (Accepts false p)
-  first-read [] how is some all = absurd (omega (arith, some))
-  first-read (text ∷ texts) how is some all =
-      let P : Reading → Type 0 = λ r. Accepts false p (read_as r text) in
-      subst P (sym is) (accepts-Accepts false p text all.0)
+  first-read : (id : Text) (texts : List Text) (how : Reading) → how ≡ AsWritten → 0 < length texts → PassEach id texts → IsSomeAnd (option_map (read_as how) (slice_get texts 0)) (Accepts false (p id))
+  first-read id [] how is some all = absurd (omega (arith, some))
+  first-read id (text ∷ texts) how is some all =
+      let P : Reading → Type 0 = λ r. Accepts false (p id) (read_as r text) in
+      subst P (sym is) (accepts-Accepts false (p id) text all.0)
 
-  row-may : (row : Option Row) → IfSome row IsRead → IfSome (option_and_then row_text row) (Accepts false p)
-  row-may None is = tt
-  row-may (Some row) is = IfSome-from _ (option_map (read_as row.reading) (slice_get row.values 0)) (first-read row.values row.reading is.1 is.2 is.0)
-
-  row-must : (row : Option Row) → option_map_or (λ row. explicit_source row.source) row false ≡ true → IfSome row IsRead → IsSomeAnd (option_and_then row_text row) (Accepts false p)
-  row-must None given is = absurd (false≢true given)
-  row-must (Some row) given is = first-read row.values row.reading is.1 is.2 is.0
+  row-may : (id : Text) (row : Option Row) → IfSome row (FoundRead (λ row. bytes_eq row.id id)) → IfSome (option_and_then row_text row) (Accepts false (p id))
+  row-may id None is = tt
+  row-may id (Some row) is =
+      let same : row.id ≡ id = (bytes_eq-Decides row.id id).0 is.0 in
+      IfSome-from _ (option_map (read_as row.reading) (slice_get row.values 0)) (first-read id row.values row.reading is.1.1 is.1.2 (subst (λ name. PassEach name row.values) same is.1.0))
 
   -- a value that is found has passed
-  pub value-may : (id : Text) (rows : List Row) → AreRead rows → IfSome (one_of id rows) (Accepts false p)
-  value-may id rows all = row-may (find (λ row. bytes_eq row.id id) rows) (IsRead-find (λ row. bytes_eq row.id id) rows all)
-
-  -- of an option that is given there is one
-  pub value-must : (id : Text) (rows : List Row) → is_given id rows ≡ true → AreRead rows → IsSomeAnd (one_of id rows) (Accepts false p)
-  value-must id rows given all = row-must (find (λ row. bytes_eq row.id id) rows) given (IsRead-find (λ row. bytes_eq row.id id) rows all)
+  pub value-may : (id : Text) (rows : List Row) → AreRead rows → IfSome (one_of id rows) (Accepts false (p id))
+  value-may id rows all = row-may id (find (λ row. bytes_eq row.id id) rows) (IsRead-find (λ row. bytes_eq row.id id) rows all)

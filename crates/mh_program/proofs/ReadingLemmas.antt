@@ -1,11 +1,16 @@
 -- What the options of the matches are read as.
-use Rattle.std.proofs.Common.{◌≡◌, ◌<◌, ◌≤◌, ◌^◌, ℕ, Option, Some, None, refl, ap, arith}
-use Rattle.std.specs.Prelude.{IfSome, Result, Ok, Err, unwrap_or}
+use Rattle.std.proofs.Common.{◌≡◌, ◌∙◌, ◌⊎◌, ◌<◌, ◌≤◌, ◌^◌, ℕ, Bool, true, false, Option, Some, None, option_map, refl, sym, ap, inl, inr, arith, codes}
+use Rattle.std.specs.Prelude.{IfSome, IsSome, Result, Ok, Err, find, option_and_then, slice_get, unwrap_or}
+use Rattle.std.specs.Str.{bytes_eq}
+use Rattle.clap.proofs.WalkLemmas.{first_value-rows}
+use Rattle.clap.specs.Matches.{first_value}
+use Rattle.clap.specs.declared.parser.matches.Found.{Found}
+use Rattle.mh_model.specs.declared.config.Rules.{Rules}
 use Rattle.std.specs.Str.Parse.{IsNumeral, ParsesUnsigned, without_leading_plus}
 use Rattle.clap.specs.Matches.{ReadsOne}
-use Rattle.clap.specs.Values.{IsUnsignedIn}
-use Rattle.clap.specs.Walk.{Text}
-use Rattle.mh_program.specs.Line.{number_in}
+use Rattle.clap.specs.Values.{IsUnsignedIn, read_as}
+use Rattle.clap.specs.Walk.{Row, Text, one_of, row_text, rows_of}
+use Rattle.mh_program.specs.Line.{number_in, rules_numbered}
 use Rattle.std.specs.Option.{option_map_or}
 
 -- a number that fits is read
@@ -20,7 +25,46 @@ module _ {E : Type 0} (k : ℕ) (gives : Text → Result ℕ E → Type 0) (pars
   may-read least most other None got below given none some = ap (λ o. unwrap_or o other) (none refl)
   may-read least most other (Some text) got below given none some = ap (λ o. unwrap_or o other) (number-read text got given.0 (omega (arith, given.3, below)) (some text refl))
 
+  -- the rules by such an option, or these others if it is left out
+  pub rules-read : (other : Rules) (found : Option Text) (got : Option ℕ) → 2 < 2 ^ k → IfSome found (IsUnsignedIn 1 2) → (found ≡ None → got ≡ None) → ((t : Text) → found ≡ Some t → ReadsOne gives t got)
+      → option_map_or rules_numbered got other ≡ option_map_or (λ text. rules_numbered (number_in text)) found other
+  rules-read other None got below given none some = ap (λ o. option_map_or rules_numbered o other) (none refl)
+  rules-read other (Some text) got below given none some = ap (λ o. option_map_or rules_numbered o other) (number-read text got given.0 (omega (arith, given.3, below)) (some text refl))
+
 -- it is within its bounds
 pub within-bounds : (least most other : ℕ) (found : Option Text) → least ≤ other → other ≤ most → IfSome found (IsUnsignedIn least most) → (least ≤ option_map_or number_in found other) × (option_map_or number_in found other ≤ most)
 within-bounds least most other None low high given = (low, high)
 within-bounds least most other (Some text) low high given = (given.2, given.3)
+
+-- Flags and texts that are given -------------------------------------------------------------------
+
+pub flag-read : (found : Option Text) (got : Bool) → IfSome found (λ text. (text ≡ codes "true") ⊎ (text ≡ codes "false")) → (found ≡ None → got ≡ false) → (found ≡ Some (codes "true") → got ≡ true) → (found ≡ Some (codes "false") → got ≡ false)
+    → got ≡ option_map_or (λ text. bytes_eq text (codes "true")) found false
+flag-read None got may none on off = none refl
+flag-read (Some text) got (inl is) none on off = on (ap Some is) ∙ sym (ap (λ t. bytes_eq t (codes "true")) is)
+flag-read (Some text) got (inr is) none on off = off (ap Some is) ∙ sym (ap (λ t. bytes_eq t (codes "true")) is)
+
+some-none : {A : Type 0} {x : A} → Some x ≡ None → ⊥
+some-none e = cc
+
+abbrev first_text : Option Row → Option Text
+first_text row = option_and_then (λ r. slice_get r.values 0) row
+
+none-given : (row : Option Row) → first_text row ≡ None → option_and_then row_text row ≡ None
+none-given None e = refl
+none-given (Some row) e = ap (option_map (read_as row.reading)) e
+
+some-given : (row : Option Row) (text : Text) → first_text row ≡ Some text → (t : Text) × (option_and_then row_text row ≡ Some t)
+some-given None text e = absurd (some-none (sym e))
+some-given (Some row) text e = (read_as row.reading text, ap (option_map (read_as row.reading)) e)
+
+-- an option that is read as nothing is not given
+pub not_given : (f : Found) (name : Text) → first_value f name ≡ None → one_of name (rows_of f) ≡ None
+not_given f name e = none-given (find (λ r. bytes_eq r.id name) (rows_of f)) (sym (first_value-rows f name) ∙ e)
+
+pub is_given : (f : Found) (name text : Text) → first_value f name ≡ Some text → (t : Text) × (one_of name (rows_of f) ≡ Some t)
+is_given f name text e = some-given (find (λ r. bytes_eq r.id name) (rows_of f)) text (sym (first_value-rows f name) ∙ e)
+
+pub some_is : {A : Type 0} (o : Option A) (x : A) → o ≡ Some x → IsSome o
+some_is None x e = absurd (some-none (sym e))
+some_is (Some y) x e = refl

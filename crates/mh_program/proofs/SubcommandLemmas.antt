@@ -1,5 +1,5 @@
 -- What `clap` finds in words that it takes for the program's: one of its subcommands, with what that one's options may be.
-use Rattle.std.proofs.Common.{◌≡◌, ◌∙◌, Bool, true, false, not, if◌then◌else◌, ◌&&◌, List, [], ◌∷◌, Option, Some, None, is_some, option_map, refl, sym, ap, subst, inl, inr, codes}
+use Rattle.std.proofs.Common.{◌≡◌, ◌∙◌, ◌⊎◌, ◌||◌, ℕ, Bool, true, false, not, if◌then◌else◌, ◌&&◌, List, [], ◌∷◌, Option, Some, None, is_some, option_map, refl, sym, ap, subst, inl, inr, codes}
 use Rattle.std.specs.Prelude.{◌≢◌, IfSome, IsSomeAnd, find}
 use Rattle.std.specs.Option.{option_map_or}
 use Rattle.std.specs.List.{list_any}
@@ -7,49 +7,72 @@ use Rattle.std.proofs.lemmas.Bool.{false≢true}
 use Rattle.clap.specs.Facts.{explicit_source}
 use Rattle.clap.specs.Faults.{check_fault, defaults_fault, is_simple_and_free, entered_fault, fault_of, level_fault, settle_fault, walk_fault}
 use Rattle.clap.specs.Kinds.{HasKind, IsAmong, Kinds, check_kinds}
-use Rattle.clap.specs.Values.{kind_of}
+use Rattle.clap.specs.Values.{Accepts, kind_of, reading_of}
+use Rattle.clap.specs.declared.builder.value_parser.ValueParser.{ValueParser}
+use Rattle.clap.specs.declared.builder.value_parser.ValueParser.TheVariants as vp
+use Rattle.clap.specs.declared.builder.value_parser.Reading.TheVariants.{AsWritten}
+use Rattle.std.proofs.lemmas.Slice.Eq.{bytes_eq-Decides}
+use Rattle.std.specs.Str.{bytes_eq}
 use Rattle.clap.specs.declared.error.Error.{Error}
 use Rattle.clap.specs.declared.error.kind.ErrorKind.TheVariants as kind
-use Rattle.clap.specs.Simple.{App, HasMatchesOf, Shape, argument_words, built, built_leaf, entered, is_simple, label_of, names_of, rows_at, subcommand_of, subcommand_rows_of}
+use Rattle.clap.specs.Simple.{App, HasMatchesOf, Shape, argument_words, built, built_leaf, entered, filled, help_rule, is_simple, label_of, names_of, rows_at, subcommand_of, subcommand_rows_of, with_index}
 use Rattle.clap.specs.Takes.{is_given}
-use Rattle.clap.specs.Walk.{Row, Text, Walk, answers_to, finished, nothing_held, rows_after, settled, walk_from}
+use Rattle.clap.specs.Walk.{Row, Text, Walk, answers_to, finished, nothing_held, one_of, rows_after, settled, walk_from}
 use Rattle.clap.specs.Walk as walk
 use Rattle.clap.specs.declared.parser.matches.ArgMatches.{ArgMatches}
-use Rattle.std.proofs.lemmas.Bool.{or_parts}
 use Rattle.mh_program.specs.declared.fault.LineFault.{LineFault}
 use Rattle.mh_program.specs.declared.fault.LineFault.TheVariants.{Words, NotText, Configuration, NoMemory}
 use Rattle.mh_program.specs.declared.line.Order.{Order}
 use Rattle.mh_program.specs.declared.line.Order.TheVariants.{Version}
 use Rattle.mh_program.specs.declared.line.ConfigOption.{ConfigOption}
 use Rattle.mh_program.specs.declared.options.OptionFault.{OptionFault}
-use Rattle.mh_program.specs.declared.options.OptionFault.TheVariants.{NoNumber, Outside}
+use Rattle.mh_program.specs.declared.options.OptionFault.TheVariants.{NoNumber, Missing, Unwanted, Outside}
 use Rattle.std.specs.Borrow.{Bor}
 use Rattle.clap.specs.declared.error.kind.ErrorKind.{ErrorKind}
-use Rattle.mh_program.specs.Orders.{AsksNoNumber, AsksOutside, AsksVersion, GivesOrder, HasFewWorkers, HasFirstRules, HasNoNumber, HasOptionFault, IsFault, IsOrder, IsOutside, Named, NotNumbers, NotTaken, Refuses, RefusesOptions}
-use Rattle.mh_program.specs.Line.{IsAsked, NamesOne, Nothing, Numbers, TakesNumbers, TakesWorkers, Workers, any_text, config_app, metroheap, worker_numbers, workers_app}
-use Rattle.mh_program.proofs.OptionLemmas.{AreRead, level-read, never, none_first, none_next, safe-help, safe-value, value-may, value-must}
+use Rattle.mh_program.specs.Orders.{AreAmiss, AskAmiss, AsksOutside, AsksVersion, GivesOrder, HasAmiss, HasFewWorkers, HasFirstRules, HasOptionFault, IsFault, IsMissing, IsNoNumber, IsOptionFault, IsOrder, IsOutside, IsUnwanted, Named, NotMet, NotTaken, Refuses, RefusesOptions, kind_of_fault}
+use Rattle.mh_program.specs.Line.{AsksForFew, AsksForRules, Checks, HasFlag, IsAsked, NamesOne, Nothing, Runs, TakesWorkers, Workers, any_text, check_app, flag_rule, metroheap, rules_numbers, run_app, worker_numbers, workers_app}
+use Rattle.mh_program.proofs.OptionLemmas.{AreRead, IsSafe, level-read, never, none_first, none_next, safe-flag, safe-help, safe-value, value-may, value_rule}
 
--- Required options -------------------------------------------------------------------------------
+-- Options ----------------------------------------------------------------------------------------
 
-is_there : (b : Bool) → (true && not b) ≡ false → b ≡ true
-is_there true e = refl
-is_there false e = absurd (false≢true (sym e))
+-- the parser of each option's values, by its name
+abbrev option_parser : Text → ValueParser
+option_parser name =
+    if bytes_eq name (codes "workers") then worker_numbers else (if bytes_eq name (codes "rules") then rules_numbers
+    else (if bytes_eq name (codes "history") then vp.Bool else (if bytes_eq name (codes "sessions") then vp.Bool else any_text)))
 
-none_missing : (a b c : Bool) → check_kinds a b c ≡ [] → c ≡ false
-none_missing true b c e = absurd (never _ _ e)
-none_missing false true c e = absurd (never _ _ e)
-none_missing false false true e = absurd (never _ _ e)
-none_missing false false false e = refl
+-- each is read as it was written
+read_plain : (name : Text) → reading_of (option_parser name) ≡ AsWritten
+read_plain name = go (bytes_eq name (codes "workers")) (bytes_eq name (codes "rules")) (bytes_eq name (codes "history")) (bytes_eq name (codes "sessions")) where
+  go : (a b c d : Bool) → reading_of (if a then worker_numbers else (if b then rules_numbers else (if c then vp.Bool else (if d then vp.Bool else any_text)))) ≡ AsWritten
+  go true b c d = refl
+  go false true c d = refl
+  go false false true d = refl
+  go false false false true = refl
+  go false false false false = refl
 
--- no required option is missing
-level-whole : (s : Shape) (words : List Text) → level_fault s [] nothing_held words false [] ≡ []
-    → (not (s.subcommand_negates_reqs && false) && list_any (λ a. a.required && not (is_given a.id (rows_after s.rules [] words))) s.rules) ≡ false
-level-whole s words e =
-    let fault : Kinds = walk_fault s [] (walk_from nothing_held) words in
-    let end = (walk.walk s.rules [] nothing_held words).held in
-    let settles : Kinds = settle_fault s.rules s.args_override_self end in
-    let defaults : Kinds = defaults_fault (settled s.rules end).rows s.rules in
-    none_missing _ _ _ (none_next defaults _ (none_next settles _ (none_next fault _ e)))
+abbrev AllRead : List Row → Type 0
+AllRead rows = AreRead option_parser read_plain rows
+
+flag-may : (found : Option Text) → IfSome found (Accepts false vp.Bool) → IfSome found (λ text. (text ≡ codes "true") ⊎ (text ≡ codes "false"))
+flag-may None is = tt
+flag-may (Some text) is = go (bytes_eq text (codes "true")) (bytes_eq text (codes "false")) refl refl is where
+  go : (a b : Bool) → bytes_eq text (codes "true") ≡ a → bytes_eq text (codes "false") ≡ b → (a || b) ≡ true → (text ≡ codes "true") ⊎ (text ≡ codes "false")
+  go true b first second is = inl ((bytes_eq-Decides text (codes "true")).0 first)
+  go false true first second is = inr ((bytes_eq-Decides text (codes "false")).0 second)
+  go false false first second is = absurd (false≢true is)
+
+few-may : (rows : List Row) → AllRead rows → AsksForFew rows
+few-may rows all = value-may option_parser read_plain (codes "workers") rows all
+
+rules-may : (rows : List Row) → AllRead rows → AsksForRules rows
+rules-may rows all = value-may option_parser read_plain (codes "rules") rows all
+
+history-may : (rows : List Row) → AllRead rows → HasFlag (codes "history") rows
+history-may rows all = flag-may (one_of (codes "history") rows) (value-may option_parser read_plain (codes "history") rows all)
+
+sessions-may : (rows : List Row) → AllRead rows → HasFlag (codes "sessions") rows
+sessions-may rows all = flag-may (one_of (codes "sessions") rows) (value-may option_parser read_plain (codes "sessions") rows all)
 
 -- Subcommands ------------------------------------------------------------------------------------
 
@@ -61,26 +84,39 @@ abbrev AreSound : List Shape → Type 0
 AreSound [] = Unit {0}
 AreSound (s ∷ shapes) = IsSound s × AreSound shapes
 
+value-safe : (name : Text) (i : ℕ) → IsSafe option_parser read_plain (with_index i (filled (value_rule (option_parser name) name)))
+value-safe name i = safe-value option_parser read_plain name i
+
+flag-safe : (name : Text) (i : ℕ) → option_parser name ≡ vp.Bool → IsSafe option_parser read_plain (with_index i (filled (flag_rule name)))
+flag-safe name i is = safe-flag option_parser read_plain name i is
+
+help-safe : IsSafe option_parser read_plain (with_index 1 (filled help_rule))
+help-safe = safe-help option_parser read_plain 1
+
 sound-workers : (name : Text) → TakesWorkers name → IsSound (built_leaf (workers_app name).top)
 sound-workers name is words e =
     let s : Shape = built_leaf (workers_app name).top in
     let rows : List Row = rows_after s.rules [] words in
-    let all : AreRead worker_numbers refl rows = level-read worker_numbers refl s words (safe-value worker_numbers refl (codes "workers") false 1, (safe-help worker_numbers refl 1, tt)) e in
-    Workers is (value-may worker_numbers refl (codes "workers") rows all)
+    let all : AllRead rows = level-read option_parser read_plain s words (value-safe (codes "workers") 1, (help-safe, tt)) e in
+    Workers is (few-may rows all)
 
-sound-numbers : (name : Text) → TakesNumbers name → IsSound (built_leaf (config_app name).top)
-sound-numbers name is words e =
-    let s : Shape = built_leaf (config_app name).top in
+sound-run : IsSound (built_leaf run_app.top)
+sound-run words e =
+    let s : Shape = built_leaf run_app.top in
     let rows : List Row = rows_after s.rules [] words in
-    let safe : (option : Text) → _ = λ option. safe-value any_text refl option true 1 in
-    let all : AreRead any_text refl rows =
-    level-read any_text refl s words (safe (codes "pages"), (safe (codes "quantum"), (safe (codes "trigger"), (safe (codes "every"), (safe-help any_text refl 1, tt))))) e in
-    let given : (option : Text) → is_given option rows ≡ true → _ = λ option there. value-must any_text refl option rows there all in
-    let pages = or_parts _ _ (level-whole s words e) in
-    let quantum = or_parts _ _ pages.1 in
-    let trigger = or_parts _ _ quantum.1 in
-    let every = or_parts _ _ trigger.1 in
-    Numbers is (given (codes "pages") (is_there _ pages.0), given (codes "quantum") (is_there _ quantum.0), given (codes "trigger") (is_there _ trigger.0), given (codes "every") (is_there _ every.0))
+    let all : AllRead rows =
+    level-read option_parser read_plain s words (value-safe (codes "workers") 1, (value-safe (codes "rules") 1, (flag-safe (codes "history") 1 refl, (help-safe, tt)))) e in
+    Runs refl (few-may rows all, rules-may rows all, history-may rows all)
+
+sound-check : IsSound (built_leaf check_app.top)
+sound-check words e =
+    let s : Shape = built_leaf check_app.top in
+    let rows : List Row = rows_after s.rules [] words in
+    let numbers : (name : Text) → _ = λ name. value-safe name 1 in
+    let all : AllRead rows =
+    level-read option_parser read_plain s words
+    (numbers (codes "pages"), (numbers (codes "quantum"), (numbers (codes "trigger"), (numbers (codes "every"), (value-safe (codes "rules") 1, (flag-safe (codes "sessions") 1 refl, (help-safe, tt))))))) e in
+    Checks refl (rules-may rows all, sessions-may rows all)
 
 AreSound-find : (test : Shape → Bool) (shapes : List Shape) → AreSound shapes → IfSome (find test shapes) IsSound
 AreSound-find test [] sound = tt
@@ -104,10 +140,13 @@ module _ (a : App) (sound : AreSound a.subs) where
 
 sound-metroheap : AreSound (built metroheap).subs
 sound-metroheap = (
-  sound-workers (codes "run") (inl refl),
+  sound-run,
   (
-    sound-workers (codes "race") (inr refl),
-    (sound-numbers (codes "check") (inl refl), ((λ words e. Nothing refl), (sound-numbers (codes "migrate") (inr refl), tt))),
+    sound-workers (codes "live") (inl refl),
+    (
+      sound-workers (codes "race") (inr refl),
+      (sound-check, ((λ words e. Nothing (inl refl)), ((λ words e. Nothing (inr refl)), tt))),
+    ),
   ),
 )
 
@@ -144,6 +183,19 @@ is_version _ = false
 other_kind : (k : ErrorKind) → is_version k ≡ false → k ≢ kind.DisplayVersion
 other_kind k other e = false≢true (sym other ∙ ap is_version e)
 
+same_some : {A : Type 0} {x y : A} → Some x ≡ Some y → x ≡ y
+same_some e = cc
+
+none_some : {A : Type 0} {x : A} → None ≡ Some x → ⊥
+none_some e = cc
+
+-- a fault of options asks for no version
+not_version : (fault : OptionFault) (k : ErrorKind) → kind_of_fault fault ≡ Some k → is_version k ≡ false
+not_version (NoNumber name text) k kinds = sym (ap is_version (same_some kinds))
+not_version (Missing name) k kinds = sym (ap is_version (same_some kinds))
+not_version (Unwanted name) k kinds = sym (ap is_version (same_some kinds))
+not_version (Outside option) k kinds = absurd (none_some kinds)
+
 -- what `clap` matched, of a command that is the program's
 module _ (a : App) (words : List Text) (m : ArgMatches) (is : a ≡ metroheap) (matches : HasMatchesOf a words m) (taken : is_simple_and_free a ≡ true → fault_of a words ≡ []) where
   no_fault : fault_of metroheap words ≡ []
@@ -165,28 +217,37 @@ module _ (a : App) (words : List Text) (m : ArgMatches) (is : a ≡ metroheap) (
       let P : Option (Text × List Row) → Type 0 = λ matched. IsSomeAnd matched (λ subcommand. IsOutside subcommand.0 subcommand.1 option) in
       record { taken = no_fault; named = subst P (sym rows_are) named }
 
-  asks_no_number : IsSomeAnd (subcommand_rows_of m) (λ subcommand. HasNoNumber subcommand.0 subcommand.1) → AsksNoNumber words
-  asks_no_number named =
-      let P : Option (Text × List Row) → Type 0 = λ matched. IsSomeAnd matched (λ subcommand. HasNoNumber subcommand.0 subcommand.1) in
+  ask_amiss : (k : ErrorKind) → IsSomeAnd (subcommand_rows_of m) (λ subcommand. HasAmiss k subcommand.0 subcommand.1) → AskAmiss words k
+  ask_amiss k named =
+      let P : Option (Text × List Row) → Type 0 = λ matched. IsSomeAnd matched (λ subcommand. HasAmiss k subcommand.0 subcommand.1) in
       record { taken = no_fault; named = subst P (sym rows_are) named }
 
-  has_no_number : (name : Bor Text) (text : Bor Text) (matched : Option (Text × List Row)) → IsSomeAnd matched (λ subcommand. HasOptionFault subcommand.0 subcommand.1 (NoNumber name text))
-      → IsSomeAnd matched (λ subcommand. HasNoNumber subcommand.0 subcommand.1)
-  has_no_number name text None has = absurd has
-  has_no_number name text (Some subcommand) has = (has.0, (name.now, has.1.0, has.1.1))
+  amiss_by : (rows : List Row) (fault : OptionFault) (k : ErrorKind) → IsOptionFault rows fault → kind_of_fault fault ≡ Some k → AreAmiss rows k
+  amiss_by rows (NoNumber name text) k is kinds = subst (AreAmiss rows) (same_some kinds) (IsNoNumber name.now is.0 is.1)
+  amiss_by rows (Missing name) k is kinds = subst (AreAmiss rows) (same_some kinds) (IsMissing name.now is.0 is.1)
+  amiss_by rows (Unwanted name) k is kinds = subst (AreAmiss rows) (same_some kinds) (IsUnwanted name.now is.0 is.1 is.2)
+  amiss_by rows (Outside option) k is kinds = absurd (none_some kinds)
+
+  has_amiss : (fault : OptionFault) (k : ErrorKind) (matched : Option (Text × List Row)) → IsSomeAnd matched (λ subcommand. HasOptionFault subcommand.0 subcommand.1 fault) → kind_of_fault fault ≡ Some k
+      → IsSomeAnd matched (λ subcommand. HasAmiss k subcommand.0 subcommand.1)
+  has_amiss fault k None has kinds = absurd has
+  has_amiss fault k (Some subcommand) has kinds = (has.0, amiss_by subcommand.1 fault k has.1 kinds)
 
   -- options with a fault are refused so
   pub options_refused : (fault : OptionFault) (line : LineFault) → IsSomeAnd (subcommand_rows_of m) (λ subcommand. HasOptionFault subcommand.0 subcommand.1 fault) → RefusesOptions fault line → IsFault words line
-  options_refused (NoNumber name text) (Words error) has told = (other_kind (kind_of error) (ap is_version told), NotNumbers (asks_no_number (has_no_number name text (subcommand_rows_of m) has)) told)
-  options_refused (NoNumber name text) NoMemory has told = tt
+  options_refused fault (Words error) has told =
+      (other_kind (kind_of error) (not_version fault (kind_of error) told), NotMet (ask_amiss (kind_of error) (has_amiss fault (kind_of error) (subcommand_rows_of m) has told)))
+  options_refused fault NoMemory has told = tt
   options_refused (NoNumber name text) NotText has told = absurd told
+  options_refused (Missing name) NotText has told = absurd told
+  options_refused (Unwanted name) NotText has told = absurd told
+  options_refused (Outside option) NotText has told = absurd told
   options_refused (NoNumber name text) (Configuration option) has told = absurd told
+  options_refused (Missing name) (Configuration option) has told = absurd told
+  options_refused (Unwanted name) (Configuration option) has told = absurd told
   options_refused (Outside option) (Configuration refused) has told =
       let P : ConfigOption → Type 0 = λ option. AsksOutside words option in
       subst P (sym told) (asks_outside option has)
-  options_refused (Outside option) (Words error) has told = absurd told
-  options_refused (Outside option) NotText has told = absurd told
-  options_refused (Outside option) NoMemory has told = absurd told
 
 -- a fault of such a command, but refused memory, is one of the faults of the words
 refuses : (a : App) (words : List Text) (e : Error) → a ≡ metroheap → (is_simple_and_free a ≡ true → HasKind (fault_of a words) e) → (kind_of e ≡ kind.OutOfMemory → ⊥) → IsAmong (kind_of e) (fault_of metroheap words)

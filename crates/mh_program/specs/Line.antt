@@ -1,18 +1,26 @@
 -- The command line as `clap` is given it, and what the options in its matches say.
-use Rattle.std.specs.Prelude.{◌≡◌, ◌⊎◌, ◌<◌, ◌≤◌, ℕ, List, Option, Some, true, false, codes, IfSome, IsSomeAnd, Result, Ok, Err}
+use Rattle.std.specs.Prelude.{◌≡◌, ◌⊎◌, ◌<◌, ◌≤◌, ◌==◌, if◌then◌else◌, ℕ, Bool, true, false, List, Option, Some, codes, IfSome, IsSomeAnd, Result, Ok, Err}
+use Rattle.std.specs.Str.{bytes_eq}
 use Rattle.std.specs.Option.{option_map_or}
 use Rattle.std.specs.Str.Parse.{IsNumeral, digits_value, without_leading_plus}
-use Rattle.clap.specs.Words.{Accepts, App, IsUnsignedIn, Row, Rule, Text, new_app, new_rule, one_of, with_rule, with_subcommand}
+use Rattle.clap.specs.Words.{App, IsUnsignedIn, Row, Rule, Text, new_app, new_rule, one_of, with_rule, with_subcommand}
 use Rattle.clap.specs.declared.builder.value_parser.ValueParser.{ValueParser}
 use Rattle.mh_program.specs.declared.options.OptionNumber.{OptionNumber}
 use Rattle.mh_program.specs.declared.options.NotNumber.{NotNumber}
+use Rattle.clap.specs.declared.builder.action.ArgAction.TheVariants.{SetTrue}
 use Rattle.clap.specs.declared.builder.value_parser.ValueParser.TheVariants.{String, Unsigned}
+use Rattle.mh_model.specs.declared.config.Rules.{Rules}
+use Rattle.mh_model.specs.declared.config.Rules.TheVariants.{First, Second}
 
 -- Options ----------------------------------------------------------------------------------------
 
 -- the numbers from 1 to 64
 abbrev pub worker_numbers : ValueParser
 worker_numbers = Unsigned 1 64
+
+-- the numbers of the rules
+abbrev pub rules_numbers : ValueParser
+rules_numbers = Unsigned 1 2
 
 -- any text
 abbrev pub any_text : ValueParser
@@ -30,9 +38,17 @@ option_rule name = record (named_rule name) { value_names = 1 }
 abbrev pub workers_rule : Rule
 workers_rule = record (option_rule (codes "workers")) { parser = Some worker_numbers }
 
--- an option with a number of a configuration, which has to be given; whether its text is a number `clap` leaves open
+-- an option with a number of a configuration; whether it is given, and whether its text is a number, `clap` leaves open
 abbrev pub number_rule : Text → Rule
-number_rule name = record (option_rule name) { parser = Some any_text; required = true }
+number_rule name = record (option_rule name) { parser = Some any_text }
+
+-- the option `--rules R`, which may be left out
+abbrev pub rules_rule : Rule
+rules_rule = record (option_rule (codes "rules")) { parser = Some rules_numbers }
+
+-- an option without a value, which is given or not
+abbrev pub flag_rule : Text → Rule
+flag_rule name = record (named_rule name) { action = Some SetTrue }
 
 -- Subcommands ------------------------------------------------------------------------------------
 
@@ -44,13 +60,22 @@ workers_app name = with_rule (new_app name) workers_rule
 abbrev pub config_app : Text → App
 config_app name = with_rule (with_rule (with_rule (with_rule (new_app name) (number_rule (codes "pages"))) (number_rule (codes "quantum"))) (number_rule (codes "trigger"))) (number_rule (codes "every"))
 
--- the five subcommands
+-- `run`, with rules, of a script's replies or of its history
+abbrev pub run_app : App
+run_app = with_rule (with_rule (workers_app (codes "run")) rules_rule) (flag_rule (codes "history"))
+
+-- `check`, with rules, under a configuration or by what sessions see
+abbrev pub check_app : App
+check_app = with_rule (with_rule (config_app (codes "check")) rules_rule) (flag_rule (codes "sessions"))
+
+-- the six subcommands
 abbrev pub optional_app : App
 optional_app =
-    with_subcommand (with_subcommand (with_subcommand (with_subcommand (with_subcommand (new_app (codes "metroheap"))
-    (workers_app (codes "run")).top)
+    with_subcommand (with_subcommand (with_subcommand (with_subcommand (with_subcommand (with_subcommand (new_app (codes "metroheap"))
+    run_app.top)
+    (workers_app (codes "live")).top)
     (workers_app (codes "race")).top)
-    (config_app (codes "check")).top)
+    check_app.top)
     (new_app (codes "audit")).top)
     (config_app (codes "migrate")).top
 
@@ -71,6 +96,18 @@ number_in text = digits_value 10 (without_leading_plus text)
 -- how many workers the matches ask for, which is 1 if they don't say
 abbrev pub workers_of : List Row → ℕ
 workers_of rows = option_map_or number_in (one_of (codes "workers") rows) 1
+
+-- the rules with a number: the first with 1
+abbrev pub rules_numbered : ℕ → Rules
+rules_numbered number = if number == 1 then First else Second
+
+-- the rules that the matches ask for, which are these if they don't say
+abbrev pub rules_of : Rules → List Row → Rules
+rules_of other rows = option_map_or (λ text. rules_numbered (number_in text)) (one_of (codes "rules") rows) other
+
+-- the flag is given
+abbrev pub is_flagged : Text → List Row → Bool
+is_flagged name rows = option_map_or (λ text. bytes_eq text (codes "true")) (one_of name rows) false
 
 -- the text is digits, after a plus if it has one
 abbrev pub IsNumber : Text → Type 0
@@ -107,25 +144,33 @@ HoldsNumber rows name held = IsSomeAnd (one_of name rows) (λ text. IsNumber tex
 abbrev pub AsksForFew : List Row → Type 0
 AsksForFew rows = IfSome (one_of (codes "workers") rows) (IsUnsignedIn 1 64)
 
--- the option is given
-abbrev pub IsGiven : List Row → Text → Type 0
-IsGiven rows name = IsSomeAnd (one_of name rows) (Accepts false any_text)
+-- no number of the rules is given, or 1 or 2
+abbrev pub AsksForRules : List Row → Type 0
+AsksForRules rows = IfSome (one_of (codes "rules") rows) (IsUnsignedIn 1 2)
 
--- each option of a configuration is
-abbrev pub AreGiven : List Row → Type 0
-AreGiven rows = IsGiven rows (codes "pages") × IsGiven rows (codes "quantum") × IsGiven rows (codes "trigger") × IsGiven rows (codes "every")
+-- a flag's value, if it has one, is `true` or `false`
+abbrev pub HasFlag : Text → List Row → Type 0
+HasFlag name rows = IfSome (one_of name rows) (λ text. (text ≡ codes "true") ⊎ (text ≡ codes "false"))
+
+-- what the options of `run` may be, and those of `check`
+abbrev pub AsksToRun : List Row → Type 0
+AsksToRun rows = AsksForFew rows × AsksForRules rows × HasFlag (codes "history") rows
+
+abbrev pub AsksToCheck : List Row → Type 0
+AsksToCheck rows = AsksForRules rows × HasFlag (codes "sessions") rows
 
 abbrev pub TakesWorkers : Text → Type 0
-TakesWorkers name = (name ≡ codes "run") ⊎ (name ≡ codes "race")
+TakesWorkers name = (name ≡ codes "live") ⊎ (name ≡ codes "race")
 
 abbrev pub TakesNumbers : Text → Type 0
 TakesNumbers name = (name ≡ codes "check") ⊎ (name ≡ codes "migrate")
 
 -- a subcommand of the program, with what its options may be
 pub data IsAsked (name : Text) (rows : List Row) : Type 0 where
+  Runs : name ≡ codes "run" → AsksToRun rows → IsAsked name rows
   Workers : TakesWorkers name → AsksForFew rows → IsAsked name rows
-  Numbers : TakesNumbers name → AreGiven rows → IsAsked name rows
-  Nothing : name ≡ codes "audit" → IsAsked name rows
+  Checks : name ≡ codes "check" → AsksToCheck rows → IsAsked name rows
+  Nothing : (name ≡ codes "audit") ⊎ (name ≡ codes "migrate") → IsAsked name rows
 
 -- the words name one
 abbrev pub NamesOne : Option (Text × List Row) → Type 0

@@ -1,20 +1,24 @@
 -- The order that the matches of a command line give, and why other words give none.
-use Rattle.std.specs.Prelude.{◌≡◌, ◌≢◌, ◌⊎◌, ◌<◌, ◌≤◌, ℕ, List, [], Option, Some, None, Result, Ok, Err, codes, IsSomeAnd}
+use Rattle.std.specs.Prelude.{◌≡◌, ◌≢◌, ◌⊎◌, ◌<◌, ◌≤◌, ℕ, true, false, if◌then◌else◌, List, [], Option, Some, None, Result, Ok, Err, codes, IsSome, IsSomeAnd}
 use Rattle.clap.specs.declared.error.kind.ErrorKind.{ErrorKind}
-use Rattle.clap.specs.declared.error.kind.ErrorKind.TheVariants.{DisplayVersion, OutOfMemory, ValueValidation}
-use Rattle.clap.specs.Words.{Row, Text, subcommand_of, fault_of, kind_of, IsAmong}
-use Rattle.mh_model.specs.Configs.{configured_first}
+use Rattle.clap.specs.declared.error.kind.ErrorKind.TheVariants.{ArgumentConflict, DisplayVersion, MissingRequiredArgument, OutOfMemory, ValueValidation}
+use Rattle.clap.specs.Words.{Row, Text, one_of, subcommand_of, fault_of, kind_of, IsAmong}
+use Rattle.mh_model.specs.Configs.{configured_under}
 use Rattle.mh_model.specs.declared.config.Config.{Config}
-use Rattle.mh_model.specs.declared.config.Rules.TheVariants.{First}
+use Rattle.mh_model.specs.declared.config.Rules.{Rules}
+use Rattle.mh_model.specs.declared.config.Rules.TheVariants.{First, Second}
 use Rattle.mh_program.specs.declared.fault.LineFault.{LineFault}
 use Rattle.mh_program.specs.declared.fault.LineFault.TheVariants.{Words, NotText, Configuration, NoMemory}
 use Rattle.mh_program.specs.declared.line.Order.{Order}
-use Rattle.mh_program.specs.declared.line.Order.TheVariants.{Run, Race, Check, Audit, Migrate, Version}
+use Rattle.mh_program.specs.declared.line.Order.TheVariants.{Run, Live, Race, Check, CheckSessions, Audit, Migrate, Version}
+use Rattle.mh_program.specs.declared.line.Form.{Form}
+use Rattle.mh_program.specs.declared.line.Form.TheVariants.{Replies, History}
+use Rattle.mh_program.specs.declared.line.RunOptions.{RunOptions}
 use Rattle.mh_program.specs.declared.line.ConfigOption.{ConfigOption}
 use Rattle.mh_program.specs.declared.line.ConfigOption.TheVariants.{Pages, Quantum, Trigger, Every}
 use Rattle.mh_program.specs.declared.options.OptionFault.{OptionFault}
-use Rattle.mh_program.specs.declared.options.OptionFault.TheVariants.{NoNumber, Outside}
-use Rattle.mh_program.specs.Line.{HasNumber, IsConfigOption, LacksNumber, TakesNumbers, metroheap, workers_of}
+use Rattle.mh_program.specs.declared.options.OptionFault.TheVariants.{NoNumber, Missing, Unwanted, Outside}
+use Rattle.mh_program.specs.Line.{HasNumber, IsConfigOption, LacksNumber, TakesNumbers, is_flagged, metroheap, rules_of, workers_of}
 
 -- Orders -----------------------------------------------------------------------------------------
 
@@ -32,23 +36,42 @@ pub record HasNumbers (rows : List Row) (numbers : ConfigNumbers) : Type 0 where
   pub trigger : HasNumber rows (codes "trigger") numbers.trigger
   pub every : HasNumber rows (codes "every") numbers.every
 
--- the configuration of these numbers under the first rules, none outside the limits
-abbrev pub first_config : ConfigNumbers → Option Config
-first_config numbers = configured_first numbers.pages numbers.quantum numbers.trigger numbers.every
+-- the configuration of these numbers under these rules, none outside the limits
+abbrev pub config_under : Rules → ConfigNumbers → Option Config
+config_under rules numbers = configured_under rules numbers.pages numbers.quantum numbers.trigger numbers.every
 
--- the numbers in the matches make this configuration
-pub record MakesConfig (rows : List Row) (config : Config) : Type 0 where
+-- the numbers in the matches make this configuration under these rules
+pub record MakesConfig (rules : Rules) (rows : List Row) (config : Config) : Type 0 where
   pub numbers : ConfigNumbers
   pub has : HasNumbers rows numbers
-  pub makes : first_config numbers ≡ Some config
+  pub makes : config_under rules numbers ≡ Some config
+
+-- no option of a configuration is given
+pub record HasNoConfig (rows : List Row) : Type 0 where
+  pub pages : one_of (codes "pages") rows ≡ None
+  pub quantum : one_of (codes "quantum") rows ≡ None
+  pub trigger : one_of (codes "trigger") rows ≡ None
+  pub every : one_of (codes "every") rows ≡ None
+
+-- what a run writes: its replies, or its history if the flag is given
+abbrev pub form_of : List Row → Form
+form_of rows = if is_flagged (codes "history") rows then History else Replies
+
+-- the options of a run: under the second rules if the matches don't say
+pub record AreRunOptions (rows : List Row) (options : RunOptions) : Type 0 where
+  pub workers : options.workers ≡ workers_of rows
+  pub rules : options.rules ≡ rules_of Second rows
+  pub form : options.form ≡ form_of rows
 
 -- the order of a subcommand with its matches
 abbrev pub IsOrder : Text → List Row → Order → Type 0
-IsOrder name rows (Run workers) = (name ≡ codes "run") × (workers ≡ workers_of rows)
+IsOrder name rows (Run options) = (name ≡ codes "run") × AreRunOptions rows options
+IsOrder name rows (Live workers) = (name ≡ codes "live") × (workers ≡ workers_of rows)
 IsOrder name rows (Race workers) = (name ≡ codes "race") × (workers ≡ workers_of rows)
-IsOrder name rows (Check config) = (name ≡ codes "check") × MakesConfig rows config
+IsOrder name rows (Check config) = (name ≡ codes "check") × (is_flagged (codes "sessions") rows ≡ false) × MakesConfig (rules_of First rows) rows config
+IsOrder name rows (CheckSessions rules) = (name ≡ codes "check") × (is_flagged (codes "sessions") rows ≡ true) × HasNoConfig rows × (rules ≡ rules_of Second rows)
 IsOrder name rows Audit = name ≡ codes "audit"
-IsOrder name rows (Migrate config) = (name ≡ codes "migrate") × MakesConfig rows config
+IsOrder name rows (Migrate config) = (name ≡ codes "migrate") × MakesConfig First rows config
 IsOrder name rows Version = ⊥
 
 -- an option of a configuration is outside its limits: that of the trigger if it is above that of the pages
@@ -58,11 +81,11 @@ IsOutsideBy Quantum numbers = (numbers.quantum < 209) ⊎ (1000000 < numbers.qua
 IsOutsideBy Trigger numbers = numbers.pages < numbers.trigger
 IsOutsideBy Every numbers = 1000000 < numbers.every
 
--- the numbers in the matches make no configuration, and that of this option is outside its limits
+-- the numbers in the matches make no configuration under any rules, and that of this option is outside its limits
 pub record AreOutside (rows : List Row) (option : ConfigOption) : Type 0 where
   pub numbers : ConfigNumbers
   pub has : HasNumbers rows numbers
-  pub none : first_config numbers ≡ None
+  pub none : (rules : Rules) → config_under rules numbers ≡ None
   pub outside : IsOutsideBy option numbers
 
 -- the subcommand takes the numbers of a configuration, and this one is outside its limits
@@ -71,13 +94,13 @@ IsOutside name rows option = TakesNumbers name × (AreOutside rows option)
 
 -- from 1 to 64 workers, if the order has workers
 abbrev pub HasFewWorkers : Order → Type 0
-HasFewWorkers (Run workers) = (0 < workers) × (workers ≤ 64)
+HasFewWorkers (Run options) = (0 < options.workers) × (options.workers ≤ 64)
+HasFewWorkers (Live workers) = (0 < workers) × (workers ≤ 64)
 HasFewWorkers (Race workers) = (0 < workers) × (workers ≤ 64)
 HasFewWorkers order = Unit {0}
 
--- the first rules, if the order has a configuration
+-- the first rules, if the order is to migrate
 abbrev pub HasFirstRules : Order → Type 0
-HasFirstRules (Check config) = config.rules ≡ First
 HasFirstRules (Migrate config) = config.rules ≡ First
 HasFirstRules order = Unit {0}
 
@@ -88,14 +111,22 @@ abbrev pub IsBlamed : (pages quantum every : ℕ) → ConfigOption → Type 0
 IsBlamed pages quantum every Trigger = (1 ≤ pages) × (pages ≤ 4096) × (209 ≤ quantum) × (quantum ≤ 1000000) × (every ≤ 1000000)
 IsBlamed pages quantum every option = IsOutsideBy option (record { pages = pages; quantum = quantum; trigger = 0; every = every })
 
--- what is wrong with the options of a configuration: one is no number, or one is outside its limits
+-- what is wrong with the options of a subcommand: one is no number, or is missing, or is given beside `--sessions`, or is outside its limits
 abbrev pub IsOptionFault : List Row → OptionFault → Type 0
 IsOptionFault rows (NoNumber name text) = IsConfigOption name.now × LacksNumber rows name.now
+IsOptionFault rows (Missing name) = IsConfigOption name.now × (one_of name.now rows ≡ None)
+IsOptionFault rows (Unwanted name) = IsConfigOption name.now × (is_flagged (codes "sessions") rows ≡ true) × IsSome (one_of name.now rows)
 IsOptionFault rows (Outside option) = AreOutside rows option
 
--- the subcommand takes the numbers of a configuration, and an option is no number
-abbrev pub HasNoNumber : Text → List Row → Type 0
-HasNoNumber name rows = TakesNumbers name × ((option : Text) × IsConfigOption option × LacksNumber rows option)
+-- `clap` takes the options, and an option of a configuration is amiss: the kind of fault that this is
+pub data AreAmiss (rows : List Row) : ErrorKind → Type 0 where
+  IsNoNumber : (option : Text) → IsConfigOption option → LacksNumber rows option → AreAmiss rows ValueValidation
+  IsMissing : (option : Text) → IsConfigOption option → one_of option rows ≡ None → AreAmiss rows MissingRequiredArgument
+  IsUnwanted : (option : Text) → IsConfigOption option → is_flagged (codes "sessions") rows ≡ true → IsSome (one_of option rows) → AreAmiss rows ArgumentConflict
+
+-- the subcommand takes the numbers of a configuration, and its options are amiss
+abbrev pub HasAmiss : ErrorKind → Text → List Row → Type 0
+HasAmiss kind name rows = TakesNumbers name × AreAmiss rows kind
 
 -- Words ------------------------------------------------------------------------------------------
 
@@ -115,15 +146,15 @@ pub record AsksOutside (words : List Text) (option : ConfigOption) : Type 0 wher
   pub taken : fault_of metroheap words ≡ []
   pub named : IsSomeAnd (subcommand_of metroheap words) (λ subcommand. IsOutside subcommand.0 subcommand.1 option)
 
--- `clap` takes the words, and an option of their configuration is no number
-pub record AsksNoNumber (words : List Text) : Type 0 where
+-- `clap` takes the words, and the options of their subcommand are amiss
+pub record AskAmiss (words : List Text) (kind : ErrorKind) : Type 0 where
   pub taken : fault_of metroheap words ≡ []
-  pub named : IsSomeAnd (subcommand_of metroheap words) (λ subcommand. HasNoNumber subcommand.0 subcommand.1)
+  pub named : IsSomeAnd (subcommand_of metroheap words) (λ subcommand. HasAmiss kind subcommand.0 subcommand.1)
 
--- why words give no order, of which `clap` says what is wrong: it doesn't take them, or a number of theirs is none
+-- why words give no order, of which `clap` says what is wrong: it doesn't take them, or their options are amiss
 pub data AreRefused (words : List Text) (kind : ErrorKind) : Type 0 where
   NotTaken : IsAmong kind (fault_of metroheap words) → AreRefused words kind
-  NotNumbers : AsksNoNumber words → kind ≡ ValueValidation → AreRefused words kind
+  NotMet : AskAmiss words kind → AreRefused words kind
 
 -- words are refused only if `clap` doesn't take them, with one of the kinds of fault that it finds first, or if their
 -- configuration is outside the limits; words that ask for the version are never refused for that
@@ -150,10 +181,17 @@ OrdersBy words (Err fault) = IsFault words fault
 abbrev pub HasOptionFault : Text → List Row → OptionFault → Type 0
 HasOptionFault name rows fault = TakesNumbers name × IsOptionFault rows fault
 
--- what is said of options with a fault: a number that is none is `clap`'s to refuse
+-- the kind by which `clap` refuses options with a fault, which is none of its own if a number is outside its limits
+abbrev pub kind_of_fault : OptionFault → Option ErrorKind
+kind_of_fault (NoNumber name text) = Some ValueValidation
+kind_of_fault (Missing name) = Some MissingRequiredArgument
+kind_of_fault (Unwanted name) = Some ArgumentConflict
+kind_of_fault (Outside option) = None
+
+-- what is said of options with a fault
 abbrev pub RefusesOptions : OptionFault → LineFault → Type 0
-RefusesOptions (NoNumber name text) (Words error) = kind_of error ≡ ValueValidation
-RefusesOptions (NoNumber name text) NoMemory = Unit {0}
+RefusesOptions fault (Words error) = kind_of_fault fault ≡ Some (kind_of error)
+RefusesOptions fault NoMemory = kind_of_fault fault ≢ None
 RefusesOptions (Outside option) (Configuration refused) = refused ≡ option
 RefusesOptions fault line = ⊥
 

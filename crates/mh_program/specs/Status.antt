@@ -14,6 +14,11 @@ status_of (Ok Done) = 0
 status_of (Ok (Refused line)) = 1
 status_of (Err fault) = 3
 
+-- 0 once all lines were answered, 3 for a fault
+abbrev pub live_status_of : Result Unit ScriptFault → ℕ
+live_status_of (Ok nothing) = 0
+live_status_of (Err fault) = 3
+
 -- 0 for a legal history, 1 for a text that was refused as one, 4 for a history that isn't legal, 3 for a fault
 abbrev pub verdict_status_of : Result Verdict ScriptFault → ℕ
 verdict_status_of (Ok (verdict.Legal entries)) = 0

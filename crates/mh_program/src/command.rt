@@ -1,10 +1,10 @@
 ghost use Rattle.std.specs.Prelude.{◌≡◌, IfOk, IsOkAnd, false, codes};
 ghost use Rattle.clap.specs.Words.{app_of, new_app, rule_of, with_rule, with_subcommand};
 ghost use Rattle.clap.specs.declared.builder.command.Command.TheViews.{out-Command};
-ghost use Rattle.mh_program.specs.Line.{config_app, metroheap, named_rule, number_rule, option_rule, optional_app, versioned, workers_app, workers_rule};
+ghost use Rattle.mh_program.specs.Line.{check_app, config_app, flag_rule, metroheap, named_rule, number_rule, option_rule, optional_app, rules_rule, run_app, versioned, workers_app, workers_rule};
 
 use clap::builder::ValueParser;
-use clap::{Arg, Command};
+use clap::{Arg, ArgAction, Command};
 use mh_model::limits::MOST_WORKERS;
 use std::alloc::{AllocError, Global};
 
@@ -16,6 +16,9 @@ const MANUAL: &str =
 
 const ABOUT_RUN: &str =
     "Run a script: print the reply to each of its events, or the line that refuses the script";
+
+const ABOUT_LIVE: &str =
+    "Answer each line of a script as it comes: the reply to its event, or the refusal of the line";
 
 const ABOUT_RACE: &str =
     "Run a script with each session in a thread of its own: print the history that they make, or the line that refuses the script";
@@ -29,8 +32,17 @@ const ABOUT_AUDIT: &str =
 const ABOUT_MIGRATE: &str =
     "Print a legal history of version 1 as one of version 2; of any other, print what check prints";
 
+const RULES_OF_A_RUN: &str =
+    "The rules of large objects and of units, 1 or 2; 2 if it is not given";
+
+const RULES_OF_A_CHECK: &str =
+    "The rules of large objects and of units, 1 or 2; if it is not given 1, and 2 with --sessions";
+
 const SCRIPT_STATUSES: &str =
     "Exit status: 0 if all events were answered, 1 if the script was refused, 2 if the command line was, 3 if memory was refused, a device failed or the history was full";
+
+const LIVE_STATUSES: &str =
+    "Exit status: 0 at the end of input, 2 if the command line was refused, 3 if a device failed or memory was refused for a line's text";
 
 const HISTORY_STATUSES: &str =
     "Exit status: 0 if the history is legal, 1 if the text was refused, 2 if the command line was, 3 if memory was refused or a device failed, 4 if the history is not legal";
@@ -98,14 +110,27 @@ fn with_workers<'a>(
     command.arg(workers(alloc))
 }
 
+fn rules<'a>(alloc: Global, help: &'a str) -> Arg<'a>
+    ensures rule { rule_of result ≡ rules_rule }
+    ensures local { result.global ≡ false }
+{
+    option(alloc, "rules", "R", help).value_parser(ValueParser::unsigned(1, 2))
+}
+
+/// An option without a value.
+fn flag<'a>(alloc: Global, name: &'a str, help: &'a str) -> Arg<'a>
+    ensures rule { rule_of result ≡ flag_rule name.entry.now }
+    ensures local { result.global ≡ false }
+{
+    named(alloc, name).action(ArgAction::SetTrue).help(help)
+}
+
 // A number of any length is one, so `clap` takes each text here.
 fn number<'a>(alloc: Global, name: &'a str, value: &'a str, help: &'a str) -> Arg<'a>
     ensures rule { rule_of result ≡ number_rule name.entry.now }
     ensures local { result.global ≡ false }
 {
-    option(alloc, name, value, help)
-        .required(true)
-        .value_parser(ValueParser::string())
+    option(alloc, name, value, help).value_parser(ValueParser::string())
 }
 
 /// The command with one number of a configuration more.
@@ -165,15 +190,35 @@ fn with_config<'a>(
 }
 
 fn run<'a>(alloc: Global) -> Result<Command<'a>, AllocError>
-    ensures app { IfOk result (λ command. app_of command ≡ workers_app (codes "run")) }
+    ensures app { IfOk result (λ command. app_of command ≡ run_app) }
     ensures local { IfOk result (λ command. (out-Command command).has_globals ≡ false) }
 {
-    with_workers(
+    let command = with_workers(
         alloc,
         "run",
         ABOUT_RUN,
-        "metroheap run [--workers <W>] < SCRIPT",
-    )
+        "metroheap run [--workers <W>] [--rules <R>] [--history] < SCRIPT",
+    )?;
+    let command = command.arg(rules(alloc, RULES_OF_A_RUN))?;
+    command.arg(flag(
+        alloc,
+        "history",
+        "Print the history of the run, of version 2, in place of its replies",
+    ))
+}
+
+fn live<'a>(alloc: Global) -> Result<Command<'a>, AllocError>
+    ensures app { IfOk result (λ command. app_of command ≡ workers_app (codes "live")) }
+    ensures local { IfOk result (λ command. (out-Command command).has_globals ≡ false) }
+{
+    let command = subcommand(
+        alloc,
+        "live",
+        ABOUT_LIVE,
+        "metroheap live [--workers <W>] < LINES",
+        LIVE_STATUSES,
+    );
+    command.arg(workers(alloc))
 }
 
 fn race<'a>(alloc: Global) -> Result<Command<'a>, AllocError>
@@ -189,15 +234,21 @@ fn race<'a>(alloc: Global) -> Result<Command<'a>, AllocError>
 }
 
 fn check<'a>(alloc: Global) -> Result<Command<'a>, AllocError>
-    ensures app { IfOk result (λ command. app_of command ≡ config_app (codes "check")) }
+    ensures app { IfOk result (λ command. app_of command ≡ check_app) }
     ensures local { IfOk result (λ command. (out-Command command).has_globals ≡ false) }
 {
-    with_config(
+    let command = with_config(
         alloc,
         "check",
         ABOUT_CHECK,
-        "metroheap check --pages <P> --quantum <K> --trigger <T> --every <E> < HISTORY",
-    )
+        "metroheap check --pages <P> --quantum <K> --trigger <T> --every <E> [--rules <R>] < HISTORY\n       metroheap check --sessions [--rules <R>] < HISTORY",
+    )?;
+    let command = command.arg(rules(alloc, RULES_OF_A_CHECK))?;
+    command.arg(flag(
+        alloc,
+        "sessions",
+        "Judge only what sessions see, of any collector's history",
+    ))
 }
 
 fn migrate<'a>(alloc: Global) -> Result<Command<'a>, AllocError>
@@ -242,6 +293,7 @@ fn optional<'a>(alloc: Global) -> Result<Command<'a>, AllocError>
 {
     let app = Command::new(alloc, "metroheap");
     let app = with_subcommand(app, run(alloc))?;
+    let app = with_subcommand(app, live(alloc))?;
     let app = with_subcommand(app, race(alloc))?;
     let app = with_subcommand(app, check(alloc))?;
     let app = with_subcommand(app, Ok(audit(alloc)))?;

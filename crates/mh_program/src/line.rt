@@ -1,15 +1,37 @@
-use mh_model::config::Config;
+use mh_model::config::{Config, Rules};
 use thiserror::Error;
+
+/// What a run of a script writes.
+#[derive(Clone, Copy, Debug, PartialEq, Eq)]
+pub enum Form {
+    /// The reply to each event.
+    Replies,
+    /// A history of version 2.
+    History,
+}
+
+/// How a script is run.
+#[derive(Clone, Copy, Debug, PartialEq, Eq)]
+pub struct RunOptions {
+    /// How many threads scan at a time at most.
+    pub workers: usize,
+    pub rules: Rules,
+    pub form: Form,
+}
 
 /// What the program is to do.
 #[derive(Clone, Copy, Debug, PartialEq, Eq)]
 pub enum Order {
-    /// Run the script on standard input, with so many workers at most.
-    Run(usize),
+    /// Run the script on standard input.
+    Run(RunOptions),
+    /// Answer each line of standard input as it comes, with so many workers at most.
+    Live(usize),
     /// Let the sessions of the script on standard input race, with so many workers at most.
     Race(usize),
-    /// Check the history on standard input, of version 1, under a configuration of the first rules.
+    /// Check the history on standard input, of version 1, under a configuration.
     Check(Config),
+    /// Check the history on standard input, of either version, by what its sessions see under these rules.
+    CheckSessions(Rules),
     /// Audit the history on standard input, of version 2.
     Audit,
     /// Write the history on standard input, of version 1, as version 2.

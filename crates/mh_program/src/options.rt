@@ -1,14 +1,14 @@
-ghost use Rattle.std.specs.Prelude.{◌≡◌, ◌<◌, ◌≤◌, ◌↔◌, IfOk, IfErr, IsTrue};
+ghost use Rattle.std.specs.Prelude.{◌≡◌, ◌<◌, ◌≤◌, ◌↔◌, None, true, codes, IfOk, IfErr, OnOk, IsTrue};
 ghost use Rattle.std.specs.Char.{is_digit};
 ghost use Rattle.std.specs.List.{list_all};
 ghost use Rattle.std.specs.Str.Parse.{without_leading_plus};
-ghost use Rattle.clap.specs.Words.{found_of, rows_of};
-ghost use Rattle.mh_program.specs.Line.{AreGiven, AsksForFew, HoldsNumber, IsConfigOption, IsGiven, IsNumber, ReadsNumber, workers_of};
-ghost use Rattle.mh_program.specs.Orders.{IsBlamed, IsOptionFault, MakesConfig};
+ghost use Rattle.clap.specs.Words.{found_of, one_of, rows_of};
+ghost use Rattle.mh_program.specs.Line.{AsksForFew, AsksForRules, AsksToCheck, AsksToRun, HasFlag, HoldsNumber, IsConfigOption, IsNumber, ReadsNumber, is_flagged, rules_numbered, rules_of, workers_of};
+ghost use Rattle.mh_program.specs.Orders.{AreRunOptions, HasFewWorkers, HasFirstRules, IsBlamed, IsOptionFault, IsOrder, MakesConfig};
 
-use crate::line::ConfigOption;
+use crate::line::{ConfigOption, Form, Order, RunOptions};
 use clap::ArgMatches;
-use mh_model::config::Config;
+use mh_model::config::{Config, Rules};
 use mh_model::limits::{LEAST_QUANTUM, MOST_EVERY, MOST_PAGES, MOST_QUANTUM};
 use std::str::FromStr;
 
@@ -17,6 +17,10 @@ use std::str::FromStr;
 pub(crate) enum OptionFault<'a> {
     /// The option with this name has a text that is no number.
     NoNumber(&'static str, &'a str),
+    /// The option with this name is not given.
+    Missing(&'static str),
+    /// The option with this name is given beside `--sessions`.
+    Unwanted(&'static str),
     /// The number of this option is outside its limits.
     Outside(ConfigOption),
 }
@@ -76,15 +80,64 @@ pub(crate) fn workers_asked(matches: &ArgMatches<'_>) -> usize
     matches.get_one::<usize>("workers").unwrap_or(1)
 }
 
+fn rules_numbered(number: u8) -> Rules
+    ensures { result ≡ rules_numbered number }
+{
+    if number == 1 {
+        Rules::First
+    } else {
+        Rules::Second
+    }
+}
+
+/// The rules that are asked for, and these others if none are.
+fn rules_asked(matches: &ArgMatches<'_>, other: Rules) -> Rules
+    requires { AsksForRules (rows_of (found_of matches.now)) }
+    ensures { result ≡ rules_of other (rows_of (found_of matches.now)) }
+{
+    match matches.get_one::<u8>("rules") {
+        Some(number) => rules_numbered(number),
+        None => other,
+    }
+}
+
+/// Whether a flag is given.
+fn is_flagged(matches: &ArgMatches<'_>, name: &str) -> bool
+    requires { HasFlag name.now (rows_of (found_of matches.now)) }
+    ensures { result ≡ is_flagged name.now (rows_of (found_of matches.now)) }
+{
+    matches.get_flag(name)
+}
+
+/// How a script is to be run.
+pub(crate) fn run_asked(matches: &ArgMatches<'_>) -> RunOptions
+    requires { AsksToRun (rows_of (found_of matches.now)) }
+    ensures options { AreRunOptions (rows_of (found_of matches.now)) result }
+    ensures few { (0 < result.workers) × (result.workers ≤ 64) }
+{
+    let form = if is_flagged(matches, "history") {
+        Form::History
+    } else {
+        Form::Replies
+    };
+    RunOptions {
+        workers: workers_asked(matches),
+        rules: rules_asked(matches, Rules::Second),
+        form,
+    }
+}
+
 fn number_given<'a>(matches: &ArgMatches<'a>, name: &'static str) -> Result<u32, OptionFault<'a>>
-    requires option { IsConfigOption name.now }
-    requires given { IsGiven (rows_of (found_of matches.now)) name.now }
+    requires { IsConfigOption name.now }
     ensures number { IfOk result (HoldsNumber (rows_of (found_of matches.now)) name.now) }
     ensures fault { IfErr result (IsOptionFault (rows_of (found_of matches.now))) }
 {
-    match matches.get_one::<OptionNumber>(name) {
-        Some(number) => Ok(number.value),
-        None => Err(OptionFault::NoNumber(name, matches.get_str(name).unwrap_or(""))),
+    if let Some(number) = matches.get_one::<OptionNumber>(name) {
+        return Ok(number.value);
+    }
+    match matches.get_str(name) {
+        Some(text) => Err(OptionFault::NoNumber(name, text)),
+        None => Err(OptionFault::Missing(name)),
     }
 }
 
@@ -104,17 +157,51 @@ fn outside(pages: u32, quantum: u32, every: u32) -> ConfigOption
 }
 
 /// The configuration of a subcommand's options.
-pub(crate) fn config_given<'a>(matches: &ArgMatches<'a>) -> Result<Config, OptionFault<'a>>
-    requires { AreGiven (rows_of (found_of matches.now)) }
-    ensures config { IfOk result (MakesConfig (rows_of (found_of matches.now))) }
+pub(crate) fn config_given<'a>(
+    matches: &ArgMatches<'a>,
+    rules: Rules,
+) -> Result<Config, OptionFault<'a>>
+    ensures config { IfOk result (MakesConfig rules (rows_of (found_of matches.now))) }
     ensures fault { IfErr result (IsOptionFault (rows_of (found_of matches.now))) }
 {
     let pages = number_given(matches, "pages")?;
     let quantum = number_given(matches, "quantum")?;
     let trigger = number_given(matches, "trigger")?;
     let every = number_given(matches, "every")?;
-    match Config::first(pages, quantum, trigger, every) {
+    match Config::under(rules, pages, quantum, trigger, every) {
         Some(config) => Ok(config),
         None => Err(OptionFault::Outside(outside(pages, quantum, every))),
     }
+}
+
+/// An option that is not to stand beside `--sessions`.
+fn unwanted<'a>(matches: &ArgMatches<'a>, name: &'static str) -> Result<(), OptionFault<'a>>
+    requires option { IsConfigOption name.now }
+    requires sessions { is_flagged (codes "sessions") (rows_of (found_of matches.now)) ≡ true }
+    ensures none { OnOk result (one_of name.now (rows_of (found_of matches.now)) ≡ None) }
+    ensures fault { IfErr result (IsOptionFault (rows_of (found_of matches.now))) }
+{
+    match matches.get_str(name) {
+        None => Ok(()),
+        Some(_) => Err(OptionFault::Unwanted(name)),
+    }
+}
+
+/// What `check` is to do.
+pub(crate) fn check_asked<'a>(matches: &ArgMatches<'a>) -> Result<Order, OptionFault<'a>>
+    requires { AsksToCheck (rows_of (found_of matches.now)) }
+    ensures order { IfOk result (IsOrder (codes "check") (rows_of (found_of matches.now))) }
+    ensures few { IfOk result HasFewWorkers }
+    ensures rules { IfOk result HasFirstRules }
+    ensures fault { IfErr result (IsOptionFault (rows_of (found_of matches.now))) }
+{
+    if !is_flagged(matches, "sessions") {
+        let rules = rules_asked(matches, Rules::First);
+        return Ok(Order::Check(config_given(matches, rules)?));
+    }
+    unwanted(matches, "pages")?;
+    unwanted(matches, "quantum")?;
+    unwanted(matches, "trigger")?;
+    unwanted(matches, "every")?;
+    Ok(Order::CheckSessions(rules_asked(matches, Rules::Second)))
 }

@@ -1,17 +1,18 @@
 ghost use Rattle.std.specs.Prelude.{◌≡◌, IfOk, IfErr, IsSomeAnd, Err, map};
 ghost use Rattle.std.specs.String.{string_bytes};
 ghost use Rattle.clap.specs.Words.{found_of, kind_of, rows_of, subcommand_rows_of};
-ghost use Rattle.clap.specs.declared.error.kind.ErrorKind.TheVariants.{ValueValidation};
+ghost use Rattle.clap.specs.declared.error.kind.ErrorKind.TheVariants.{ArgumentConflict, MissingRequiredArgument, ValueValidation};
 ghost use Rattle.mh_program.specs.Line.{IsAsked, NamesOne};
 ghost use Rattle.mh_program.specs.Orders.{GivesOrder, HasFewWorkers, HasFirstRules, HasOptionFault, IsFault, IsOrder, Refuses, RefusesOptions};
 
 use crate::command::command;
 use crate::fault::LineFault;
 use crate::line::Order;
-use crate::options::{OptionFault, config_given, workers_asked};
+use crate::options::{OptionFault, check_asked, config_given, run_asked, workers_asked};
 use crate::quoted::{are_plain, quoted, quoted_words};
 use clap::ArgMatches;
 use clap::error::ErrorKind;
+use mh_model::config::Rules;
 use std::alloc::{AllocError, Global};
 use std::convert::AsStr;
 
@@ -23,11 +24,12 @@ fn order_named<'a>(name: &str, matches: &ArgMatches<'a>) -> Result<Order, Option
     ensures fault { IfErr result (HasOptionFault name.now (rows_of (found_of matches.now))) }
 {
     match name {
-        "run" => Ok(Order::Run(workers_asked(matches))),
+        "run" => Ok(Order::Run(run_asked(matches))),
+        "live" => Ok(Order::Live(workers_asked(matches))),
         "race" => Ok(Order::Race(workers_asked(matches))),
-        "check" => Ok(Order::Check(config_given(matches)?)),
+        "check" => check_asked(matches),
         "audit" => Ok(Order::Audit),
-        "migrate" => Ok(Order::Migrate(config_given(matches)?)),
+        "migrate" => Ok(Order::Migrate(config_given(matches, Rules::First)?)),
         _ => unreachable!(),
     }
 }
@@ -46,25 +48,51 @@ fn order_of<'a>(matches: &ArgMatches<'a>) -> Result<Order, OptionFault<'a>>
     }
 }
 
+/// `clap`'s refusal of options, with this kind of fault.
+fn refused(alloc: Global, kind: ErrorKind, message: &str) -> Result<clap::Error, AllocError>
+    ensures { IfOk result (λ error. kind_of error ≡ kind) }
+{
+    let mut command = command(alloc)?;
+    command.error(kind, message)
+}
+
 /// `clap`'s refusal of an option that is no number.
 fn no_number(alloc: Global, name: &str, text: &str) -> Result<clap::Error, AllocError>
     ensures { IfOk result (λ error. kind_of error ≡ ValueValidation) }
 {
     let text = quoted(alloc, text)?;
     let message = format!(in alloc; "invalid value '{text}' for '--{name}': not a number")?;
-    let mut command = command(alloc)?;
-    command.error(ErrorKind::ValueValidation, message.as_str())
+    refused(alloc, ErrorKind::ValueValidation, message.as_str())
+}
+
+/// `clap`'s refusal of options without this one.
+fn missing(alloc: Global, name: &str) -> Result<clap::Error, AllocError>
+    ensures { IfOk result (λ error. kind_of error ≡ MissingRequiredArgument) }
+{
+    let message = format!(in alloc; "the argument '--{name}' was not provided")?;
+    refused(alloc, ErrorKind::MissingRequiredArgument, message.as_str())
+}
+
+/// `clap`'s refusal of this option beside `--sessions`.
+fn unwanted(alloc: Global, name: &str) -> Result<clap::Error, AllocError>
+    ensures { IfOk result (λ error. kind_of error ≡ ArgumentConflict) }
+{
+    let message = format!(in alloc; "the argument '--{name}' cannot be used with '--sessions'")?;
+    refused(alloc, ErrorKind::ArgumentConflict, message.as_str())
 }
 
 fn refused_options(alloc: Global, fault: OptionFault<'_>) -> LineFault
     ensures { RefusesOptions fault.entry result }
 {
-    match fault {
-        OptionFault::Outside(option) => LineFault::Configuration(option),
-        OptionFault::NoNumber(name, text) => match no_number(alloc, name, text) {
-            Ok(error) => LineFault::Words(error),
-            Err(_) => LineFault::NoMemory,
-        },
+    let refusal = match fault {
+        OptionFault::Outside(option) => return LineFault::Configuration(option),
+        OptionFault::NoNumber(name, text) => no_number(alloc, name, text),
+        OptionFault::Missing(name) => missing(alloc, name),
+        OptionFault::Unwanted(name) => unwanted(alloc, name),
+    };
+    match refusal {
+        Ok(error) => LineFault::Words(error),
+        Err(_) => LineFault::NoMemory,
     }
 }
 

@@ -4,28 +4,33 @@ ghost use Rattle.mh_model.specs.Bytes.{line_text};
 ghost use Rattle.mh_program.specs.declared.fault.LineFault.{LineFault};
 ghost use Rattle.mh_program.specs.declared.line.Order.{Order};
 ghost use Rattle.mh_program.specs.Orders.{HasFewWorkers, HasFirstRules, OrdersBy};
-ghost use Rattle.mh_program.specs.Program.{fault_text, outside_text, Obeys, Serves, Tells, TellsLine, TellsRun, TellsWords, WritesVersion};
+ghost use Rattle.mh_program.specs.Program.{fault_text, outside_text, IsRunBy, Obeys, Serves, Tells, TellsEnd, TellsLine, TellsQuoted, TellsRefusal, TellsRun, TellsWords, WritesVersion};
 ghost use Rattle.mh_program.specs.Printable.{IsPrintable};
-ghost use Rattle.mh_program.specs.Status.{status_of, verdict_status_of};
+ghost use Rattle.mh_program.specs.Status.{live_status_of, status_of, verdict_status_of};
 ghost use Rattle.mh_model.specs.declared.config.Rules.TheVariants.{First};
 ghost use Rattle.mh_judging.specs.Judged.{IsAuditing, IsChecking, IsMigrating};
 ghost use Rattle.mh_racing.specs.Raced.{IsRaceRun};
-ghost use Rattle.mh_script.specs.Run.{device, IsRun};
+ghost use Rattle.mh_live.specs.Feeding.{IsLiveRun};
+ghost use Rattle.mh_sessions.specs.Texts.{IsSessionsJudging};
+ghost use Rattle.mh_script.specs.Run.{device};
 
 use crate::fault::LineFault;
-use crate::line::{ConfigOption, Order};
+use crate::line::{ConfigOption, Form, Order, RunOptions};
 use crate::order::line_order;
 use crate::quoted::printable;
-use crate::status::{line_status, status, verdict_status};
+use crate::status::{line_status, live_status, status, verdict_status};
 use crate::version::VERSION_LINE;
 use mh_judging::judge::{audit_script, check_script};
 use mh_judging::migrate::migrate_script;
-use mh_model::config::Config;
+use mh_judging::run_history::run_history;
+use mh_live::feed::run_live;
+use mh_model::config::{Config, Rules};
 use mh_racing::race::race_script;
 use mh_scan::crew_scan::CrewGate;
-use mh_script::end::End;
+use mh_script::end::{End, Refusal};
 use mh_script::fault::{HISTORY_FULL, NO_MEMORY, READ_FAILED, ScriptFault, WRITE_FAILED};
 use mh_script::run::run_script;
+use mh_sessions::texts::check_sessions;
 use mh_text::sink::Sink;
 use mh_text::source::Source;
 use mh_text::stream::write_text;
@@ -70,14 +75,59 @@ fn words_text(alloc: Global, error: &clap::Error) -> Result<Vec<u8>, AllocError>
     printable(alloc, text.as_str())
 }
 
+/// Writes a text that quotes an input, or another if there was no memory for it.
+fn tell_quoted<E: Sink>(errors: &mut E, text: Result<Vec<u8>, AllocError>, other: &[u8])
+    requires count { E.failures errors.old < 2 ^ 62 }
+    requires printable { IfOk text (λ text. IsPrintable text.items) }
+    ensures { TellsQuoted (device (E.written errors.old) (E.failures errors.old)) (device (E.written errors.new) (E.failures errors.new)) other.now }
+{
+    match text {
+        Ok(text) => tell(errors, text.as_slice()),
+        Err(_) => tell(errors, other),
+    }
+}
+
 /// Writes what `clap` says of words, or if there is no memory for that, that they are bad.
 fn tell_words<E: Sink>(alloc: Global, errors: &mut E, error: &clap::Error)
     requires { E.failures errors.old < 2 ^ 62 }
     ensures { TellsWords (device (E.written errors.old) (E.failures errors.old)) (device (E.written errors.new) (E.failures errors.new)) }
 {
-    match words_text(alloc, error) {
-        Ok(text) => tell(errors, text.as_slice()),
-        Err(_) => tell(errors, b"metroheap: bad command line\n"),
+    let text = words_text(alloc, error);
+    tell_quoted(errors, text, b"metroheap: bad command line\n");
+}
+
+fn refusal_text(alloc: Global, refusal: &Refusal) -> Result<Vec<u8>, AllocError>
+    ensures { IfOk result (λ text. IsPrintable text.items) }
+{
+    let line = refusal.line;
+    let reason = &refusal.reason;
+    let text = format!(in alloc; "metroheap: line {line}: {reason}\n")?;
+    printable(alloc, text.as_str())
+}
+
+/// Reports why a script is refused, if it is.
+fn tell_refusal<E: Sink>(alloc: Global, errors: &mut E, end: &End)
+    requires { E.failures errors.old < 2 ^ 62 }
+    ensures { TellsRefusal (device (E.written errors.old) (E.failures errors.old)) (device (E.written errors.new) (E.failures errors.new)) end.now }
+{
+    if let End::Refused(refusal) = end {
+        let text = refusal_text(alloc, refusal);
+        tell_quoted(
+            errors,
+            text,
+            b"metroheap: the script is outside the grammar\n",
+        );
+    }
+}
+
+/// Reports how a run or a race ended, if not well.
+fn tell_end<E: Sink>(alloc: Global, errors: &mut E, ended: &Result<End, ScriptFault>)
+    requires { E.failures errors.old < 2 ^ 62 }
+    ensures { TellsEnd (device (E.written errors.old) (E.failures errors.old)) (device (E.written errors.new) (E.failures errors.new)) ended.now }
+{
+    match ended {
+        Ok(end) => tell_refusal(alloc, errors, end),
+        Err(fault) => tell(errors, fault_line(*fault)),
     }
 }
 
@@ -107,7 +157,59 @@ fn tell_line<E: Sink>(alloc: Global, errors: &mut E, fault: &LineFault)
     }
 }
 
+/// The run of a script in a form under rules.
+fn ran<R: Threads, S: Source, W: Sink, G: CrewGate>(
+    rt: &R,
+    alloc: Global,
+    options: RunOptions,
+    source: &mut S,
+    sink: &mut W,
+    gate: &G,
+) -> Result<End, ScriptFault>
+    requires few { (0 < options.workers) × (options.workers ≤ 64) }
+    requires source_count { S.failures source.old < 2 ^ 62 }
+    requires sink_count { W.failures sink.old < 2 ^ 62 }
+    ensures { IsRunBy options.form options.rules
+        (device (S.rest source.old) (S.failures source.old)) (device (S.rest source.new) (S.failures source.new))
+        (device (W.written sink.old) (W.failures sink.old)) (device (W.written sink.new) (W.failures sink.new)) result }
+{
+    let RunOptions {
+        workers,
+        rules,
+        form,
+    } = options;
+    match form {
+        Form::Replies => run_script(rt, alloc, source, sink, workers, rules, gate),
+        Form::History => run_history(rt, alloc, source, sink, workers, rules, gate),
+    }
+}
+
+/// Runs a script, and reports how the run ended if not well.
 fn run<R: Threads, S: Source, W: Sink, E: Sink, G: CrewGate>(
+    rt: &R,
+    alloc: Global,
+    options: RunOptions,
+    source: &mut S,
+    sink: &mut W,
+    errors: &mut E,
+    gate: &G,
+) -> u8
+    requires few { (0 < options.workers) × (options.workers ≤ 64) }
+    requires source_count { S.failures source.old < 2 ^ 62 }
+    requires sink_count { W.failures sink.old < 2 ^ 62 }
+    requires errors_count { E.failures errors.old < 2 ^ 62 }
+    ensures { Obeys (IsRunBy options.form options.rules
+        (device (S.rest source.old) (S.failures source.old)) (device (S.rest source.new) (S.failures source.new))
+        (device (W.written sink.old) (W.failures sink.old)) (device (W.written sink.new) (W.failures sink.new))) TellsEnd status_of
+        (device (E.written errors.old) (E.failures errors.old)) (device (E.written errors.new) (E.failures errors.new)) result }
+{
+    let ended = ran(rt, alloc, options, source, sink, gate);
+    tell_end(alloc, errors, &ended);
+    status(&ended)
+}
+
+/// Answers lines as they come, and reports a fault of that.
+fn live<R: Threads, S: Source, W: Sink, E: Sink, G: CrewGate>(
     rt: &R,
     alloc: Global,
     workers: usize,
@@ -120,17 +222,17 @@ fn run<R: Threads, S: Source, W: Sink, E: Sink, G: CrewGate>(
     requires source_count { S.failures source.old < 2 ^ 62 }
     requires sink_count { W.failures sink.old < 2 ^ 62 }
     requires errors_count { E.failures errors.old < 2 ^ 62 }
-    ensures { Obeys (IsRun
+    ensures { Obeys (IsLiveRun
         (device (S.rest source.old) (S.failures source.old)) (device (S.rest source.new) (S.failures source.new))
-        (device (W.written sink.old) (W.failures sink.old)) (device (W.written sink.new) (W.failures sink.new))) status_of
+        (device (W.written sink.old) (W.failures sink.old)) (device (W.written sink.new) (W.failures sink.new))) TellsRun live_status_of
         (device (E.written errors.old) (E.failures errors.old)) (device (E.written errors.new) (E.failures errors.new)) result }
 {
-    let ended = run_script(rt, alloc, source, sink, workers, gate);
+    let ended = run_live(rt, alloc, source, sink, workers, gate);
     tell_fault(errors, &ended);
-    status(&ended)
+    live_status(&ended)
 }
 
-/// Lets the sessions of a script race, and reports a fault of the race.
+/// Lets the sessions of a script race, and reports how that ended if not well.
 fn race<R: Threads + Wait + Sync, S: Source, W: Sink, E: Sink, G: CrewGate + Sync>(
     rt: &R,
     alloc: Global,
@@ -146,11 +248,11 @@ fn race<R: Threads + Wait + Sync, S: Source, W: Sink, E: Sink, G: CrewGate + Syn
     requires errors_count { E.failures errors.old < 2 ^ 62 }
     ensures { Obeys (IsRaceRun
         (device (S.rest source.old) (S.failures source.old)) (device (S.rest source.new) (S.failures source.new))
-        (device (W.written sink.old) (W.failures sink.old)) (device (W.written sink.new) (W.failures sink.new))) status_of
+        (device (W.written sink.old) (W.failures sink.old)) (device (W.written sink.new) (W.failures sink.new))) TellsEnd status_of
         (device (E.written errors.old) (E.failures errors.old)) (device (E.written errors.new) (E.failures errors.new)) result }
 {
     let ended = race_script(rt, alloc, source, sink, workers, gate);
-    tell_fault(errors, &ended);
+    tell_end(alloc, errors, &ended);
     status(&ended)
 }
 
@@ -167,10 +269,31 @@ fn check<S: Source, W: Sink, E: Sink>(
     requires errors_count { E.failures errors.old < 2 ^ 62 }
     ensures { Obeys (IsChecking config
         (device (S.rest source.old) (S.failures source.old)) (device (S.rest source.new) (S.failures source.new))
-        (device (W.written sink.old) (W.failures sink.old)) (device (W.written sink.new) (W.failures sink.new))) verdict_status_of
+        (device (W.written sink.old) (W.failures sink.old)) (device (W.written sink.new) (W.failures sink.new))) TellsRun verdict_status_of
         (device (E.written errors.old) (E.failures errors.old)) (device (E.written errors.new) (E.failures errors.new)) result }
 {
     let ended = check_script(alloc, config, source, sink);
+    tell_fault(errors, &ended);
+    verdict_status(&ended)
+}
+
+/// Checks a history by what its sessions see, and reports a fault of that.
+fn check_seen<S: Source, W: Sink, E: Sink>(
+    alloc: Global,
+    rules: Rules,
+    source: &mut S,
+    sink: &mut W,
+    errors: &mut E,
+) -> u8
+    requires source_count { S.failures source.old < 2 ^ 62 }
+    requires sink_count { W.failures sink.old < 2 ^ 62 }
+    requires errors_count { E.failures errors.old < 2 ^ 62 }
+    ensures { Obeys (IsSessionsJudging rules
+        (device (S.rest source.old) (S.failures source.old)) (device (S.rest source.new) (S.failures source.new))
+        (device (W.written sink.old) (W.failures sink.old)) (device (W.written sink.new) (W.failures sink.new))) TellsRun verdict_status_of
+        (device (E.written errors.old) (E.failures errors.old)) (device (E.written errors.new) (E.failures errors.new)) result }
+{
+    let ended = check_sessions(alloc, rules, source, sink);
     tell_fault(errors, &ended);
     verdict_status(&ended)
 }
@@ -187,7 +310,7 @@ fn audit<S: Source, W: Sink, E: Sink>(
     requires errors_count { E.failures errors.old < 2 ^ 62 }
     ensures { Obeys (IsAuditing
         (device (S.rest source.old) (S.failures source.old)) (device (S.rest source.new) (S.failures source.new))
-        (device (W.written sink.old) (W.failures sink.old)) (device (W.written sink.new) (W.failures sink.new))) verdict_status_of
+        (device (W.written sink.old) (W.failures sink.old)) (device (W.written sink.new) (W.failures sink.new))) TellsRun verdict_status_of
         (device (E.written errors.old) (E.failures errors.old)) (device (E.written errors.new) (E.failures errors.new)) result }
 {
     let ended = audit_script(alloc, source, sink);
@@ -209,7 +332,7 @@ fn migrate<S: Source, W: Sink, E: Sink>(
     requires errors_count { E.failures errors.old < 2 ^ 62 }
     ensures { Obeys (IsMigrating config
         (device (S.rest source.old) (S.failures source.old)) (device (S.rest source.new) (S.failures source.new))
-        (device (W.written sink.old) (W.failures sink.old)) (device (W.written sink.new) (W.failures sink.new))) verdict_status_of
+        (device (W.written sink.old) (W.failures sink.old)) (device (W.written sink.new) (W.failures sink.new))) TellsRun verdict_status_of
         (device (E.written errors.old) (E.failures errors.old)) (device (E.written errors.new) (E.failures errors.new)) result }
 {
     let ended = migrate_script(alloc, config, source, sink);
@@ -231,7 +354,7 @@ fn written_version<W: Sink>(sink: &mut W) -> Result<End, ScriptFault>
 fn version<W: Sink, E: Sink>(sink: &mut W, errors: &mut E) -> u8
     requires sink_count { W.failures sink.old < 2 ^ 62 }
     requires errors_count { E.failures errors.old < 2 ^ 62 }
-    ensures { Obeys (WritesVersion (device (W.written sink.old) (W.failures sink.old)) (device (W.written sink.new) (W.failures sink.new))) status_of
+    ensures { Obeys (WritesVersion (device (W.written sink.old) (W.failures sink.old)) (device (W.written sink.new) (W.failures sink.new))) TellsRun status_of
         (device (E.written errors.old) (E.failures errors.old)) (device (E.written errors.new) (E.failures errors.new)) result }
 {
     let ended = written_version(sink);
@@ -260,9 +383,11 @@ pub fn serve<R: Threads + Wait + Sync, S: Source, W: Sink, E: Sink, G: CrewGate 
         (device (E.written errors.old) (E.failures errors.old)) (device (E.written errors.new) (E.failures errors.new)) result }
 {
     match order {
-        Ok(Order::Run(workers)) => run(rt, alloc, workers, source, sink, errors, gate),
+        Ok(Order::Run(options)) => run(rt, alloc, options, source, sink, errors, gate),
+        Ok(Order::Live(workers)) => live(rt, alloc, workers, source, sink, errors, gate),
         Ok(Order::Race(workers)) => race(rt, alloc, workers, source, sink, errors, gate),
         Ok(Order::Check(config)) => check(alloc, config, source, sink, errors),
+        Ok(Order::CheckSessions(rules)) => check_seen(alloc, rules, source, sink, errors),
         Ok(Order::Audit) => audit(alloc, source, sink, errors),
         Ok(Order::Migrate(config)) => migrate(alloc, config, source, sink, errors),
         Ok(Order::Version) => version(sink, errors),

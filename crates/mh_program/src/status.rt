@@ -1,5 +1,5 @@
 ghost use Rattle.std.specs.Prelude.{◌≡◌};
-ghost use Rattle.mh_program.specs.Status.{line_status_of, status_of, verdict_status_of};
+ghost use Rattle.mh_program.specs.Status.{line_status_of, live_status_of, status_of, verdict_status_of};
 
 use crate::fault::LineFault;
 use mh_model::history::Verdict;
@@ -13,6 +13,16 @@ pub fn status(ended: &Result<End, ScriptFault>) -> u8
     match ended {
         Ok(End::Done) => 0,
         Ok(End::Refused(_)) => 1,
+        Err(_) => 3,
+    }
+}
+
+/// The exit status that answers line by line give the program.
+pub fn live_status(ended: &Result<(), ScriptFault>) -> u8
+    ensures { result ≡ live_status_of ended.now }
+{
+    match ended {
+        Ok(()) => 0,
         Err(_) => 3,
     }
 }

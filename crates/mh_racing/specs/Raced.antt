@@ -10,7 +10,7 @@ use Rattle.mh_script.specs.declared.end.End.{End}
 use Rattle.mh_script.specs.declared.end.End.TheVariants.{Done, Refused}
 use Rattle.mh_script.specs.declared.fault.ScriptFault.{ScriptFault}
 use Rattle.mh_script.specs.declared.fault.ScriptFault.TheVariants.{Read, NoMemory, HistoryFull}
-use Rattle.mh_script.specs.Run.{Device, TakesToRun}
+use Rattle.mh_script.specs.Run.{Device, HasReason, TakesToRun}
 use Rattle.mh_script.specs.Texts.{Blames, IsTextOf, LeavesSource, WantsMemory, Writes}
 
 -- the text of a source means a script, and what a race of it leaves was written, and nothing else
@@ -31,7 +31,7 @@ pub record RefusesScript (known old new : Option Text) (line : ℕ) : Type 0 whe
 -- what a race that ended well has read and written
 abbrev pub RaceEndsAs : Option Text → Option Text → Option Text → End → Type 0
 RaceEndsAs known old new Done = Races IsRaced known old new
-RaceEndsAs known old new (Refused line) = RefusesScript known old new line
+RaceEndsAs known old new (Refused refusal) = RefusesScript known old new refusal.line
 
 -- a prefix of what a race of a script leaves was written, or of the line that refuses the script
 abbrev pub BeginsRaceOf : Reading Meaning → Option Text → Option Text → Type 0
@@ -47,6 +47,7 @@ pub record BeginsToRace (known old new : Option Text) : Type 0 where
 -- A race of the script of a source into a sink, and how it ended
 pub record IsRaceRun (source source' sink sink' : Device) (ended : Result End ScriptFault) : Type 0 where
   pub ends : IfOk ended (RaceEndsAs source.bytes sink.bytes sink'.bytes)
+  pub reason : IfOk ended (HasReason source.bytes)
   pub begun : OnErr ended (BeginsToRace source.bytes sink.bytes sink'.bytes)
   pub full : IsErrOf ended HistoryFull → Races IsRacedFull source.bytes sink.bytes sink'.bytes
   pub unread : IsErrOf ended Read → Keeps sink.bytes sink'.bytes

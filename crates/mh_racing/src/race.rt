@@ -3,14 +3,14 @@ ghost use Rattle.std.specs.Prelude.{◌≡◌, ◌≢◌, ◌<◌, ◌≤◌, �
 ghost use Rattle.std.specs.Io.KnownBytes.{Keeps};
 ghost use Rattle.mh_model.specs.Races.{IsRaced, IsRacedFull, IsRaceBegun};
 ghost use Rattle.mh_racing.specs.Raced.{BeginsToRace, RaceEndsAs, Races};
-ghost use Rattle.mh_script.specs.Run.{TakesToRun};
+ghost use Rattle.mh_script.specs.Run.{HasReason, TakesToRun};
 ghost use Rattle.mh_script.specs.Texts.{Blames, BlamesSink, LeavesSource, WantsMemory, Writes};
 
 use mh_judging::record::write_record;
 use mh_model::history::Verdict;
 use mh_race::race::race;
 use mh_scan::crew_scan::CrewGate;
-use mh_script::end::End;
+use mh_script::end::{End, Refusal};
 use mh_script::fault::ScriptFault;
 use mh_script::texts::{read_whole, write_verdict};
 use mh_text::device::DeviceFailed;
@@ -61,6 +61,7 @@ pub fn race_script<R: Threads + Wait + Sync, S: Source, W: Sink, G: CrewGate + S
     requires source_count { S.failures source.old < 2 ^ 62 }
     requires sink_count { W.failures sink.old < 2 ^ 62 }
     ensures ends { IfOk result (RaceEndsAs (S.rest source.old) (W.written sink.old) (W.written sink.new)) }
+    ensures reason { IfOk result (HasReason (S.rest source.old)) }
     ensures begun { OnErr result (BeginsToRace (S.rest source.old) (W.written sink.old) (W.written sink.new)) }
     ensures full { IsErrOf result ScriptFault.HistoryFull → Races IsRacedFull (S.rest source.old) (W.written sink.old) (W.written sink.new) }
     ensures unread { IsErrOf result ScriptFault.Read → Keeps (W.written sink.old) (W.written sink.new) }
@@ -69,13 +70,14 @@ pub fn race_script<R: Threads + Wait + Sync, S: Source, W: Sink, G: CrewGate + S
     ensures blames { Blames (S.failures source.old) (S.failures source.new) (W.failures sink.old) (W.failures sink.new) result }
 {
     let text = read_whole(alloc, source, SCRIPT_BYTES)?;
-    match parse(alloc, text.as_slice()) {
+    let bytes = text.as_slice();
+    match parse(alloc, bytes) {
         Ok(script) => {
             write_race(rt, alloc, &script, sink, workers, gate)?;
             Ok(End::Done)
         }
         Err(TextError::Line(line)) => match write_verdict(Verdict::Refused(line), sink) {
-            Ok(()) => Ok(End::Refused(line)),
+            Ok(()) => Ok(End::Refused(Refusal::of(bytes, line))),
             Err(DeviceFailed) => Err(ScriptFault::Write),
         },
         Err(TextError::NoMemory) => Err(ScriptFault::NoMemory),

@@ -4,13 +4,12 @@ use Rattle.std.proofs.lemmas.Grind.{flat_map-append}
 use Rattle.std.proofs.lemmas.List.{map-append, take_more}
 use Rattle.mh_model.specs.declared.command.Event.{Event}
 use Rattle.mh_model.specs.declared.config.Config.{Config}
-use Rattle.mh_model.specs.declared.history.Entry.{Entry}
 use Rattle.mh_model.specs.declared.history.Measured.{Measured}
 use Rattle.mh_model.specs.Bytes.{Text, joined, line_text, lines_text}
-use Rattle.mh_model.specs.History.{events_of}
-use Rattle.mh_model.specs.HistoryTexts.{header_words, measured_line, measured_step, machine_record, recorded_text, migrated}
+use Rattle.mh_model.specs.HistoryTexts.{header_words, measured_line, measured_step, machine_record, recorded_text}
 use Rattle.mh_model.specs.Machine.{Machine, first_machine, event_step, machine_after, machine_replies}
 use Rattle.mh_model.specs.Replies.{replies_text}
+use Rattle.mh_model.specs.RunHistories.{recorded_run}
 use Rattle.mh_promise.proofs.RunsByEvents.{after_more, replies_more}
 use Rattle.mh_state.proofs.JudgeLemmas.{record-more}
 use Rattle.mh_script.proofs.AddedLines.{AddsLines}
@@ -48,35 +47,36 @@ replies_add first = record {
 
 -- Records ----------------------------------------------------------------------------------------
 
--- the machine after the events of a history
-abbrev pub machine_of : Config → List Entry → Machine
-machine_of config entries = machine_after (first_machine config) (events_of entries)
+-- the machine after events, each of which is that of an element of a list
+module _ {X : Type 0} (event_of : X → Event) where
+  abbrev pub machine_of : Config → List X → Machine
+  machine_of config xs = machine_after (first_machine config) (map event_of xs)
 
-abbrev pub entry_next : Machine → Entry → Machine
-entry_next machine entry = (event_step machine entry.event).state
+  abbrev pub element_next : Machine → X → Machine
+  element_next machine x = (event_step machine (event_of x)).state
 
--- their record as a text
-abbrev pub record_of_entries : Config → List Entry → Text
-record_of_entries config entries = recorded_text (migrated config entries)
+  -- their record as a text
+  abbrev pub record_of : Config → List X → Text
+  record_of config xs = recorded_text (recorded_run config (map event_of xs))
 
--- the line of one of them
-abbrev pub entry_line : Machine → Entry → Text
-entry_line machine entry = lines_text (measured_line (measured_step machine entry.event (event_step machine entry.event)) ∷ [])
+  -- the line of one of them
+  abbrev pub element_line : Machine → X → Text
+  element_line machine x = lines_text (measured_line (measured_step machine (event_of x) (event_step machine (event_of x))) ∷ [])
 
-pub record_of_entries-none : (config : Config) → line_text (joined (header_words config)) ++ [] ≡ record_of_entries config []
-unfolding machine_record
-record_of_entries-none config = refl
+  pub record_of-none : (config : Config) → line_text (joined (header_words config)) ++ [] ≡ record_of config []
+  unfolding machine_record
+  record_of-none config = refl
 
-pub records_add : (config : Config) → AddsLines (machine_of config) (record_of_entries config) entry_next entry_line
-records_add config = record {
-  state = λ entries entry. ap (machine_after (first_machine config)) (map-append _ entries (entry ∷ [])) ∙ after_more.event (first_machine config) (events_of entries) entry.event;
-  text = λ entries entry.
-      let measured = machine_record (first_machine config) (events_of entries) in
-      let event : Measured = measured_step (machine_of config entries) entry.event (event_step (machine_of config entries) entry.event) in
-      let more : machine_record (first_machine config) (events_of (entries ++ entry ∷ [])) ≡ measured ++ event ∷ [] =
-      ap (machine_record (first_machine config)) (map-append _ entries (entry ∷ [])) ∙ record-more (first_machine config) (events_of entries) entry.event in
-      let header : Text = joined (header_words config) in
-      ap (λ (found : List Measured). lines_text (header ∷ map measured_line found)) more
-      ∙ (ap (λ (lines : List Text). lines_text (header ∷ lines)) (map-append measured_line measured (event ∷ []))
-      ∙ flat_map-append line_text (header ∷ map measured_line measured) (measured_line event ∷ []));
-}
+  pub records_add : (config : Config) → AddsLines (machine_of config) (record_of config) element_next element_line
+  records_add config = record {
+    state = λ xs x. ap (machine_after (first_machine config)) (map-append _ xs (x ∷ [])) ∙ after_more.event (first_machine config) (map event_of xs) (event_of x);
+    text = λ xs x.
+        let measured = machine_record (first_machine config) (map event_of xs) in
+        let event : Measured = measured_step (machine_of config xs) (event_of x) (event_step (machine_of config xs) (event_of x)) in
+        let more : machine_record (first_machine config) (map event_of (xs ++ x ∷ [])) ≡ measured ++ event ∷ [] =
+        ap (machine_record (first_machine config)) (map-append _ xs (x ∷ [])) ∙ record-more (first_machine config) (map event_of xs) (event_of x) in
+        let header : Text = joined (header_words config) in
+        ap (λ (found : List Measured). lines_text (header ∷ map measured_line found)) more
+        ∙ (ap (λ (lines : List Text). lines_text (header ∷ lines)) (map-append measured_line measured (event ∷ []))
+        ∙ flat_map-append line_text (header ∷ map measured_line measured) (measured_line event ∷ []));
+  }

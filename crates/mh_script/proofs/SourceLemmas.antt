@@ -4,15 +4,23 @@ use Rattle.std.proofs.KnownBytes.{Appends-nil}
 use Rattle.std.proofs.lemmas.Bool.Decides.{nat_tests}
 use Rattle.std.specs.Io.KnownBytes.{Appends, Consumes, IsAtEnd}
 use Rattle.mh_model.specs.declared.command.Event.{Event}
+use Rattle.mh_model.specs.declared.config.Config.{Config}
+use Rattle.mh_model.specs.declared.config.Rules.{Rules}
 use Rattle.mh_model.specs.Bytes.{Text, cut_after}
 use Rattle.mh_model.specs.HistoryTexts.{history_of, history_reading, recorded_of, recorded_reading}
 use Rattle.mh_model.specs.Limits.{most_entries}
-use Rattle.mh_model.specs.Output.{Ending, Done, HistoryFull, Refused, output, output_of, ending, ending_of}
+use Rattle.mh_model.specs.Output.{Ending, Done, HistoryFull, Refused, ending, ending_of}
 use Rattle.mh_model.specs.Script.{Reading, Meaning, Means, BadLine, reading}
 use Rattle.mh_model.proofs.ScriptLemmas.{reading_long}
 use Rattle.mh_text.specs.Reading.{BeginsWithEvent}
 use Rattle.mh_text.specs.Stream.{AppendsBeginning}
-use Rattle.mh_script.specs.Run.{Outputs, TakesToRun, WritesBeginning}
+use Rattle.mh_reasons.specs.Reasons.{IsReason}
+use Rattle.mh_reasons.specs.declared.reason.ScriptReason.{ScriptReason}
+use Rattle.mh_reasons.specs.declared.reason.ScriptReason.TheVariants as script
+use Rattle.mh_script.specs.declared.end.End.{End}
+use Rattle.mh_script.specs.declared.end.Refusal.{Refusal}
+use Rattle.mh_script.specs.declared.end.End.TheVariants as ends
+use Rattle.mh_script.specs.Run.{EndsAs, HasReason, Outputs, TakesToRun, WritesBeginning, transcript, transcript_of}
 use Rattle.mh_script.specs.Texts.{IsTextOf, WantsMemory, ForText}
 
 -- Texts ------------------------------------------------------------------------------------------
@@ -107,10 +115,6 @@ some_text (Some bytes) = (bytes, refl)
 
 -- Runs -------------------------------------------------------------------------------------------
 
-output-reading : (text : Text) → output text ≡ output_of (reading text)
-unfolding output
-output-reading text = refl
-
 ending-reading : (text : Text) → ending text ≡ ending_of (reading text)
 unfolding ending
 ending-reading text = refl
@@ -125,36 +129,57 @@ ending-few meaning few =
     let is : nat_lt most_entries (length meaning.events) ≡ false = grind (arith, nat_tests) in
     ap (λ b. if b then HistoryFull else Done) is
 
-module _ {known : Option Text} {text : Text} (reads : Reads reading known text) where
-  output-reads : (r : Reading Meaning) → reading text ≡ r → output reads.whole ≡ output_of r
-  output-reads r is = output-reading reads.whole ∙ ap output_of (reads.same ∙ is)
+-- what is to be written of a text, by a transcript and rules
+module _ (text_of : Config → List Event → Text) (rules : Rules) where
+  module _ {known : Option Text} {text : Text} (reads : Reads reading known text) where
+    written-reads : (r : Reading Meaning) → reading text ≡ r → transcript text_of rules reads.whole ≡ transcript_of text_of rules r
+    written-reads r is = ap (transcript_of text_of rules) (reads.same ∙ is)
 
-  outputs-reads : (old new : Option Text) (r : Reading Meaning) (ended : Ending) → reading text ≡ r → Appends old new (output_of r) → ending_of r ≡ ended → Outputs known old new ended
-  outputs-reads old new r ended is wrote ends =
+    outputs-reads : (old new : Option Text) (r : Reading Meaning) (ended : Ending) → reading text ≡ r → Appends old new (transcript_of text_of rules r) → ending_of r ≡ ended
+        → Outputs (transcript text_of rules) known old new ended
+    outputs-reads old new r ended is wrote ends =
+        let P : Text → Type 0 = λ t. Appends old new t in
+        record {
+          script = reads.whole;
+          is_script = reads.is_text;
+          ends = ending-reading reads.whole ∙ (ap ending_of (reads.same ∙ is) ∙ ends);
+          wrote = subst P (sym (written-reads r is)) wrote;
+        }
+
+    pub Done-reads : (old new : Option Text) (meaning : Meaning) → reading text ≡ Means meaning → Appends old new (transcript_of text_of rules (Means meaning)) → length meaning.events ≤ most_entries
+        → Outputs (transcript text_of rules) known old new Done
+    Done-reads old new meaning is wrote few = outputs-reads old new (Means meaning) Done is wrote (ending-few meaning few)
+
+    pub HistoryFull-reads : (old new : Option Text) (meaning : Meaning) → reading text ≡ Means meaning → Appends old new (transcript_of text_of rules (Means meaning)) → most_entries < length meaning.events
+        → Outputs (transcript text_of rules) known old new HistoryFull
+    HistoryFull-reads old new meaning is wrote many = outputs-reads old new (Means meaning) HistoryFull is wrote (ending-many meaning many)
+
+    pub Refused-reads : (old new : Option Text) (line : ℕ) → reading text ≡ BadLine line → Appends old new (transcript_of text_of rules (BadLine line)) → Outputs (transcript text_of rules) known old new (Refused line)
+    Refused-reads old new line is wrote = outputs-reads old new (BadLine line) (Refused line) is wrote refl
+
+    pub WritesBeginning-reads : (old new : Option Text) (r : Reading Meaning) → reading text ≡ r → AppendsBeginning old new (transcript_of text_of rules r) → WritesBeginning (transcript text_of rules) known old new
+    WritesBeginning-reads old new r is begun =
+        (reads.whole, begun.0, begun.1, reads.is_text, begun.2 ∙ sym (written-reads r is), begun.3)
+
+-- nothing is a prefix of anything
+pub WritesBeginning-nothing : (written : Text → Text) (known a : Option Text) → WritesBeginning written known a a
+WritesBeginning-nothing written known a = let text = some_text known in (text.0, [], written text.0, text.1, refl, Appends-nil a)
+
+-- Functions that write the same ------------------------------------------------------------------
+
+-- what is said of what one function writes is said of what another does that writes the same
+module _ {written other : Text → Text} (same : (text : Text) → written text ≡ other text) (known old new : Option Text) where
+  pub Outputs-same : (ended : Ending) → Outputs written known old new ended → Outputs other known old new ended
+  Outputs-same ended h =
       let P : Text → Type 0 = λ t. Appends old new t in
-      record {
-        script = reads.whole;
-        is_script = reads.is_text;
-        ends = ending-reading reads.whole ∙ (ap ending_of (reads.same ∙ is) ∙ ends);
-        wrote = subst P (sym (output-reads r is)) wrote;
-      }
+      record { script = h.script; is_script = h.is_script; ends = h.ends; wrote = subst P (same h.script) h.wrote }
 
-  pub Done-reads : (old new : Option Text) (meaning : Meaning) → reading text ≡ Means meaning → Appends old new (output_of (Means meaning)) → length meaning.events ≤ most_entries → Outputs known old new Done
-  Done-reads old new meaning is wrote few = outputs-reads old new (Means meaning) Done is wrote (ending-few meaning few)
+  pub WritesBeginning-same : WritesBeginning written known old new → WritesBeginning other known old new
+  WritesBeginning-same h = (h.0, h.1, h.2, h.3, h.4 ∙ same h.0, h.5)
 
-  pub HistoryFull-reads : (old new : Option Text) (meaning : Meaning) → reading text ≡ Means meaning → Appends old new (output_of (Means meaning)) → most_entries < length meaning.events → Outputs known old new HistoryFull
-  HistoryFull-reads old new meaning is wrote many = outputs-reads old new (Means meaning) HistoryFull is wrote (ending-many meaning many)
-
-  pub Refused-reads : (old new : Option Text) (line : ℕ) → reading text ≡ BadLine line → Appends old new (output_of (BadLine line)) → Outputs known old new (Refused line)
-  Refused-reads old new line is wrote = outputs-reads old new (BadLine line) (Refused line) is wrote refl
-
-  pub WritesBeginning-reads : (old new : Option Text) (r : Reading Meaning) → reading text ≡ r → AppendsBeginning old new (output_of r) → WritesBeginning known old new
-  WritesBeginning-reads old new r is begun =
-      (reads.whole, begun.0, begun.1, reads.is_text, begun.2 ∙ sym (output-reads r is), begun.3)
-
--- nothing is a prefix of any output
-pub WritesBeginning-nothing : (known a : Option Text) → WritesBeginning known a a
-WritesBeginning-nothing known a = let text = some_text known in (text.0, [], output text.0, text.1, refl, Appends-nil a)
+  pub EndsAs-same : (end : End) → EndsAs written known old new end → EndsAs other known old new end
+  EndsAs-same ends.Done h = Outputs-same Done h
+  EndsAs-same (ends.Refused refusal) h = Outputs-same (Refused refusal.line) h
 
 -- a text that was written whole is a prefix of itself
 pub beginning_of : (old new : Option Text) (text : Text) → Appends old new text → AppendsBeginning old new text
@@ -168,3 +193,42 @@ few_entries events shown same few = omega (arith, ap length same, few)
 pub many_entries : (events shown : List Event) → shown ≡ events → 1000000 < length shown → most_entries < length events
 unfolding most_entries
 many_entries events shown same many = omega (arith, ap length same)
+
+-- Reasons ----------------------------------------------------------------------------------------
+
+-- a text that is too long is refused with line 0, and so with no other reason
+reason-long : (text rest : Text) (n : ℕ) (reason : ScriptReason) → n ≡ 0 → 67108864 < length text → IsReason text n reason → IsReason (text ++ rest) n reason
+reason-long text rest n script.TooLong none long is = (none, omega (arith, long, length-append text rest))
+reason-long text rest n script.NoConfiguration none long is = absurd (omega (arith, none, is.0))
+reason-long text rest n script.NoNewline none long is = absurd (omega (arith, none, is.0))
+reason-long text rest n (script.Line reason) none long is = absurd (omega (arith, none, is.2.numbered))
+
+same_line : (read : Reading Meaning) (m n : ℕ) → read ≡ BadLine m → read ≡ BadLine n → m ≡ n
+same_line read m n one other = cc
+
+-- bytes after a text change its reason only if it is not too long
+reason-append : (text rest : Text) (n : ℕ) (reason : ScriptReason) → (length text ≤ 67108864 → rest ≡ []) → reading text ≡ BadLine n → IsReason text n reason → IsReason (text ++ rest) n reason
+reason-append text rest n reason whole bad is = go (nat_lt 67108864 (length text)) refl where
+  go : (b : Bool) → nat_lt 67108864 (length text) ≡ b → IsReason (text ++ rest) n reason
+  go true test =
+      let long : 67108864 < length text = grind (arith, nat_tests) in
+      reason-long text rest n reason (same_line (reading text) n 0 bad (reading_long text long)) long is
+  go false test =
+      let short : length text ≤ 67108864 = grind (arith, nat_tests) in
+      subst (λ t. IsReason t n reason) (sym (ap (λ (r : Text). text ++ r) (whole short) ∙ append-nil text)) is
+
+reason-consumed : (known rest : Option Text) (text : Text) (n : ℕ) (reason : ScriptReason) → Consumes known rest text → (length text ≤ 67108864 → IsAtEnd rest) → reading text ≡ BadLine n → IsReason text n reason
+    → (script : Text) × IsTextOf known script × IsReason script n reason
+reason-consumed None rest text n reason consumed whole bad is = (text, tt, is)
+reason-consumed (Some bytes) None text n reason consumed whole bad is = absurd consumed
+reason-consumed (Some bytes) (Some left) text n reason consumed whole bad is =
+    (bytes, refl, subst (λ t. IsReason t n reason) (sym consumed) (reason-append text left n reason whole bad is))
+
+-- the refusal of what was read of a source has its reason
+pub refused_reason : (known rest : Option Text) (items text : Text) (n : ℕ) (refusal : Refusal) → text ≡ items → Consumes known rest items → (length items ≤ 67108864 → IsAtEnd rest) → reading text ≡ BadLine n → refusal.line ≡ n
+    → IsReason text n refusal.reason → HasReason known (ends.Refused refusal)
+refused_reason known rest items text n refusal same consumed whole bad line is =
+    let P : Text → Type 0 = λ t. (reading t ≡ BadLine n) × IsReason t n refusal.reason in
+    let read = subst P same (bad, is) in
+    let found = reason-consumed known rest items n refusal.reason consumed whole read.0 read.1 in
+    (found.0, found.1, subst (λ m. IsReason found.0 m refusal.reason) (sym line) found.2)

@@ -1,7 +1,35 @@
+ghost use Rattle.std.specs.Prelude.{◌≡◌};
+ghost use Rattle.mh_model.specs.Script.{BadLine, reading};
+ghost use Rattle.mh_reasons.specs.Reasons.{IsReason};
+
+use mh_reasons::reason::ScriptReason;
+use mh_reasons::script::script_reason;
+
 /// How a run of a script ended.
-#[derive(Clone, Copy, Debug, PartialEq, Eq)]
+#[derive(Debug, Drop)]
 pub enum End {
     Done,
+    Refused(Refusal),
+}
+
+/// Where and why a script is refused.
+#[derive(Debug, Drop)]
+pub struct Refusal {
     /// The script's first bad line, counted from 1; 0 if the script is too long.
-    Refused(u64),
+    pub line: u64,
+    pub reason: ScriptReason,
+}
+
+impl Refusal {
+    /// The refusal of a text whose first bad line this is. It takes no memory.
+    pub fn of(text: &[u8], line: u64) -> Refusal
+        requires { reading text.now ≡ BadLine line }
+        ensures line { result.line ≡ line }
+        ensures reason { IsReason text.now line result.reason }
+    {
+        Refusal {
+            line,
+            reason: script_reason(text, line),
+        }
+    }
 }

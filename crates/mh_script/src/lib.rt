@@ -6,3 +6,4 @@ pub mod fault;
 pub mod replies;
 pub mod run;
 pub mod texts;
+pub mod transcript;

@@ -1,96 +1,67 @@
-ghost use Rattle.std.specs.Prelude.{◌≡◌, ◌<◌, ◌≤◌, ◌^◌, length, take, IfOk, OnOk, OnErr, IsErrOf};
-ghost use Rattle.std.specs.Io.KnownBytes.{Appends, Keeps};
-ghost use Rattle.mh_model.specs.Limits.{most_entries};
+//! Runs of scripts that are written as their replies.
+ghost use Rattle.std.specs.Prelude.{◌<◌, ◌≤◌, ◌^◌, IfOk, OnErr, IsErrOf};
+ghost use Rattle.std.specs.Io.KnownBytes.{Keeps};
 ghost use Rattle.mh_model.specs.Output as model;
-ghost use Rattle.mh_model.specs.Output.{output_of};
-ghost use Rattle.mh_model.specs.Script.{Means};
-ghost use Rattle.mh_text.specs.Stream.{AppendsBeginning};
-ghost use Rattle.mh_script.specs.Run.{EndsAs, Outputs, TakesToRun, WritesBeginning};
+ghost use Rattle.mh_model.specs.RunHistories.{output_under};
+ghost use Rattle.mh_script.specs.Run.{EndsAs, HasReason, Outputs, TakesToRun, WritesBeginning, replies_run};
 ghost use Rattle.mh_script.specs.Texts.{LeavesSource, Blames, WantsMemory};
 
 use crate::end::End;
 use crate::fault::{ScriptFault, WriteError};
 use crate::replies::write_replies;
-use crate::texts::{read_whole, write_verdict};
+use crate::transcript::{Transcript, transcribe};
 use mh_model::command::Event;
-use mh_model::history::Verdict;
-use mh_model::limits;
-use mh_scan::crew_scan::{CrewGate, CrewScan};
+use mh_model::config::{Config, Rules};
+use mh_scan::crew_scan::CrewGate;
 use mh_scan::scan::Scanner;
 use mh_state::machine::Machine;
-use mh_text::device::DeviceFailed;
-use mh_text::script::{SCRIPT_BYTES, Script, parse};
+use mh_text::script::SCRIPT_BYTES;
 use mh_text::sink::Sink;
 use mh_text::source::Source;
-use mh_text::text_error::TextError;
 use std::alloc::Global;
 use std::thread::Threads;
 
-const MOST_ENTRIES: usize = limits::MOST_EVENTS as usize;
+/// The transcript that has a line for each reply.
+struct Replies;
 
-/// The events that are answered.
-#[tactic(auto, using(crate::proofs::RunLemmas::take_min, crate::proofs::RunLemmas::front_is_few), unfolding(mh_model::specs::Limits::most_entries))]
-fn answered(events: &[Event]) -> &[Event]
-    ensures events { result.now ≡ take most_entries events.now }
-    ensures few { length result.now ≤ most_entries }
-{
-    &events[..events.len().min(MOST_ENTRIES)]
+impl Transcript for Replies {
+    ghost text_of = { replies_run };
+
+    fn write<C: Scanner, W: Sink>(
+        alloc: Global,
+        config: Config,
+        events: &[Event],
+        scanner: &mut C,
+        sink: &mut W,
+    ) -> Result<(), WriteError> {
+        let mut machine = Machine::open(alloc, config)?;
+        write_replies(alloc, &mut machine, events, scanner, sink)
+    }
 }
 
-/// Answers the events of a script, as far as a history has room.
-fn write_answers<C: Scanner, W: Sink>(
-    alloc: Global,
-    script: &Script,
-    scanner: &mut C,
-    sink: &mut W,
-) -> Result<(), WriteError>
-    requires { W.failures sink.old < 2 ^ 62 }
-    ensures done { OnOk result (Appends (W.written sink.old) (W.written sink.new) (output_of (Means script.now))) }
-    ensures begun { OnErr result (AppendsBeginning (W.written sink.old) (W.written sink.new) (output_of (Means script.now))) }
-    ensures no_failure { OnOk result (W.failures sink.new ≡ W.failures sink.old) }
-    ensures blamed { IsErrOf result WriteError.Device → W.failures sink.old < W.failures sink.new }
-    ensures not_blamed { IsErrOf result WriteError.NoMemory → W.failures sink.new ≡ W.failures sink.old }
-{
-    let mut machine = Machine::open(alloc, script.config())?;
-    let events = answered(script.events());
-    write_replies(alloc, &mut machine, events, scanner, sink)
-}
-
-/// Reads a whole script, and then writes its output: a line for each reply, or the one line that names the least line that
-/// is outside the grammar. At most `workers` threads scan at a time, the calling one among them. Neither their number nor the
-/// gate changes the output.
+/// Reads a whole script, and then writes its output under these rules, a line for each reply. Of a script that is outside the
+/// grammar it writes the one line that names the first bad line. At most `workers` threads scan at a time, the calling one
+/// among them. Neither their number nor the gate changes the output.
 pub fn run_script<R: Threads, S: Source, W: Sink, G: CrewGate>(
     rt: &R,
     alloc: Global,
     source: &mut S,
     sink: &mut W,
     workers: usize,
+    rules: Rules,
     gate: &G,
 ) -> Result<End, ScriptFault>
     requires workers { (0 < workers) × (workers ≤ 64) }
     requires source_count { S.failures source.old < 2 ^ 62 }
     requires sink_count { W.failures sink.old < 2 ^ 62 }
-    ensures ends { IfOk result (EndsAs (S.rest source.old) (W.written sink.old) (W.written sink.new)) }
-    ensures begun { OnErr result (WritesBeginning (S.rest source.old) (W.written sink.old) (W.written sink.new)) }
-    ensures full { IsErrOf result ScriptFault.HistoryFull → Outputs (S.rest source.old) (W.written sink.old) (W.written sink.new) model.HistoryFull }
+    ensures ends { IfOk result (EndsAs (output_under rules) (S.rest source.old) (W.written sink.old) (W.written sink.new)) }
+    ensures reason { IfOk result (HasReason (S.rest source.old)) }
+    ensures begun { OnErr result (WritesBeginning (output_under rules) (S.rest source.old) (W.written sink.old) (W.written sink.new)) }
+    ensures full { IsErrOf result ScriptFault.HistoryFull → Outputs (output_under rules) (S.rest source.old) (W.written sink.old) (W.written sink.new) model.HistoryFull }
     ensures unread { IsErrOf result ScriptFault.Read → Keeps (W.written sink.old) (W.written sink.new) }
     ensures memory { IsErrOf result ScriptFault.NoMemory → WantsMemory TakesToRun (S.rest source.old) (S.rest source.new) }
     ensures taken { LeavesSource SCRIPT_BYTES (S.rest source.old) (S.rest source.new) result }
     ensures blames { Blames (S.failures source.old) (S.failures source.new) (W.failures sink.old) (W.failures sink.new) result }
 {
-    let text = read_whole(alloc, source, SCRIPT_BYTES)?;
-    let mut scanner = CrewScan::new(rt, alloc, workers, gate);
-    match parse(alloc, text.as_slice()) {
-        Ok(script) => match write_answers(alloc, &script, &mut scanner, sink) {
-            Ok(()) if script.events().len() > MOST_ENTRIES => Err(ScriptFault::HistoryFull),
-            Ok(()) => Ok(End::Done),
-            Err(WriteError::Device) => Err(ScriptFault::Write),
-            Err(WriteError::NoMemory) => Err(ScriptFault::NoMemory),
-        },
-        Err(TextError::Line(line)) => match write_verdict(Verdict::Refused(line), sink) {
-            Ok(()) => Ok(End::Refused(line)),
-            Err(DeviceFailed) => Err(ScriptFault::Write),
-        },
-        Err(TextError::NoMemory) => Err(ScriptFault::NoMemory),
-    }
+    transcribe::<Replies, R, S, W, G>(rt, alloc, source, sink, workers, rules, gate)
 }

@@ -5,6 +5,7 @@ pub mod WordLemmas
 pub mod RowLemmas
 pub mod FormLemmas
 pub mod LineLemmas
+pub mod NamePlaces
 pub mod NameLemmas
 pub mod ScriptLemmas
 pub mod ReplyLemmas

@@ -2,48 +2,26 @@
 use Rattle.std.proofs.Common.{◌≡◌, ℕ, ◌+◌, ◌<◌, ◌≤◌, ◌==◌, nat_lt, nat_le, nat_eq, ◌&&◌, ◌||◌, not, Bool, true, false, cond, Some, None, List, [], ◌∷◌, ◌++◌, length, length-append, ap, subst, sym, refl, ◌∙◌, arith}
 use Rattle.std.specs.Prelude.{if◌then◌else◌}
 use Rattle.std.specs.Cmp.Lexicographic.{pointwise, nat_list_eq_equiv}
-use Rattle.std.specs.List.{list_any, position, position_or_len}
+use Rattle.std.specs.List.{list_any, position}
 use Rattle.std.proofs.lemmas.List.{map-append}
 use Rattle.std.specs.Borrow.{Bor}
 use Rattle.std.proofs.lemmas.Bool.Decides.{nat_tests}
 use Rattle.mh_model.specs.Bytes.{Text, is_text}
 use Rattle.mh_model.specs.Script.{session_number, with_name}
 use Rattle.mh_text.specs.Names.{names_shown, IsNumbered}
+use Rattle.mh_text.proofs.NamePlaces.{place, place_le_by, place_shown, number_found, number_missing}
 use Rattle.mh_model.proofs.TextLemmas.{text_is, text_itself}
 use Rattle.indexmap.specs.IndexSet.{insert_key}
 
--- the place in the list that names show
-abbrev place : List (Bor (List ℕ)) → Text → ℕ
-place items name = position_or_len (λ (seen : Bor (List ℕ)). is_text seen.now name) items
-
-place_shown : (items : List (Bor (List ℕ))) (name : Text) → session_number (names_shown items) name ≡ place items name
-place_shown [] name = refl
-place_shown (x ∷ items) name = ap (λ (n : ℕ). cond (not (is_text x.now name)) (1 + n) 0) (place_shown items name)
-
-some_by : (is : Bool) (n p : ℕ) → cond is (Some n) None ≡ Some p → n ≡ p
-some_by true n p found = cc
-some_by false n p found = cc
-
-none_by : (is : Bool) (n : ℕ) → cond is (Some n) None ≡ None → is ≡ false
-none_by true n found = cc
-none_by false n found = refl
-
-place_le_by : (is : Bool) (n k : ℕ) → n ≤ k → cond (not is) (1 + n) 0 ≤ k + 1
-place_le_by true n k le = omega arith
-place_le_by false n k le = omega arith
-
-place_le : (items : List (Bor (List ℕ))) (name : Text) → place items name ≤ length items
-place_le [] name = omega arith
-place_le (x ∷ items) name = let next : cond (not (is_text x.now name)) (1 + place items name) 0 ≤ length items + 1 = place_le_by (is_text x.now name) (place items name) (length items) (place_le items name) in omega (arith, next)
+-- what a name shows
+abbrev shown : Bor (List ℕ) → Text
+shown seen = seen.now
 
 pub place_found : (items : List (Bor (List ℕ))) (name : Text) (p : ℕ) → position (λ (seen : Bor (List ℕ)). is_text seen.now name) items ≡ Some p → session_number (names_shown items) name ≡ p
-place_found items name p found = place_shown items name ∙ some_by (nat_lt (place items name) (length items)) (place items name) p found
+place_found items name = number_found shown name items
 
 pub place_missing : (items : List (Bor (List ℕ))) (name : Text) → position (λ (seen : Bor (List ℕ)). is_text seen.now name) items ≡ None → session_number (names_shown items) name ≡ length items
-place_missing items name none =
-    let past : nat_lt (place items name) (length items) ≡ false = none_by (nat_lt (place items name) (length items)) (place items name) none in
-    let le : place items name ≤ length items = place_le items name in
-    place_shown items name ∙ grind (arith, nat_tests)
+place_missing items name = number_missing shown name items
 
 length_shown : (items : List (Bor (List ℕ))) → length (names_shown items) ≡ length items
 length_shown [] = refl
@@ -59,8 +37,8 @@ some_below false n k p test found = cc
 pub known_name : (items : List (Bor (List ℕ))) (name : Text) (p : ℕ) → position (λ (seen : Bor (List ℕ)). is_text seen.now name) items ≡ Some p → with_name (names_shown items) name ≡ names_shown items
 known_name items name p found =
     let count : length (names_shown items) ≡ length items = length_shown items in
-    let number : session_number (names_shown items) name ≡ place items name = place_shown items name in
-    let below : place items name < length items = some_below (nat_lt (place items name) (length items)) (place items name) (length items) p refl found in
+    let number : session_number (names_shown items) name ≡ place shown name items = place_shown shown name items in
+    let below : place shown name items < length items = some_below (nat_lt (place shown name items) (length items)) (place shown name items) (length items) p refl found in
     with_name_by true (nat_le 8 (length (names_shown items))) (names_shown items) name (grind (arith, nat_tests)) refl
 
 pub added_name : (items : List (Bor (List ℕ))) (name : Bor (List ℕ)) → session_number (names_shown items) name.now ≡ length items → length items < 8 → with_name (names_shown items) name.now ≡ names_shown (items ++ name ∷ [])

@@ -1,4 +1,4 @@
-//! Worked texts of the five subcommands.
+//! Worked texts of the six subcommands.
 
 /// The words of a command line and a text, what the program writes of them, and its exit status.
 #[derive(Clone, Copy)]
@@ -7,7 +7,7 @@ pub struct Case<'a> {
     pub input: &'a [u8],
     /// One output, and for a race of two sessions its other order.
     pub outputs: &'a [&'a [u8]],
-    /// How what is reported of the words begins, if they are refused.
+    /// What is reported, or if words are refused, how that begins.
     pub told: &'a [u8],
     pub status: u8,
 }
@@ -20,6 +20,19 @@ impl Case<'_> {
             }
         }
         false
+    }
+
+    /// Whether lines are answered as they come.
+    pub fn is_live(&self) -> bool {
+        self.words
+            .get(1)
+            .is_some_and(|word| *word == b"live".as_slice())
+    }
+
+    /// Whether this may be written before a read fails: nothing, and of lines that are answered as they come a prefix.
+    pub fn is_written_early(&self, written: &[u8]) -> bool {
+        written.is_empty()
+            || (self.is_live() && (self.is_begun(written) || self.is_output(written)))
     }
 
     /// Whether this is less than an output, and a prefix of it.
@@ -37,6 +50,12 @@ impl Case<'_> {
 pub const NONE: &[u8] = b"";
 
 pub const RUN: &[&[u8]] = &[b"metroheap", b"run"];
+
+const RUN_HISTORY: &[&[u8]] = &[b"metroheap", b"run", b"--history", b"--rules=1"];
+
+const LIVE: &[&[u8]] = &[b"metroheap", b"live"];
+
+const CHECK_SESSIONS: &[&[u8]] = &[b"metroheap", b"check", b"--sessions"];
 
 pub const RACE: &[&[u8]] = &[b"metroheap", b"race"];
 
@@ -152,14 +171,14 @@ pub const CASES: &[Case<'static>] = &[
         words: RUN,
         input: b"config 4 209 0 0\na new 0 0 1\n# a comment\n\na read 0 0\n\n\n\n\n\n\na walk\n",
         outputs: &[b"refused 10 line 12\n"],
-        told: NONE,
+        told: b"metroheap: line 12: \"walk\" is no command\n",
         status: 1,
     },
     Case {
         words: RACE,
         input: b"config 4 209 0 0\na new 0 0 1\nb new 0 0 1\na walk\n",
         outputs: &[b"refused 10 line 4\n"],
-        told: NONE,
+        told: b"metroheap: line 4: \"walk\" is no command\n",
         status: 1,
     },
     // Histories of the other version.
@@ -205,6 +224,36 @@ pub const CASES: &[Case<'static>] = &[
         told: NONE,
         status: 4,
     },
+    // The history of a run, under the first rules.
+    Case {
+        words: RUN_HISTORY,
+        input: b"config 4 353 0 0\na new 0 0 0\n* start\n* quantum\n* quantum\n",
+        outputs: &[RECORD],
+        told: NONE,
+        status: 0,
+    },
+    // What sessions see, of either version.
+    Case {
+        words: CHECK_SESSIONS,
+        input: BAD_HISTORY,
+        outputs: &[LEGAL],
+        told: NONE,
+        status: 0,
+    },
+    Case {
+        words: CHECK_SESSIONS,
+        input: BAD_RECORD,
+        outputs: &[LEGAL],
+        told: NONE,
+        status: 0,
+    },
+    Case {
+        words: CHECK_SESSIONS,
+        input: b"history 1\ns0 new 0 0 1 = ok\n* stat = ok\ns0 read 0 0 = number 1\n",
+        outputs: &[b"first bad 3\n"],
+        told: NONE,
+        status: 4,
+    },
     // The program's name may be any bytes.
     Case {
         words: &[b"\xff\xfe", b"audit"],
@@ -217,7 +266,28 @@ pub const CASES: &[Case<'static>] = &[
         words: RUN,
         input: b"config\n",
         outputs: &[b"refused 10 line 1\n"],
-        told: NONE,
+        told: b"metroheap: line 1: \"config\" takes PAGES QUANTUM TRIGGER EVERY\n",
         status: 1,
+    },
+];
+
+/// Lines that are answered as they come, so that answers are written before all is read.
+pub const LIVE_CASES: &[Case<'static>] = &[
+    Case {
+        words: LIVE,
+        input: b"a clear 0\nconfig 4 353 0 0\na new 0 0 0\n* start\n* walk\n* quantum\n* quantum\n",
+        outputs: &[
+            b"refused 10 line 1\nok\nok\nrefused 10 line 5\nspent 353 phase sweep\nspent 7 phase idle\n",
+        ],
+        told: NONE,
+        status: 0,
+    },
+    // A last line without its end.
+    Case {
+        words: LIVE,
+        input: b"config 4 209 0 0\na new 0 0 1\na write 0 0 7\n\n# a comment\na read 0 0\na shape 0",
+        outputs: &[b"ok\nok\nnumber 7\nrefused 10 line 7\n"],
+        told: NONE,
+        status: 0,
     },
 ];

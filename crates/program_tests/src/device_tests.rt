@@ -1,4 +1,4 @@
-use crate::cases::{CASES, Case};
+use crate::cases::{CASES, Case, LIVE_CASES};
 use crate::trial::{Device, Devices, Outcome, SOUND_DEVICES};
 use crate::trouble::{Way, trouble_each_read, trouble_each_write};
 use std::alloc::Global;
@@ -52,6 +52,9 @@ fn each_read_has_trouble_in_turn(rt: HostRuntime) {
     for case in CASES {
         trouble_reads(&rt, rt.alloc(), case);
     }
+    for case in LIVE_CASES {
+        trouble_reads(&rt, rt.alloc(), case);
+    }
 }
 
 const WRITES: &[Way] = &[
@@ -101,6 +104,9 @@ fn trouble_writes<R: Threads + Wait + Sync + Abort>(rt: &R, alloc: Global, case:
 #[test]
 fn each_write_has_trouble_in_turn(rt: HostRuntime) {
     for case in CASES {
+        trouble_writes(&rt, rt.alloc(), case);
+    }
+    for case in LIVE_CASES {
         trouble_writes(&rt, rt.alloc(), case);
     }
 }
@@ -256,6 +262,9 @@ fn interrupt_at_each_pace<R: Threads + Wait + Sync + Abort>(
 #[test]
 fn interruptions_change_nothing(rt: HostRuntime) {
     for case in CASES {
+        interrupt_at_each_pace(&rt, rt.alloc(), case);
+    }
+    for case in LIVE_CASES {
         interrupt_at_each_pace(&rt, rt.alloc(), case);
     }
 }

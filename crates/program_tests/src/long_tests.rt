@@ -140,7 +140,7 @@ fn read_too_much<R: Threads + Wait + Sync>(
         words,
         input: text,
         outputs: &[b"refused 10 line 0\n"],
-        told: NONE,
+        told: b"metroheap: line 0: a script has at most 67108864 bytes\n",
         status: 1,
     };
     let devices = Devices {

@@ -24,6 +24,21 @@ const ASKED: &[Asked<'static>] = &[
         workers: 64,
     },
     Asked {
+        words: &[
+            "metroheap",
+            "run",
+            "--history",
+            "--workers=9",
+            "--rules",
+            "1",
+        ],
+        workers: 9,
+    },
+    Asked {
+        words: &["metroheap", "live", "--workers=2"],
+        workers: 2,
+    },
+    Asked {
         words: &["metroheap", "race"],
         workers: 1,
     },
@@ -35,7 +50,8 @@ const ASKED: &[Asked<'static>] = &[
 
 fn workers_asked(alloc: Global, words: &[&str]) -> Option<usize> {
     match order(alloc, words) {
-        Ok(Order::Run(workers) | Order::Race(workers)) => Some(workers),
+        Ok(Order::Run(options)) => Some(options.workers),
+        Ok(Order::Live(workers) | Order::Race(workers)) => Some(workers),
         _ => None,
     }
 }

@@ -45,7 +45,7 @@ pub const SOUND_DEVICES: Devices = Devices {
 pub enum Outcome {
     /// As it does if no device fails.
     Right,
-    /// With nothing written, and a line that says that a read failed.
+    /// With what may be written before a read fails, and a line that says that one did.
     ReadFailed,
     /// With less than the output, a prefix of it, and a line that says that a write failed.
     WriteFailed,
@@ -90,7 +90,9 @@ fn failure(
     status: u8,
 ) -> Outcome {
     match status {
-        3 if output.calls == 0 && is_told(errors, READ_FAILED) => Outcome::ReadFailed,
+        3 if case.is_written_early(output.taken.as_slice()) && is_told(errors, READ_FAILED) => {
+            Outcome::ReadFailed
+        }
         3 if case.is_begun(output.taken.as_slice()) && is_told(errors, WRITE_FAILED) => {
             Outcome::WriteFailed
         }
@@ -110,7 +112,7 @@ impl Devices {
         let words = Words(case.words);
         let status = launch(rt, alloc, &words, &mut input, &mut output, &mut errors);
         let is_right = status == case.status
-            && errors.calls == 0
+            && is_told(&errors, case.told)
             && case.is_output(output.taken.as_slice());
         let outcome = if is_right {
             Outcome::Right

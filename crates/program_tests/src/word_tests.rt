@@ -28,6 +28,13 @@ const REFUSED: &[Case<'static>] = &[
         status: 2,
     },
     Case {
+        words: &[b"metroheap", b"live", b"--help"],
+        input: SCRIPT,
+        outputs: &[],
+        told: b"Answer each line of a script as it comes",
+        status: 2,
+    },
+    Case {
         words: &[b"metroheap", b"race", b"--help"],
         input: SCRIPT,
         outputs: &[],

@@ -66,15 +66,29 @@ fn is_held(alloc: Global, output: &[u8], held: &[u8]) -> Result<bool> {
     Ok(held.is_empty() || has_line(alloc, output, held)?)
 }
 
-/// Whether the status and the errors are as they should be.
-fn is_told(written: &Written, answer: &Answer) -> bool {
+/// What standard error says of the line at which a script is refused.
+fn reason<'a>(refusal: &[u8], errors: &'a [u8]) -> Option<&'a [u8]> {
+    let line = refusal.strip_prefix(b"refused 10 ")?.strip_suffix(b"\n")?;
+    let told = errors.strip_prefix(b"metroheap: ")?.strip_suffix(b"\n")?;
+    told.strip_prefix(line)?.strip_prefix(b": ")
+}
+
+/// Whether standard error has one line, with a reason.
+fn has_reason(refusal: &[u8], errors: &[u8]) -> bool {
+    reason(refusal, errors).is_some_and(|reason| !reason.is_empty() && !reason.contains(&b'\n'))
+}
+
+/// Whether standard error has what the answer says. Of a script that is refused it has some reason if nothing is said.
+fn are_errors(line: &[u8], written: &Written, answer: &Answer) -> bool {
     let errors = written.errors.as_slice();
-    let are_errors = if answer.errors_go_on {
+    let is_script = line.starts_with(b"run") || line.starts_with(b"race");
+    if answer.errors_go_on {
         errors.starts_with(answer.errors.as_slice())
+    } else if is_script && answer.status == 1 && answer.errors.is_empty() {
+        has_reason(answer.output.as_slice(), errors)
     } else {
         errors == answer.errors.as_slice()
-    };
-    are_errors && written.status == answer.status
+    }
 }
 
 /// Makes the call on a text, and counts it.
@@ -87,7 +101,8 @@ fn try_input<R: Threads + Wait + Sync>(
 ) -> Result<()> {
     let written = call(rt, trial.alloc, trial.line.as_slice(), input)?;
     let output = written.output.as_slice();
-    let is_right = is_told(&written, answer)
+    let is_right = written.status == answer.status
+        && are_errors(trial.line.as_slice(), &written, answer)
         && is_held(trial.alloc, output, answer.held.as_slice())?
         && is_output(rt, trial.alloc, output, answer)?;
     report.count(trial, &written, is_right)?;

@@ -1,5 +1,7 @@
 //! Calls of the program that may be refused memory.
-use crate::comparing::Comparing;
+use crate::comparing::{Comparing, Tellings};
+use crate::live_answers::{are_right, has_starved};
+use crate::texts::REFUSED_REASON;
 use mh_judging::judge::audit_script;
 use mh_model::history::Verdict;
 use mh_program::launch::launch;
@@ -22,6 +24,8 @@ pub enum Wanted<'a> {
     Output(&'a [u8]),
     /// A legal history of so many entries.
     History(u64),
+    /// So many answers to lines, each of them to one line more. Those for refused memory change nothing.
+    Answers(usize),
 }
 
 /// When the words of a command line are read.
@@ -54,7 +58,7 @@ pub enum Outcome {
 /// How the program ended.
 #[derive(Clone, Copy)]
 enum Ending {
-    /// With this status, and nothing was reported.
+    /// With this status, and nothing was reported but why a script is refused.
     Quiet(u8),
     /// For refused memory, which was reported.
     NoMemory,
@@ -62,6 +66,11 @@ enum Ending {
 }
 
 const NO_MEMORY: &[u8] = b"metroheap: no memory\n";
+
+const NO_REASON: &[u8] = b"metroheap: the script is outside the grammar\n";
+
+/// The status of a text that is refused.
+const REFUSED_STATUS: u8 = 1;
 
 /// So many bytes are enough for the words of a command line, and to judge a history.
 const ENOUGH: usize = 1 << 20;
@@ -77,7 +86,7 @@ fn serve_with<R: Threads + Wait + Sync, W: Write + Drop>(
     left: usize,
     call: &Call<'_>,
     output: W,
-    errors: &mut Comparing<'_>,
+    errors: &mut Tellings,
 ) -> Result<u8, AllocError> {
     famine.leave(ENOUGH)?;
     let order = line_order(alloc, words(&Words(call.words), alloc));
@@ -107,7 +116,11 @@ impl Call<'_> {
         left: usize,
         output: W,
     ) -> Result<Ending, AllocError> {
-        let mut errors = Comparing::new(NO_MEMORY);
+        let mut errors = Tellings {
+            no_memory: Comparing::new(NO_MEMORY),
+            reason: Comparing::new(REFUSED_REASON),
+            no_reason: Comparing::new(NO_REASON),
+        };
         let status = match self.reading {
             Reading::Before => serve_with(rt, alloc, famine, left, self, output, &mut errors)?,
             Reading::Within => {
@@ -116,9 +129,10 @@ impl Call<'_> {
                 launch(rt, alloc, &words, self.text, output, &mut errors)
             }
         };
-        Ok(match errors.begun() {
-            Some(0) => Ending::Quiet(status),
-            Some(_) if errors.is_whole() && status == 3 => Ending::NoMemory,
+        Ok(match status {
+            REFUSED_STATUS if errors.is_refusal() => Ending::Quiet(status),
+            3 if errors.no_memory.is_whole() => Ending::NoMemory,
+            _ if status != REFUSED_STATUS && errors.is_silent() => Ending::Quiet(status),
             _ => Ending::Other,
         })
     }
@@ -168,6 +182,32 @@ impl Call<'_> {
         })
     }
 
+    /// A call whose answers are judged when there is memory again.
+    fn follow<R: Threads + Wait + Sync>(
+        &self,
+        rt: &R,
+        alloc: Global,
+        famine: &mut Famine,
+        left: usize,
+        count: usize,
+    ) -> Result<Outcome, AllocError> {
+        famine.leave(ENOUGH)?;
+        let mut answers = Vec::with_capacity(alloc, MOST_BYTES)?;
+        let ending = self.carry_out(rt, alloc, famine, left, &mut answers)?;
+        famine.leave(ENOUGH)?;
+        let answers = answers.as_slice();
+        let is_right = are_right(rt, alloc, self.text, answers, true)?
+            || are_right(rt, alloc, self.text, answers, false)?;
+        let lines = answers.iter().filter(|byte| **byte == b'\n').count();
+        Ok(match ending {
+            Ending::Quiet(0) if is_right && lines == count && !has_starved(answers) =>
+                Outcome::Right,
+            Ending::Quiet(0) if is_right && lines >= count => Outcome::Refused(answers.len()),
+            Ending::NoMemory if is_right => Outcome::Refused(answers.len()),
+            _ => Outcome::Wrong,
+        })
+    }
+
     /// Makes the call with so many bytes left.
     pub fn attempt<R: Threads + Wait + Sync>(
         &self,
@@ -179,6 +219,7 @@ impl Call<'_> {
         match self.wanted {
             Wanted::Output(output) => self.compare(rt, alloc, famine, left, output),
             Wanted::History(entries) => self.judge(rt, alloc, famine, left, entries),
+            Wanted::Answers(count) => self.follow(rt, alloc, famine, left, count),
         }
     }
 }

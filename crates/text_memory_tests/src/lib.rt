@@ -6,6 +6,8 @@ mod calls;
 #[cfg(test)]
 mod comparing;
 #[cfg(test)]
+mod live_answers;
+#[cfg(test)]
 mod race_tests;
 #[cfg(test)]
 mod sweep;

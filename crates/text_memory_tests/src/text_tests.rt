@@ -2,9 +2,9 @@
 use crate::calls::{Call, Reading, Wanted};
 use crate::sweep::check;
 use crate::texts::{
-    AUDIT, BAD_HISTORY, BAD_RECORD, CHECK, COLLECTED, COLLECTED_OUTPUT, FIRST_BAD, HISTORY, LEGAL,
-    MIGRATE, MIGRATE_CYCLES, RACE, RECORD, REFUSED, REFUSED_OUTPUT, RUN, RUN_BY_TWO, crowded,
-    crowded_output, repeated, wide, wide_output,
+    AUDIT, BAD_HISTORY, BAD_RECORD, CHECK, CHECK_SESSIONS, COLLECTED, COLLECTED_OUTPUT, FIRST_BAD,
+    HISTORY, LEGAL, LIVE, MIGRATE, MIGRATE_CYCLES, RACE, RECORD, REFUSED, REFUSED_OUTPUT, RUN,
+    RUN_BY_TWO, RUN_HISTORY, crowded, crowded_output, repeated, wide, wide_output,
 };
 use std::alloc::{AllocError, Global};
 use std::process::Abort;
@@ -118,6 +118,65 @@ fn records_that_are_audited(rt: HostRuntime) -> Result<(), Fail> {
 #[test]
 fn histories_that_are_migrated(rt: HostRuntime) -> Result<(), Fail> {
     check_each(&rt, rt.alloc(), MIGRATED)?;
+    Ok(())
+}
+
+/// The script of the record.
+const CYCLE: &[u8] =
+    b"config 4 353 0 0\na new 0 0 0\n* start\n* quantum\n* quantum\n* dump\nb clear 16\n* report 361\n";
+
+const RECORDED: &[Call<'static>] = &[Call {
+    words: RUN_HISTORY,
+    text: CYCLE,
+    wanted: Wanted::Output(RECORD),
+    status: 0,
+    reading: Reading::Before,
+}];
+
+#[test]
+fn histories_of_runs(rt: HostRuntime) -> Result<(), Fail> {
+    check_each(&rt, rt.alloc(), RECORDED)?;
+    Ok(())
+}
+
+const SEEN: &[Call<'static>] = &[
+    Call {
+        words: CHECK_SESSIONS,
+        text: HISTORY,
+        wanted: Wanted::Output(LEGAL),
+        status: 0,
+        reading: Reading::Before,
+    },
+    Call {
+        words: CHECK_SESSIONS,
+        text: BAD_RECORD,
+        wanted: Wanted::Output(FIRST_BAD),
+        status: 4,
+        reading: Reading::Before,
+    },
+];
+
+#[test]
+fn histories_by_what_sessions_see(rt: HostRuntime) -> Result<(), Fail> {
+    check_each(&rt, rt.alloc(), SEEN)?;
+    Ok(())
+}
+
+/// Each line but the first has an answer.
+const LINES_ANSWERED: &[u8] =
+    b"config 4 353 0 0\na new 0 0 61\na write 0 60 7\n* dump\n* start\n* quantum\na walk\n* stat\na read 0 60\n* report 1\nb new 1 1 1\nb shape 1\na read 0 60\n";
+
+const ANSWERED: &[Call<'static>] = &[Call {
+    words: LIVE,
+    text: LINES_ANSWERED,
+    wanted: Wanted::Answers(12),
+    status: 0,
+    reading: Reading::Before,
+}];
+
+#[test]
+fn lines_that_are_answered_one_by_one(rt: HostRuntime) -> Result<(), Fail> {
+    check_each(&rt, rt.alloc(), ANSWERED)?;
     Ok(())
 }
 

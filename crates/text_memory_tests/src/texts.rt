@@ -4,6 +4,12 @@ use std::fmt::Write;
 
 pub const RUN: &[&[u8]] = &[b"metroheap", b"run"];
 
+pub const RUN_HISTORY: &[&[u8]] = &[b"metroheap", b"run", b"--history", b"--rules=1"];
+
+pub const LIVE: &[&[u8]] = &[b"metroheap", b"live"];
+
+pub const CHECK_SESSIONS: &[&[u8]] = &[b"metroheap", b"check", b"--sessions"];
+
 pub const RUN_BY_TWO: &[&[u8]] = &[b"metroheap", b"run", b"--workers=2"];
 
 pub const RACE: &[&[u8]] = &[b"metroheap", b"race"];
@@ -100,6 +106,8 @@ mutator 13 collector 831 quanta 6 greatest 209 window 1 least 0 floor none
 
 /// A line that is outside the grammar after some that are not.
 pub const REFUSED: &[u8] = b"config 4 209 0 0\na new 0 1 1\n* dump\nb walk\n";
+
+pub const REFUSED_REASON: &[u8] = b"metroheap: line 4: \"walk\" is no command\n";
 
 pub const REFUSED_OUTPUT: &[u8] = b"refused 10 line 4\n";
 

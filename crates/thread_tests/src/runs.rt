@@ -1,6 +1,7 @@
 //! Runs and races of scripts over memory, and runs of the program.
 ghost use Rattle.std.specs.Prelude.{◌<◌, ◌≤◌};
 
+use mh_model::config::Rules;
 use mh_program::program::program;
 use mh_racing::race::race_script;
 use mh_scan::crew_scan::CrewGate;
@@ -30,9 +31,10 @@ pub fn printed<R: Threads, G: CrewGate>(
         &mut StdSource::new(script),
         &mut sink,
         workers,
+        Rules::Second,
         gate,
     );
-    if ended != Ok(End::Done) {
+    if !matches!(ended, Ok(End::Done)) {
         return Err(Fail::from("not done"));
     }
     Ok(sink.writer)
@@ -57,7 +59,7 @@ pub fn raced<R: Threads + Wait + Sync, G: CrewGate + Sync>(
         workers,
         gate,
     );
-    if ended != Ok(End::Done) {
+    if !matches!(ended, Ok(End::Done)) {
         return Err(Fail::from("not done"));
     }
     Ok(sink.writer)

@@ -5,9 +5,9 @@ use Rattle.mh_program.proofs.options.config_given.Goals as goal
 
 pub returns-in-Some-clause-config : goal.returns-in-Some-clause-config
 returns-in-Some-clause-config c =
-    makes _ _ _ _ _ _ c.in_ok-pages.ensures.number c.in_ok-quantum.ensures.number c.in_ok-trigger.ensures.number c.in_ok-every.ensures.number (sym c.in-Some.ensures.value)
+    makes c.args.rules _ _ _ _ _ _ c.in_ok-pages.ensures.number c.in_ok-quantum.ensures.number c.in_ok-trigger.ensures.number c.in_ok-every.ensures.number (sym c.in-Some.ensures.value)
 
 pub returns-in-None-clause-fault : goal.returns-in-None-clause-fault
 returns-in-None-clause-fault c =
     lies_outside _ _ _ _ _ _ c.in_ok-pages.ensures.number c.in_ok-quantum.ensures.number c.in_ok-trigger.ensures.number c.in_ok-every.ensures.number
-    (sym c.in-None.ensures.value) (λ is. false≢true (c.in-None.ensures.within.1 is)) c.outside.ensures
+    (λ is. false≢true (c.in-None.ensures.within.1 is)) c.outside.ensures

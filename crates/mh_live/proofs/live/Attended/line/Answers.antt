@@ -1,5 +1,6 @@
 use Rattle.std.proofs.Common.{rules, sym, refl}
-use Rattle.mh_live.proofs.LineTurns.{OnOk-then, asks_runs, blank_runs, calls_runs, line-name, wrong_runs}
+use Rattle.std.proofs.lemmas.Result.{on_ok_weaker}
+use Rattle.mh_live.proofs.LineTurns.{asks_runs, blank_runs, calls_runs, line-name, wrong_runs}
 use Rattle.mh_live.proofs.live.Attended.line.Goals as goal
 
 pub see-requires : goal.see-requires
@@ -9,7 +10,7 @@ pub returns-in-Blank : goal.returns-in-Blank
 returns-in-Blank g c = blank_runs c.args.number c.args.self.now.machine c.args.self.now.names c.args.line.now _ (search rules) c.requires
 
 pub returns-in-Wrong : goal.returns-in-Wrong
-returns-in-Wrong g c = OnOk-then c.refused.result _ _ c.refused.ensures (wrong_runs c.args.number c.args.self.now.machine c.args.self.now.names c.args.line.now _ (sym c.in-Wrong.ensures))
+returns-in-Wrong g c = on_ok_weaker c.refused.result (wrong_runs c.args.number c.args.self.now.machine c.args.self.now.names c.args.line.now _ (sym c.in-Wrong.ensures)) c.refused.ensures
 
 pub returns-in_ok-answer-in-Asks : goal.returns-in_ok-answer-in-Asks
 returns-in_ok-answer-in-Asks g c =

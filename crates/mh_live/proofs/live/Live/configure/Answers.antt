@@ -1,9 +1,10 @@
 use Rattle.std.proofs.Common.{sym, ◌∙◌}
-use Rattle.mh_live.proofs.LineTurns.{OnOk-then, opened_waits, refused_waits, starved_waits}
+use Rattle.std.proofs.lemmas.Result.{on_ok_weaker}
+use Rattle.mh_live.proofs.LineTurns.{opened_waits, refused_waits, starved_waits}
 use Rattle.mh_live.proofs.live.Live.configure.Goals as goal
 
 pub returns-in_default : goal.returns-in_default
-returns-in_default c = rw c.requires.waits (OnOk-then c.refused.result _ _ c.refused.ensures (refused_waits c.args.number c.args.line.now _ c.requires.some (sym c.config_line.ensures ∙ c.in_default.is)))
+returns-in_default c = rw c.requires.waits (on_ok_weaker c.refused.result (refused_waits c.args.number c.args.line.now _ c.requires.some (sym c.config_line.ensures ∙ c.in_default.is)) c.refused.ensures)
 
 pub returns-in-Ok : goal.returns-in-Ok
 returns-in-Ok c =
@@ -11,4 +12,4 @@ returns-in-Ok c =
 
 pub returns-in-Err : goal.returns-in-Err
 returns-in-Err c =
-    rw c.requires.waits (OnOk-then c.starved.result _ _ c.starved.ensures (starved_waits c.args.number c.args.line.now _ c.in-Some.config c.requires.some (sym c.config_line.ensures ∙ c.in-Some.is)))
+    rw c.requires.waits (on_ok_weaker c.starved.result (starved_waits c.args.number c.args.line.now _ c.in-Some.config c.requires.some (sym c.config_line.ensures ∙ c.in-Some.is)) c.starved.ensures)

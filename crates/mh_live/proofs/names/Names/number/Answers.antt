@@ -1,7 +1,7 @@
 use Rattle.std.proofs.Common.{rules, ◌∙◌, ap, sym}
 use Rattle.arrayvec.specs.ArrayVec.{ArrayVec}
 use Rattle.mh_model.specs.Script.{session_number}
-use Rattle.mh_live.proofs.NameLemmas.{number_found, number_missing}
+use Rattle.mh_text.proofs.NamePlaces.{number_found, number_missing}
 use Rattle.mh_live.proofs.names.Names.number.Goals as goal
 
 pub returns-in-Some : goal.returns-in-Some

@@ -1,0 +1,18 @@
+-- What a handle of C owns: nothing where its pointer is null, and else a box.
+use base.Fml.{Fml, ftrue, ffalse}
+use denote.RawPtr.{Ptr, block_ptr, null_ptr}
+use Rattle.std.specs.Box.Ownership.{box_owns}
+use Rattle.std.specs.declared.alloc.Global.{Global}
+use Rattle.std.specs.declared.option.Option.{Option}
+use Rattle.std.specs.declared.option.Option.TheVariants.{None, Some}
+use Rattle.std.specs.contracts.impls.GlobalAllocator.TheImpl.{ghosts}
+use Rattle.mh_embed.specs.contracts.embedded.Embedded.{the_row}
+
+abbrev pub Kept : Type 0
+Kept = the_row.Denot
+
+abbrev pub held : Global → Ptr → Option Kept → Fml
+held a null_ptr None = ftrue
+held a null_ptr (Some x) = ffalse
+held a (block_ptr b o) None = ffalse
+held a (block_ptr b o) (Some x) = box_owns (ghosts.dealloc_token a) the_row (block_ptr b o) x

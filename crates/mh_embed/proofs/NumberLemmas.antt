@@ -1,0 +1,40 @@
+-- Each event as numbers.
+use Rattle.std.proofs.Common.{◌≡◌, ℕ, true, Some, refl}
+use Rattle.mh_model.specs.declared.command.Command.{Command}
+use Rattle.mh_model.specs.declared.command.Command.TheVariants as command
+use Rattle.mh_model.specs.declared.command.Control.{Control}
+use Rattle.mh_model.specs.declared.command.Control.TheVariants as control
+use Rattle.mh_model.specs.declared.command.Event.TheVariants as event
+use Rattle.mh_model.specs.Forms.{command_phrase, control_phrase, is_sayable}
+use Rattle.mh_embed.specs.declared.numbers.EventNumbers.{EventNumbers}
+use Rattle.mh_embed.specs.Numbers.{event_numbered}
+use Rattle.mh_embed.specs.Laws.{EventsHaveNumbers}
+
+abbrev numbers : ℕ → ℕ → ℕ → ℕ → ℕ → EventNumbers
+numbers kind session first second third = record { kind = kind; session = session; first = first; second = second; third = third }
+
+command_numbers : (who : ℕ) (asked : Command) → is_sayable (command_phrase asked) ≡ true → (n : EventNumbers) × (event_numbered n ≡ Some (event.Session who asked))
+command_numbers who (command.New a b c) fits = (numbers 1 who a b c, rw fits refl)
+command_numbers who (command.Get a b c) fits = (numbers 2 who a b c, rw fits refl)
+command_numbers who (command.Put a b c) fits = (numbers 3 who a b c, rw fits refl)
+command_numbers who (command.Copy a b) fits = (numbers 4 who a b 0, rw fits refl)
+command_numbers who (command.Clear a) fits = (numbers 5 who a 0 0, rw fits refl)
+command_numbers who (command.Read a b) fits = (numbers 6 who a b 0, rw fits refl)
+command_numbers who (command.Write a b c) fits = (numbers 7 who a b c, rw fits refl)
+command_numbers who (command.Same a b) fits = (numbers 8 who a b 0, rw fits refl)
+command_numbers who (command.Shape a) fits = (numbers 9 who a 0 0, rw fits refl)
+command_numbers who (command.Post a b) fits = (numbers 10 who a b 0, rw fits refl)
+command_numbers who (command.Take a b) fits = (numbers 11 who a b 0, rw fits refl)
+command_numbers who command.End fits = (numbers 12 who 0 0 0, refl)
+
+control_numbers : (asked : Control) → is_sayable (control_phrase asked) ≡ true → (n : EventNumbers) × (event_numbered n ≡ Some (event.Control asked))
+control_numbers control.Quantum fits = (numbers 13 0 0 0 0, refl)
+control_numbers control.Start fits = (numbers 14 0 0 0 0, refl)
+control_numbers control.Stat fits = (numbers 15 0 0 0 0, refl)
+control_numbers control.Dump fits = (numbers 16 0 0 0 0, refl)
+control_numbers (control.Report window) fits = (numbers 17 0 0 0 window, rw fits refl)
+control_numbers control.Left fits = (numbers 18 0 0 0 0, refl)
+
+pub have_numbers : EventsHaveNumbers
+have_numbers (event.Session who asked) = command_numbers who asked
+have_numbers (event.Control asked) = control_numbers asked

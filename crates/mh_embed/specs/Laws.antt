@@ -1,0 +1,33 @@
+-- What is answered behind a handle, beside what a run line by line answers.
+use Rattle.std.specs.Prelude.{◌≡◌, ℕ, true, Some}
+use Rattle.mh_model.specs.declared.command.Event.{Event}
+use Rattle.mh_model.specs.declared.command.Event.TheVariants as event
+use Rattle.mh_model.specs.declared.reply.Reply.{Reply}
+use Rattle.mh_model.specs.Bytes.{Text}
+use Rattle.mh_model.specs.Forms.{Phrase, command_phrase, control_phrase, is_sayable}
+use Rattle.mh_model.specs.Live.{Live, Runs, answers_line, turn}
+use Rattle.mh_model.specs.Replies.{reply_text}
+use Rattle.mh_model.specs.Script.{line_of}
+use Rattle.mh_embed.specs.declared.numbers.EventNumbers.{EventNumbers}
+use Rattle.mh_embed.specs.declared.status.Status.TheVariants as status
+use Rattle.mh_embed.specs.Driving.{Driven}
+use Rattle.mh_embed.specs.Endings.{LineEnds}
+use Rattle.mh_embed.specs.Numbers.{event_numbered}
+
+-- the same machine, between two lines
+abbrev pub live_with : Driven → Live
+live_with driven = Runs driven.machine.machine driven.names driven.machine.done
+
+-- A line whose event is done is answered the text of its reply by a run line by line too, and leaves it there as here
+abbrev pub LinesAreTurns : Type 0
+LinesAreTurns = (number : ℕ) (line : Text) (old new : Driven) (given : Reply) → LineEnds old (line_of line) new status.Done → new.reply ≡ Some given
+    → turn number (live_with old) line ≡ answers_line (reply_text given) (live_with new)
+
+-- how an event is written, but for the name of its session
+abbrev pub event_phrase : Event → Phrase
+event_phrase (event.Session who command) = command_phrase command
+event_phrase (event.Control control) = control_phrase control
+
+-- Each event whose numbers are in the range of their types can be asked as numbers
+abbrev pub EventsHaveNumbers : Type 0
+EventsHaveNumbers = (asked : Event) → is_sayable (event_phrase asked) ≡ true → (n : EventNumbers) × (event_numbered n ≡ Some asked)

@@ -1,0 +1,6 @@
+pub mod Configs
+pub mod Driving
+pub mod Endings
+pub mod Laws
+pub mod Numbers
+pub mod Statuses

@@ -1,0 +1,22 @@
+ghost use Rattle.std.specs.Prelude.{◌≡◌};
+ghost use Rattle.mh_embed.specs.Configs as numbers;
+
+use mh_model::config::{Config, Rules};
+
+/// The rules with this number.
+fn rules_of(number: u32) -> Option<Rules>
+    ensures { result ≡ numbers.rules_of number }
+{
+    match number {
+        1 => Some(Rules::First),
+        2 => Some(Rules::Second),
+        _ => None,
+    }
+}
+
+/// The configuration with these numbers, under the rules with this number. None outside the limits.
+pub fn config_of(pages: u32, quantum: u32, trigger: u32, every: u32, rules: u32) -> Option<Config>
+    ensures { result ≡ numbers.config_of pages quantum trigger every rules }
+{
+    Config::under(rules_of(rules)?, pages, quantum, trigger, every)
+}

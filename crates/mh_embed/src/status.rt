@@ -1,0 +1,49 @@
+ghost use Rattle.std.specs.Prelude.{◌≡◌};
+ghost use Rattle.mh_embed.specs.Statuses.{code_of};
+
+/// What a call came to.
+#[derive(Clone, Copy, Debug, PartialEq, Eq)]
+pub enum Status {
+    Done,
+    /// The line is empty or a comment.
+    Blank,
+    /// The line is outside the grammar, or the numbers are of no event.
+    Wrong,
+    /// The machine has done as many events as it may.
+    Full,
+    /// Memory was refused, and nothing was done.
+    NoMemory,
+    /// The handle has no machine.
+    Closed,
+    /// The numbers are of no configuration.
+    BadConfig,
+    /// The text of the reply is longer than the buffer.
+    Short,
+    /// Memory was refused for the text of the reply.
+    NoText,
+    /// No event was done yet.
+    NoReply,
+    /// The last reply has no item of this index.
+    NoItem,
+}
+
+impl Status {
+    /// The number that C sees.
+    pub fn code(self) -> i32
+        ensures { result ≡ code_of self }
+    {
+        match self {
+            Status::Done => 0,
+            Status::Blank => 1,
+            Status::Wrong => 2,
+            Status::Full => 3,
+            Status::NoMemory => 4,
+            Status::Closed => 5,
+            Status::BadConfig => 6,
+            Status::Short => 7,
+            Status::NoText => 8,
+            Status::NoReply => 9,
+            Status::NoItem => 10,
+        }
+    }
+}

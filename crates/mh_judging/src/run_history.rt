@@ -1,0 +1,70 @@
+//! Runs of scripts that are written as their histories.
+ghost use Rattle.std.specs.Prelude.{◌<◌, ◌≤◌, ◌^◌, IfOk, OnErr, IsErrOf};
+ghost use Rattle.std.specs.Io.KnownBytes.{Keeps};
+ghost use Rattle.mh_model.specs.Output as model;
+ghost use Rattle.mh_model.specs.RunHistories.{history_output};
+ghost use Rattle.mh_script.specs.Run.{EndsAs, HasReason, Outputs, TakesToRun, WritesBeginning};
+ghost use Rattle.mh_script.specs.Texts.{LeavesSource, Blames, WantsMemory};
+ghost use Rattle.mh_judging.specs.RunHistory.{IsLegalEnd, WritesLegal, history_run};
+
+use crate::record::write_run;
+use mh_model::command::Event;
+use mh_model::config::{Config, Rules};
+use mh_scan::crew_scan::CrewGate;
+use mh_scan::scan::Scanner;
+use mh_script::end::End;
+use mh_script::fault::{ScriptFault, WriteError};
+use mh_script::transcript::{Transcript, transcribe};
+use mh_text::script::SCRIPT_BYTES;
+use mh_text::sink::Sink;
+use mh_text::source::Source;
+use mh_text_laws::run_histories::run_histories_are_legal;
+use std::alloc::Global;
+use std::thread::Threads;
+
+/// The transcript that is a history of version 2.
+struct History;
+
+impl Transcript for History {
+    ghost text_of = { history_run };
+
+    fn write<C: Scanner, W: Sink>(
+        alloc: Global,
+        config: Config,
+        events: &[Event],
+        scanner: &mut C,
+        sink: &mut W,
+    ) -> Result<(), WriteError> {
+        write_run(alloc, config, events, scanner, sink)
+    }
+}
+
+/// Reads a whole script, and then writes the history of its run under these rules, of version 2. Of a script that is outside
+/// the grammar it writes the one line that names the first bad line. At most `workers` threads scan at a time, the calling
+/// one among them. Neither their number nor the gate changes what is written.
+pub fn run_history<R: Threads, S: Source, W: Sink, G: CrewGate>(
+    rt: &R,
+    alloc: Global,
+    source: &mut S,
+    sink: &mut W,
+    workers: usize,
+    rules: Rules,
+    gate: &G,
+) -> Result<End, ScriptFault>
+    requires workers { (0 < workers) × (workers ≤ 64) }
+    requires source_count { S.failures source.old < 2 ^ 62 }
+    requires sink_count { W.failures sink.old < 2 ^ 62 }
+    ensures ends { IfOk result (EndsAs (history_output rules) (S.rest source.old) (W.written sink.old) (W.written sink.new)) }
+    ensures legal { IfOk result (IsLegalEnd rules (S.rest source.old) (W.written sink.old) (W.written sink.new)) }
+    ensures reason { IfOk result (HasReason (S.rest source.old)) }
+    ensures begun { OnErr result (WritesBeginning (history_output rules) (S.rest source.old) (W.written sink.old) (W.written sink.new)) }
+    ensures full { IsErrOf result ScriptFault.HistoryFull → Outputs (history_output rules) (S.rest source.old) (W.written sink.old) (W.written sink.new) model.HistoryFull }
+    ensures legal_full { IsErrOf result ScriptFault.HistoryFull → WritesLegal rules (S.rest source.old) (W.written sink.old) (W.written sink.new) }
+    ensures unread { IsErrOf result ScriptFault.Read → Keeps (W.written sink.old) (W.written sink.new) }
+    ensures memory { IsErrOf result ScriptFault.NoMemory → WantsMemory TakesToRun (S.rest source.old) (S.rest source.new) }
+    ensures taken { LeavesSource SCRIPT_BYTES (S.rest source.old) (S.rest source.new) result }
+    ensures blames { Blames (S.failures source.old) (S.failures source.new) (W.failures sink.old) (W.failures sink.new) result }
+{
+    run_histories_are_legal();
+    transcribe::<History, R, S, W, G>(rt, alloc, source, sink, workers, rules, gate)
+}

@@ -1,0 +1,97 @@
+-- What the lines of a script are answered one by one, as they come.
+use Rattle.std.specs.Prelude.{◌≡◌, ℕ, suc, nat_lt, Bool, true, false, not, ◌&&◌, if◌then◌else◌, is_some, Option, Some, None, List, [], ◌∷◌, ◌++◌, length, codes}
+use Rattle.mh_model.specs.declared.config.Config.{Config}
+use Rattle.mh_model.specs.declared.command.Event.{Event}
+use Rattle.mh_model.specs.declared.command.Event.TheVariants as event
+use Rattle.mh_model.specs.declared.command.Control.TheVariants as control
+use Rattle.mh_model.specs.Bytes.{Text, cut_after, words, line_text}
+use Rattle.mh_model.specs.Limits.{most_entries}
+use Rattle.mh_model.specs.Machine.{Machine, first_machine, event_step}
+use Rattle.mh_model.specs.Replies.{bad_line_text, reply_text}
+use Rattle.mh_model.specs.Script.{Line, Blank, Calls, Asks, Wrong, config_words, is_blank, line_of, session_number, with_name}
+
+-- Between two lines: the configuration hasn't come; or there is a machine, with the first names seen and how many events it has answered
+pub data Live : Type 0 where
+  Waits : Live
+  Runs : (machine : Machine) (names : List Text) (count : ℕ) → Live
+
+-- what a line is answered, and what is then
+pub record Turn : Type 0 where
+  pub text : Text
+  pub live : Live
+
+-- The turn of a line ------------------------------------------------------------------------------
+
+abbrev pub answers_nothing : Live → Turn
+answers_nothing live = record { text = []; live = live }
+
+-- nothing is changed
+abbrev pub answers_line : Text → Live → Turn
+answers_line text live = record { text = line_text text; live = live }
+
+-- the first line that isn't blank is the configuration, which is answered with nothing
+abbrev pub config_turn : ℕ → Option Config → Turn
+config_turn n None = answers_line (bad_line_text n) Waits
+config_turn n (Some config) = answers_nothing (Runs (first_machine config) [] 0)
+
+-- an event, after which these names have been seen
+abbrev pub event_turn : Machine → List Text → ℕ → List Text → Event → Turn
+event_turn machine names count seen event =
+    if nat_lt count most_entries then
+    (let answer = event_step machine event in answers_line (reply_text answer.reply) (Runs answer.state seen (suc count)))
+    else answers_line (codes "refused 8 history full") (Runs machine names count)
+
+abbrev pub line_turn : ℕ → Machine → List Text → ℕ → Line → Turn
+line_turn n machine names count Blank = answers_nothing (Runs machine names count)
+line_turn n machine names count (Calls name command) = event_turn machine names count (with_name names name) (event.Session (session_number names name) command)
+line_turn n machine names count (Asks control) = event_turn machine names count names (event.Control control)
+line_turn n machine names count Wrong = answers_line (bad_line_text n) (Runs machine names count)
+
+-- The turn of line n. A line outside the grammar is refused with its number and changes nothing
+unfoldable pub turn : ℕ → Live → Text → Turn
+turn n Waits line = if is_blank line then answers_nothing Waits else config_turn n (config_words (words line))
+turn n (Runs machine names count) line = line_turn n machine names count (line_of line)
+
+-- Lines in turn -----------------------------------------------------------------------------------
+
+-- a line with an event for which memory may be refused: a command and a quantum need it for the trace, a dump for its items
+abbrev pub needs_memory : Line → Bool
+needs_memory (Calls name command) = true
+needs_memory (Asks control.Quantum) = true
+needs_memory (Asks control.Dump) = true
+needs_memory _ = false
+
+-- a line that makes a machine, or whose event may need memory
+abbrev pub takes_memory : Live → Text → Bool
+takes_memory Waits line = not (is_blank line) && is_some (config_words (words line))
+takes_memory (Runs machine names count) line = needs_memory (line_of line)
+
+-- what line n may be answered: its turn, or that memory was refused, which changes nothing
+pub data IsTurn (n : ℕ) (live : Live) (line : Text) : Turn → Type 0 where
+  Taken : IsTurn n live line (turn n live line)
+  Starved : takes_memory live line ≡ true → IsTurn n live line (answers_line (codes "refused 9 no memory") live)
+
+-- what the lines from line n on may be answered one after another, and what is then
+pub data AreTurns : ℕ → Live → List Text → Text → Live → Type 0 where
+  Ended : (n : ℕ) (live : Live) → AreTurns n live [] [] live
+  Turned : (n : ℕ) (live : Live) (line : Text) (lines : List Text) (first : Turn) (text : Text) (after : Live) → IsTurn n live line first → AreTurns (suc n) first.live lines text after → AreTurns n live (line ∷ lines) (first.text ++ text) after
+
+-- a last line without its end is line n, and is outside the grammar
+abbrev pub unended_text : ℕ → Text → Text
+unended_text n [] = []
+unended_text n (byte ∷ bytes) = line_text (bad_line_text n)
+
+-- The answers to a text of lines, to its end
+pub record IsLive (text written : Text) : Type 0 where
+  pub answers : Text
+  pub after : Live
+  pub turns : AreTurns 1 Waits (cut_after 10 text).pieces answers after
+  pub whole : written ≡ answers ++ unended_text (suc (length (cut_after 10 text).pieces)) (cut_after 10 text).rest
+
+-- The answers if memory is never refused
+abbrev pub live_from : ℕ → Live → List Text → Text → Text
+live_from n live [] rest = unended_text n rest
+live_from n live (line ∷ lines) rest = (turn n live line).text ++ live_from (suc n) (turn n live line).live lines rest
+
+unfoldable pub live_output : Text → Text
+live_output text = live_from 1 Waits (cut_after 10 text).pieces (cut_after 10 text).rest

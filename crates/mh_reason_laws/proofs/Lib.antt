@@ -1,0 +1,4 @@
+pub mod WrongWords
+pub mod WrongLines
+pub mod WrongEntries
+pub mod WrongHeaders

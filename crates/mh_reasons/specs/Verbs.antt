@@ -1,0 +1,85 @@
+-- The words that numbers follow, and the bounds of these numbers.
+use Rattle.std.specs.Prelude.{◌≡◌, ℕ, Bool, true, false, if◌then◌else◌, Option, Some, None, option_map, List, [], ◌∷◌, codes}
+use Rattle.mh_model.specs.Bytes.{Text, is_text, is_name}
+use Rattle.mh_model.specs.Forms.{Row, u32, u64, command_rows, control_rows}
+use Rattle.mh_model.specs.declared.history.Version.{Version}
+use Rattle.mh_reasons.specs.declared.verb.Verb.{Verb}
+use Rattle.mh_reasons.specs.declared.verb.Verb.TheVariants as verb
+
+-- a verb as it is written
+abbrev pub verb_text : Verb → Text
+verb_text verb.Config = codes "config"
+verb_text verb.New = codes "new"
+verb_text verb.Get = codes "get"
+verb_text verb.Put = codes "put"
+verb_text verb.Copy = codes "copy"
+verb_text verb.Clear = codes "clear"
+verb_text verb.Read = codes "read"
+verb_text verb.Write = codes "write"
+verb_text verb.Same = codes "same"
+verb_text verb.Shape = codes "shape"
+verb_text verb.Post = codes "post"
+verb_text verb.Take = codes "take"
+verb_text verb.End = codes "end"
+verb_text verb.Quantum = codes "quantum"
+verb_text verb.Start = codes "start"
+verb_text verb.Stat = codes "stat"
+verb_text verb.Dump = codes "dump"
+verb_text verb.Report = codes "report"
+verb_text verb.Left = codes "left"
+verb_text verb.Rules = codes "rules"
+verb_text verb.Units = codes "units"
+
+-- the bounds of the numbers that follow it
+abbrev pub verb_bounds : Verb → List ℕ
+verb_bounds verb.Config = u64 ∷ u64 ∷ u64 ∷ u64 ∷ []
+verb_bounds verb.New = u32 ∷ u32 ∷ u32 ∷ []
+verb_bounds verb.Get = u32 ∷ u32 ∷ u32 ∷ []
+verb_bounds verb.Put = u32 ∷ u32 ∷ u32 ∷ []
+verb_bounds verb.Copy = u32 ∷ u32 ∷ []
+verb_bounds verb.Clear = u32 ∷ []
+verb_bounds verb.Read = u32 ∷ u32 ∷ []
+verb_bounds verb.Write = u32 ∷ u32 ∷ u64 ∷ []
+verb_bounds verb.Same = u32 ∷ u32 ∷ []
+verb_bounds verb.Shape = u32 ∷ []
+verb_bounds verb.Post = u32 ∷ u32 ∷ []
+verb_bounds verb.Take = u32 ∷ u32 ∷ []
+verb_bounds verb.End = []
+verb_bounds verb.Quantum = []
+verb_bounds verb.Start = []
+verb_bounds verb.Stat = []
+verb_bounds verb.Dump = []
+verb_bounds verb.Report = u64 ∷ []
+verb_bounds verb.Left = []
+verb_bounds verb.Rules = u64 ∷ u64 ∷ u64 ∷ u64 ∷ u64 ∷ []
+verb_bounds verb.Units = u64 ∷ u64 ∷ []
+
+-- the bounds of the numbers after the first row's word that is this one
+abbrev pub bounds_of : {X : Type 0} → List (Row X) → Text → Option (List ℕ)
+bounds_of [] word = None
+bounds_of (row ∷ rows) word = if is_text word row.verb then Some row.bounds else bounds_of rows word
+
+-- the verb that a row's word is, if it is one
+abbrev pub NamesRow : {X : Type 0} → List (Row X) → Text → Option Verb → Type 0
+NamesRow rows word None = bounds_of rows word ≡ None
+NamesRow rows word (Some verb) = (word ≡ verb_text verb) × (bounds_of rows word ≡ Some (verb_bounds verb))
+
+-- those after the word of the configuration, whose limits are another matter
+abbrev pub config_bounds : Text → Option (List ℕ)
+config_bounds word = if is_text word (codes "config") then Some (u64 ∷ u64 ∷ u64 ∷ u64 ∷ []) else None
+
+-- those after a name, or after `*`, and a word
+abbrev pub event_bounds : Version → Text → Text → Option (List ℕ)
+event_bounds version name word = if is_text name (codes "*") then bounds_of (control_rows version) word else (if is_name name then bounds_of command_rows word else None)
+
+-- Words that are a verb of the grammar, the bounds of the numbers that it takes, and what follows it
+pub record Usage : Type 0 where
+  pub verb : Text
+  pub bounds : List ℕ
+  pub given : List Text
+
+-- the usage that a line's words begin with, before and after the configuration, with the controls of a version
+abbrev pub usage_of : Version → Bool → List Text → Option Usage
+usage_of version false (word ∷ given) = option_map (λ bounds. record { verb = word; bounds = bounds; given = given }) (config_bounds word)
+usage_of version true (name ∷ word ∷ given) = option_map (λ bounds. record { verb = word; bounds = bounds; given = given }) (event_bounds version name word)
+usage_of _ _ _ = None

@@ -1,0 +1,124 @@
+//! What a run is written as, and the run of a whole script from its bytes on.
+ghost use Rattle.std.specs.Prelude.{◌≡◌, ◌<◌, ◌≤◌, ◌^◌, List, length, take, IfOk, OnOk, OnErr, IsErrOf};
+ghost use Rattle.std.specs.Io.KnownBytes.{Appends, Keeps};
+ghost use Rattle.mh_model.specs.declared.command.Event.{Event};
+ghost use Rattle.mh_model.specs.declared.config.Config.{Config};
+ghost use Rattle.mh_model.specs.Bytes.{Text};
+ghost use Rattle.mh_model.specs.Limits.{most_entries};
+ghost use Rattle.mh_model.specs.Output as model;
+ghost use Rattle.mh_model.specs.Script.{Means};
+ghost use Rattle.mh_text.specs.Stream.{AppendsBeginning};
+ghost use Rattle.mh_script.specs.Run.{EndsAs, HasReason, Outputs, TakesToRun, WritesBeginning, transcript, transcript_of};
+ghost use Rattle.mh_script.specs.Texts.{LeavesSource, Blames, WantsMemory};
+
+use crate::end::{End, Refusal};
+use crate::fault::{ScriptFault, WriteError};
+use crate::texts::{read_whole, write_verdict};
+use mh_model::command::Event;
+use mh_model::config::{Config, Rules};
+use mh_model::history::Verdict;
+use mh_model::limits;
+use mh_scan::crew_scan::{CrewGate, CrewScan};
+use mh_scan::scan::Scanner;
+use mh_text::device::DeviceFailed;
+use mh_text::script::{SCRIPT_BYTES, Script, parse};
+use mh_text::sink::Sink;
+use mh_text::source::Source;
+use mh_text::text_error::TextError;
+use std::alloc::Global;
+use std::thread::Threads;
+
+const MOST_ENTRIES: usize = limits::MOST_EVENTS as usize;
+
+/// What a run is written as: its replies, or its history.
+pub trait Transcript {
+    // the text of a run of these events
+    ghost text_of: { Config → List Event → Text };
+
+    /// Does events from the first machine on, and writes the text of that run.
+    fn write<C: Scanner, W: Sink>(
+        alloc: Global,
+        config: Config,
+        events: &[Event],
+        scanner: &mut C,
+        sink: &mut W,
+    ) -> Result<(), WriteError>
+        requires few { length events.now ≤ most_entries }
+        requires count { W.failures sink.old < 2 ^ 62 }
+        ensures done { OnOk result (Appends (W.written sink.old) (W.written sink.new) (text_of config events.now)) }
+        ensures begun { OnErr result (AppendsBeginning (W.written sink.old) (W.written sink.new) (text_of config events.now)) }
+        ensures no_failure { OnOk result (W.failures sink.new ≡ W.failures sink.old) }
+        ensures blamed { IsErrOf result WriteError.Device → W.failures sink.old < W.failures sink.new }
+        ensures not_blamed { IsErrOf result WriteError.NoMemory → W.failures sink.new ≡ W.failures sink.old };
+}
+
+/// The events that are answered.
+#[tactic(auto, using(crate::proofs::RunLemmas::take_min, crate::proofs::RunLemmas::front_is_few), unfolding(mh_model::specs::Limits::most_entries))]
+fn answered(events: &[Event]) -> &[Event]
+    ensures events { result.now ≡ take most_entries events.now }
+    ensures few { length result.now ≤ most_entries }
+{
+    &events[..events.len().min(MOST_ENTRIES)]
+}
+
+/// Answers the events of a script under these rules, as far as a history has room.
+fn write_answers<T: Transcript, C: Scanner, W: Sink>(
+    alloc: Global,
+    script: &Script,
+    rules: Rules,
+    scanner: &mut C,
+    sink: &mut W,
+) -> Result<(), WriteError>
+    requires { W.failures sink.old < 2 ^ 62 }
+    ensures done { OnOk result (Appends (W.written sink.old) (W.written sink.new) (transcript_of T.text_of rules (Means script.now))) }
+    ensures begun { OnErr result (AppendsBeginning (W.written sink.old) (W.written sink.new) (transcript_of T.text_of rules (Means script.now))) }
+    ensures no_failure { OnOk result (W.failures sink.new ≡ W.failures sink.old) }
+    ensures blamed { IsErrOf result WriteError.Device → W.failures sink.old < W.failures sink.new }
+    ensures not_blamed { IsErrOf result WriteError.NoMemory → W.failures sink.new ≡ W.failures sink.old }
+{
+    let config = script.config().with_rules(rules);
+    let events = answered(script.events());
+    T::write(alloc, config, events, scanner, sink)
+}
+
+/// Reads a whole script, and then writes the transcript of its run under these rules. Of a script that is outside the grammar
+/// it writes the one line that names the first bad line. At most `workers` threads scan at a time, the calling one among
+/// them. Neither their number nor the gate changes what is written.
+pub fn transcribe<T: Transcript, R: Threads, S: Source, W: Sink, G: CrewGate>(
+    rt: &R,
+    alloc: Global,
+    source: &mut S,
+    sink: &mut W,
+    workers: usize,
+    rules: Rules,
+    gate: &G,
+) -> Result<End, ScriptFault>
+    requires workers { (0 < workers) × (workers ≤ 64) }
+    requires source_count { S.failures source.old < 2 ^ 62 }
+    requires sink_count { W.failures sink.old < 2 ^ 62 }
+    ensures ends { IfOk result (EndsAs (transcript T.text_of rules) (S.rest source.old) (W.written sink.old) (W.written sink.new)) }
+    ensures reason { IfOk result (HasReason (S.rest source.old)) }
+    ensures begun { OnErr result (WritesBeginning (transcript T.text_of rules) (S.rest source.old) (W.written sink.old) (W.written sink.new)) }
+    ensures full { IsErrOf result ScriptFault.HistoryFull → Outputs (transcript T.text_of rules) (S.rest source.old) (W.written sink.old) (W.written sink.new) model.HistoryFull }
+    ensures unread { IsErrOf result ScriptFault.Read → Keeps (W.written sink.old) (W.written sink.new) }
+    ensures memory { IsErrOf result ScriptFault.NoMemory → WantsMemory TakesToRun (S.rest source.old) (S.rest source.new) }
+    ensures taken { LeavesSource SCRIPT_BYTES (S.rest source.old) (S.rest source.new) result }
+    ensures blames { Blames (S.failures source.old) (S.failures source.new) (W.failures sink.old) (W.failures sink.new) result }
+{
+    let text = read_whole(alloc, source, SCRIPT_BYTES)?;
+    let bytes = text.as_slice();
+    let mut scanner = CrewScan::new(rt, alloc, workers, gate);
+    match parse(alloc, bytes) {
+        Ok(script) => match write_answers::<T, _, _>(alloc, &script, rules, &mut scanner, sink) {
+            Ok(()) if script.events().len() > MOST_ENTRIES => Err(ScriptFault::HistoryFull),
+            Ok(()) => Ok(End::Done),
+            Err(WriteError::Device) => Err(ScriptFault::Write),
+            Err(WriteError::NoMemory) => Err(ScriptFault::NoMemory),
+        },
+        Err(TextError::Line(line)) => match write_verdict(Verdict::Refused(line), sink) {
+            Ok(()) => Ok(End::Refused(Refusal::of(bytes, line))),
+            Err(DeviceFailed) => Err(ScriptFault::Write),
+        },
+        Err(TextError::NoMemory) => Err(ScriptFault::NoMemory),
+    }
+}

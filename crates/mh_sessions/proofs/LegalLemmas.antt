@@ -1,0 +1,78 @@
+-- Histories that are legal, and legal for their sessions.
+use Rattle.std.proofs.Common.{◌≡◌, ◌∙◌, inl, inr, ℕ, true, false, List, ◌∷◌, ◌++◌, ap, sym, refl}
+use Rattle.std.proofs.lemmas.Bool.{false≢true}
+use Rattle.std.proofs.lemmas.List.{map-append}
+use Rattle.mh_model.specs.declared.command.Command.{Command}
+use Rattle.mh_model.specs.declared.command.Command.TheVariants as command
+use Rattle.mh_model.specs.declared.command.Event.TheVariants as event
+use Rattle.mh_model.specs.declared.config.Config.{Config}
+use Rattle.mh_model.specs.declared.history.Entry.{Entry}
+use Rattle.mh_model.specs.declared.reply.Refusal.TheVariants.{HeapFull}
+use Rattle.mh_model.specs.declared.reply.Reply.{Reply}
+use Rattle.mh_model.specs.declared.reply.Reply.TheVariants as reply
+use Rattle.mh_model.specs.History.{events_of, replies_of}
+use Rattle.mh_model.specs.Sessions.{IsSeen, lacks_room}
+use Rattle.mh_model.specs.Snapshot.{is_heap_full, world_beside}
+use Rattle.mh_model.specs.World.{World, first_world, world_step}
+use Rattle.mh_promise.specs.Promise.{IsNew, IsPromised, RunsKeepTheirPromise}
+use Rattle.mh_promise.specs.Runs.{IsAnswered, machine_at, outcome_of}
+use Rattle.mh_run_laws.specs.Worlds.{WorldIsNeverFull}
+use Rattle.mh_sessions.specs.Laws.{IsOfSession, LegalHistoriesAreLegalForSessions, OnlyTheRulesMatter, SessionsSeeTheWorld}
+use Rattle.mh_sessions.proofs.RulesLemmas.{some_config}
+use Rattle.mh_sessions.proofs.SeenLemmas.{beside_first, is_seen, lacks_full, reply_at, seen_at, seen_each, world_after}
+
+-- Seen by the world ------------------------------------------------------------------------------
+
+module _ (never : WorldIsNeverFull) (world : World) (who : ℕ) (command : Command) (given : Reply) where
+  seen-other : IsSeen world (event.Session who command) given → is_heap_full given ≡ false → given ≡ (world_step world who command).reply
+  seen-other (inl is) other = is
+  seen-other (inr lacks) other = absurd (false≢true (sym other ∙ lacks_full command given lacks))
+
+  seen-full : IsSeen world (event.Session who command) given → is_heap_full given ≡ true → lacks_room command given ≡ true
+  seen-full (inl is) full = absurd (false≢true (sym (never world who command) ∙ ap is_heap_full (sym is) ∙ full))
+  seen-full (inr lacks) full = lacks
+
+pub see_the_world : WorldIsNeverFull → SessionsSeeTheWorld
+see_the_world never rules history legal = record {
+  reply = λ config same before who command given is other. seen-other never (world_after (first_world config) before) who command given (at config same before who command given is) other;
+  full = λ before who command given is full. seen-full never (world_after (first_world (some_config rules)) before) who command given (at (some_config rules) refl before who command given is) full;
+}
+  where
+    at : (config : Config) → config.rules ≡ rules → (before : List Entry) (who : ℕ) (command : Command) (given : Reply) → IsOfSession history before who command given → IsSeen (world_after (first_world config) before) (event.Session who command) given
+    at config same before who command given is =
+        seen_at (first_world config) before (record { event = event.Session who command; reply = given }) is.later (rw is.split at (legal.seen config same))
+
+-- Seen in runs -----------------------------------------------------------------------------------
+
+-- a full heap is one reply alone
+full-is : (answer : Reply) → is_heap_full answer ≡ true → answer ≡ reply.Refused HeapFull
+full-is (reply.Refused HeapFull) full = refl
+full-is _ full = absurd (false≢true full)
+
+new-lacks : (command : Command) (answer : Reply) → IsNew command → is_heap_full answer ≡ true → lacks_room command answer ≡ true
+new-lacks (command.New slot references numbers) answer new full = full
+new-lacks _ answer new full = absurd new
+
+module _ (config : Config) (history : List Entry) (promise : IsPromised config (events_of history) (outcome_of (machine_at config (events_of history)) (replies_of history))) where
+  answered : (before : List Entry) (entry : Entry) (later : List Entry) → history ≡ before ++ entry ∷ later → IsAnswered (events_of history) (replies_of history) (events_of before) entry.event entry.reply
+  answered before entry later is = record {
+    later = events_of later;
+    split = ap events_of is ∙ map-append (λ (e : Entry). e.event) before (entry ∷ later);
+    given = rw is (reply_at before entry later);
+  }
+
+  seen-in-run : (before : List Entry) (entry : Entry) (later : List Entry) → history ≡ before ++ entry ∷ later → IsSeen (world_after (first_world config) before) entry.event entry.reply
+  seen-in-run before entry later is =
+      let given = answered before entry later is in
+      let world : world_beside (first_world config) (events_of before) (replies_of history) ≡ world_after (first_world config) before = ap (λ (h : List Entry). world_beside (first_world config) (events_of before) (replies_of h)) is ∙ beside_first (first_world config) before (entry ∷ later) in
+      is_seen (world_after (first_world config) before) entry.event entry.reply
+      (λ who command same other. promise.replies (events_of before) who command entry.reply (rw same at given) other ∙ ap (λ (w : World). (world_step w who command).reply) world)
+      (λ who command same full. new-lacks command entry.reply (promise.full.new (events_of before) who command (rw (same, full-is entry.reply full) at given)) full)
+
+pub legal_for_sessions : RunsKeepTheirPromise → OnlyTheRulesMatter → LegalHistoriesAreLegalForSessions
+legal_for_sessions keep alone config history legal =
+    let promise = keep config (events_of history) (outcome_of (machine_at config (events_of history)) (replies_of history)) (record { replies = legal.replies; heap = refl; free = refl; trace = refl }) in
+    record {
+      few = legal.few;
+      seen = λ other same. alone.history config other same history (seen_each (first_world config) history (seen-in-run config history promise));
+    }

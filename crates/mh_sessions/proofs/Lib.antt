@@ -1,0 +1,6 @@
+pub mod RulesLemmas
+pub mod SeenLemmas
+pub mod LegalLemmas
+pub mod VerdictLemmas
+pub mod JudgeLemmas
+pub mod TextLemmas

@@ -1,0 +1,96 @@
+-- A text has a verdict by what its sessions see.
+use Rattle.std.proofs.Common.{◌≡◌, ◌∙◌, ◌⊎◌, inl, inr, Bool, true, false, if◌then◌else◌, List, [], ◌∷◌, map, sym, refl}
+use Rattle.std.specs.List.{list_all}
+use Rattle.std.proofs.lemmas.Bool.{and_from, and_parts, false≢true}
+use Rattle.mh_model.specs.declared.command.Event.{Event}
+use Rattle.mh_model.specs.declared.command.Event.TheVariants as event
+use Rattle.mh_model.specs.declared.config.Rules.{Rules}
+use Rattle.mh_model.specs.declared.history.Entry.{Entry}
+use Rattle.mh_model.specs.declared.history.Measured.{Measured}
+use Rattle.mh_model.specs.declared.history.Verdict.{Verdict}
+use Rattle.mh_model.specs.declared.history.Verdict.TheVariants.{Refused}
+use Rattle.mh_model.specs.declared.history.Version.{Version}
+use Rattle.mh_model.specs.declared.history.Version.TheVariants.{One, Two}
+use Rattle.mh_model.specs.declared.reply.Reply.{Reply}
+use Rattle.mh_model.specs.Bytes.{Text, cut_after}
+use Rattle.mh_model.specs.HistoryTexts.{IsJudged, Recorded, history_reading, is_entry, is_measured, recorded_reading}
+use Rattle.mh_model.specs.Limits.{most_entries}
+use Rattle.mh_model.specs.Script.{Reading, BadLine, Means, reading_map}
+use Rattle.mh_model.specs.Sessions.{AreSeen, IsLegalForSessions, IsSeen, IsSeenThrough, entries_reading, entries_recorded, is_of_version_one, lacks_room}
+use Rattle.mh_model.specs.Snapshot.{world_beside_event}
+use Rattle.mh_model.specs.World.{World, first_world, world_step}
+use Rattle.mh_text_laws.proofs.rewritings.HistoriesWrittenAgain.{histories-again, records-again}
+use Rattle.mh_text_laws.proofs.verdicts.EqualReplies.{same_or_other}
+use Rattle.mh_text_laws.proofs.verdicts.StepRules.{Follows, IsRule, follows_or_fails, some_verdict}
+use Rattle.mh_sessions.proofs.RulesLemmas.{some_config}
+use Rattle.mh_sessions.specs.Laws.{OnlyTheRulesMatter, TextsAreSeenThrough}
+
+-- Step by step -----------------------------------------------------------------------------------
+
+abbrev IsSeenBy : World → Entry → Type 0
+IsSeenBy world entry = IsSeen world entry.event entry.reply
+
+abbrev after_entry : World → Entry → World
+after_entry world entry = world_beside_event world entry.event entry.reply
+
+seen-follow : (world : World) (history : List Entry) → AreSeen world history → Follows IsSeenBy after_entry world history
+seen-follow world [] seen = tt
+seen-follow world (entry ∷ entries) seen = (seen.0, seen-follow (after_entry world entry) entries seen.1)
+
+follow-seen : (world : World) (history : List Entry) → Follows IsSeenBy after_entry world history → AreSeen world history
+follow-seen world [] follows = tt
+follow-seen world (entry ∷ entries) follows = (follows.0, follow-seen (after_entry world entry) entries follows.1)
+
+sessions_rule : OnlyTheRulesMatter → (rules : Rules) → IsRule IsSeenBy after_entry (first_world (some_config rules)) (IsLegalForSessions rules)
+unfolding most_entries
+sessions_rule alone rules = record {
+  lawful = λ history few follows. record {
+    few = few;
+    seen = λ other same. alone.history (some_config rules) other same history (follow-seen (first_world (some_config rules)) history follows);
+  };
+  few = λ history legal. legal.few;
+  follows = λ history legal. seen-follow (first_world (some_config rules)) history (legal.seen (some_config rules) refl);
+}
+
+-- an entry in range is seen, or it isn't
+seen_or_not : (world : World) (event : Event) (answer : Reply) → ((other : Reply) → (answer ≡ other) ⊎ (answer ≡ other → ⊥)) → IsSeen world event answer ⊎ (IsSeen world event answer → ⊥)
+seen_or_not world (event.Session who command) answer decide = by (lacks_room command answer) refl (decide (world_step world who command).reply) where
+  by : (b : Bool) → lacks_room command answer ≡ b → (answer ≡ (world_step world who command).reply) ⊎ (answer ≡ (world_step world who command).reply → ⊥)
+      → IsSeen world (event.Session who command) answer ⊎ (IsSeen world (event.Session who command) answer → ⊥)
+  by true lacks found = inl (inr lacks)
+  by false lacks (inl same) = inl (inl same)
+  by false lacks (inr other) = inr (λ seen. elim seen [ inl same ↦ other same | inr room ↦ false≢true (sym lacks ∙ room) ])
+seen_or_not world (event.Control control) answer decide = inl tt
+
+judged : OnlyTheRulesMatter → (rules : Rules) (version : Version) (entries : List Entry) → list_all (is_entry version) entries ≡ true → (verdict : Verdict) × IsJudged (IsLegalForSessions rules) entries verdict
+judged alone rules version entries in_range =
+    some_verdict IsSeenBy after_entry (first_world (some_config rules)) (IsLegalForSessions rules) (sessions_rule alone rules) entries
+    (follows_or_fails IsSeenBy after_entry (is_entry version) (λ world entry is. seen_or_not world entry.event entry.reply (λ other. same_or_other version entry.reply other (and_parts _ _ is).1)) (first_world (some_config rules)) entries in_range)
+
+-- Texts ------------------------------------------------------------------------------------------
+
+entries-in-range : (all : List Measured) → list_all is_measured all ≡ true → list_all (is_entry Two) (map (λ (measured : Measured). measured.entry) all) ≡ true
+entries-in-range [] passed = refl
+entries-in-range (measured ∷ all) passed = and_from _ _ (and_parts _ _ (and_parts _ _ passed).0).0 (entries-in-range all (and_parts _ _ passed).1)
+
+recorded-in-range : (text : Text) (entries : List Entry) (found : Reading Recorded) → recorded_reading text ≡ found → reading_map entries_recorded found ≡ Means entries → list_all (is_entry Two) entries ≡ true
+recorded-in-range text entries (BadLine line) is means = cc
+recorded-in-range text entries (Means recorded) is means =
+    let same : entries_recorded recorded ≡ entries = cc in
+    rw (← same) (entries-in-range recorded.entries (records-again text recorded is).1)
+
+-- what a text means is in the range of its version
+in_range : (text : Text) (entries : List Entry) → entries_reading text ≡ Means entries → (version : Version) × (list_all (is_entry version) entries ≡ true)
+in_range text entries = by (is_of_version_one (cut_after 10 text)) where
+  by : (one : Bool) → (if one then history_reading text else reading_map entries_recorded (recorded_reading text)) ≡ Means entries → (version : Version) × (list_all (is_entry version) entries ≡ true)
+  by true means = (One, (histories-again text entries means).1)
+  by false means = (Two, recorded-in-range text entries (recorded_reading text) refl means)
+
+pub seen_through : OnlyTheRulesMatter → TextsAreSeenThrough
+seen_through alone rules text = by (entries_reading text) refl where
+  by : (found : Reading (List Entry)) → entries_reading text ≡ found → (verdict : Verdict) × IsSeenThrough rules text verdict
+  by (BadLine line) is = (Refused line, rw is refl)
+  by (Means entries) is =
+      let range = in_range text entries is in
+      let found = judged alone rules range.0 entries range.1 in
+      (found.0, rw is found.1)

@@ -1,0 +1,32 @@
+//! Laws of histories that are judged by what their sessions see.
+ghost use Rattle.mh_sessions.specs.Laws.{LegalHistoriesAreLegalForSessions, OnlyTheRulesMatter, SessionsSeeTheWorld, TextsAreSeenThrough};
+
+use mh_promise::promise::runs_keep_their_promise;
+use mh_run_laws::worlds::world_is_never_full;
+
+/// Of a configuration only the rules matter to what sessions see.
+pub fn only_the_rules_matter()
+    ensures { OnlyTheRulesMatter }
+{}
+
+/// A history that is legal for its sessions answers each as the ever-growing world does, but for a full heap.
+pub fn sessions_see_the_world()
+    ensures { SessionsSeeTheWorld }
+{
+    world_is_never_full();
+}
+
+/// A history with the machine's replies is legal for its sessions.
+pub fn legal_histories_are_legal_for_sessions()
+    ensures { LegalHistoriesAreLegalForSessions }
+{
+    runs_keep_their_promise();
+    only_the_rules_matter();
+}
+
+/// A text of either version has a verdict by what its sessions see.
+pub fn texts_are_seen_through()
+    ensures { TextsAreSeenThrough }
+{
+    only_the_rules_matter();
+}

@@ -1,0 +1,137 @@
+//! Whole texts of either version that are judged by what their sessions see.
+ghost use Rattle.std.specs.Prelude.{◌≡◌, ◌≢◌, ◌<◌, ◌^◌, map, IfOk, IfErr, OnErr, IsErrOf};
+ghost use Rattle.std.specs.Io.KnownBytes.{Keeps};
+ghost use Rattle.mh_history.specs.Beginnings.{HasEntry, entries_left};
+ghost use Rattle.mh_judging.specs.Judged.{BeginsToJudge, IsVerdictOn, Judges};
+ghost use Rattle.mh_model.specs.declared.history.Entry.{Entry};
+ghost use Rattle.mh_model.specs.Bytes.{cut_after};
+ghost use Rattle.mh_model.specs.Script.{reading_map};
+ghost use Rattle.mh_model.specs.Sessions.{IsLegalForSessions, IsSeenThrough, entries_reading, is_of_version_one};
+ghost use Rattle.mh_script.specs.Texts.{Blames, LeavesSource, WantsMemory};
+ghost use Rattle.mh_sessions.specs.Texts.{BeginsWithEither};
+ghost use Rattle.mh_text.specs.TextErrors.{Refuses};
+
+use crate::judge::SessionsJudge;
+use crate::laws::texts_are_seen_through;
+use mh_history::history::history_lines;
+use mh_history::lines::{FromLine, next_entry};
+use mh_history::record::{RECORD_BYTES, record_lines};
+use mh_model::config::Rules;
+use mh_model::history::{Entry, Measured, Verdict};
+use mh_model::memory::NoMemory;
+use mh_script::fault::ScriptFault;
+use mh_script::texts::{read_whole, write_verdict};
+use mh_text::device::DeviceFailed;
+use mh_text::pieces::{Lines, split_at_byte};
+use mh_text::sink::Sink;
+use mh_text::source::Source;
+use mh_text::text_error::TextError;
+use mh_text::word::is_word;
+use std::alloc::Global;
+
+/// What a line of some version is read as, of which its sessions see an entry.
+trait SeenLine: FromLine + Drop {
+    // The entry that its sessions see.
+    ghost seen: { Self → Entry };
+
+    fn entry(&self) -> &Entry
+        ensures { result.now ≡ seen self.now };
+}
+
+impl SeenLine for Entry {
+    ghost seen = { λ entry. entry };
+
+    fn entry(&self) -> &Entry {
+        self
+    }
+}
+
+impl SeenLine for Measured {
+    ghost seen = { λ measured. measured.entry };
+
+    fn entry(&self) -> &Entry {
+        &self.entry
+    }
+}
+
+/// The verdict on the entries that are left of a history, each of which is followed as it is read.
+fn judge_lines<E: SeenLine>(
+    alloc: Global,
+    rules: Rules,
+    mut lines: Lines<'_>,
+) -> Result<Verdict, TextError>
+    ensures verdict { IfOk result (IsVerdictOn (IsLegalForSessions rules) (reading_map (map E.seen) (entries_left E.of_line lines.entry))) }
+    ensures line { IfErr result (Refuses (entries_left E.of_line lines.entry)) }
+    ensures memory { IsErrOf result TextError.NoMemory → HasEntry E.of_line lines.entry }
+{
+    let mut judge = SessionsJudge::open(alloc, rules);
+    while let Some(line) = next_entry::<E>(alloc, &mut lines)? {
+        judge.entry(line.entry())?;
+    }
+    Ok(judge.verdict())
+}
+
+/// Whether a text begins with the first line of a history of version 1.
+fn is_of_version_one(text: &[u8]) -> bool
+    ensures { result ≡ is_of_version_one (cut_after 10 text.now) }
+{
+    match split_at_byte(text, b'\n') {
+        Some((line, _)) => is_word(line, b"history 1"),
+        None => false,
+    }
+}
+
+/// The verdict on a text, unless a line of it is bad.
+fn judge_text(alloc: Global, rules: Rules, text: &[u8]) -> Result<Verdict, TextError>
+    ensures verdict { IfOk result (IsSeenThrough rules text.now) }
+    ensures line { IfErr result (Refuses (entries_reading text.now)) }
+    ensures memory { IsErrOf result TextError.NoMemory → BeginsWithEither text.now }
+{
+    if is_of_version_one(text) {
+        let lines = history_lines(text)?;
+        return judge_lines::<Entry>(alloc, rules, lines);
+    }
+    let (_, lines) = record_lines(text)?;
+    judge_lines::<Measured>(alloc, rules, lines)
+}
+
+/// The verdict on a text of either version by what its sessions see, under these rules. Its entries are replayed in the heap
+/// that never collects and not kept.
+pub fn verdict_on_sessions(alloc: Global, rules: Rules, text: &[u8]) -> Result<Verdict, NoMemory>
+    ensures verdict { IfOk result (IsSeenThrough rules text.now) }
+    ensures memory { OnErr result (BeginsWithEither text.now) }
+{
+    match judge_text(alloc, rules, text) {
+        Ok(verdict) => Ok(verdict),
+        Err(TextError::Line(line)) => Ok(Verdict::Refused(line)),
+        Err(TextError::NoMemory) => Err(NoMemory),
+    }
+}
+
+/// Reads a whole history of either version, judges it by what its sessions see under these rules, and then writes the line
+/// of its verdict, for which it takes no memory.
+pub fn check_sessions<S: Source, W: Sink>(
+    alloc: Global,
+    rules: Rules,
+    source: &mut S,
+    sink: &mut W,
+) -> Result<Verdict, ScriptFault>
+    requires source_count { S.failures source.old < 2 ^ 62 }
+    requires sink_count { W.failures sink.old < 2 ^ 62 }
+    ensures judged { IfOk result (Judges (IsSeenThrough rules) (S.rest source.old) (W.written sink.old) (W.written sink.new)) }
+    ensures begun { OnErr result (BeginsToJudge (IsSeenThrough rules) (S.rest source.old) (W.written sink.old) (W.written sink.new)) }
+    ensures never_full { result ≢ Err ScriptFault.HistoryFull }
+    ensures unread { IsErrOf result ScriptFault.Read → Keeps (W.written sink.old) (W.written sink.new) }
+    ensures unjudged { IsErrOf result ScriptFault.NoMemory → Keeps (W.written sink.old) (W.written sink.new) }
+    ensures memory { IsErrOf result ScriptFault.NoMemory → WantsMemory BeginsWithEither (S.rest source.old) (S.rest source.new) }
+    ensures taken { LeavesSource RECORD_BYTES (S.rest source.old) (S.rest source.new) result }
+    ensures blames { Blames (S.failures source.old) (S.failures source.new) (W.failures sink.old) (W.failures sink.new) result }
+{
+    texts_are_seen_through();
+    let text = read_whole(alloc, source, RECORD_BYTES)?;
+    let verdict = verdict_on_sessions(alloc, rules, text.as_slice())?;
+    match write_verdict(verdict, sink) {
+        Ok(()) => Ok(verdict),
+        Err(DeviceFailed) => Err(ScriptFault::Write),
+    }
+}

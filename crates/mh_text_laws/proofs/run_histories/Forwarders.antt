@@ -1,0 +1,372 @@
+-- Forwarders of a run lead to places of 4,096 pages: each is made with the place of its copy, and no other step writes one.
+use Rattle.std.proofs.Common.{◌≡◌, ℕ, zero, suc, ◌-◌, ◌==◌, ◌<◌, ◌||◌, nat_lt, Bool, true, false, if◌then◌else◌, inl, inr, List, [], ◌∷◌, get_or, set, Option, Some, None, option_map, option_and_then, unwrap_or, refl, sym, ap, ◌∙◌, subst, arith}
+use Rattle.std.proofs.lemmas.Bool.{cases_Bool}
+use Rattle.std.proofs.lemmas.Option.{none-some, same_Some}
+use Rattle.mh_model.specs.declared.command.Command.{Command}
+use Rattle.mh_model.specs.declared.command.Command.TheVariants as command
+use Rattle.mh_model.specs.declared.command.Event.{Event}
+use Rattle.mh_model.specs.declared.config.Config.{Config}
+use Rattle.mh_model.specs.declared.cycle.Phase.{Phase}
+use Rattle.mh_model.specs.declared.cycle.Phase.TheVariants.{Idle, Roots, Mark, Sweep, Defrag}
+use Rattle.mh_model.specs.declared.reply.Refusal.{Refusal}
+use Rattle.mh_model.specs.World.{own_slot, board_slot, refusal, unless_refused}
+use Rattle.mh_model.specs.Classes.{Part, class_of, part_words, parts, slots_in}
+use Rattle.mh_model.specs.Pages.{Page, Table, page_number, slot_number, page_at, block_in, block_at, least_place, page_with, with_block, page_for, with_taken}
+use Rattle.mh_model.specs.Table.{Block, Made, MadeParts, Position, references_at, with_reference_at, resolve, target_of, new_block, made_in_class, made_part, made_parts, with_block_change, linked_block, linked_parts, group_of, made_group, reference_in, loaded_reference}
+use Rattle.mh_model.specs.Collector.{Collector, first_collector, Marking, is_marked, with_grey, shade_block, shade, mark_reference, mark_references, mark_first, is_last_slot, survivor, judged_page, swept_page, swept_table, next_move, Move, with_move, with_phase, with_shade, marking_of, after_mark, is_past, step_in, phase_after, collector_step, step_cost, is_moving, is_idle, cycle_end, quantum_start, Spending, steps, quantum}
+use Rattle.mh_model.specs.Mutator.{HeapState, in_roots, in_roots_or_mark, before_field, with_root, with_roots_cleared, with_session_cleared, with_reference_stored, with_number_stored, root_at, field_of, number_field, new_group, with_born, heap_sight, heap_effect, mutator_step}
+use Rattle.mh_model.specs.Machine.{Machine, first_machine, with_collector, quantum_run, command_step, machine_after}
+use Rattle.mh_model.specs.Invariant.{HasItsPages}
+use Rattle.mh_table_laws.proofs.Lists.{below_length, get_or-set_either, none_at}
+use Rattle.mh_table_laws.proofs.marking.StandingStill.{after_mark-table}
+use Rattle.mh_table_laws.proofs.placing.Places.{least_dense_place-page, shaped-slots}
+use Rattle.mh_table_laws.proofs.tables.BlockRoom.{survivor-same}
+use Rattle.mh_table_laws.proofs.tables.PageSlots.{judged_page-is}
+use Rattle.mh_laws.proofs.commands.LeftUnchanged.{tables-keep, first_table-pages}
+use Rattle.mh_laws.proofs.costs.Quanta.{steps-stop, steps-go}
+use Rattle.mh_laws.proofs.costs.QuantumStarts.{begins}
+use Rattle.mh_laws.proofs.moving.NextMove.{IsNextMove, next_move-is}
+use Rattle.mh_laws.proofs.runs.EveryMoment.{config-mutator_step, machine_after-keeps}
+use Rattle.mh_text_laws.proofs.round_trips.HeaderRoundTrips.{config_limits}
+
+-- Options ----------------------------------------------------------------------------------------
+
+pub and_then-some : {A B : Type 0} (f : A → Option B) (o : Option A) (b : B) → option_and_then f o ≡ Some b → (a : A) × (o ≡ Some a) × (f a ≡ Some b)
+and_then-some f None b e = absurd (none-some b e)
+and_then-some f (Some a) b e = (a, refl, e)
+
+pub map-some : {A B : Type 0} (f : A → B) (o : Option A) (b : B) → option_map f o ≡ Some b → (a : A) × (o ≡ Some a) × (f a ≡ b)
+map-some f None b e = absurd (none-some b e)
+map-some f (Some a) b e = (a, refl, same_Some (f a) b e)
+
+-- Blocks and pages -------------------------------------------------------------------------------
+
+-- so many places have 4,096 pages
+abbrev pub most_places : ℕ
+most_places = 262144
+
+-- if the block is a forwarder, it leads to one of them
+pub record IsNear (block : Block) : Type 0 where
+  pub target : (place : ℕ) → block.forward ≡ Some place → place < most_places
+
+pub record IsNearPage (page : Page Block) : Type 0 where
+  pub blocks : (slot : ℕ) (block : Block) → block_in slot page ≡ Some block → IsNear block
+
+pub record IsNearTable (table : Table Block) : Type 0 where
+  pub pages : (number : ℕ) (page : Page Block) → page_at table number ≡ Some page → IsNearPage page
+
+same_near : (block new : Block) → new.forward ≡ block.forward → IsNear block → IsNear new
+same_near block new same near = record { target = λ place e. near.target place (sym same ∙ e) }
+
+plain_near : (block : Block) → block.forward ≡ None → IsNear block
+plain_near block none = record { target = λ place e. absurd (none-some place (sym none ∙ e)) }
+
+near_block : (table : Table Block) (place : ℕ) (block : Block) → IsNearTable table → block_at table place ≡ Some block → IsNear block
+near_block table place block near e =
+    let (page, at, there) = and_then-some (block_in (slot_number place)) (page_at table (page_number place)) block e in
+    (near.pages (page_number place) page at).blocks (slot_number place) block there
+
+page_with-near : (page : Page Block) (slot : ℕ) (content : Option Block) → IsNearPage page → ((block : Block) → content ≡ Some block → IsNear block) → IsNearPage (page_with slot content page)
+page_with-near page slot content near new = record {
+  blocks = λ other block e. elim (get_or-set_either page.slots slot other content None (Some block) e) [ inl written ↦ new block written | inr before ↦ near.blocks other block before ];
+}
+
+page_for-near : (size : ℕ) (content : Option (Page Block)) → ((page : Page Block) → content ≡ Some page → IsNearPage page) → IsNearPage (page_for size content)
+page_for-near size None near = record { blocks = λ slot block e. absurd (none-some block (sym (none_at (slots_in size) slot) ∙ e)) }
+page_for-near size (Some page) near = near page refl
+
+set-near : (table : Table Block) (number : ℕ) (new : Option (Page Block)) → ((page : Page Block) → new ≡ Some page → IsNearPage page) → IsNearTable table → IsNearTable (set table number new)
+set-near table number new fits near = record {
+  pages = λ other page at. elim (get_or-set_either table number other new None (Some page) at) [ inl written ↦ fits page written | inr before ↦ near.pages other page before ];
+}
+
+with_block-near : (table : Table Block) (place : ℕ) (content : Option Block) → ((block : Block) → content ≡ Some block → IsNear block) → IsNearTable table → IsNearTable (with_block table place content)
+with_block-near table place content new near = set-near table (page_number place) _ written near
+  where
+    written : (page : Page Block) → option_map (page_with (slot_number place) content) (page_at table (page_number place)) ≡ Some page → IsNearPage page
+    written page e =
+        let (old, at, is) = map-some (page_with (slot_number place) content) (page_at table (page_number place)) page e in
+        subst IsNearPage is (page_with-near old (slot_number place) content (near.pages (page_number place) old at) new)
+
+-- a block changed that leads where it led
+change-near : (table : Table Block) (place : ℕ) (change : Block → Block) → ((block : Block) → (change block).forward ≡ block.forward) → IsNearTable table → IsNearTable (with_block_change table place change)
+change-near table place change same near = with_block-near table place (option_map change (block_at table place)) written near
+  where
+    written : (block : Block) → option_map change (block_at table place) ≡ Some block → IsNear block
+    written block e =
+        let (old, at, is) = map-some change (block_at table place) block e in
+        subst IsNear is (same_near old (change old) (same old) (near_block table place old near at))
+
+with_taken-near : (table : Table Block) (size place : ℕ) (block : Block) → IsNear block → IsNearTable table → IsNearTable (with_taken table size place block)
+with_taken-near table size place block here near = set-near table (page_number place) _ written near
+  where
+    taken : Page Block
+    taken = page_for size (page_at table (page_number place))
+
+    written : (page : Page Block) → Some (page_with (slot_number place) (Some block) taken) ≡ Some page → IsNearPage page
+    written page e =
+        subst IsNearPage (same_Some (page_with (slot_number place) (Some block) taken) page e)
+        (page_with-near taken (slot_number place) (Some block) (page_for-near size (page_at table (page_number place)) (near.pages (page_number place))) (λ b same. subst IsNear (same_Some block b same) here))
+
+-- Marking ----------------------------------------------------------------------------------------
+
+shade_block-near : (marking : Marking) (place : ℕ) (block : Option Block) → block_at marking.table place ≡ block → IsNearTable marking.table → IsNearTable (shade_block marking place block).table
+shade_block-near marking place None at near = near
+shade_block-near marking place (Some block) at near = go (is_marked marking.cycle block)
+  where
+    marked : Block
+    marked = record block { stamp = marking.cycle }
+
+    go : (test : Bool) → IsNearTable (if test then marking else with_grey marking place block).table
+    go true = near
+    go false = with_block-near marking.table place (Some marked) (λ new e. subst IsNear (same_Some marked new e) (same_near block marked refl (near_block marking.table place block near at))) near
+
+shade-near : (marking : Marking) (reference : Option ℕ) → IsNearTable marking.table → IsNearTable (shade marking reference).table
+shade-near marking None near = near
+shade-near marking (Some place) near = shade_block-near marking (resolve marking.table place) (block_at marking.table (resolve marking.table place)) refl near
+
+mark_references-near : (marking : Marking) (place index : ℕ) (references : List (Option ℕ)) → IsNearTable marking.table → IsNearTable (mark_references marking place index references).table
+mark_references-near marking place index [] near = near
+mark_references-near marking place index (reference ∷ references) near =
+    let target = target_of marking.table reference in
+    let written : Table Block = with_reference_at marking.table place index target in
+    mark_references-near (mark_reference marking place index reference) place (suc index) references
+    (shade-near (record marking { table = written }) target (change-near marking.table place _ (λ block. refl) near))
+
+mark_first-near : (marking : Marking) (grey : List ℕ) → IsNearTable marking.table → IsNearTable (mark_first marking grey).table
+mark_first-near marking [] near = near
+mark_first-near marking (place ∷ grey) near = mark_references-near (record marking { grey = grey }) place 0 (references_at marking.table place) near
+
+-- New objects ------------------------------------------------------------------------------------
+
+made_part-near : (table : Table Block) (birth stamp index : ℕ) (part : Part) (made : Made) → made_part table birth stamp index part ≡ Some made → IsNearTable table → IsNearTable made.table
+made_part-near table birth stamp index part made e near =
+    let block : Block = new_block birth stamp index part in
+    let (size, is, placed) = and_then-some (made_in_class table block) (class_of (part_words part)) made e in
+    let (place, least, same) = map-some (λ (place : ℕ). record { place = place; table = with_taken table size place block }) (least_place table size) made placed in
+    subst (λ (m : Made). IsNearTable m.table) same (with_taken-near table size place block (plain_near block refl) near)
+
+made_parts-near : (list : List Part) (table : Table Block) (birth stamp index : ℕ) (made : MadeParts) → made_parts table birth stamp index list ≡ Some made → IsNearTable table → IsNearTable made.table
+made_parts-near [] table birth stamp index made e near = subst (λ (m : MadeParts). IsNearTable m.table) (same_Some (record { places = []; table = table }) made e) near
+made_parts-near (part ∷ list) table birth stamp index made e near =
+    let (first, is, others) = and_then-some
+    (λ (first : Made). option_map (λ (rest : MadeParts). record { places = first.place ∷ rest.places; table = rest.table }) (made_parts first.table birth stamp (suc index) list))
+    (made_part table birth stamp index part) made e in
+    let (rest, all, same) = map-some (λ (rest : MadeParts). record { places = first.place ∷ rest.places; table = rest.table }) (made_parts first.table birth stamp (suc index) list) made others in
+    subst (λ (m : MadeParts). IsNearTable m.table) same (made_parts-near list first.table birth stamp (suc index) rest all (made_part-near table birth stamp index part first is near))
+
+linked_parts-near : (all places : List ℕ) (list : List Part) (table : Table Block) → IsNearTable table → IsNearTable (linked_parts all table places list)
+linked_parts-near all [] list table near = near
+linked_parts-near all (place ∷ places) [] table near = near
+linked_parts-near all (place ∷ places) (part ∷ list) table near =
+    linked_parts-near all places list (with_block_change table place (linked_block all part)) (change-near table place (linked_block all part) (λ block. refl) near)
+
+group_of-near : (table : Table Block) (places : List ℕ) (list : List Part) (made : Made) → group_of table places list ≡ Some made → IsNearTable table → IsNearTable made.table
+group_of-near table [] list made e near = absurd (none-some made e)
+group_of-near table (place ∷ places) list made e near =
+    subst (λ (m : Made). IsNearTable m.table) (same_Some (record { place = place; table = linked_parts (place ∷ places) table (place ∷ places) list }) made e)
+    (linked_parts-near (place ∷ places) (place ∷ places) list table near)
+
+made_group-near : (table : Table Block) (birth stamp : ℕ) (list : List Part) (made : Made) → made_group table birth stamp list ≡ Some made → IsNearTable table → IsNearTable made.table
+made_group-near table birth stamp list made e near =
+    let (all, is, grouped) = and_then-some (λ (m : MadeParts). group_of m.table m.places list) (made_parts table birth stamp 0 list) made e in
+    group_of-near all.table all.places list made grouped (made_parts-near list table birth stamp 0 all is near)
+
+-- Sweep and moves --------------------------------------------------------------------------------
+
+swept_page-near : (cycle : ℕ) (table : Table Block) (place : ℕ) (page new : Page Block) → IsNearPage page → swept_page cycle table place page ≡ Some new → IsNearPage new
+swept_page-near cycle table place page new near e = go (is_last_slot place page) e
+  where
+    content : Option Block
+    content = option_and_then (survivor cycle) (block_in (slot_number place) page)
+
+    swept : Page Block
+    swept = page_with (slot_number place) content page
+
+    survives : (block : Block) → content ≡ Some block → IsNear block
+    survives block left =
+        let (old, at, is) = and_then-some (survivor cycle) (block_in (slot_number place) page) block left in
+        subst IsNear (survivor-same cycle old block is) (near.blocks (slot_number place) old at)
+
+    swept_near : IsNearPage swept
+    swept_near = page_with-near page (slot_number place) content near survives
+
+    go : (last : Bool) → (if last then judged_page table (page_number place) swept else Some swept) ≡ Some new → IsNearPage new
+    go true h = record { blocks = λ slot block at. swept_near.blocks slot block (ap (λ slots. get_or slots slot None) (sym (judged_page-is table (page_number place) swept new h).slots) ∙ at) }
+    go false h = subst IsNearPage (same_Some swept new h) swept_near
+
+swept_table-near : (cycle : ℕ) (table : Table Block) (place : ℕ) → IsNearTable table → IsNearTable (swept_table cycle table place)
+swept_table-near cycle table place near = set-near table (page_number place) _ written near
+  where
+    written : (new : Page Block) → option_and_then (swept_page cycle table place) (page_at table (page_number place)) ≡ Some new → IsNearPage new
+    written new e =
+        let (page, at, is) = and_then-some (swept_page cycle table place) (page_at table (page_number place)) new e in
+        swept_page-near cycle table place page new (near.pages (page_number place) page at) is
+
+module _ (config : Config) where
+  -- the first tier gives a place of the table
+  place_near : (table : Table Block) (place : ℕ) (page : Page Block) → HasItsPages config table → page_at table (page_number place) ≡ Some page → place < most_places
+  place_near table place page has at = omega (arith, below_length table (page_number place) page at, has.pages, (config_limits config).pages_most)
+
+  with_move-near : (collector : Collector) (move : Option Move) → next_move collector.table collector.cursor ≡ move → HasItsPages config collector.table → IsNearTable collector.table → IsNearTable (with_move collector move).table
+  with_move-near collector None is has near = near
+  with_move-near collector (Some move) is has near =
+      with_block-near taken collector.cursor (Some forwarder) (λ block e. subst IsNear (same_Some forwarder block e) leads)
+      (with_taken-near collector.table move.class_size move.target move.block (plain_near move.block one.live) near)
+    where
+      taken : Table Block
+      taken = with_taken collector.table move.class_size move.target move.block
+
+      forwarder : Block
+      forwarder = record (move.block) { forward = Some move.target }
+
+      one : IsNextMove collector.table collector.cursor move
+      one = next_move-is collector.table collector.cursor move is
+
+      leads : IsNear forwarder
+      leads =
+          let there = least_dense_place-page collector.table move.class_size (shaped-slots collector.table has.slots) move.target one.target in
+          record { target = λ place e. subst (λ p. p < most_places) (same_Some move.target place e) (place_near collector.table move.target there.0 has there.1) }
+
+  step_in-near : (phase : Phase) (collector : Collector) → HasItsPages config collector.table → IsNearTable collector.table → IsNearTable (step_in phase collector).table
+  step_in-near Idle collector has near = near
+  step_in-near Roots collector has near = shade-near (marking_of collector) _ near
+  step_in-near Mark collector has near = mark_first-near (marking_of collector) collector.grey near
+  step_in-near Sweep collector has near = swept_table-near collector.cycle collector.table collector.cursor near
+  step_in-near Defrag collector has near = with_move-near collector (next_move collector.table collector.cursor) refl has near
+
+  -- what follows a step leaves the table
+  table-if : (test : Bool) (collector other : Collector) → other.table ≡ collector.table → (if test then other else collector).table ≡ collector.table
+  table-if true collector other e = e
+  table-if false collector other e = refl
+
+  table-phase_after : (phase : Phase) (collector : Collector) → (phase_after phase collector).table ≡ collector.table
+  table-phase_after Idle collector = refl
+  table-phase_after Roots collector = table-if (collector.cursor == 144) collector (after_mark collector collector.grey) (after_mark-table collector collector.grey)
+  table-phase_after Mark collector = after_mark-table collector collector.grey
+  table-phase_after Sweep collector = table-if (is_past collector.table collector.cursor) collector (with_phase collector Defrag 0) refl
+  table-phase_after Defrag collector = table-if (is_past collector.table collector.cursor) collector (cycle_end collector) refl
+
+  table-quantum_start : (collector : Collector) → (quantum_start config collector).table ≡ collector.table
+  table-quantum_start collector = elim (begins config collector).case [
+    | inl starts ↦ ap (λ c. c.table) starts.2
+    | inr other ↦ elim other [ inl runs ↦ ap (λ c. c.table) runs.1 | inr rests ↦ ap (λ c. c.table) rests.2 ]
+  ]
+
+  collector_step-near : (collector : Collector) → HasItsPages config collector.table → IsNearTable collector.table → IsNearTable (collector_step collector).table
+  unfolding collector_step
+  collector_step-near collector has near = rw (table-phase_after collector.phase (step_in collector.phase collector)) (step_in-near collector.phase collector has near)
+
+  steps-near : (more left : ℕ) (has_moved : Bool) (collector : Collector) → HasItsPages config collector.table → IsNearTable collector.table → IsNearTable (steps more left has_moved collector).collector.table
+  unfolding steps
+  steps-near zero left has_moved collector has near = near
+  steps-near (suc more) left has_moved collector has near = elim (cases_Bool (is_idle collector.phase || nat_lt left (step_cost collector has_moved))) [
+    | inl stops ↦ subst (λ (s : Spending). IsNearTable s.collector.table) (sym (steps-stop more left has_moved collector stops)) near
+    | inr goes ↦
+        subst (λ (s : Spending). IsNearTable s.collector.table) (sym (steps-go more left has_moved collector goes))
+        (steps-near more (left - step_cost collector has_moved) (has_moved || is_moving collector) (collector_step collector) (tables-keep.steps config collector has) (collector_step-near collector has near))
+  ]
+
+  quantum-near : (collector : Collector) → HasItsPages config collector.table → IsNearTable collector.table → IsNearTable (quantum config collector).collector.table
+  unfolding quantum
+  quantum-near collector has near =
+      let same = sym (table-quantum_start collector) in
+      steps-near config.quantum config.quantum false (quantum_start config collector) (subst (HasItsPages config) same has) (subst IsNearTable same near)
+
+-- Commands ---------------------------------------------------------------------------------------
+
+with_shade-near : (collector : Collector) (reference : Option ℕ) → IsNearTable collector.table → IsNearTable (with_shade collector reference).table
+with_shade-near collector reference near = shade-near (marking_of collector) reference near
+
+if-near : (test : Bool) (collector other : Collector) → IsNearTable collector.table → IsNearTable other.table → IsNearTable (if test then other else collector).table
+if-near true collector other near shaded = shaded
+if-near false collector other near shaded = near
+
+with_root-near : (collector : Collector) (slot : ℕ) (reference : Option ℕ) → IsNearTable collector.table → IsNearTable (with_root collector slot reference).table
+with_root-near collector slot reference near =
+    if-near (in_roots collector.phase) collector (with_shade collector (get_or collector.slots slot None)) near (with_shade-near collector (get_or collector.slots slot None) near)
+
+with_roots_cleared-near : (count : ℕ) (collector : Collector) (slot : ℕ) → IsNearTable collector.table → IsNearTable (with_roots_cleared collector slot count).table
+with_roots_cleared-near zero collector slot near = near
+with_roots_cleared-near (suc count) collector slot near = with_roots_cleared-near count (with_root collector slot None) (suc slot) (with_root-near collector slot None near)
+
+with_session_cleared-near : (collector : Collector) (who : ℕ) → IsNearTable collector.table → IsNearTable (with_session_cleared collector who).table
+unfolding with_session_cleared
+with_session_cleared-near collector who near = with_roots_cleared-near 16 collector (own_slot who 0) near
+
+with_reference_stored-near : (collector : Collector) (position : Position) (reference : Option ℕ) → IsNearTable collector.table → IsNearTable (with_reference_stored collector position reference).table
+with_reference_stored-near collector position reference near =
+    let shaded : Collector = before_field collector position in
+    let old : Option ℕ = reference_in collector.table position in
+    change-near shaded.table position.place _ (λ block. refl) (if-near (in_roots_or_mark collector.phase) collector (with_shade collector old) near (with_shade-near collector old near))
+
+with_number_stored-near : (collector : Collector) (position : Position) (number : ℕ) → IsNearTable collector.table → IsNearTable (with_number_stored collector position number).table
+with_number_stored-near collector position number near = change-near collector.table position.place _ (λ block. refl) near
+
+new-near : (heap : HeapState) (slot : ℕ) (group : Option Made) → ((made : Made) → group ≡ Some made → IsNearTable made.table) → IsNearTable heap.collector.table
+    → IsNearTable (unwrap_or (option_map (with_born heap slot) group) heap).collector.table
+new-near heap slot None made near = near
+new-near heap slot (Some group) made near = with_root-near (record (heap.collector) { table = group.table }) slot (Some group.place) (made group refl)
+
+heap_effect-near : (heap : HeapState) (who : ℕ) (c : Command) → IsNearTable heap.collector.table → IsNearTable (heap_effect heap who c).state.collector.table
+unfolding heap_effect
+heap_effect-near heap who (command.New slot references numbers) near =
+    new-near heap (own_slot who slot) (new_group heap references numbers)
+    (λ made e. made_group-near heap.collector.table heap.next_birth heap.collector.cycle (parts references numbers) made e near) near
+heap_effect-near heap who (command.Get slot source field) near = with_root-near heap.collector (own_slot who slot) (loaded_reference heap.collector.table (field_of heap (own_slot who source) field)) near
+heap_effect-near heap who (command.Put slot field value) near = with_reference_stored-near heap.collector (field_of heap (own_slot who slot) field) (root_at heap (own_slot who value)) near
+heap_effect-near heap who (command.Copy slot source) near = with_root-near heap.collector (own_slot who slot) (root_at heap (own_slot who source)) near
+heap_effect-near heap who (command.Clear slot) near = with_root-near heap.collector (own_slot who slot) None near
+heap_effect-near heap who (command.Read slot index) near = near
+heap_effect-near heap who (command.Write slot index number) near = with_number_stored-near heap.collector (number_field heap (own_slot who slot) index) number near
+heap_effect-near heap who (command.Same left right) near = near
+heap_effect-near heap who (command.Shape slot) near = near
+heap_effect-near heap who (command.Post board slot) near = with_root-near heap.collector (board_slot board) (root_at heap (own_slot who slot)) near
+heap_effect-near heap who (command.Take slot board) near = with_root-near heap.collector (own_slot who slot) (root_at heap (board_slot board)) near
+heap_effect-near heap who command.End near = with_session_cleared-near heap.collector who near
+
+mutator_step-near : (heap : HeapState) (who : ℕ) (c : Command) → IsNearTable heap.collector.table → IsNearTable (mutator_step heap who c).state.collector.table
+unfolding mutator_step
+mutator_step-near heap who c near = go (refusal (heap_sight heap) who c)
+  where
+    go : (refused : Option Refusal) → IsNearTable (unless_refused refused heap (heap_effect heap who c)).state.collector.table
+    go None = heap_effect-near heap who c near
+    go (Some refused) = near
+
+-- Runs -------------------------------------------------------------------------------------------
+
+module _ (config : Config) where
+  -- a machine of this configuration with its pages, whose forwarders are near
+  record IsFit (machine : Machine) : Type 0 where
+    config_is : machine.heap.config ≡ config
+    has : HasItsPages config machine.heap.collector.table
+    near : IsNearTable machine.heap.collector.table
+
+  by_command : (machine : Machine) (who : ℕ) (c : Command) → IsFit machine → IsFit (command_step machine who c).state
+  unfolding command_step
+  by_command machine who c fit = record {
+    config_is = config-mutator_step machine.heap who c ∙ fit.config_is;
+    has = subst (λ (k : Config). HasItsPages k (mutator_step machine.heap who c).state.collector.table) fit.config_is
+        (tables-keep.commands machine.heap who c (subst (λ (k : Config). HasItsPages k machine.heap.collector.table) (sym fit.config_is) fit.has));
+    near = mutator_step-near machine.heap who c fit.near;
+  }
+
+  by_quantum : (machine : Machine) → IsFit machine → IsFit (quantum_run machine).state
+  unfolding quantum_run
+  by_quantum machine fit =
+      let own : HasItsPages machine.heap.config machine.heap.collector.table = subst (λ (k : Config). HasItsPages k machine.heap.collector.table) (sym fit.config_is) fit.has in
+      record {
+        config_is = fit.config_is;
+        has = subst (λ (k : Config). HasItsPages k (quantum machine.heap.config machine.heap.collector).collector.table) fit.config_is (tables-keep.quanta machine.heap.config machine.heap.collector own);
+        near = quantum-near machine.heap.config machine.heap.collector own fit.near;
+      }
+
+  by_asking : (machine : Machine) → IsFit machine → IsFit (with_collector machine (record (machine.heap.collector) { is_asked = true }))
+  by_asking machine fit = record { config_is = fit.config_is; has = fit.has; near = fit.near }
+
+  first_near : IsNearTable (first_collector config).table
+  first_near = record { pages = λ number page at. absurd (none-some page (sym (none_at config.pages number) ∙ at)) }
+
+  -- after every list of events
+  pub run-near : (events : List Event) → IsNearTable (machine_after (first_machine config) events).heap.collector.table
+  run-near events = (machine_after-keeps IsFit by_command by_quantum by_asking events (first_machine config) (record { config_is = refl; has = first_table-pages config; near = first_near })).near

@@ -1,0 +1,196 @@
+-- Replies to commands are well formed. They are those of the ever-growing world, whose objects have the counts and numbers that commands gave them.
+use Rattle.std.proofs.Common.{◌≡◌, ◌∙◌, ◌⊎◌, inl, inr, ℕ, zero, suc, ◌<◌, ◌^◌, Bool, true, false, if◌then◌else◌, List, [], ◌∷◌, ◌++◌, length, get_or, set, replicate, Option, Some, None, option_map, ap, refl, subst, arith}
+use Rattle.std.specs.List.{list_all}
+use Rattle.std.proofs.lemmas.Bool.{and_from, and_parts, cases_Bool, false≢true, lt-ltb, ltb-true}
+use Rattle.std.proofs.lemmas.List.{length-replicate, length-set}
+use Rattle.std.proofs.lemmas.Option.{none-some}
+use Rattle.mh_model.specs.declared.command.Command.{Command}
+use Rattle.mh_model.specs.declared.command.Command.TheVariants as command
+use Rattle.mh_model.specs.declared.command.Event.{Event}
+use Rattle.mh_model.specs.declared.command.Event.TheVariants as event
+use Rattle.mh_model.specs.declared.config.Config.{Config}
+use Rattle.mh_model.specs.declared.history.Version.TheVariants.{Two}
+use Rattle.mh_model.specs.declared.reply.Refusal.{Refusal}
+use Rattle.mh_model.specs.declared.reply.Reply.{Reply}
+use Rattle.mh_model.specs.declared.reply.Reply.TheVariants as reply
+use Rattle.mh_model.specs.Forms.{command_phrase, is_sayable, u32, u64}
+use Rattle.mh_model.specs.HistoryTexts.{is_event}
+use Rattle.mh_model.specs.Machine.{Machine, event_step, first_machine, machine_after}
+use Rattle.mh_model.specs.Replies.{is_reply}
+use Rattle.mh_model.specs.Snapshot.{Moment, first_moment, half_moment, is_heap_full, moment_after, next_moment, world_beside_event}
+use Rattle.mh_model.specs.World.{Object, World, blank, effect, first_world, heap_step, never_full, number_of, object_at, object_in, object_named, own_slot, refusal, shape_of, shape_reply, sight_of, slot_at, unless_refused, with_change, with_number, with_object, with_reference, world_step, yes_or_no}
+use Rattle.mh_table_laws.proofs.Lists.{get_or-set_either}
+use Rattle.mh_run_laws.proofs.following.AllCommands.{commands-follow}
+use Rattle.mh_run_laws.proofs.runs.FaithfulMoments.{replies-worlds}
+use Rattle.mh_run_laws.proofs.worlds.Moments.{machine-moment_after}
+use Rattle.mh_text_laws.proofs.run_histories.Forwarders.{map-some}
+
+-- Objects ----------------------------------------------------------------------------------------
+
+-- counts of 32 bits, and numbers of 64
+record IsSmallObject (object : Object) : Type 0 where
+  references : length object.references < 2 ^ 32
+  count : length object.numbers < 2 ^ 32
+  numbers : (index : ℕ) → get_or object.numbers index 0 < 2 ^ 64
+
+record IsSmallWorld (world : World) : Type 0 where
+  objects : (birth : ℕ) (object : Object) → object_at world birth ≡ Some object → IsSmallObject object
+
+zeros : (count index : ℕ) → get_or {A = ℕ} (replicate count 0) index 0 < 2 ^ 64
+zeros zero index = omega arith
+zeros (suc count) zero = omega arith
+zeros (suc count) (suc index) = zeros count index
+
+blank_small : (references numbers : ℕ) → references < 2 ^ 32 → numbers < 2 ^ 32 → IsSmallObject (blank references numbers)
+blank_small references numbers few also = record {
+  references = omega (arith, length-replicate {A = Option ℕ} references None, few);
+  count = omega (arith, length-replicate {A = ℕ} numbers 0, also);
+  numbers = zeros numbers;
+}
+
+with_reference_small : (field : ℕ) (value : Option ℕ) (object : Object) → IsSmallObject object → IsSmallObject (with_reference field value object)
+with_reference_small field value object small = record { references = omega (arith, length-set object.references field value, small.references); count = small.count; numbers = small.numbers }
+
+with_number_small : (index number : ℕ) (object : Object) → number < 2 ^ 64 → IsSmallObject object → IsSmallObject (with_number index number object)
+with_number_small index number object below small = record {
+  references = small.references;
+  count = omega (arith, length-set object.numbers index number, small.count);
+  numbers = λ other. elim (get_or-set_either object.numbers index other number 0 (get_or (set object.numbers index number) other 0) refl) [
+    | inl written ↦ omega (arith, written, below)
+    | inr before ↦ omega (arith, before, small.numbers other)
+  ];
+}
+
+-- Worlds -----------------------------------------------------------------------------------------
+
+change_small : (world : World) (name : Option ℕ) (change : Object → Object) → ((object : Object) → IsSmallObject object → IsSmallObject (change object)) → IsSmallWorld world → IsSmallWorld (with_change world name change)
+change_small world None change keeps small = small
+change_small world (Some birth) change keeps small = record {
+  objects = λ other object e. elim (get_or-set_either world.objects birth other (option_map change (object_at world birth)) None (Some object) e) [
+    | inl written ↦ let (old, at, is) = map-some change (object_at world birth) object written in subst IsSmallObject is (keeps old (small.objects birth old at))
+    | inr before ↦ small.objects other object before
+  ];
+}
+
+last_or_before : {X : Type 0} (xs : List (Option X)) (y : Option X) (i : ℕ) (x : X) → get_or (xs ++ y ∷ []) i None ≡ Some x → (y ≡ Some x) ⊎ (get_or xs i None ≡ Some x)
+last_or_before [] y zero x e = inl e
+last_or_before [] y (suc i) x e = absurd (none-some x e)
+last_or_before (z ∷ xs) y zero x e = inr e
+last_or_before (z ∷ xs) y (suc i) x e = last_or_before xs y i x e
+
+born_small : (world : World) (slot : ℕ) (object : Object) → IsSmallObject object → IsSmallWorld world → IsSmallWorld (with_object world slot object)
+born_small world slot object born small = record {
+  objects = λ birth other e. elim (last_or_before world.objects (Some object) birth other e) [
+    | inl last ↦ subst IsSmallObject (some_same object other last) born
+    | inr before ↦ small.objects birth other before
+  ];
+}
+  where
+    some_same : (a b : Object) → Some a ≡ Some b → a ≡ b
+    some_same a b e = cc
+
+effect_small : (world : World) (who : ℕ) (c : Command) → is_sayable (command_phrase c) ≡ true → IsSmallWorld world → IsSmallWorld (effect world who c).state
+effect_small world who (command.New slot references numbers) said small =
+    let counts = and_parts _ _ (and_parts _ _ said).1 in
+    born_small world (own_slot who slot) (blank references numbers) (blank_small references numbers (ltb-true references u32 counts.0) (ltb-true numbers u32 (and_parts _ _ counts.1).0)) small
+effect_small world who (command.Get slot source field) said small = record { objects = small.objects }
+effect_small world who (command.Put slot field value) said small = change_small world (slot_at world (own_slot who slot)) _ (with_reference_small field (slot_at world (own_slot who value))) small
+effect_small world who (command.Copy slot source) said small = record { objects = small.objects }
+effect_small world who (command.Clear slot) said small = record { objects = small.objects }
+effect_small world who (command.Read slot index) said small = small
+effect_small world who (command.Write slot index number) said small =
+    let below = ltb-true number u64 (and_parts _ _ (and_parts _ _ (and_parts _ _ said).1).1).0 in
+    change_small world (slot_at world (own_slot who slot)) _ (λ object. with_number_small index number object below) small
+effect_small world who (command.Same left right) said small = small
+effect_small world who (command.Shape slot) said small = small
+effect_small world who (command.Post board slot) said small = record { objects = small.objects }
+effect_small world who (command.Take slot board) said small = record { objects = small.objects }
+effect_small world who command.End said small = record { objects = small.objects }
+
+step_small : (world : World) (who : ℕ) (c : Command) → is_sayable (command_phrase c) ≡ true → IsSmallWorld world → IsSmallWorld (world_step world who c).state
+unfolding heap_step
+step_small world who c said small = go (refusal (sight_of never_full world) who c)
+  where
+    go : (refused : Option Refusal) → IsSmallWorld (unless_refused refused world (effect world who c)).state
+    go None = effect_small world who c said small
+    go (Some refused) = small
+
+-- Replies ----------------------------------------------------------------------------------------
+
+named_small : (world : World) (name : Option ℕ) (object : Object) → IsSmallWorld world → object_named world name ≡ Some object → IsSmallObject object
+named_small world None object small e = absurd (none-some object e)
+named_small world (Some birth) object small e = small.objects birth object e
+
+number_small : (found : Option Object) (index : ℕ) → ((object : Object) → found ≡ Some object → IsSmallObject object) → number_of found index < 2 ^ 64
+number_small None index small = omega arith
+number_small (Some object) index small = (small object refl).numbers index
+
+shape_in_range : (found : Option Object) → ((object : Object) → found ≡ Some object → IsSmallObject object) → is_reply Two (shape_reply (option_map shape_of found)) ≡ true
+shape_in_range None small = refl
+shape_in_range (Some object) small =
+    let one = small object refl in
+    and_from _ _ (lt-ltb (length object.references) u32 one.references) (and_from _ _ (lt-ltb (length object.numbers) u32 one.count) refl)
+
+answer_in_range : (test : Bool) → is_reply Two (yes_or_no test) ≡ true
+answer_in_range true = refl
+answer_in_range false = refl
+
+effect_in_range : (world : World) (who : ℕ) (c : Command) → IsSmallWorld world → is_reply Two (effect world who c).reply ≡ true
+effect_in_range world who (command.New slot references numbers) small = refl
+effect_in_range world who (command.Get slot source field) small = refl
+effect_in_range world who (command.Put slot field value) small = refl
+effect_in_range world who (command.Copy slot source) small = refl
+effect_in_range world who (command.Clear slot) small = refl
+effect_in_range world who (command.Read slot index) small =
+    let found = object_in world (own_slot who slot) in
+    and_from _ _ (lt-ltb (number_of found index) u64 (number_small found index (λ object e. named_small world (slot_at world (own_slot who slot)) object small e))) refl
+effect_in_range world who (command.Write slot index number) small = refl
+effect_in_range world who (command.Same left right) small = answer_in_range _
+effect_in_range world who (command.Shape slot) small = shape_in_range (object_in world (own_slot who slot)) (λ object e. named_small world (slot_at world (own_slot who slot)) object small e)
+effect_in_range world who (command.Post board slot) small = refl
+effect_in_range world who (command.Take slot board) small = refl
+effect_in_range world who command.End small = refl
+
+step_in_range : (world : World) (who : ℕ) (c : Command) → IsSmallWorld world → is_reply Two (world_step world who c).reply ≡ true
+unfolding heap_step
+step_in_range world who c small = go (refusal (sight_of never_full world) who c)
+  where
+    go : (refused : Option Refusal) → is_reply Two (unless_refused refused world (effect world who c)).reply ≡ true
+    go None = effect_in_range world who c small
+    go (Some refused) = refl
+
+full_in_range : (answer : Reply) → is_heap_full answer ≡ true → is_reply Two answer ≡ true
+full_in_range (reply.Refused refused) full = refl
+full_in_range other full = absurd (false≢true full)
+
+-- Runs -------------------------------------------------------------------------------------------
+
+beside_small : (world : World) (e : Event) (answer : Reply) → is_event Two e ≡ true → IsSmallWorld world → IsSmallWorld (world_beside_event world e answer)
+beside_small world (event.Session who c) answer known small = go (is_heap_full answer)
+  where
+    go : (full : Bool) → IsSmallWorld (if full then world else (world_step world who c).state)
+    go true = small
+    go false = step_small world who c (and_parts _ _ known).1 small
+beside_small world (event.Control c) answer known small = small
+
+moment_small : (events : List Event) (moment : Moment) → list_all (is_event Two) events ≡ true → IsSmallWorld moment.world → IsSmallWorld (moment_after moment events).world
+unfolding moment_after next_moment half_moment
+moment_small [] moment known small = small
+moment_small (e ∷ events) moment known small =
+    moment_small events (next_moment moment e) (and_parts _ _ known).1 (beside_small moment.world e (event_step moment.machine e).reply (and_parts _ _ known).0 small)
+
+first_small : (config : Config) → IsSmallWorld (first_world config)
+first_small config = record { objects = λ birth object e. absurd (none-some object e) }
+
+-- the reply to a command after such events
+pub command-in_range : (config : Config) (before : List Event) (who : ℕ) (c : Command) → list_all (is_event Two) before ≡ true
+    → is_reply Two (event_step (machine_after (first_machine config) before) (event.Session who c)).reply ≡ true
+command-in_range config before who c known =
+    let moment : Moment = moment_after (first_moment config) before in
+    let small : IsSmallWorld moment.world = moment_small before (first_moment config) known (first_small config) in
+    let answer : Reply = (event_step moment.machine (event.Session who c)).reply in
+    let in_range : is_reply Two answer ≡ true = elim (cases_Bool (is_heap_full answer)) [
+      | inl full ↦ full_in_range answer full
+      | inr other ↦ ap (is_reply Two) (replies-worlds commands-follow config before who c other) ∙ step_in_range moment.world who c small
+    ] in
+    subst (λ (m : Machine). is_reply Two (event_step m (event.Session who c)).reply ≡ true) (machine-moment_after before (first_moment config)) in_range

@@ -1,0 +1,71 @@
+//! Answers to lines while memory is refused.
+use mh_live::feed::run_live;
+use mh_scan::gate::Open;
+use mh_text::sink::StdSink;
+use mh_text::source::StdSource;
+use std::alloc::{AllocError, Global};
+use std::thread::Threads;
+
+/// What a line is answered for which memory was refused.
+const STARVED: &[u8] = b"refused 9 no memory\n";
+
+/// Whether memory was refused for a line.
+pub fn has_starved(answers: &[u8]) -> bool {
+    answers
+        .split_inclusive(|byte| *byte == b'\n')
+        .any(|answer| answer == STARVED)
+}
+
+/// What the lines of a text are answered with all memory there.
+fn answers_to<R: Threads>(rt: &R, alloc: Global, text: &[u8]) -> Option<Vec<u8>> {
+    let mut sink = StdSink::new(Vec::new(alloc));
+    match run_live(rt, alloc, &mut StdSource::new(text), &mut sink, 1, &Open) {
+        Ok(()) => Some(sink.writer),
+        Err(_) => None,
+    }
+}
+
+/// The answers but those for refused memory.
+fn without_starved(alloc: Global, answers: &[u8]) -> Result<Vec<u8>, AllocError> {
+    let mut left = Vec::new(alloc);
+    for answer in answers.split_inclusive(|byte| *byte == b'\n') {
+        if answer != STARVED {
+            left.extend_from_slice(answer)?;
+        }
+    }
+    Ok(left)
+}
+
+/// The text with a comment in the place of each line for which memory was refused. Each line has an answer, but for the
+/// configuration, which is the first, if it was taken.
+fn without_starved_lines(
+    alloc: Global,
+    text: &[u8],
+    answers: &[u8],
+    has_config: bool,
+) -> Result<Vec<u8>, AllocError> {
+    let mut lines = text.split_inclusive(|byte| *byte == b'\n');
+    let mut left = Vec::new(alloc);
+    if has_config {
+        left.extend_from_slice(lines.next().unwrap_or(b""))?;
+    }
+    for answer in answers.split_inclusive(|byte| *byte == b'\n') {
+        let line = lines.next().unwrap_or(b"");
+        left.extend_from_slice(if answer == STARVED { b"#\n" } else { line })?;
+    }
+    Ok(left)
+}
+
+/// Whether the answers but those for refused memory are what the other lines are answered, as if there were no more lines.
+pub fn are_right<R: Threads>(
+    rt: &R,
+    alloc: Global,
+    text: &[u8],
+    answers: &[u8],
+    has_config: bool,
+) -> Result<bool, AllocError> {
+    let lines = without_starved_lines(alloc, text, answers, has_config)?;
+    let left = without_starved(alloc, answers)?;
+    let right = answers_to(rt, alloc, lines.as_slice());
+    Ok(right.is_some_and(|right| right.as_slice() == left.as_slice()))
+}

@@ -1,0 +1,316 @@
+/*
+** metroheap.h - the metroheap machine behind a handle, for C and C++.
+**
+** The machine is the one that `metroheap run` runs: a heap of pages, its
+** collector, the scheduler of quanta and the trace. An event goes in, as the
+** line of a script or as numbers, and its reply comes out, as text or as
+** numbers. Both ways drive one machine and may be mixed. docs/MANUAL.md says
+** what each event does and what its reply means.
+**
+** Link with libmetroheap.a, which scripts/build-library makes. It needs
+** malloc, realloc, free, memcpy, memmove and memset of the C library, and
+** nothing else. It has no state of its own outside the handles, starts no
+** thread, prints nothing, opens no file and never ends the process.
+**
+** WHAT A CALLER OWES
+**
+** All else is answered by a status; these can't be:
+**
+**   *  No pointer is null, also if the length beside it is 0. Each points to
+**      as much memory as its type or its length says.
+**   *  The arguments of one call don't overlap.
+**   *  A handle is METROHEAP_INIT, or as a function of this header left it.
+**      Nobody else writes it. While it is open it isn't copied: two copies
+**      are one machine, which would be freed twice. Moving it is fine, if
+**      the old place isn't used again.
+**   *  A handle is in one call at a time. Another thread may go on with it
+**      if a lock, the start or the end of a thread, or a sequentially
+**      consistent atomic comes between. Different handles share nothing.
+**   *  malloc and realloc align blocks as C says. No function is called from
+**      a signal handler, or from a forked child of a process with threads.
+**
+** WHO OWNS WHAT
+**
+** The handle owns its machine. metroheap_close frees it, and so does
+** metroheap_open if it opens another one in its place. Every buffer, struct
+** and line is the caller's; no function keeps a pointer to one.
+*/
+#ifndef METROHEAP_H
+#define METROHEAP_H
+
+#include <stddef.h>
+#include <stdint.h>
+
+#ifdef __cplusplus
+extern "C" {
+#endif
+
+/*
+** A handle. It is opaque: only the functions below read or change it.
+** METROHEAP_INIT makes a closed one, as in
+**
+**     metroheap heap = METROHEAP_INIT;
+*/
+typedef struct metroheap {
+    void *machine;
+} metroheap;
+#define METROHEAP_INIT {0}
+
+/*
+** What a call came to. If the status is not METROHEAP_DONE, METROHEAP_SHORT
+** or METROHEAP_NO_TEXT, the machine is as it was before the call, the last
+** reply too.
+*/
+enum metroheap_status {
+    METROHEAP_DONE = 0,       /* it was done */
+    METROHEAP_BLANK = 1,      /* the line is empty or a comment */
+    METROHEAP_WRONG = 2,      /* the line or the numbers are no event */
+    METROHEAP_FULL = 3,       /* 1,000,000 events were done, the most */
+    METROHEAP_NO_MEMORY = 4,  /* memory was refused */
+    METROHEAP_CLOSED = 5,     /* the handle is closed */
+    METROHEAP_BAD_CONFIG = 6, /* the numbers are no configuration */
+    METROHEAP_SHORT = 7,      /* the text is longer than the buffer */
+    METROHEAP_NO_TEXT = 8,    /* memory was refused for the text */
+    METROHEAP_NO_REPLY = 9,   /* no event was done yet */
+    METROHEAP_NO_ITEM = 10    /* the last reply has no such item */
+};
+
+/* Opening and closing ---------------------------------------------------- */
+
+/*
+** Opens a machine with these numbers: those of a script's line
+** `config PAGES QUANTUM TRIGGER EVERY`, and the rules, 1 or 2. Scripts are
+** run under rules 2, which allow larger objects.
+**
+** The handle may be open. Then its machine is freed, but only after the new
+** one was made.
+**
+** METROHEAP_DONE        the handle has the new machine, which has done nothing
+** METROHEAP_BAD_CONFIG  a number is outside the limits; the handle is as it was
+** METROHEAP_NO_MEMORY   the handle is as it was
+*/
+int32_t metroheap_open(metroheap *heap, uint32_t pages, uint32_t quantum,
+                       uint32_t trigger, uint32_t every, uint32_t rules);
+
+/*
+** Frees the machine of a handle, and leaves the handle closed. A closed one
+** stays so.
+*/
+void metroheap_close(metroheap *heap);
+
+/* Events as text --------------------------------------------------------- */
+
+/*
+** Does the event of a line of a script, given without the end of the line,
+** and copies the text of its reply to the start of `out`. The text has no
+** end of line and no zero after it. `*written` is its length.
+**
+** Sessions are numbered as their names are first seen in done events, from 0.
+** An event by numbers says the number itself, and sees no name.
+**
+** METROHEAP_DONE       the event was done; the text is in `out`
+** METROHEAP_SHORT      the event was done; `*written` bytes are needed, `out`
+**                      is as it was; ask metroheap_last_text
+** METROHEAP_NO_TEXT    the event was done; memory was refused for its text;
+**                      ask metroheap_last_text or metroheap_last_reply
+** METROHEAP_BLANK, METROHEAP_WRONG, METROHEAP_FULL, METROHEAP_NO_MEMORY,
+** METROHEAP_CLOSED     nothing was done; `*written` is 0
+**
+** Memory may be refused for a command, for a quantum that is asked for, and
+** for a dump. A later call may succeed.
+*/
+int32_t metroheap_line(metroheap *heap, const uint8_t *line, size_t line_length,
+                       uint8_t *out, size_t out_length, size_t *written);
+
+/*
+** Copies the text of the last reply, as metroheap_line does. It may be asked
+** for as often as wanted, also if the event was asked by numbers.
+**
+** METROHEAP_DONE       the text is in `out`
+** METROHEAP_SHORT      `*written` bytes are needed; `out` is as it was
+** METROHEAP_NO_TEXT    memory was refused; `*written` is 0
+** METROHEAP_NO_REPLY   no event was done yet; `*written` is 0
+** METROHEAP_CLOSED     `*written` is 0
+*/
+int32_t metroheap_last_text(metroheap *heap, uint8_t *out, size_t out_length,
+                            size_t *written);
+
+/* Events as numbers ------------------------------------------------------ */
+
+/* Kinds of events. The comments name `first`, `second` and `third`. */
+enum metroheap_event_kind {
+    METROHEAP_EVENT_NEW = 1,     /* slot, references, numbers */
+    METROHEAP_EVENT_GET = 2,     /* slot, slot looked through, field */
+    METROHEAP_EVENT_PUT = 3,     /* slot looked through, field, slot */
+    METROHEAP_EVENT_COPY = 4,    /* slot, slot copied */
+    METROHEAP_EVENT_CLEAR = 5,   /* slot */
+    METROHEAP_EVENT_READ = 6,    /* slot, index */
+    METROHEAP_EVENT_WRITE = 7,   /* slot, index, number */
+    METROHEAP_EVENT_SAME = 8,    /* slot, slot */
+    METROHEAP_EVENT_SHAPE = 9,   /* slot */
+    METROHEAP_EVENT_POST = 10,   /* slot of the board, slot */
+    METROHEAP_EVENT_TAKE = 11,   /* slot, slot of the board */
+    METROHEAP_EVENT_END = 12,    /* none */
+    METROHEAP_EVENT_QUANTUM = 13, /* none; from here on no session asks */
+    METROHEAP_EVENT_START = 14,  /* none */
+    METROHEAP_EVENT_STAT = 15,   /* none */
+    METROHEAP_EVENT_DUMP = 16,   /* none */
+    METROHEAP_EVENT_REPORT = 17, /* `third` is the window */
+    METROHEAP_EVENT_LEFT = 18    /* none */
+};
+
+/*
+** An event. What its kind doesn't have isn't read. A session of 8 or more is
+** answered METROHEAP_REFUSED_TOO_MANY_SESSIONS. The third number of `new`,
+** `get` and `put` is below 2^32: else the numbers are no event.
+*/
+typedef struct metroheap_event {
+    uint32_t kind;
+    uint8_t session;
+    uint32_t first;
+    uint32_t second;
+    uint64_t third;
+} metroheap_event;
+
+/* Kinds of replies. The comments name their numbers. */
+enum metroheap_reply_kind {
+    METROHEAP_REPLY_OK = 1,      /* none */
+    METROHEAP_REPLY_NUMBER = 2,  /* the number */
+    METROHEAP_REPLY_YES = 3,     /* none */
+    METROHEAP_REPLY_NO = 4,      /* none */
+    METROHEAP_REPLY_SHAPE = 5,   /* references, numbers */
+    METROHEAP_REPLY_REFUSED = 6, /* enum metroheap_refusal */
+    METROHEAP_REPLY_SPENT = 7,   /* units, enum metroheap_phase */
+    METROHEAP_REPLY_STAT = 8,    /* enum metroheap_stat_number */
+    METROHEAP_REPLY_DUMP = 9,    /* how many items: metroheap_dump_item */
+    METROHEAP_REPLY_REPORT = 10, /* enum metroheap_report_number */
+    METROHEAP_REPLY_LEFT = 11    /* quanta */
+};
+
+enum metroheap_refusal {
+    METROHEAP_REFUSED_BAD_SLOT = 1,
+    METROHEAP_REFUSED_NULL = 2,
+    METROHEAP_REFUSED_NO_FIELD = 3,
+    METROHEAP_REFUSED_TOO_LARGE = 4,
+    METROHEAP_REFUSED_HEAP_FULL = 5,
+    METROHEAP_REFUSED_ENDED = 6,
+    METROHEAP_REFUSED_TOO_MANY_SESSIONS = 7
+};
+
+enum metroheap_phase {
+    METROHEAP_PHASE_IDLE = 0,
+    METROHEAP_PHASE_ROOTS = 1,
+    METROHEAP_PHASE_MARK = 2,
+    METROHEAP_PHASE_SWEEP = 3,
+    METROHEAP_PHASE_DEFRAG = 4
+};
+
+/* Places of the numbers of a `stat`. */
+enum metroheap_stat_number {
+    METROHEAP_STAT_FREE = 0,
+    METROHEAP_STAT_LIVE = 1,
+    METROHEAP_STAT_OLD = 2,
+    METROHEAP_STAT_PHASE = 3,
+    METROHEAP_STAT_CYCLE = 4
+};
+
+/* Places of the numbers of a `report`. Without a least or a floor, both of
+** its numbers are 0; else the first of them is 1. */
+enum metroheap_report_number {
+    METROHEAP_REPORT_MUTATOR = 0,
+    METROHEAP_REPORT_COLLECTOR = 1,
+    METROHEAP_REPORT_QUANTA = 2,
+    METROHEAP_REPORT_GREATEST = 3,
+    METROHEAP_REPORT_WINDOW = 4,
+    METROHEAP_REPORT_HAS_LEAST = 5,
+    METROHEAP_REPORT_LEAST = 6,
+    METROHEAP_REPORT_HAS_FLOOR = 7,
+    METROHEAP_REPORT_FLOOR = 8
+};
+
+/* A reply: its kind, and its numbers in order, with zeros after them. */
+typedef struct metroheap_reply {
+    uint32_t kind;
+    uint64_t numbers[9];
+} metroheap_reply;
+
+/*
+** Does an event, and puts its reply in `*reply`.
+**
+** METROHEAP_DONE       the event was done
+** METROHEAP_WRONG, METROHEAP_FULL, METROHEAP_NO_MEMORY,
+** METROHEAP_CLOSED     nothing was done; `*reply` is as it was
+*/
+int32_t metroheap_step(metroheap *heap, const metroheap_event *event,
+                       metroheap_reply *reply);
+
+/*
+** Puts the last reply in `*reply`, also if the event was asked as text.
+**
+** METROHEAP_DONE
+** METROHEAP_NO_REPLY, METROHEAP_CLOSED   `*reply` is as it was
+*/
+int32_t metroheap_last_reply(metroheap *heap, metroheap_reply *reply);
+
+/* Kinds of items of a dump. The comments name their numbers. */
+enum metroheap_item_kind {
+    METROHEAP_ITEM_PAGE = 1,     /* page, class, 1 if it is flagged */
+    METROHEAP_ITEM_BLOCK = 2,    /* slot, birth, part */
+    METROHEAP_ITEM_FORWARDER = 3 /* slot, page and slot that it leads to */
+};
+
+/* An item of a dump: a page in use, or a block or forwarder of the page
+** before it. */
+typedef struct metroheap_item {
+    uint32_t kind;
+    uint64_t numbers[3];
+} metroheap_item;
+
+/*
+** Puts an item of the last reply in `*item`. Items are counted from 0; a
+** reply that isn't a dump has none. So after a dump a loop may ask until
+** METROHEAP_NO_ITEM.
+**
+** METROHEAP_DONE
+** METROHEAP_NO_ITEM, METROHEAP_CLOSED   `*item` is as it was
+*/
+int32_t metroheap_dump_item(metroheap *heap, size_t index,
+                            metroheap_item *item);
+
+/* Shorthands, which no library has to be linked for ---------------------- */
+
+/* A command of a session, of the kinds 1 to 12. */
+static inline metroheap_event metroheap_command(uint32_t kind, uint32_t session,
+                                                uint32_t first, uint32_t second,
+                                                uint64_t third) {
+    metroheap_event event;
+    event.kind = kind;
+    event.session = session < 255 ? (uint8_t)session : (uint8_t)255;
+    event.first = first;
+    event.second = second;
+    event.third = third;
+    return event;
+}
+
+/* A control, of the kinds 13 to 18. The window is that of a report. */
+static inline metroheap_event metroheap_control(uint32_t kind, uint64_t window) {
+    return metroheap_command(kind, 0, 0, 0, window);
+}
+
+/* Does a `* dump`, whose items metroheap_dump_item gives then. */
+static inline int32_t metroheap_dump(metroheap *heap, metroheap_reply *reply) {
+    metroheap_event event = metroheap_control(METROHEAP_EVENT_DUMP, 0);
+    return metroheap_step(heap, &event, reply);
+}
+
+/* Does a `* report` of a window. */
+static inline int32_t metroheap_report(metroheap *heap, uint64_t window,
+                                       metroheap_reply *reply) {
+    metroheap_event event = metroheap_control(METROHEAP_EVENT_REPORT, window);
+    return metroheap_step(heap, &event, reply);
+}
+
+#ifdef __cplusplus
+}
+#endif
+#endif
