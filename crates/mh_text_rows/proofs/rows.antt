@@ -1,0 +1,3 @@
+pub mod AnsweredLines
+pub mod RunTexts
+pub mod SeenHistories
