@@ -1,11 +1,12 @@
 ghost use Rattle.std.specs.Prelude.{◌≡◌};
 ghost use Rattle.mh_embed.specs.Configs as numbers;
+ghost use Rattle.mh_model.specs.HistoryTexts.{rules_of};
 
 use mh_model::config::{Config, Rules};
 
 /// The rules with this number.
 fn rules_of(number: u32) -> Option<Rules>
-    ensures { result ≡ numbers.rules_of number }
+    ensures { result ≡ rules_of number }
 {
     match number {
         1 => Some(Rules::First),

@@ -12,8 +12,8 @@ use mh_text::word::is_word;
 /// The most of the numbers that sessions have.
 const LAST_SESSION: u64 = SESSIONS as u64;
 
-/// The number of the session that a word is.
-fn session_of(word: &[u8]) -> Option<u8>
+/// The number of the session that a word is: `s0` to `s8`.
+pub fn session_of(word: &[u8]) -> Option<u8>
     ensures { result ≡ session_of word.now }
 {
     let who = tagged(word, b's')?;

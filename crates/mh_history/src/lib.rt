@@ -4,7 +4,7 @@
 mod dump;
 mod entry;
 pub mod entry_text;
-mod event;
+pub mod event;
 mod header;
 pub mod history;
 mod keyed;

@@ -4,3 +4,4 @@ pub mod MigratedLemmas
 pub mod RecordingLemmas
 pub mod RunHistoryLemmas
 pub mod ShownLemmas
+pub mod ExplainedLemmas

@@ -13,6 +13,8 @@ use Rattle.mh_model.specs.Script.{Reading, BadLine, Means}
 use Rattle.mh_state.specs.Judging.{HasSeenEntries, HasSeenMeasured, Judging}
 use Rattle.mh_text.specs.Stream.{AppendsBeginning}
 use Rattle.mh_history.specs.Beginnings.{BeginsWithEntry, BeginsWithMeasured}
+use Rattle.mh_findings.specs.declared.judgement.Judgement.{Judgement}
+use Rattle.mh_findings.specs.Judgements.{IsAuditExplained, IsCheckExplained, verdict_of}
 use Rattle.mh_script.specs.declared.fault.ScriptFault.{ScriptFault}
 use Rattle.mh_script.specs.declared.fault.ScriptFault.TheVariants.{Read, NoMemory, HistoryFull}
 use Rattle.mh_script.specs.Run.{Device}
@@ -41,6 +43,12 @@ pub record Judges (Judged : Text → Verdict → Type 0) (known old new : Option
   pub is_text : IsTextOf known text
   pub judged : Judged text verdict
   pub wrote : Appends old new (line_text (verdict_text verdict))
+
+-- what a judgement says beside its verdict is true of the text of a source
+pub record Explains (Explained : Text → Judgement → Type 0) (known : Option Text) (judgement : Judgement) : Type 0 where
+  pub text : Text
+  pub is_text : IsTextOf known text
+  pub explained : Explained text judgement
 
 -- a prefix of the line of the verdict on the text of a source was written
 pub record BeginsToJudge (Judged : Text → Verdict → Type 0) (known old new : Option Text) : Type 0 where
@@ -83,8 +91,9 @@ pub record BeginsToMigrate (config : Config) (known old new : Option Text) : Typ
 -- Ended ------------------------------------------------------------------------------------------
 
 -- A history of a source was judged, of so many bytes at most and with such a prefix if memory is taken for it, and how that ended
-pub record IsJudging (Judged : Text → Verdict → Type 0) (Begins : Text → Type 0) (most : ℕ) (source source' sink sink' : Device) (ended : Result Verdict ScriptFault) : Type 0 where
-  pub judged : IfOk ended (Judges Judged source.bytes sink.bytes sink'.bytes)
+pub record IsJudging (Judged : Text → Verdict → Type 0) (Explained : Text → Judgement → Type 0) (Begins : Text → Type 0) (most : ℕ) (source source' sink sink' : Device) (ended : Result Judgement ScriptFault) : Type 0 where
+  pub judged : IfOk ended (λ judgement. Judges Judged source.bytes sink.bytes sink'.bytes (verdict_of judgement))
+  pub explained : IfOk ended (Explains Explained source.bytes)
   pub begun : OnErr ended (BeginsToJudge Judged source.bytes sink.bytes sink'.bytes)
   pub never_full : ended ≢ Err HistoryFull
   pub unread : IsErrOf ended Read → Keeps sink.bytes sink'.bytes
@@ -94,16 +103,17 @@ pub record IsJudging (Judged : Text → Verdict → Type 0) (Begins : Text → T
   pub blames : Blames source.failures source'.failures sink.failures sink'.failures ended
 
 -- A history of version 1 was judged under a configuration, and how that ended
-abbrev pub IsChecking : Config → (source source' sink sink' : Device) → Result Verdict ScriptFault → Type 0
-IsChecking config = IsJudging (IsChecked config) BeginsWithEntry 1073741824
+abbrev pub IsChecking : Config → (source source' sink sink' : Device) → Result Judgement ScriptFault → Type 0
+IsChecking config = IsJudging (IsChecked config) (IsCheckExplained config) BeginsWithEntry 1073741824
 
 -- a history of version 2 was judged, and how that ended
-abbrev pub IsAuditing : (source source' sink sink' : Device) → Result Verdict ScriptFault → Type 0
-IsAuditing = IsJudging IsAudited BeginsWithMeasured 2147483648
+abbrev pub IsAuditing : (source source' sink sink' : Device) → Result Judgement ScriptFault → Type 0
+IsAuditing = IsJudging IsAudited IsAuditExplained BeginsWithMeasured 2147483648
 
 -- A history of a source was migrated, and how that ended
-pub record IsMigrating (config : Config) (source source' sink sink' : Device) (ended : Result Verdict ScriptFault) : Type 0 where
-  pub migrated : IfOk ended (Migrates config source.bytes sink.bytes sink'.bytes)
+pub record IsMigrating (config : Config) (source source' sink sink' : Device) (ended : Result Judgement ScriptFault) : Type 0 where
+  pub migrated : IfOk ended (λ judgement. Migrates config source.bytes sink.bytes sink'.bytes (verdict_of judgement))
+  pub explained : IfOk ended (Explains (IsCheckExplained config) source.bytes)
   pub begun : OnErr ended (BeginsToMigrate config source.bytes sink.bytes sink'.bytes)
   pub never_full : ended ≢ Err HistoryFull
   pub unread : IsErrOf ended Read → Keeps sink.bytes sink'.bytes

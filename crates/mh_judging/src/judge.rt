@@ -9,9 +9,12 @@ ghost use Rattle.mh_state.specs.Judging.{HasSeenEntries, HasSeenMeasured, Judgin
 ghost use Rattle.mh_state.proofs.JudgeLemmas.{legal_rule, record_rule};
 ghost use Rattle.mh_text.specs.TextErrors.{Refuses};
 ghost use Rattle.mh_history.specs.Beginnings.{BeginsWithEntry, BeginsWithMeasured, HasEntry, entries_left, entry_before};
-ghost use Rattle.mh_judging.specs.Judged.{BeginsToJudge, Finds, HasSeenNone, IsVerdictOn, Judges};
+ghost use Rattle.mh_findings.specs.Judgements.{IsAuditExplained, IsCheckExplained, verdict_of};
+ghost use Rattle.mh_judging.specs.Judged.{BeginsToJudge, Explains, Finds, HasSeenNone, IsVerdictOn, Judges};
 ghost use Rattle.mh_script.specs.Texts.{Blames, LeavesSource, WantsMemory};
 
+use crate::explained::{judge_history, judge_record};
+use mh_findings::judgement::Judgement;
 use mh_history::history::{HISTORY_BYTES, history_lines};
 use mh_history::lines::{FromLine, RefusedLine, next_entry};
 use mh_history::record::{RECORD_BYTES, record_lines};
@@ -155,10 +158,11 @@ pub fn check_script<S: Source, W: Sink>(
     config: Config,
     source: &mut S,
     sink: &mut W,
-) -> Result<Verdict, ScriptFault>
+) -> Result<Judgement, ScriptFault>
     requires source_count { S.failures source.old < 2 ^ 62 }
     requires sink_count { W.failures sink.old < 2 ^ 62 }
-    ensures judged { IfOk result (Judges (IsChecked config) (S.rest source.old) (W.written sink.old) (W.written sink.new)) }
+    ensures judged { IfOk result (λ judgement. Judges (IsChecked config) (S.rest source.old) (W.written sink.old) (W.written sink.new) (verdict_of judgement)) }
+    ensures explained { IfOk result (Explains (IsCheckExplained config) (S.rest source.old)) }
     ensures begun { OnErr result (BeginsToJudge (IsChecked config) (S.rest source.old) (W.written sink.old) (W.written sink.new)) }
     ensures never_full { result ≢ Err ScriptFault.HistoryFull }
     ensures unread { IsErrOf result ScriptFault.Read → Keeps (W.written sink.old) (W.written sink.new) }
@@ -169,9 +173,9 @@ pub fn check_script<S: Source, W: Sink>(
 {
     texts_are_checked();
     let text = read_whole(alloc, source, HISTORY_BYTES)?;
-    let verdict = verdict_on_history(alloc, config, text.as_slice())?;
-    match write_verdict(verdict, sink) {
-        Ok(()) => Ok(verdict),
+    let judgement = judge_history(alloc, config, text.as_slice())?;
+    match write_verdict(judgement.verdict(), sink) {
+        Ok(()) => Ok(judgement),
         Err(DeviceFailed) => Err(ScriptFault::Write),
     }
 }
@@ -182,10 +186,11 @@ pub fn audit_script<S: Source, W: Sink>(
     alloc: Global,
     source: &mut S,
     sink: &mut W,
-) -> Result<Verdict, ScriptFault>
+) -> Result<Judgement, ScriptFault>
     requires source_count { S.failures source.old < 2 ^ 62 }
     requires sink_count { W.failures sink.old < 2 ^ 62 }
-    ensures judged { IfOk result (Judges IsAudited (S.rest source.old) (W.written sink.old) (W.written sink.new)) }
+    ensures judged { IfOk result (λ judgement. Judges IsAudited (S.rest source.old) (W.written sink.old) (W.written sink.new) (verdict_of judgement)) }
+    ensures explained { IfOk result (Explains IsAuditExplained (S.rest source.old)) }
     ensures begun { OnErr result (BeginsToJudge IsAudited (S.rest source.old) (W.written sink.old) (W.written sink.new)) }
     ensures never_full { result ≢ Err ScriptFault.HistoryFull }
     ensures unread { IsErrOf result ScriptFault.Read → Keeps (W.written sink.old) (W.written sink.new) }
@@ -196,9 +201,9 @@ pub fn audit_script<S: Source, W: Sink>(
 {
     texts_are_audited();
     let text = read_whole(alloc, source, RECORD_BYTES)?;
-    let verdict = verdict_on_record(alloc, text.as_slice())?;
-    match write_verdict(verdict, sink) {
-        Ok(()) => Ok(verdict),
+    let judgement = judge_record(alloc, text.as_slice())?;
+    match write_verdict(judgement.verdict(), sink) {
+        Ok(()) => Ok(judgement),
         Err(DeviceFailed) => Err(ScriptFault::Write),
     }
 }

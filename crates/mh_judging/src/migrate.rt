@@ -1,19 +1,20 @@
 //! Histories of version 1 that become histories of version 2.
 ghost use Rattle.std.specs.Prelude.{◌≡◌, ◌≢◌, ◌<◌, ◌^◌, IfOk, OnErr, IsErrOf};
 ghost use Rattle.std.specs.Io.KnownBytes.{Appends, Keeps};
+ghost use Rattle.mh_findings.specs.Judgements.{IsCheckExplained, verdict_of};
 ghost use Rattle.mh_model.specs.declared.config.Rules.TheVariants.{First};
 ghost use Rattle.mh_model.specs.Bytes.{line_text};
-ghost use Rattle.mh_model.specs.declared.history.Verdict.{Verdict};
+ghost use Rattle.mh_model.specs.declared.history.Verdict.TheVariants as verdict;
 ghost use Rattle.mh_model.specs.HistoryTexts.{IsChecked, verdict_text};
 ghost use Rattle.mh_text.specs.Stream.{AppendsBeginning};
-ghost use Rattle.mh_judging.specs.Judged.{BeginsMigration, BeginsToMigrate, Migrates, MigratesText, TakesToMigrate};
+ghost use Rattle.mh_judging.specs.Judged.{BeginsMigration, BeginsToMigrate, Explains, Migrates, MigratesText, TakesToMigrate};
 ghost use Rattle.mh_script.specs.Texts.{Blames, BlamesSink, LeavesSource, WantsMemory};
 
-use crate::judge::verdict_on_history;
+use crate::explained::judge_history;
 use crate::record::write_lines;
+use mh_findings::judgement::Judgement;
 use mh_history::history::{HISTORY_BYTES, history_lines};
 use mh_model::config::Config;
-use mh_model::history::Verdict;
 use mh_script::fault::ScriptFault;
 use mh_script::texts::{read_whole, write_verdict};
 use mh_text::device::DeviceFailed;
@@ -23,16 +24,16 @@ use mh_text_laws::migration::{migrated_texts_are_legal, texts_are_migrated};
 use std::alloc::Global;
 
 /// Writes the line of the verdict on a text that is not migrated.
-fn write_unmigrated<W: Sink>(verdict: Verdict, sink: &mut W) -> Result<Verdict, ScriptFault>
+fn write_unmigrated<W: Sink>(judgement: Judgement, sink: &mut W) -> Result<Judgement, ScriptFault>
     requires { W.failures sink.old < 2 ^ 62 }
-    ensures done { IfOk result (λ told. (told ≡ verdict) × Appends (W.written sink.old) (W.written sink.new) (line_text (verdict_text verdict))) }
-    ensures begun { OnErr result (AppendsBeginning (W.written sink.old) (W.written sink.new) (line_text (verdict_text verdict))) }
+    ensures done { IfOk result (λ told. (told ≡ judgement) × Appends (W.written sink.old) (W.written sink.new) (line_text (verdict_text (verdict_of judgement)))) }
+    ensures begun { OnErr result (AppendsBeginning (W.written sink.old) (W.written sink.new) (line_text (verdict_text (verdict_of judgement)))) }
     ensures never_full { result ≢ Err ScriptFault.HistoryFull }
     ensures never_starved { IsErrOf result ScriptFault.NoMemory → ⊥ }
     ensures blames { BlamesSink (W.failures sink.old) (W.failures sink.new) result }
 {
-    match write_verdict(verdict, sink) {
-        Ok(()) => Ok(verdict),
+    match write_verdict(judgement.verdict(), sink) {
+        Ok(()) => Ok(judgement),
         Err(DeviceFailed) => Err(ScriptFault::Write),
     }
 }
@@ -44,10 +45,11 @@ fn write_legal<W: Sink>(
     text: &[u8],
     count: u64,
     sink: &mut W,
-) -> Result<Verdict, ScriptFault>
-    requires legal { IsChecked config text.now (Verdict.Legal count) }
+) -> Result<Judgement, ScriptFault>
+    requires legal { IsChecked config text.now (verdict.Legal count) }
     requires failures { W.failures sink.old < 2 ^ 62 }
-    ensures done { IfOk result (MigratesText config text.now (W.written sink.old) (W.written sink.new)) }
+    ensures done { IfOk result (λ judgement. MigratesText config text.now (W.written sink.old) (W.written sink.new) (verdict_of judgement)) }
+    ensures explained { IfOk result (IsCheckExplained config text.now) }
     ensures begun { OnErr result (BeginsMigration config text.now (W.written sink.old) (W.written sink.new)) }
     ensures never_full { result ≢ Err ScriptFault.HistoryFull }
     ensures blames { BlamesSink (W.failures sink.old) (W.failures sink.new) result }
@@ -56,7 +58,7 @@ fn write_legal<W: Sink>(
         unreachable!();
     };
     write_lines(alloc, config, lines, sink)?;
-    Ok(Verdict::Legal(count))
+    Ok(Judgement::Legal(count))
 }
 
 /// Writes what migration makes of a text.
@@ -65,18 +67,19 @@ fn write_migrated<W: Sink>(
     config: Config,
     text: &[u8],
     sink: &mut W,
-) -> Result<Verdict, ScriptFault>
+) -> Result<Judgement, ScriptFault>
     requires { W.failures sink.old < 2 ^ 62 }
-    ensures done { IfOk result (MigratesText config text.now (W.written sink.old) (W.written sink.new)) }
+    ensures done { IfOk result (λ judgement. MigratesText config text.now (W.written sink.old) (W.written sink.new) (verdict_of judgement)) }
+    ensures explained { IfOk result (IsCheckExplained config text.now) }
     ensures begun { OnErr result (BeginsMigration config text.now (W.written sink.old) (W.written sink.new)) }
     ensures never_full { result ≢ Err ScriptFault.HistoryFull }
     ensures memory { IsErrOf result ScriptFault.NoMemory → TakesToMigrate text.now }
     ensures blames { BlamesSink (W.failures sink.old) (W.failures sink.new) result }
 {
     texts_are_migrated();
-    match verdict_on_history(alloc, config, text)? {
-        Verdict::Legal(count) => write_legal(alloc, config, text, count, sink),
-        verdict => write_unmigrated(verdict, sink),
+    match judge_history(alloc, config, text)? {
+        Judgement::Legal(count) => write_legal(alloc, config, text, count, sink),
+        judgement => write_unmigrated(judgement, sink),
     }
 }
 
@@ -86,11 +89,12 @@ pub fn migrate_script<S: Source, W: Sink>(
     config: Config,
     source: &mut S,
     sink: &mut W,
-) -> Result<Verdict, ScriptFault>
+) -> Result<Judgement, ScriptFault>
     requires first { config.rules ≡ First }
     requires source_count { S.failures source.old < 2 ^ 62 }
     requires sink_count { W.failures sink.old < 2 ^ 62 }
-    ensures migrated { IfOk result (Migrates config (S.rest source.old) (W.written sink.old) (W.written sink.new)) }
+    ensures migrated { IfOk result (λ judgement. Migrates config (S.rest source.old) (W.written sink.old) (W.written sink.new) (verdict_of judgement)) }
+    ensures explained { IfOk result (Explains (IsCheckExplained config) (S.rest source.old)) }
     ensures begun { OnErr result (BeginsToMigrate config (S.rest source.old) (W.written sink.old) (W.written sink.new)) }
     ensures never_full { result ≢ Err ScriptFault.HistoryFull }
     ensures unread { IsErrOf result ScriptFault.Read → Keeps (W.written sink.old) (W.written sink.new) }

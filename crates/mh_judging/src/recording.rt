@@ -13,19 +13,19 @@ ghost use Rattle.mh_text.specs.Stream.{AppendsBeginning};
 ghost use Rattle.mh_script.specs.Texts.{Buffers};
 ghost use Rattle.mh_judging.specs.Recording.{Advances, IsFirst, WritesReading, WritesRecord, event_line};
 
+use mh_findings::measure::measure;
+use mh_findings::replay::entry_again;
 use mh_history::entry_text::{HeaderText, MeasuredText};
-use mh_history::lines::next_entry;
 use mh_model::command::Event;
 use mh_model::config::Config;
-use mh_model::history::{Entry, Measured};
+use mh_model::history::Entry;
 use mh_model::memory::NoMemory;
 use mh_scan::scan::Scanner;
 use mh_script::fault::WriteError;
 use mh_script::texts::{flush, flush_full};
-use mh_state::machine::{Machine, Stop};
+use mh_state::machine::Machine;
 use mh_text::pieces::Lines;
 use mh_text::sink::Sink;
-use mh_text::text_error::TextError;
 use std::alloc::Global;
 use std::fmt::Write;
 
@@ -37,21 +37,6 @@ fn header(alloc: Global, config: Config) -> Result<String, NoMemory>
     let line = HeaderText(config);
     writeln!(text, "{line}")?;
     Ok(text)
-}
-
-/// Reads the next of lines that are entries, none after the last.
-fn entry_again(alloc: Global, lines: &mut Lines<'_>) -> Result<Option<Entry>, NoMemory>
-    requires { (entries : List Entry) × (entries_left entry_line lines.old ≡ Means entries) }
-    ensures entry { IfOk result (λ next. IfSome next (λ entry.
-        entries_left entry_line lines.old ≡ entry_before entry (entries_left entry_line lines.new))) }
-    ensures fewer { IfOk result (λ next. OnSome next (length lines.new.lines < length lines.old.lines)) }
-    ensures end { IfOk result (λ next. IfNone next (entries_left entry_line lines.old ≡ Means [])) }
-{
-    match next_entry(alloc, lines) {
-        Ok(next) => Ok(next),
-        Err(TextError::NoMemory) => Err(NoMemory),
-        Err(TextError::Line(_)) => unreachable!(),
-    }
 }
 
 /// A record that is being written.
@@ -88,19 +73,7 @@ impl Recording {
         ensures machine { OnOk result (Advances self.old event self.new) }
         ensures text { OnOk result (string_bytes self.new.text ≡ string_bytes self.old.text ++ event_line self.old.machine.machine event) }
     {
-        let mutator = self.machine.trace().mutator_count();
-        let collector = self.machine.trace().collector_count();
-        let reply = match self.machine.step(event, scanner) {
-            Ok(reply) => reply,
-            Err(Stop::NoMemory) => return Err(NoMemory),
-            Err(Stop::HistoryFull) => unreachable!(),
-        };
-        let trace = self.machine.trace();
-        let measured = Measured {
-            entry: Entry { event, reply },
-            mutator: trace.mutator_count().saturating_sub(mutator),
-            collector: trace.collector_count().saturating_sub(collector),
-        };
+        let measured = measure(&mut self.machine, event, scanner)?;
         let line = MeasuredText(&measured);
         writeln!(self.text, "{line}")?;
         Ok(())
@@ -201,7 +174,7 @@ impl Recording {
         ensures blamed { IsErrOf result WriteError.Device → W.failures sink.old < W.failures sink.new }
         ensures not_blamed { IsErrOf result WriteError.NoMemory → W.failures sink.new ≡ W.failures sink.old }
     {
-        while let Some(entry) = entry_again(alloc, &mut lines)? {
+        while let Some(entry) = entry_again::<Entry>(alloc, &mut lines)? {
             self.add(entry.event, scanner, sink)?;
         }
         self.finish(sink)

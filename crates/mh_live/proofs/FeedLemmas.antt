@@ -1,151 +1,199 @@
--- What has been answered after one line more, and after bytes that end no line.
+-- What has been answered and told after one line more, and after bytes that end no line.
 use Rattle.std.proofs.Common.{◌≡◌, ◌∙◌, ℕ, suc, List, [], ◌∷◌, ◌++◌, Option, length, length-append, take, ap, refl, sym, subst, append_assoc, arith}
 use Rattle.std.proofs.lemmas.List.{append-nil}
-use Rattle.std.proofs.Math.Seq.{take-append_seam, take-length}
 use Rattle.std.proofs.KnownBytes.{Appends-nil, Appends-trans, Consumes-trans}
 use Rattle.std.specs.Io.KnownBytes.{Appends, Consumes, IsAtEnd}
+use Rattle.std.specs.Option.{option_to_list}
 use Rattle.mh_model.specs.Bytes.{Text, Cut, cut_after}
 use Rattle.mh_text.specs.Stream.{AppendsBeginning}
-use Rattle.mh_model.specs.Live.{Live, Turn, Waits, IsTurn, AreTurns, IsLive, Ended, Taken, turn, unended_text}
+use Rattle.mh_model.specs.Live.{Live, Turn, Waits, IsTurn, IsLive, Taken, turn, unended_text}
+use Rattle.mh_reasons.specs.declared.reason.LineReason.{LineReason}
+use Rattle.mh_script.specs.declared.end.Refusal.{Refusal}
+use Rattle.mh_script.specs.declared.fault.ScriptFault.{ScriptFault}
+use Rattle.mh_script.specs.declared.fault.WriteError.{WriteError}
+use Rattle.mh_script.specs.declared.fault.WriteError.TheVariants as cause
+use Rattle.mh_script.specs.Texts.{IsWriteFault}
 use Rattle.mh_live.specs.declared.feed.Feed.{Feed}
-use Rattle.mh_live.specs.Feeding.{AnswersAll, AnswersFront, AnswersSome, End, HasAnswered, IsFed, Lines, TakesTurn, TurnsPartly}
-use Rattle.mh_live.proofs.CutLemmas.{cut-append, followed}
-use Rattle.mh_live.proofs.TurnLemmas.{one_more}
+use Rattle.mh_live.specs.Feeding.{AnswersAll, AnswersFront, AnswersSome, BeginsAnswer, HasAnswered, IsFed, MayBegin, MayEndWith, TakesTurn, TurnsPartly, WritesPart}
+use Rattle.mh_live.specs.Heard.{AreHeard, Ended, IsHeard, IsLiveHeard, IsTold, IsWhy, is_configured, refusal_of, unended_refusal}
+use Rattle.mh_live.proofs.CutLemmas.{EndsNoLine, cut_line, cut_rest, front_line, front_of, line_cut}
+use Rattle.mh_live.proofs.TurnLemmas.{are_turns, heard_more, heard_why, one_more}
 
--- nothing of an answer was written
-pub no_part : (feed : Feed) (written : Option Text) → TurnsPartly feed written written
-no_part feed written = record {
+-- One answer -------------------------------------------------------------------------------------
+
+may_begin_none : (error : WriteError) → MayBegin error []
+may_begin_none cause.Device = tt
+may_begin_none cause.NoMemory = refl
+
+-- nothing of it was written
+pub none_written : (text : Text) (written : Option Text) (error : WriteError) → WritesPart text written written error
+none_written text written error = ([], text, refl, Appends-nil written, may_begin_none error)
+
+-- the sink failed at it
+pub part_written : (text : Text) (old new : Option Text) (error : WriteError) → error ≡ cause.Device → AppendsBeginning old new text → WritesPart text old new error
+part_written text old new error is part = (part.0, part.1, part.2, part.3, rw is tt)
+
+pub no_part : (feed : Feed) (written : Option Text) (error : WriteError) → TurnsPartly feed written written error
+no_part feed written error = record {
   turn = turn feed.number feed.live feed.begun.items;
   is = Taken;
-  wrote = ([], (turn feed.number feed.live feed.begun.items).text, refl, Appends-nil written);
+  wrote = none_written (turn feed.number feed.live feed.begun.items).text written error;
 }
 
--- a text that ends no line
-abbrev pub EndsNoLine : Text → Type 0
-EndsNoLine text = cut_after 10 text ≡ record { pieces = []; rest = text }
+pub turns_partly : (old : Feed) (written written' : Option Text) (error : WriteError) (line answer : Text) (live : Live) → line ≡ old.begun.items → IsTurn old.number old.live line (record { text = answer; live = live }) → WritesPart answer written written' error
+    → TurnsPartly old written written' error
+turns_partly old written written' error line answer live same is part = record { turn = record { text = answer; live = live }; is = rw same at is; wrote = part }
 
--- the cut of a text that such bytes follow, and then the end of their line
-abbrev line_cut : Text → Text → Cut
-line_cut text piece = record { pieces = (cut_after 10 text).pieces ++ ((cut_after 10 text).rest ++ piece) ∷ []; rest = [] }
-
-cut_line : (text piece : Text) → EndsNoLine piece → cut_after 10 (text ++ (piece ++ 10 ∷ [])) ≡ line_cut text piece
-cut_line text piece plain =
-    let last : cut_after 10 (piece ++ 10 ∷ []) ≡ record { pieces = (piece ++ []) ∷ []; rest = [] } = cut-append 10 piece (10 ∷ []) ∙ ap (λ c. followed c (cut_after 10 (10 ∷ []))) plain in
-    cut-append 10 text (piece ++ 10 ∷ []) ∙ ap (followed (cut_after 10 text)) last
-    ∙ ap (λ p. line_cut text p) (append-nil piece)
-
-cut_rest : (text more : Text) → EndsNoLine more → cut_after 10 (text ++ more) ≡ record { pieces = (cut_after 10 text).pieces; rest = (cut_after 10 text).rest ++ more }
-cut_rest text more plain = cut-append 10 text more ∙ ap (followed (cut_after 10 text)) plain
-
--- the first pieces of a text that another follows are those of the first
-front_followed : (pieces : List Text) (rest : Text) (more : List Text) (last : Text) → take (length pieces) (followed (record { pieces = pieces; rest = rest }) (record { pieces = more; rest = last })).pieces ≡ pieces
-front_followed pieces rest [] last = take-length pieces
-front_followed pieces rest (piece ∷ more) last = take-append_seam pieces ((rest ++ piece) ∷ more)
-
-front_of : (text more : Text) → take (length (cut_after 10 text).pieces) (cut_after 10 (text ++ more)).pieces ≡ (cut_after 10 text).pieces
-front_of text more =
-    ap (λ c. take (length (cut_after 10 text).pieces) c.pieces) (cut-append 10 text more)
-    ∙ front_followed (cut_after 10 text).pieces (cut_after 10 text).rest (cut_after 10 more).pieces (cut_after 10 more).rest
-
-front_line : (text piece next : Text) → EndsNoLine piece → take (length (line_cut text piece).pieces) (cut_after 10 (text ++ (piece ++ 10 ∷ next))).pieces ≡ (line_cut text piece).pieces
-front_line text piece next plain =
-    let same : text ++ (piece ++ 10 ∷ next) ≡ (text ++ (piece ++ 10 ∷ [])) ++ next = sym (append_assoc text (piece ++ 10 ∷ []) next ∙ ap (λ t. text ++ t) (append_assoc piece (10 ∷ []) next)) in
-    let front = front_of (text ++ (piece ++ 10 ∷ [])) next in
-    ap (λ t. take (length (line_cut text piece).pieces) (cut_after 10 t).pieces) same
-    ∙ ap (λ c. take (length c.pieces) (cut_after 10 ((text ++ (piece ++ 10 ∷ [])) ++ next)).pieces) (sym (cut_line text piece plain)) ∙ front ∙ ap (λ c. c.pieces) (cut_line text piece plain)
-
-answered_by : (text : Text) (first new : Option Text) (number : ℕ) (live : Live) (begun : Text) (cut : Cut) (answers : Text) → cut_after 10 text ≡ cut → AreTurns 1 Waits cut.pieces answers live
-    → number ≡ suc (length cut.pieces) → cut.rest ≡ begun → Appends first new answers → HasAnswered text first new number live begun
-answered_by text first new number live begun cut answers is turns numbered kept wrote = record {
-  answers = answers;
-  turns = subst (λ c. AreTurns 1 Waits c.pieces answers live) (sym is) turns;
-  numbered = numbered ∙ ap (λ c. suc (length c.pieces)) (sym is);
-  kept = ap (λ c. c.rest) is ∙ kept;
+-- the turn of a line that was answered, with why it is refused
+pub takes_turn : (Told : Option Refusal → Type 0) (old new : Feed) (written written' : Option Text) (line answer : Text) (live : Live) (why : Option LineReason) → line ≡ old.begun.items → IsTurn old.number old.live line (record { text = answer; live = live })
+    → IsWhy (is_configured old.live) line why → Told (refusal_of old.number why) → new.live ≡ live → new.number ≡ suc old.number → new.begun.items ≡ [] → Appends written written' answer → TakesTurn Told old new written written'
+takes_turn Told old new written written' line answer live why same is is_why told after number begun wrote = record {
+  turn = record { text = answer; live = live };
+  is = rw same at is;
+  heard = refusal_of old.number why;
+  why = heard_why old.number old.live old.begun.items why (rw same at is_why);
+  told = told;
+  live = after;
+  number = number;
+  begun = begun;
   wrote = wrote;
 }
 
-module _ (text : Text) (first old : Option Text) (number : ℕ) (live : Live) (begun : Text) (has : HasAnswered text first old number live begun) where
+begins_none : (n : ℕ) (live : Live) (lines : List Text) (rest : Text) → BeginsAnswer n live lines rest []
+begins_none n live [] rest = (unended_text n rest, refl)
+begins_none n live (line ∷ lines) rest = (turn n live line, Taken, ((turn n live line).text, refl))
+
+-- After a line, and after bytes that end none ----------------------------------------------------
+
+answered_by : (Hears : List Refusal → Type 0) (text : Text) (first new : Option Text) (number : ℕ) (live : Live) (begun : Text) (cut : Cut) (answers : Text) (refusals : List Refusal) → cut_after 10 text ≡ cut → AreHeard 1 Waits cut.pieces refusals answers live
+    → number ≡ suc (length cut.pieces) → cut.rest ≡ begun → Appends first new answers → Hears refusals → HasAnswered Hears text first new number live begun
+answered_by Hears text first new number live begun cut answers refusals is turns numbered kept wrote heard = record {
+  answers = answers;
+  refusals = refusals;
+  turns = subst (λ c. AreHeard 1 Waits c.pieces refusals answers live) (sym is) turns;
+  numbered = numbered ∙ ap (λ c. suc (length c.pieces)) (sym is);
+  kept = ap (λ c. c.rest) is ∙ kept;
+  wrote = wrote;
+  heard = heard;
+}
+
+module _ (Hears : List Refusal → Type 0) (text : Text) (first old : Option Text) (number : ℕ) (live : Live) (begun : Text) (has : HasAnswered Hears text first old number live begun) where
   -- the turns with that of the line that ends now
-  line_turns : (piece : Text) (turn : Turn) → IsTurn number live (begun ++ piece) turn → AreTurns 1 Waits (line_cut text piece).pieces (has.answers ++ turn.text) turn.live
-  line_turns piece turn is =
+  line_turns : (piece : Text) (turn : Turn) (heard : Option Refusal) → IsTurn number live (begun ++ piece) turn → IsHeard number live (begun ++ piece) heard
+      → AreHeard 1 Waits (line_cut text piece).pieces (has.refusals ++ option_to_list heard) (has.answers ++ turn.text) turn.live
+  line_turns piece turn heard is why =
       let line : IsTurn number live ((cut_after 10 text).rest ++ piece) turn = subst (λ b. IsTurn number live (b ++ piece) turn) (sym has.kept) is in
-      one_more 1 Waits (cut_after 10 text).pieces has.answers live number ((cut_after 10 text).rest ++ piece) turn has.turns (omega (arith, has.numbered)) line
+      let told : IsHeard number live ((cut_after 10 text).rest ++ piece) heard = subst (λ (b : Text). IsHeard number live (b ++ piece) heard) (sym has.kept) why in
+      one_more 1 Waits (cut_after 10 text).pieces has.refusals has.answers live number ((cut_after 10 text).rest ++ piece) turn heard has.turns (omega (arith, has.numbered)) line told
 
-  pub after_line : (piece : Text) (turn : Turn) (new : Option Text) → EndsNoLine piece → IsTurn number live (begun ++ piece) turn → Appends old new turn.text
-      → HasAnswered (text ++ (piece ++ 10 ∷ [])) first new (suc number) turn.live []
-  after_line piece turn new plain is wrote =
-      answered_by (text ++ (piece ++ 10 ∷ [])) first new (suc number) turn.live [] (line_cut text piece) (has.answers ++ turn.text) (cut_line text piece plain) (line_turns piece turn is)
+  pub after_line : (Hears' : List Refusal → Type 0) (piece : Text) (turn : Turn) (heard : Option Refusal) (new : Option Text) → EndsNoLine piece → IsTurn number live (begun ++ piece) turn → IsHeard number live (begun ++ piece) heard
+      → Appends old new turn.text → Hears' (has.refusals ++ option_to_list heard) → HasAnswered Hears' (text ++ (piece ++ 10 ∷ [])) first new (suc number) turn.live []
+  after_line Hears' piece turn heard new plain is why wrote told =
+      answered_by Hears' (text ++ (piece ++ 10 ∷ [])) first new (suc number) turn.live [] (line_cut text piece) (has.answers ++ turn.text) (has.refusals ++ option_to_list heard) (cut_line text piece plain) (line_turns piece turn heard is why)
       (let count = length-append (cut_after 10 text).pieces (((cut_after 10 text).rest ++ piece) ∷ []) in omega (arith, has.numbered, count))
-      refl (Appends-trans first old new has.answers turn.text has.wrote wrote)
+      refl (Appends-trans first old new has.answers turn.text has.wrote wrote) told
 
-  pub after_rest : (more : Text) → EndsNoLine more → HasAnswered (text ++ more) first old number live (begun ++ more)
+  pub after_rest : (more : Text) → EndsNoLine more → HasAnswered Hears (text ++ more) first old number live (begun ++ more)
   after_rest more plain =
-      answered_by (text ++ more) first old number live (begun ++ more) _ has.answers (cut_rest text more plain) has.turns has.numbered (ap (λ b. b ++ more) has.kept) has.wrote
+      answered_by Hears (text ++ more) first old number live (begun ++ more) _ has.answers has.refusals (cut_rest text more plain) has.turns has.numbered (ap (λ b. b ++ more) has.kept) has.wrote has.heard
 
   -- what was answered is some of what a longer text is answered
-  pub some_of_more : (more : Text) → AnswersSome (text ++ more) first old
-  some_of_more more = record {
-    count = length (cut_after 10 text).pieces;
-    answers = has.answers;
-    after = live;
-    turns = subst (λ ps. AreTurns 1 Waits ps has.answers live) (sym (front_of text more)) has.turns;
-    wrote = (has.answers, [], append-nil has.answers, has.wrote);
-  }
+  pub some_of_more : (May : Text → Type 0) (more : Text) → May [] → AnswersSome Hears May (text ++ more) first old
+  some_of_more May more may =
+      let front = front_of text more in
+      record {
+        lines = (cut_after 10 text).pieces;
+        later = front.later;
+        parts = front.parts;
+        answers = has.answers;
+        refusals = has.refusals;
+        after = live;
+        turns = has.turns;
+        begun = [];
+        begins = begins_none _ live front.later (cut_after 10 (text ++ more)).rest;
+        may = may;
+        wrote = subst (λ t. Appends first old t) (sym (append-nil has.answers)) has.wrote;
+        heard = has.heard;
+      }
 
-  pub some_of_line : (piece next : Text) (turn : Turn) (new : Option Text) → EndsNoLine piece → IsTurn number live (begun ++ piece) turn → AppendsBeginning old new turn.text
-      → AnswersSome (text ++ (piece ++ 10 ∷ next)) first new
-  some_of_line piece next turn new plain is wrote = record {
-    count = length (line_cut text piece).pieces;
-    answers = has.answers ++ turn.text;
-    after = turn.live;
-    turns = subst (λ ps. AreTurns 1 Waits ps (has.answers ++ turn.text) turn.live) (sym (front_line text piece next plain)) (line_turns piece turn is);
-    wrote = (has.answers ++ wrote.0, wrote.1, append_assoc has.answers wrote.0 wrote.1 ∙ ap (λ t. has.answers ++ t) wrote.2, Appends-trans first old new has.answers wrote.0 has.wrote wrote.3);
-  }
+  pub some_of_line : (error : WriteError) (piece next : Text) (turn : Turn) (new : Option Text) → EndsNoLine piece → IsTurn number live (begun ++ piece) turn → WritesPart turn.text old new error
+      → AnswersSome Hears (MayBegin error) (text ++ (piece ++ 10 ∷ next)) first new
+  some_of_line error piece next turn new plain is part =
+      let front = front_line text piece next plain in
+      let numbered : IsTurn (suc (length (cut_after 10 text).pieces)) live (begun ++ piece) turn = subst (λ n. IsTurn n live (begun ++ piece) turn) has.numbered is in
+      let line : IsTurn (suc (length (cut_after 10 text).pieces)) live ((cut_after 10 text).rest ++ piece) turn = subst (λ (b : Text). IsTurn (suc (length (cut_after 10 text).pieces)) live (b ++ piece) turn) (sym has.kept) numbered in
+      record {
+        lines = (cut_after 10 text).pieces;
+        later = ((cut_after 10 text).rest ++ piece) ∷ front.later;
+        parts = front.parts ∙ append_assoc (cut_after 10 text).pieces (((cut_after 10 text).rest ++ piece) ∷ []) front.later;
+        answers = has.answers;
+        refusals = has.refusals;
+        after = live;
+        turns = has.turns;
+        begun = part.0;
+        begins = (turn, line, (part.1, part.2));
+        may = part.4;
+        wrote = Appends-trans first old new has.answers part.0 has.wrote part.3;
+        heard = has.heard;
+      }
 
--- Bytes that come ----------------------------------------------------------------------------------
+-- Bytes that come --------------------------------------------------------------------------------
 
 -- no byte came yet
-pub fed_none : (written : Option Text) (feed : Feed) → feed.live ≡ Waits → feed.number ≡ 1 → feed.begun.items ≡ [] → IsFed [] written written feed
-fed_none written feed waits first none = rw (waits, first, none) (record { answers = []; turns = Ended 1 Waits; numbered = refl; kept = refl; wrote = Appends-nil written })
+pub fed_none : (Hears : List Refusal → Type 0) (written : Option Text) (feed : Feed) → feed.live ≡ Waits → feed.number ≡ 1 → feed.begun.items ≡ [] → Hears [] → IsFed Hears [] written written feed
+fed_none Hears written feed waits first none heard = rw (waits, first, none) (record { answers = []; refusals = []; turns = Ended 1 Waits; numbered = refl; kept = refl; wrote = Appends-nil written; heard = heard })
 
 -- what was taken of the bytes was answered, and no more
-pub some_stopped : (text : Text) (first written : Option Text) (feed : Feed) (bytes taken rest : Text) → bytes ≡ taken ++ rest → IsFed (text ++ taken) first written feed → AnswersSome (text ++ bytes) first written
-some_stopped text first written feed bytes taken rest is fed =
-    subst (λ t. AnswersSome t first written) (append_assoc text taken rest ∙ ap (λ t. text ++ t) (sym is)) (some_of_more (text ++ taken) first written feed.number feed.live feed.begun.items fed rest)
+pub some_stopped : (Hears : List Refusal → Type 0) (May : Text → Type 0) (text : Text) (first written : Option Text) (feed : Feed) (bytes taken rest : Text) → May [] → bytes ≡ taken ++ rest → IsFed Hears (text ++ taken) first written feed
+    → AnswersSome Hears May (text ++ bytes) first written
+some_stopped Hears May text first written feed bytes taken rest may is fed =
+    subst (λ t. AnswersSome Hears May t first written) (append_assoc text taken rest ∙ ap (λ t. text ++ t) (sym is)) (some_of_more Hears (text ++ taken) first written feed.number feed.live feed.begun.items fed May rest may)
 
 -- the same, and a prefix of the answer to the next line was written
-pub some_in_line : (text : Text) (first old new : Option Text) (feed mid : Feed) (bytes taken rest piece next : Text) → bytes ≡ taken ++ rest → rest ≡ piece ++ 10 ∷ next → EndsNoLine piece → IsFed (text ++ taken) first old feed
-    → mid.number ≡ feed.number → mid.live ≡ feed.live → mid.begun.items ≡ feed.begun.items ++ piece → TurnsPartly mid old new → AnswersSome (text ++ bytes) first new
-some_in_line text first old new feed mid bytes taken rest piece next is left plain fed number live begun part =
+pub some_in_line : (Hears : List Refusal → Type 0) (error : WriteError) (text : Text) (first old new : Option Text) (feed mid : Feed) (bytes taken rest piece next : Text) → bytes ≡ taken ++ rest → rest ≡ piece ++ 10 ∷ next → EndsNoLine piece
+    → IsFed Hears (text ++ taken) first old feed → mid.number ≡ feed.number → mid.live ≡ feed.live → mid.begun.items ≡ feed.begun.items ++ piece → TurnsPartly mid old new error → AnswersSome Hears (MayBegin error) (text ++ bytes) first new
+some_in_line Hears error text first old new feed mid bytes taken rest piece next is left plain fed number live begun part =
     let turn : IsTurn feed.number feed.live (feed.begun.items ++ piece) part.turn = rw (sym number, sym live, sym begun) part.is in
     let whole = append_assoc text taken (piece ++ 10 ∷ next) ∙ ap (λ t. text ++ (taken ++ t)) (sym left) ∙ ap (λ t. text ++ t) (sym is) in
-    subst (λ t. AnswersSome t first new) whole (some_of_line (text ++ taken) first old feed.number feed.live feed.begun.items fed piece next part.turn new plain turn part.wrote)
+    subst (λ t. AnswersSome Hears (MayBegin error) t first new) whole (some_of_line Hears (text ++ taken) first old feed.number feed.live feed.begun.items fed error piece next part.turn new plain turn part.wrote)
 
--- the next line was answered too
-pub fed_line : (text : Text) (first old new : Option Text) (feed mid after : Feed) (taken piece : Text) → EndsNoLine piece → IsFed (text ++ taken) first old feed → mid.number ≡ feed.number → mid.live ≡ feed.live
-    → mid.begun.items ≡ feed.begun.items ++ piece → TakesTurn mid after old new → IsFed (text ++ (taken ++ (piece ++ 10 ∷ []))) first new after
-fed_line text first old new feed mid after taken piece plain fed number live begun takes =
-    let turn : IsTurn feed.number feed.live (feed.begun.items ++ piece) takes.turn = rw (sym number, sym live, sym begun) takes.is in
-    let all = after_line (text ++ taken) first old feed.number feed.live feed.begun.items fed piece takes.turn new plain turn takes.wrote in
-    rw (takes.number, takes.live, takes.begun, number) (subst (λ t. HasAnswered t first new (suc feed.number) takes.turn.live []) (append_assoc text taken (piece ++ 10 ∷ [])) all)
+module _ {X : Type 0} (hears : X → List Refusal → X → Type 0) (onward : (first mid last : X) (before : List Refusal) (refusal : Refusal) → hears first before mid → hears mid (refusal ∷ []) last → hears first (before ++ refusal ∷ []) last) where
+  -- what a listener heard since the start
+  abbrev pub From : X → X → List Refusal → Type 0
+  From start now refusals = hears start refusals now
+
+  -- nothing was told
+  pub fed_untold : (start listener listener' : X) (text : Text) (first written : Option Text) (feed : Feed) → listener' ≡ listener → IsFed (From start listener) text first written feed → IsFed (From start listener') text first written feed
+  fed_untold start listener listener' text first written feed same fed = subst (λ x. IsFed (From start x) text first written feed) (sym same) fed
+
+  -- the next line was answered too, and told if it is refused
+  pub fed_line : (start listener listener' : X) (text : Text) (first old new : Option Text) (feed mid after : Feed) (taken piece : Text) → EndsNoLine piece → IsFed (From start listener) (text ++ taken) first old feed → mid.number ≡ feed.number
+      → mid.live ≡ feed.live → mid.begun.items ≡ feed.begun.items ++ piece → TakesTurn (λ heard. IsTold hears listener heard listener') mid after old new → IsFed (From start listener') (text ++ (taken ++ (piece ++ 10 ∷ []))) first new after
+  fed_line start listener listener' text first old new feed mid after taken piece plain fed number live begun takes =
+      let turn : IsTurn feed.number feed.live (feed.begun.items ++ piece) takes.turn = rw (sym number, sym live, sym begun) takes.is in
+      let why : IsHeard feed.number feed.live (feed.begun.items ++ piece) takes.heard = rw (sym number, sym live, sym begun) takes.why in
+      let told : hears start (fed.refusals ++ option_to_list takes.heard) listener' = heard_more hears onward start listener listener' fed.refusals takes.heard fed.heard takes.told in
+      let all = after_line (From start listener) (text ++ taken) first old feed.number feed.live feed.begun.items fed (From start listener') piece takes.turn takes.heard new plain turn why takes.wrote told in
+      rw (takes.number, takes.live, takes.begun, number) (subst (λ t. HasAnswered (From start listener') t first new (suc feed.number) takes.turn.live []) (append_assoc text taken (piece ++ 10 ∷ [])) all)
 
 -- what follows the last line is kept
-pub fed_rest : (text : Text) (first written : Option Text) (feed : Feed) (bytes taken rest begun : Text) → bytes ≡ taken ++ rest → EndsNoLine rest → IsFed (text ++ taken) first written feed → begun ≡ feed.begun.items ++ rest
-    → HasAnswered (text ++ bytes) first written feed.number feed.live begun
-fed_rest text first written feed bytes taken rest begun is plain fed same =
-    let all = after_rest (text ++ taken) first written feed.number feed.live feed.begun.items fed rest plain in
+pub fed_rest : (Hears : List Refusal → Type 0) (text : Text) (first written : Option Text) (feed : Feed) (bytes taken rest begun : Text) → bytes ≡ taken ++ rest → EndsNoLine rest → IsFed Hears (text ++ taken) first written feed → begun ≡ feed.begun.items ++ rest
+    → HasAnswered Hears (text ++ bytes) first written feed.number feed.live begun
+fed_rest Hears text first written feed bytes taken rest begun is plain fed same =
+    let all = after_rest Hears (text ++ taken) first written feed.number feed.live feed.begun.items fed rest plain in
     let whole = append_assoc text taken rest ∙ ap (λ t. text ++ t) (sym is) in
-    rw same (subst (λ t. HasAnswered t first written feed.number feed.live (feed.begun.items ++ rest)) whole all)
+    rw same (subst (λ t. HasAnswered Hears t first written feed.number feed.live (feed.begun.items ++ rest)) whole all)
 
 -- a line that was taken of what is left
 pub taken_line : (bytes taken rest piece next : Text) → bytes ≡ taken ++ rest → rest ≡ piece ++ 10 ∷ next → bytes ≡ (taken ++ (piece ++ 10 ∷ [])) ++ next
 taken_line bytes taken rest piece next is left = is ∙ ap (λ t. taken ++ t) (left ∙ sym (append_assoc piece (10 ∷ []) next)) ∙ sym (append_assoc taken (piece ++ 10 ∷ []) next)
 
--- To the end of a source ---------------------------------------------------------------------------
+-- To the end of a source -------------------------------------------------------------------------
 
--- what was answered so far
-some_of_fed : (text : Text) (first written : Option Text) (feed : Feed) → IsFed text first written feed → AnswersSome text first written
-some_of_fed text first written feed has = subst (λ t. AnswersSome t first written) (append-nil text) (some_of_more text first written feed.number feed.live feed.begun.items has [])
+-- what a write error leaves of an answer, its fault does too
+may_end : (error : WriteError) (fault : ScriptFault) (begun : Text) → IsWriteFault error fault → MayBegin error begun → MayEndWith fault begun
+may_end cause.Device fault begun is may = rw is tt
+may_end cause.NoMemory fault begun is may = rw is may
 
 -- the source has lost these bytes, and then no more
 read_ended : (source mid source' : Option Text) (text more : Text) (count : ℕ) → Consumes source mid text → Consumes mid source' (take count more) → count ≡ 0 → Consumes source source' text
@@ -153,39 +201,92 @@ read_ended source mid source' text more count before last none =
     let all : Consumes source source' (text ++ take 0 more) = Consumes-trans source mid source' text (take 0 more) before (rw none at last) in
     subst (Consumes source source') (append-nil text) all
 
-pub front_of_fed : (source source' first written : Option Text) (text : Text) (feed : Feed) → Consumes source source' text → IsFed text first written feed → AnswersFront source source' first written
-front_of_fed source source' first written text feed read has = record { text = text; read = read; some = Lines (some_of_fed text first written feed has) }
+pub front_of_fed : (Hears : List Refusal → Type 0) (fault : ScriptFault) (source source' first written : Option Text) (text : Text) (feed : Feed) → MayEndWith fault [] → Consumes source source' text → IsFed Hears text first written feed
+    → AnswersFront Hears source source' first written fault
+front_of_fed Hears fault source source' first written text feed may read has = record {
+  text = text;
+  read = read;
+  some = subst (λ t. AnswersSome Hears (MayEndWith fault) t first written) (append-nil text) (some_of_more Hears text first written feed.number feed.live feed.begun.items has (MayEndWith fault) [] may);
+}
 
-pub front_of_some : (source mid source' first written : Option Text) (text more : Text) → Consumes source mid text → Consumes mid source' more → AnswersSome (text ++ more) first written → AnswersFront source source' first written
-front_of_some source mid source' first written text more before last some =
-    record { text = text ++ more; read = Consumes-trans source mid source' text more before last; some = Lines some }
+pub front_of_some : (Hears : List Refusal → Type 0) (error : WriteError) (fault : ScriptFault) (source mid source' first written : Option Text) (text more : Text) → IsWriteFault error fault → Consumes source mid text → Consumes mid source' more
+    → AnswersSome Hears (MayBegin error) (text ++ more) first written → AnswersFront Hears source source' first written fault
+front_of_some Hears error fault source mid source' first written text more is before last some = record {
+  text = text ++ more;
+  read = Consumes-trans source mid source' text more before last;
+  some = record {
+    lines = some.lines;
+    later = some.later;
+    parts = some.parts;
+    answers = some.answers;
+    refusals = some.refusals;
+    after = some.after;
+    turns = some.turns;
+    begun = some.begun;
+    begins = some.begins;
+    may = may_end error fault some.begun is some.may;
+    wrote = some.wrote;
+    heard = some.heard;
+  };
+}
 
-module _ (source mid source' first old new : Option Text) (text more : Text) (count : ℕ) (feed : Feed) (before : Consumes source mid text) (last : Consumes mid source' (take count more)) (none : count ≡ 0) (has : IsFed text first old feed) where
-  -- all answers, with that to a last line without its end
+module _ (Hears : List Refusal → Type 0) (source mid source' first old new : Option Text) (text more : Text) (count : ℕ) (feed : Feed) (before : Consumes source mid text) (last : Consumes mid source' (take count more)) (none : count ≡ 0) (has : IsFed Hears text first old feed) where
+  -- all answers, with that to a last line without its end, and all refusals
   abbrev all_text : Text
   all_text = has.answers ++ unended_text feed.number feed.begun.items
 
+  abbrev all_refusals : List Refusal
+  all_refusals = has.refusals ++ option_to_list (unended_refusal feed.number feed.begun.items)
+
+  -- what holds of what is left of the feed holds of what is left of the text
+  by_feed : (P : ℕ → Text → Type 0) → P feed.number feed.begun.items → P (suc (length (cut_after 10 text).pieces)) (cut_after 10 text).rest
+  by_feed P is = subst (λ begun. P (suc (length (cut_after 10 text).pieces)) begun) (sym has.kept) (subst (λ n. P n feed.begun.items) has.numbered is)
+
+  whole_text : all_text ≡ has.answers ++ unended_text (suc (length (cut_after 10 text).pieces)) (cut_after 10 text).rest
+  whole_text = by_feed (λ n begun. all_text ≡ has.answers ++ unended_text n begun) refl
+
   all_is_live : IsLive text all_text
-  all_is_live = record {
+  all_is_live = record { answers = has.answers; after = feed.live; turns = are_turns has.turns; whole = whole_text }
+
+  all_is_heard : IsLiveHeard text all_text all_refusals
+  all_is_heard = record {
     answers = has.answers;
+    heard = has.refusals;
     after = feed.live;
     turns = has.turns;
-    whole = ap (λ n. has.answers ++ unended_text n feed.begun.items) has.numbered ∙ ap (λ (begun : Text). has.answers ++ unended_text (suc (length (cut_after 10 text).pieces)) begun) (sym has.kept);
+    whole = whole_text;
+    all = by_feed (λ n begun. all_refusals ≡ has.refusals ++ option_to_list (unended_refusal n begun)) refl;
   }
 
-  pub all_answered : IsAtEnd source' → Appends old new (unended_text feed.number feed.begun.items) → AnswersAll source source' first new
-  all_answered ended wrote = record {
+  pub all_answered : (Hears' : List Refusal → Type 0) → IsAtEnd source' → Appends old new (unended_text feed.number feed.begun.items) → Hears' (has.refusals ++ option_to_list (unended_refusal feed.number feed.begun.items)) → AnswersAll Hears' source source' first new
+  all_answered Hears' ended wrote heard = record {
     text = text;
     read = read_ended source mid source' text more count before last none;
     ended = ended;
     written = all_text;
+    refusals = all_refusals;
     live = all_is_live;
+    told = all_is_heard;
     wrote = Appends-trans first old new has.answers _ has.wrote wrote;
+    heard = heard;
   }
 
-  pub front_of_end : AppendsBeginning old new (unended_text feed.number feed.begun.items) → AnswersFront source source' first new
-  front_of_end wrote = record {
+  pub front_of_end : (error : WriteError) (fault : ScriptFault) → IsWriteFault error fault → WritesPart (unended_text feed.number feed.begun.items) old new error → AnswersFront Hears source source' first new fault
+  front_of_end error fault is part = record {
     text = text;
     read = read_ended source mid source' text more count before last none;
-    some = End all_text all_is_live (has.answers ++ wrote.0, wrote.1, append_assoc has.answers wrote.0 wrote.1 ∙ ap (λ t. has.answers ++ t) wrote.2, Appends-trans first old new has.answers wrote.0 has.wrote wrote.3);
+    some = record {
+      lines = (cut_after 10 text).pieces;
+      later = [];
+      parts = sym (append-nil (cut_after 10 text).pieces);
+      answers = has.answers;
+      refusals = has.refusals;
+      after = feed.live;
+      turns = has.turns;
+      begun = part.0;
+      begins = by_feed (λ n begun. BeginsAnswer n feed.live [] begun part.0) (part.1, part.2);
+      may = may_end error fault part.0 is part.4;
+      wrote = Appends-trans first old new has.answers part.0 has.wrote part.3;
+      heard = has.heard;
+    };
   }

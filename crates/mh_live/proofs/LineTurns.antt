@@ -1,6 +1,6 @@
 -- The turn of a line by what it says.
 use Rattle.std.proofs.Common.{◌≡◌, ◌∙◌, ◌≤◌, ◌<◌, ℕ, if◌then◌else◌, ◌&&◌, ◌||◌, nat_lt, Bool, true, false, Option, Some, None, List, [], ◌∷◌, length, refl, sym, ap, subst, arith}
-use Rattle.std.specs.Prelude.{codes, Result, Ok, Err, IfOk, OnErr, OnOk}
+use Rattle.std.specs.Prelude.{codes, Result, Ok, Err, IfOk}
 use Rattle.std.specs.Result.{is_err}
 use Rattle.std.proofs.lemmas.Bool.{false≢true}
 use Rattle.std.proofs.lemmas.Bool.{and_parts, lt-ltb, ltb-true}
@@ -27,6 +27,8 @@ use Rattle.mh_state.specs.Running.{Running, Does, MayAskForMemory, first_running
 use Rattle.mh_live.specs.Answers.{Done, Full, IsAnswered, Starved, starved_line}
 use Rattle.mh_model.specs.Live.{Live, IsTurn, Runs, Taken, Turn, Waits, event_turn, needs_memory, line_turn, turn}
 use Rattle.mh_model.specs.Live.{Starved as starved}
+use Rattle.mh_reasons.specs.Reasons.{IsWrong}
+use Rattle.mh_live.specs.Heard.{is_configured}
 
 -- a turn, in other words
 taken : (n : ℕ) (live : Live) (line : Text) (is : Turn) → turn n live line ≡ is → IsTurn n live line is
@@ -72,6 +74,35 @@ opened_waits n line text config running some found none first = taken n Waits li
 
 pub starved_waits : (n : ℕ) (line text : Text) (config : Config) → is_blank line ≡ false → config_words (words line) ≡ Some config → text ≡ starved_line → IsTurn n Waits line (record { text = text; live = Waits })
 starved_waits n line text config some found is = rw is (starved (rw (some, found) refl))
+
+-- Lines that aren't outside the grammar ----------------------------------------------------------
+
+blank-wrong : Blank ≡ Wrong → ⊥
+blank-wrong e = cc
+
+asks-wrong : {control : Control} → Asks control ≡ Wrong → ⊥
+asks-wrong e = cc
+
+calls-wrong : {name : Text} {said : Command} → Calls name said ≡ Wrong → ⊥
+calls-wrong e = cc
+
+pub blank_right : (live : Live) (line : Text) → is_blank line ≡ true → ¬ IsWrong (is_configured live) line
+blank_right Waits line blank wrong = false≢true (sym wrong.0 ∙ blank)
+blank_right (Runs machine names count) line blank wrong = blank-wrong (rw blank at wrong)
+
+pub config_right : (line : Text) (config : Config) → config_words (words line) ≡ Some config → ¬ IsWrong false line
+config_right line config found wrong = some-none (sym found ∙ wrong.1) where
+  some-none : Some config ≡ None → ⊥
+  some-none e = cc
+
+pub blank_says : (line : Text) → line_of line ≡ Blank → ¬ IsWrong true line
+blank_says line is wrong = blank-wrong (sym is ∙ wrong)
+
+pub asks_says : (line : Text) (control : Control) → line_of line ≡ Asks control → ¬ IsWrong true line
+asks_says line control is wrong = asks-wrong (sym is ∙ wrong)
+
+pub calls_says : (line name : Text) (said : Command) → line_of line ≡ Calls name said → ¬ IsWrong true line
+calls_says line name said is wrong = calls-wrong (sym is ∙ wrong)
 
 -- After it ---------------------------------------------------------------------------------------
 
@@ -119,12 +150,6 @@ module _ (n : ℕ) (old : Running) (names : List Text) (line : Text) where
   pub calls_runs : (name : Text) (command : Command) (new : Running) (text : Text) (is_done : Bool) (after : List Text) → line_of line ≡ Calls name command → IsAnswered old (event.Session (session_number names name) command) text new is_done
       → after ≡ (if is_done then with_name names name else names) → IsTurn n before line (record { text = text; live = Runs new.machine after new.done })
   calls_runs name command new text is_done after is = event_runs (Calls name command) is (event.Session (session_number names name) command) (with_name names name) refl new text is_done after (λ _. refl)
-
--- An answer that may have failed for its text ------------------------------------------------------
-
-pub OnErr-always : {X E : Type 0} (result : Result X E) (P : Type 0) → P → OnErr result P
-OnErr-always (Ok x) P is = tt
-OnErr-always (Err e) P is = is
 
 -- A dump's reply is what the machine shows, whatever step it is asked in ---------------------------
 

@@ -1,18 +1,45 @@
 -- Turns one after another.
-use Rattle.std.proofs.Common.{◌≡◌, ℕ, suc, ◌+◌, List, [], ◌∷◌, ◌++◌, length, sym, subst, append_assoc, arith}
+use Rattle.std.proofs.Common.{◌≡◌, ℕ, suc, ◌+◌, Option, Some, None, List, [], ◌∷◌, ◌++◌, length, refl, sym, subst, append_assoc, arith}
 use Rattle.std.proofs.lemmas.List.{append-nil}
+use Rattle.std.specs.Option.{option_to_list}
 use Rattle.mh_model.specs.Bytes.{Text}
-use Rattle.mh_model.specs.Live.{Live, Turn, IsTurn, AreTurns, Ended, Turned}
+use Rattle.mh_model.specs.Live.{Live, Turn, IsTurn, AreTurns}
+use Rattle.mh_model.specs.Live as model
+use Rattle.mh_reasons.specs.declared.reason.LineReason.{LineReason}
+use Rattle.mh_script.specs.declared.end.Refusal.{Refusal}
+use Rattle.mh_live.specs.Heard.{AreHeard, Ended, IsHeard, IsTold, IsWhy, Turned, is_configured, refusal_of}
+
+-- what is heard of lines in turn are turns
+pub are_turns : {n : ℕ} {live : Live} {lines : List Text} {refusals : List Refusal} {answers : Text} {after : Live} → AreHeard n live lines refusals answers after → AreTurns n live lines answers after
+are_turns (Ended n live) = model.Ended n live
+are_turns (Turned n live line lines first heard refusals text after is why rest) = model.Turned n live line lines first text after is (are_turns rest)
+
+-- a change of what is heard and answered, in other words
+same_heard : {n : ℕ} {live : Live} {lines : List Text} {refusals refusals' : List Refusal} {answers answers' : Text} {after : Live} → refusals ≡ refusals' → answers ≡ answers' → AreHeard n live lines refusals answers after → AreHeard n live lines refusals' answers' after
+same_heard {n = n} {live = live} {lines = lines} {refusals' = refusals'} {answers = answers} {after = after} told said are =
+    subst (λ text. AreHeard n live lines refusals' text after) said (subst (λ list. AreHeard n live lines list answers after) told are)
 
 -- lines and then one more
-pub one_more : (n : ℕ) (live : Live) (lines : List Text) (answers : Text) (mid : Live) (number : ℕ) (line : Text) (turn : Turn) → AreTurns n live lines answers mid → number ≡ n + length lines
-    → IsTurn number mid line turn → AreTurns n live (lines ++ line ∷ []) (answers ++ turn.text) turn.live
-one_more n live _ _ mid number line turn (Ended _ _) numbered is =
+pub one_more : (n : ℕ) (live : Live) (lines : List Text) (refusals : List Refusal) (answers : Text) (mid : Live) (number : ℕ) (line : Text) (turn : Turn) (heard : Option Refusal) → AreHeard n live lines refusals answers mid → number ≡ n + length lines
+    → IsTurn number mid line turn → IsHeard number mid line heard → AreHeard n live (lines ++ line ∷ []) (refusals ++ option_to_list heard) (answers ++ turn.text) turn.live
+one_more n live _ _ _ mid number line turn heard (Ended _ _) numbered is why =
     let same : number ≡ n = omega (arith, numbered) in
     let last : IsTurn n live line turn = subst (λ k. IsTurn k live line turn) same is in
-    let all : AreTurns n live (line ∷ []) (turn.text ++ []) turn.live = Turned n live line [] turn [] turn.live last (Ended (suc n) turn.live) in
-    subst (λ text. AreTurns n live (line ∷ []) text turn.live) (append-nil turn.text) all
-one_more n live _ _ mid number line turn (Turned _ _ first lines head text after is_first rest) numbered is =
+    let told : IsHeard n live line heard = subst (λ k. IsHeard k live line heard) same why in
+    same_heard (append-nil (option_to_list heard)) (append-nil turn.text) (Turned n live line [] turn heard [] [] turn.live last told (Ended (suc n) turn.live))
+one_more n live _ _ _ mid number line turn heard (Turned _ _ first lines head head_heard refusals text after is_first first_why rest) numbered is why =
     let same : number ≡ suc n + length lines = omega (arith, numbered) in
-    let more : AreTurns (suc n) head.live (lines ++ line ∷ []) (text ++ turn.text) turn.live = one_more (suc n) head.live lines text mid number line turn rest same is in
-    subst (λ t. AreTurns n live (first ∷ (lines ++ line ∷ [])) t turn.live) (sym (append_assoc head.text text turn.text)) (Turned n live first (lines ++ line ∷ []) head (text ++ turn.text) turn.live is_first more)
+    let more : AreHeard (suc n) head.live (lines ++ line ∷ []) (refusals ++ option_to_list heard) (text ++ turn.text) turn.live = one_more (suc n) head.live lines refusals text mid number line turn heard rest same is why in
+    same_heard (sym (append_assoc (option_to_list head_heard) refusals (option_to_list heard))) (sym (append_assoc head.text text turn.text))
+    (Turned n live first (lines ++ line ∷ []) head head_heard (refusals ++ option_to_list heard) (text ++ turn.text) turn.live is_first first_why more)
+
+-- why a line is refused, with its number
+pub heard_why : (n : ℕ) (live : Live) (line : Text) (why : Option LineReason) → IsWhy (is_configured live) line why → IsHeard n live line (refusal_of n why)
+heard_why n live line None right = right
+heard_why n live line (Some reason) is = (refl, (reason, refl, is.0, is.1))
+
+-- What a listener heard, after one refusal more or none
+module _ {X : Type 0} (hears : X → List Refusal → X → Type 0) (onward : (first mid last : X) (before : List Refusal) (refusal : Refusal) → hears first before mid → hears mid (refusal ∷ []) last → hears first (before ++ refusal ∷ []) last) where
+  pub heard_more : (first mid last : X) (before : List Refusal) (heard : Option Refusal) → hears first before mid → IsTold hears mid heard last → hears first (before ++ option_to_list heard) last
+  heard_more first mid last before None has same = subst (λ refusals. hears first refusals last) (sym (append-nil before)) (subst (λ x. hears first before x) (sym same) has)
+  heard_more first mid last before (Some refusal) has told = onward first mid last before refusal has told

@@ -1,70 +1,108 @@
--- What the lines that came so far were answered.
-use Rattle.std.specs.Prelude.{◌≡◌, ℕ, suc, Option, [], length, take, Result, OnErr, OnOk}
+-- What the lines that came so far were answered, and what was told of them.
+use Rattle.std.specs.Prelude.{◌≡◌, ℕ, suc, Option, List, [], ◌∷◌, ◌++◌, length, Result, IfErr, OnOk}
 use Rattle.std.specs.Io.KnownBytes.{Appends, Consumes, IsAtEnd}
 use Rattle.mh_model.specs.Bytes.{Text, cut_after}
-use Rattle.mh_text.specs.Stream.{AppendsBeginning}
-use Rattle.mh_model.specs.Live.{Live, Turn, Waits, IsTurn, AreTurns, IsLive}
+use Rattle.mh_model.specs.Live.{Live, Turn, Waits, IsTurn, IsLive, unended_text}
 use Rattle.mh_live.specs.declared.feed.Feed.{Feed}
+use Rattle.mh_live.specs.Heard.{AreHeard, IsHeard, IsLiveHeard}
+use Rattle.mh_script.specs.declared.end.Refusal.{Refusal}
 use Rattle.mh_script.specs.declared.fault.ScriptFault.{ScriptFault}
+use Rattle.mh_script.specs.declared.fault.ScriptFault.TheVariants.{Write}
+use Rattle.mh_script.specs.declared.fault.WriteError.{WriteError}
+use Rattle.mh_script.specs.declared.fault.WriteError.TheVariants as cause
 use Rattle.mh_script.specs.Run.{Device}
 use Rattle.mh_script.specs.Texts.{Blames}
 
--- the whole lines of a text were answered, and what follows the last of them is kept
-pub record HasAnswered (text : Text) (old new : Option Text) (number : ℕ) (live : Live) (begun : Text) : Type 0 where
+-- the whole lines of a text were answered and the refused ones told, and what follows the last of them is kept
+pub record HasAnswered (Hears : List Refusal → Type 0) (text : Text) (old new : Option Text) (number : ℕ) (live : Live) (begun : Text) : Type 0 where
   pub answers : Text
-  pub turns : AreTurns 1 Waits (cut_after 10 text).pieces answers live
+  pub refusals : List Refusal
+  pub turns : AreHeard 1 Waits (cut_after 10 text).pieces refusals answers live
   pub numbered : number ≡ suc (length (cut_after 10 text).pieces)
   pub kept : (cut_after 10 text).rest ≡ begun
   pub wrote : Appends old new answers
+  pub heard : Hears refusals
 
-abbrev pub IsFed : Text → Option Text → Option Text → Feed → Type 0
-IsFed text first new feed = HasAnswered text first new feed.number feed.live feed.begun.items
+abbrev pub IsFed : (List Refusal → Type 0) → Text → Option Text → Option Text → Feed → Type 0
+IsFed Hears text first new feed = HasAnswered Hears text first new feed.number feed.live feed.begun.items
 
--- the first lines of a text were answered, or of the answer to the last of them a prefix was written
-pub record AnswersSome (text : Text) (old new : Option Text) : Type 0 where
-  pub count : ℕ
+-- Faults -----------------------------------------------------------------------------------------
+
+-- what may have been written of an answer that isn't whole: nothing, unless the sink failed
+abbrev pub MayBegin : WriteError → Text → Type 0
+MayBegin cause.Device begun = Unit {0}
+MayBegin cause.NoMemory begun = begun ≡ []
+
+abbrev pub MayEndWith : ScriptFault → Text → Type 0
+MayEndWith Write begun = Unit {0}
+MayEndWith fault begun = begun ≡ []
+
+-- of a text a prefix was written before this error
+abbrev pub WritesPart : Text → Option Text → Option Text → WriteError → Type 0
+WritesPart text old new error = (begun left : Text) × (begun ++ left ≡ text) × Appends old new begun × MayBegin error begun
+
+-- a prefix of what the first of these lines, line n, may be answered; if there is none, of the answer to a last line without its end
+abbrev pub BeginsAnswer : ℕ → Live → List Text → Text → Text → Type 0
+BeginsAnswer n live [] rest begun = (left : Text) × (begun ++ left ≡ unended_text n rest)
+BeginsAnswer n live (line ∷ lines) rest begun = (turn : Turn) × IsTurn n live line turn × ((left : Text) × (begun ++ left ≡ turn.text))
+
+-- The first lines of a text were answered, and the refused ones of them heard of. Of the answer to the next line a prefix was written that may stand there; that line was not heard of
+pub record AnswersSome (Hears : List Refusal → Type 0) (May : Text → Type 0) (text : Text) (old new : Option Text) : Type 0 where
+  pub lines : List Text
+  pub later : List Text
+  pub parts : (cut_after 10 text).pieces ≡ lines ++ later
   pub answers : Text
+  pub refusals : List Refusal
   pub after : Live
-  pub turns : AreTurns 1 Waits (take count (cut_after 10 text).pieces) answers after
-  pub wrote : AppendsBeginning old new answers
+  pub turns : AreHeard 1 Waits lines refusals answers after
+  pub begun : Text
+  pub begins : BeginsAnswer (suc (length lines)) after later (cut_after 10 text).rest begun
+  pub may : May begun
+  pub wrote : Appends old new (answers ++ begun)
+  pub heard : Hears refusals
 
--- the line that has begun was answered
-pub record TakesTurn (old new : Feed) (written written' : Option Text) : Type 0 where
+-- Turns ------------------------------------------------------------------------------------------
+
+-- the line that has begun was answered, and told if it is refused
+pub record TakesTurn (Told : Option Refusal → Type 0) (old new : Feed) (written written' : Option Text) : Type 0 where
   pub turn : Turn
   pub is : IsTurn old.number old.live old.begun.items turn
+  pub heard : Option Refusal
+  pub why : IsHeard old.number old.live old.begun.items heard
+  pub told : Told heard
   pub live : new.live ≡ turn.live
   pub number : new.number ≡ suc old.number
   pub begun : new.begun.items ≡ []
   pub wrote : Appends written written' turn.text
 
--- a prefix of its answer was written
-pub record TurnsPartly (old : Feed) (written written' : Option Text) : Type 0 where
+-- a prefix of its answer was written before this error
+pub record TurnsPartly (old : Feed) (written written' : Option Text) (error : WriteError) : Type 0 where
   pub turn : Turn
   pub is : IsTurn old.number old.live old.begun.items turn
-  pub wrote : AppendsBeginning written written' turn.text
+  pub wrote : WritesPart turn.text written written' error
 
--- a source was read to its end, and each line answered
-pub record AnswersAll (source source' sink sink' : Option Text) : Type 0 where
+-- Runs -------------------------------------------------------------------------------------------
+
+-- a source was read to its end, each line answered, and each refused one told
+pub record AnswersAll (Hears : List Refusal → Type 0) (source source' sink sink' : Option Text) : Type 0 where
   pub text : Text
   pub read : Consumes source source' text
   pub ended : IsAtEnd source'
   pub written : Text
+  pub refusals : List Refusal
   pub live : IsLive text written
+  pub told : IsLiveHeard text written refusals
   pub wrote : Appends sink sink' written
+  pub heard : Hears refusals
 
--- a text was answered to its end, or the first of its lines, or of the answer to the last of these a prefix was written
-pub data AnswersPartly (text : Text) (old new : Option Text) : Type 0 where
-  Lines : AnswersSome text old new → AnswersPartly text old new
-  End : (written : Text) → IsLive text written → AppendsBeginning old new written → AnswersPartly text old new
-
--- some bytes of a source were read, and some of the lines in them answered
-pub record AnswersFront (source source' sink sink' : Option Text) : Type 0 where
+-- some bytes of a source were read before this fault, and some of the lines in them answered and told
+pub record AnswersFront (Hears : List Refusal → Type 0) (source source' sink sink' : Option Text) (fault : ScriptFault) : Type 0 where
   pub text : Text
   pub read : Consumes source source' text
-  pub some : AnswersPartly text sink sink'
+  pub some : AnswersSome Hears (MayEndWith fault) text sink sink'
 
--- Lines of a source were answered as they came, and how that ended
-pub record IsLiveRun (source source' sink sink' : Device) (ended : Result Unit ScriptFault) : Type 0 where
-  pub answered : OnOk ended (AnswersAll source.bytes source'.bytes sink.bytes sink'.bytes)
-  pub begun : OnErr ended (AnswersFront source.bytes source'.bytes sink.bytes sink'.bytes)
+-- Lines of a source were answered as they came and the refused ones told, and how that ended
+pub record IsLiveRun (Hears : List Refusal → Type 0) (source source' sink sink' : Device) (ended : Result Unit ScriptFault) : Type 0 where
+  pub answered : OnOk ended (AnswersAll Hears source.bytes source'.bytes sink.bytes sink'.bytes)
+  pub begun : IfErr ended (AnswersFront Hears source.bytes source'.bytes sink.bytes sink'.bytes)
   pub blames : Blames source.failures source'.failures sink.failures sink'.failures ended

@@ -1,3 +1,4 @@
 pub mod Answers
 pub mod Feeding
+pub mod Heard
 pub mod Laws

@@ -1,16 +1,19 @@
 //! Lines that are read from a source as they come. Those whose ends have come are answered before more bytes are read.
-ghost use Rattle.std.specs.Prelude.{◌≡◌, ◌<◌, ◌≤◌, ◌^◌, ◌++◌, [], Option, OnOk, OnErr, IsErrOf};
+ghost use Rattle.std.specs.Prelude.{◌≡◌, ◌<◌, ◌≤◌, ◌^◌, ◌++◌, [], Option, IfErr, OnOk, OnErr, IsErrOf};
 ghost use Rattle.mh_model.specs.Bytes.{Text};
-ghost use Rattle.mh_live.specs.Feeding.{AnswersAll, AnswersFront, AnswersSome, HasAnswered, IsFed, TakesTurn, TurnsPartly};
+ghost use Rattle.mh_live.specs.Feeding.{AnswersAll, AnswersFront, AnswersSome, IsFed, MayBegin, TakesTurn, TurnsPartly, WritesPart};
+ghost use Rattle.mh_live.specs.Heard.{IsTold, refusal_of, unended_refusal};
 ghost use Rattle.mh_model.specs.Live.{Waits, unended_text};
 ghost use Rattle.mh_script.specs.Texts.{Blames};
-ghost use Rattle.mh_text.specs.Stream.{AppendsBeginning};
 ghost use Rattle.std.specs.Io.KnownBytes.{Appends};
 
 use crate::answer::refused;
+use crate::listener::Listener;
 use crate::live::Live;
+use mh_reasons::reason::{LineReason, ScriptReason};
 use mh_scan::crew_scan::{CrewGate, CrewScan};
 use mh_scan::scan::Scanner;
+use mh_script::end::Refusal;
 use mh_script::fault::{ScriptFault, WriteError};
 use mh_text::pieces::split_at_byte;
 use mh_text::sink::Sink;
@@ -21,6 +24,19 @@ use std::thread::Threads;
 
 /// The most bytes that are read at a time.
 const CHUNK: usize = 65_536;
+
+/// Tells what is wrong with a line, if anything is.
+fn tell<L: Listener>(listener: &mut L, number: u64, why: Option<LineReason>)
+    ensures { IsTold L.hears listener.old (refusal_of number why) listener.new }
+{
+    if let Some(reason) = why {
+        let reason = ScriptReason::Line(reason);
+        listener.refused(&Refusal {
+            line: number,
+            reason,
+        });
+    }
+}
 
 /// The run, the number of the line that has begun, what came of it, and the answer that is being made.
 #[derive(Drop)]
@@ -45,11 +61,17 @@ impl Feed {
         }
     }
 
-    /// Answers the line that has begun, and whose end has come.
-    fn line<S: Scanner, W: Sink>(&mut self, scanner: &mut S, sink: &mut W) -> Result<(), WriteError>
+    /// Answers the line that has begun, and whose end has come. Then it tells what is wrong with it, if anything is.
+    fn line<S: Scanner, W: Sink, L: Listener>(
+        &mut self,
+        scanner: &mut S,
+        sink: &mut W,
+        listener: &mut L,
+    ) -> Result<(), WriteError>
         requires { W.failures sink.old < 2 ^ 62 }
-        ensures done { OnOk result (TakesTurn self.old self.new (W.written sink.old) (W.written sink.new)) }
-        ensures begun { OnErr result (TurnsPartly self.old (W.written sink.old) (W.written sink.new)) }
+        ensures done { OnOk result (TakesTurn (λ refusal. IsTold L.hears listener.old refusal listener.new) self.old self.new (W.written sink.old) (W.written sink.new)) }
+        ensures begun { IfErr result (TurnsPartly self.old (W.written sink.old) (W.written sink.new)) }
+        ensures untold { OnErr result (listener.new ≡ listener.old) }
         ensures no_failure { OnOk result (W.failures sink.new ≡ W.failures sink.old) }
         ensures blamed { IsErrOf result WriteError.Device → W.failures sink.old < W.failures sink.new }
         ensures not_blamed { IsErrOf result WriteError.NoMemory → W.failures sink.new ≡ W.failures sink.old }
@@ -59,24 +81,29 @@ impl Feed {
         };
         self.answer.clear();
         let line = self.begun.as_slice();
-        self.live
+        let why = self
+            .live
             .line(self.number, line, scanner, &mut self.answer)?;
         write_text(sink, self.answer.as_bytes())?;
+        tell(listener, self.number, why);
         self.begun.clear();
         self.number = next;
         Ok(())
     }
 
     /// Answers the lines whose ends are among bytes that came, and keeps what follows the last of them.
-    fn bytes<S: Scanner, W: Sink>(
+    fn bytes<S: Scanner, W: Sink, L: Listener>(
         &mut self,
         bytes: &[u8],
         scanner: &mut S,
         sink: &mut W,
+        listener: &mut L,
     ) -> Result<(), WriteError>
         requires { W.failures sink.old < 2 ^ 62 }
-        ensures done { OnOk result ((text : Text) (first : Option Text) → IsFed text first (W.written sink.old) self.old → IsFed (text ++ bytes.now) first (W.written sink.new) self.new) }
-        ensures begun { OnErr result ((text : Text) (first : Option Text) → IsFed text first (W.written sink.old) self.old → AnswersSome (text ++ bytes.now) first (W.written sink.new)) }
+        ensures done { OnOk result ((text : Text) (first : Option Text) (start : L) → IsFed (λ refusals. L.hears start refusals listener.old) text first (W.written sink.old) self.old
+            → IsFed (λ refusals. L.hears start refusals listener.new) (text ++ bytes.now) first (W.written sink.new) self.new) }
+        ensures begun { IfErr result (λ error. (text : Text) (first : Option Text) (start : L) → IsFed (λ refusals. L.hears start refusals listener.old) text first (W.written sink.old) self.old
+            → AnswersSome (λ refusals. L.hears start refusals listener.new) (MayBegin error) (text ++ bytes.now) first (W.written sink.new)) }
         ensures no_failure { OnOk result (W.failures sink.new ≡ W.failures sink.old) }
         ensures blamed { IsErrOf result WriteError.Device → W.failures sink.old < W.failures sink.new }
         ensures not_blamed { IsErrOf result WriteError.NoMemory → W.failures sink.new ≡ W.failures sink.old }
@@ -86,7 +113,7 @@ impl Feed {
             if self.begun.extend_from_slice(piece).is_err() {
                 return Err(WriteError::NoMemory);
             }
-            self.line(scanner, sink)?;
+            self.line(scanner, sink, listener)?;
             rest = next;
         }
         if self.begun.extend_from_slice(rest).is_err() {
@@ -95,11 +122,17 @@ impl Feed {
         Ok(())
     }
 
-    /// Refuses a last line without its end.
-    fn end<W: Sink>(&mut self, sink: &mut W) -> Result<(), WriteError>
+    /// Refuses a last line without its end, and then tells of it.
+    fn end<W: Sink, L: Listener>(
+        &mut self,
+        sink: &mut W,
+        listener: &mut L,
+    ) -> Result<(), WriteError>
         requires { W.failures sink.old < 2 ^ 62 }
         ensures done { OnOk result (Appends (W.written sink.old) (W.written sink.new) (unended_text self.old.number self.old.begun.items)) }
-        ensures begun { OnErr result (AppendsBeginning (W.written sink.old) (W.written sink.new) (unended_text self.old.number self.old.begun.items)) }
+        ensures begun { IfErr result (WritesPart (unended_text self.old.number self.old.begun.items) (W.written sink.old) (W.written sink.new)) }
+        ensures told { OnOk result (IsTold L.hears listener.old (unended_refusal self.old.number self.old.begun.items) listener.new) }
+        ensures untold { OnErr result (listener.new ≡ listener.old) }
         ensures no_failure { OnOk result (W.failures sink.new ≡ W.failures sink.old) }
         ensures blamed { IsErrOf result WriteError.Device → W.failures sink.old < W.failures sink.new }
         ensures not_blamed { IsErrOf result WriteError.NoMemory → W.failures sink.new ≡ W.failures sink.old }
@@ -110,25 +143,31 @@ impl Feed {
         self.answer.clear();
         refused(self.number, &mut self.answer)?;
         write_text(sink, self.answer.as_bytes())?;
+        listener.refused(&Refusal {
+            line: self.number,
+            reason: ScriptReason::NoNewline,
+        });
         Ok(())
     }
 }
 
-/// Reads lines to the end of the source. Those whose ends have come are answered before more bytes are read. At most
-/// `workers` threads scan at a time. Neither their number nor the gate changes an answer.
-pub fn run_live<R: Threads, S: Source, W: Sink, G: CrewGate>(
+/// Reads lines to the end of the source. Those whose ends have come are answered before more bytes are read. The listener
+/// hears of a line outside the grammar after its answer was written, and before the next line is answered. At most `workers`
+/// threads scan at a time. Neither their number nor the gate changes an answer.
+pub fn run_live<R: Threads, S: Source, W: Sink, L: Listener, G: CrewGate>(
     rt: &R,
     alloc: Global,
     source: &mut S,
     sink: &mut W,
+    listener: &mut L,
     workers: usize,
     gate: &G,
 ) -> Result<(), ScriptFault>
     requires workers { (0 < workers) × (workers ≤ 64) }
     requires source_count { S.failures source.old < 2 ^ 62 }
     requires sink_count { W.failures sink.old < 2 ^ 62 }
-    ensures answered { OnOk result (AnswersAll (S.rest source.old) (S.rest source.new) (W.written sink.old) (W.written sink.new)) }
-    ensures begun { OnErr result (AnswersFront (S.rest source.old) (S.rest source.new) (W.written sink.old) (W.written sink.new)) }
+    ensures answered { OnOk result (AnswersAll (λ refusals. L.hears listener.old refusals listener.new) (S.rest source.old) (S.rest source.new) (W.written sink.old) (W.written sink.new)) }
+    ensures begun { IfErr result (AnswersFront (λ refusals. L.hears listener.old refusals listener.new) (S.rest source.old) (S.rest source.new) (W.written sink.old) (W.written sink.new)) }
     ensures blames { Blames (S.failures source.old) (S.failures source.new) (W.failures sink.old) (W.failures sink.new) result }
 {
     let mut scanner = CrewScan::new(rt, alloc, workers, gate);
@@ -139,10 +178,10 @@ pub fn run_live<R: Threads, S: Source, W: Sink, G: CrewGate>(
             return Err(ScriptFault::Read);
         };
         if count == 0 {
-            feed.end(sink)?;
+            feed.end(sink, listener)?;
             return Ok(());
         }
-        feed.bytes(&chunk[..count], &mut scanner, sink)?;
+        feed.bytes(&chunk[..count], &mut scanner, sink, listener)?;
     }
     Err(ScriptFault::NoMemory)
 }

@@ -4,5 +4,6 @@
 mod answer;
 pub mod feed;
 pub mod laws;
+pub mod listener;
 pub mod live;
 pub mod names;

@@ -1,14 +1,17 @@
 //! The machine that lines drive.
-ghost use Rattle.std.specs.Prelude.{◌≡◌, [], false, OnOk, Some};
+ghost use Rattle.std.specs.Prelude.{◌≡◌, [], true, false, IfOk, OnOk, Some};
 ghost use Rattle.std.specs.String.{string_bytes};
 ghost use Rattle.mh_model.specs.Script.{is_blank, line_of};
 ghost use Rattle.mh_live.specs.Answers.{live_of};
+ghost use Rattle.mh_live.specs.Heard.{IsWhy, is_configured};
 ghost use Rattle.mh_model.specs.Live.{Waits, IsTurn};
 
 use crate::answer::{answer, refused, starved};
 use crate::names::Names;
 use mh_model::command::Event;
 use mh_model::memory::NoMemory;
+use mh_reasons::line::line_reason;
+use mh_reasons::reason::LineReason;
 use mh_scan::scan::Scanner;
 use mh_state::machine::Machine;
 use mh_text::line::{Line, config_line, is_blank, line_of};
@@ -23,7 +26,7 @@ pub(crate) struct Attended {
 }
 
 impl Attended {
-    /// Answers a line after the configuration.
+    /// Answers a line after the configuration, and says what is wrong if it is outside the grammar.
     fn line<S: Scanner>(
         &mut self,
         alloc: Global,
@@ -31,24 +34,28 @@ impl Attended {
         line: &[u8],
         scanner: &mut S,
         text: &mut String,
-    ) -> Result<(), NoMemory>
+    ) -> Result<Option<LineReason>, NoMemory>
         requires { string_bytes text.old ≡ [] }
-        ensures { OnOk result (IsTurn number (live_of (Some self.old)) line.now (record { text = string_bytes text.new; live = live_of (Some self.new) })) }
+        ensures turn { OnOk result (IsTurn number (live_of (Some self.old)) line.now (record { text = string_bytes text.new; live = live_of (Some self.new) })) }
+        ensures why { IfOk result (IsWhy true line.now) }
     {
         match line_of(line) {
-            Line::Blank => Ok(()),
-            Line::Wrong => refused(number, text),
+            Line::Blank => Ok(None),
+            Line::Wrong => {
+                refused(number, text)?;
+                Ok(Some(line_reason(true, line)))
+            }
             Line::Asks(control) => {
                 let event = Event::Control(control);
                 answer(alloc, &mut self.machine, event, scanner, text)?;
-                Ok(())
+                Ok(None)
             }
             Line::Calls(name, command) => {
                 let event = Event::Session(self.names.number(name), command);
                 if answer(alloc, &mut self.machine, event, scanner, text)? {
                     self.names.see(name);
                 }
-                Ok(())
+                Ok(None)
             }
         }
     }
@@ -78,40 +85,51 @@ impl Live {
         Live { alloc, run: None }
     }
 
-    fn configure(&mut self, number: u64, line: &[u8], text: &mut String) -> Result<(), NoMemory>
+    fn configure(
+        &mut self,
+        number: u64,
+        line: &[u8],
+        text: &mut String,
+    ) -> Result<Option<LineReason>, NoMemory>
         requires waits { self.old ≡ Waits }
         requires some { is_blank line.now ≡ false }
         requires empty { string_bytes text.old ≡ [] }
-        ensures { OnOk result (IsTurn number self.old line.now (record { text = string_bytes text.new; live = self.new })) }
+        ensures turn { OnOk result (IsTurn number self.old line.now (record { text = string_bytes text.new; live = self.new })) }
+        ensures why { IfOk result (IsWhy false line.now) }
     {
         let Some(config) = config_line(line) else {
-            return refused(number, text);
+            refused(number, text)?;
+            return Ok(Some(line_reason(false, line)));
         };
         match Machine::open(self.alloc, config) {
             Ok(machine) => {
                 let names = Names::new();
                 self.run = Some(Attended { machine, names });
-                Ok(())
+                Ok(None)
             }
-            Err(NoMemory) => starved(text),
+            Err(NoMemory) => {
+                starved(text)?;
+                Ok(None)
+            }
         }
     }
 
     /// Answers a line with this number, given without its end. A line that is blank, or the configuration, is answered with
     /// nothing. If memory is refused for a line's event, it is answered so and nothing is changed. If it is refused for the
-    /// text of an answer, the call fails, and the run is not to go on.
+    /// text of an answer, the call fails, and the run is not to go on. Of a line outside the grammar it says what is wrong.
     pub fn line<S: Scanner>(
         &mut self,
         number: u64,
         line: &[u8],
         scanner: &mut S,
         text: &mut String,
-    ) -> Result<(), NoMemory>
+    ) -> Result<Option<LineReason>, NoMemory>
         requires { string_bytes text.old ≡ [] }
-        ensures { OnOk result (IsTurn number self.old line.now (record { text = string_bytes text.new; live = self.new })) }
+        ensures turn { OnOk result (IsTurn number self.old line.now (record { text = string_bytes text.new; live = self.new })) }
+        ensures why { IfOk result (IsWhy (is_configured self.old) line.now) }
     {
         if is_blank(line) {
-            return Ok(());
+            return Ok(None);
         }
         match &mut self.run {
             None => self.configure(number, line, text),

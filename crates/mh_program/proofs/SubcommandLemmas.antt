@@ -29,7 +29,7 @@ use Rattle.mh_program.specs.declared.options.OptionFault.{OptionFault}
 use Rattle.mh_program.specs.declared.options.OptionFault.TheVariants.{NoNumber, Missing, Unwanted, Outside}
 use Rattle.std.specs.Borrow.{Bor}
 use Rattle.clap.specs.declared.error.kind.ErrorKind.{ErrorKind}
-use Rattle.mh_program.specs.Orders.{AreAmiss, AskAmiss, AsksOutside, AsksVersion, GivesOrder, HasAmiss, HasFewWorkers, HasFirstRules, HasOptionFault, IsFault, IsMissing, IsNoNumber, IsOptionFault, IsOrder, IsOutside, IsUnwanted, Named, NotMet, NotTaken, Refuses, RefusesOptions, kind_of_fault}
+use Rattle.mh_program.specs.Orders.{AreAmiss, AskAmiss, AsksOutside, AsksVersion, GivesOrder, HasFewWorkers, HasFirstRules, HasOptionFault, IsFault, IsMissing, IsNoNumber, IsOrder, IsOutside, IsUnwanted, Named, NotMet, NotTaken, Refuses, RefusesOptions, kind_of_fault}
 use Rattle.mh_program.specs.Line.{AsksForFew, AsksForRules, Checks, HasFlag, IsAsked, NamesOne, Nothing, Runs, TakesWorkers, Workers, any_text, check_app, flag_rule, metroheap, rules_numbers, run_app, worker_numbers, workers_app}
 use Rattle.mh_program.proofs.OptionLemmas.{AreRead, IsSafe, level-read, never, none_first, none_next, safe-flag, safe-help, safe-value, value-may, value_rule}
 
@@ -217,21 +217,21 @@ module _ (a : App) (words : List Text) (m : ArgMatches) (is : a ≡ metroheap) (
       let P : Option (Text × List Row) → Type 0 = λ matched. IsSomeAnd matched (λ subcommand. IsOutside subcommand.0 subcommand.1 option) in
       record { taken = no_fault; named = subst P (sym rows_are) named }
 
-  ask_amiss : (k : ErrorKind) → IsSomeAnd (subcommand_rows_of m) (λ subcommand. HasAmiss k subcommand.0 subcommand.1) → AskAmiss words k
+  ask_amiss : (k : ErrorKind) → IsSomeAnd (subcommand_rows_of m) (λ subcommand. AreAmiss subcommand.0 subcommand.1 k) → AskAmiss words k
   ask_amiss k named =
-      let P : Option (Text × List Row) → Type 0 = λ matched. IsSomeAnd matched (λ subcommand. HasAmiss k subcommand.0 subcommand.1) in
+      let P : Option (Text × List Row) → Type 0 = λ matched. IsSomeAnd matched (λ subcommand. AreAmiss subcommand.0 subcommand.1 k) in
       record { taken = no_fault; named = subst P (sym rows_are) named }
 
-  amiss_by : (rows : List Row) (fault : OptionFault) (k : ErrorKind) → IsOptionFault rows fault → kind_of_fault fault ≡ Some k → AreAmiss rows k
-  amiss_by rows (NoNumber name text) k is kinds = subst (AreAmiss rows) (same_some kinds) (IsNoNumber name.now is.0 is.1)
-  amiss_by rows (Missing name) k is kinds = subst (AreAmiss rows) (same_some kinds) (IsMissing name.now is.0 is.1)
-  amiss_by rows (Unwanted name) k is kinds = subst (AreAmiss rows) (same_some kinds) (IsUnwanted name.now is.0 is.1 is.2)
-  amiss_by rows (Outside option) k is kinds = absurd (none_some kinds)
+  amiss_by : (name : Text) (rows : List Row) (fault : OptionFault) (k : ErrorKind) → HasOptionFault name rows fault → kind_of_fault fault ≡ Some k → AreAmiss name rows k
+  amiss_by name rows (NoNumber option text) k is kinds = subst (AreAmiss name rows) (same_some kinds) (IsNoNumber is.0 option.now is.1.0 is.1.1)
+  amiss_by name rows (Missing option) k is kinds = subst (AreAmiss name rows) (same_some kinds) (IsMissing is.0 option.now is.1.0 is.1.1)
+  amiss_by name rows (Unwanted option) k is kinds = subst (AreAmiss name rows) (same_some kinds) (IsUnwanted is.0 option.now is.1 is.2 is.3)
+  amiss_by name rows (Outside option) k is kinds = absurd (none_some kinds)
 
   has_amiss : (fault : OptionFault) (k : ErrorKind) (matched : Option (Text × List Row)) → IsSomeAnd matched (λ subcommand. HasOptionFault subcommand.0 subcommand.1 fault) → kind_of_fault fault ≡ Some k
-      → IsSomeAnd matched (λ subcommand. HasAmiss k subcommand.0 subcommand.1)
+      → IsSomeAnd matched (λ subcommand. AreAmiss subcommand.0 subcommand.1 k)
   has_amiss fault k None has kinds = absurd has
-  has_amiss fault k (Some subcommand) has kinds = (has.0, amiss_by subcommand.1 fault k has.1 kinds)
+  has_amiss fault k (Some subcommand) has kinds = amiss_by subcommand.0 subcommand.1 fault k has kinds
 
   -- options with a fault are refused so
   pub options_refused : (fault : OptionFault) (line : LineFault) → IsSomeAnd (subcommand_rows_of m) (λ subcommand. HasOptionFault subcommand.0 subcommand.1 fault) → RefusesOptions fault line → IsFault words line

@@ -3,3 +3,4 @@ pub mod Orders
 pub mod Program
 pub mod Printable
 pub mod Status
+pub mod Telling

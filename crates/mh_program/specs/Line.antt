@@ -162,8 +162,9 @@ AsksToCheck rows = AsksForRules rows × HasFlag (codes "sessions") rows
 abbrev pub TakesWorkers : Text → Type 0
 TakesWorkers name = (name ≡ codes "live") ⊎ (name ≡ codes "race")
 
-abbrev pub TakesNumbers : Text → Type 0
-TakesNumbers name = (name ≡ codes "check") ⊎ (name ≡ codes "migrate")
+-- the subcommand wants a configuration: `migrate` does, and `check` without `--sessions`
+abbrev pub WantsConfig : Text → List Row → Type 0
+WantsConfig name rows = ((name ≡ codes "check") × (is_flagged (codes "sessions") rows ≡ false)) ⊎ (name ≡ codes "migrate")
 
 -- a subcommand of the program, with what its options may be
 pub data IsAsked (name : Text) (rows : List Row) : Type 0 where

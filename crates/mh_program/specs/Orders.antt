@@ -18,7 +18,7 @@ use Rattle.mh_program.specs.declared.line.ConfigOption.{ConfigOption}
 use Rattle.mh_program.specs.declared.line.ConfigOption.TheVariants.{Pages, Quantum, Trigger, Every}
 use Rattle.mh_program.specs.declared.options.OptionFault.{OptionFault}
 use Rattle.mh_program.specs.declared.options.OptionFault.TheVariants.{NoNumber, Missing, Unwanted, Outside}
-use Rattle.mh_program.specs.Line.{HasNumber, IsConfigOption, LacksNumber, TakesNumbers, is_flagged, metroheap, rules_of, workers_of}
+use Rattle.mh_program.specs.Line.{HasNumber, IsConfigOption, LacksNumber, WantsConfig, is_flagged, metroheap, rules_of, workers_of}
 
 -- Orders -----------------------------------------------------------------------------------------
 
@@ -88,9 +88,9 @@ pub record AreOutside (rows : List Row) (option : ConfigOption) : Type 0 where
   pub none : (rules : Rules) → config_under rules numbers ≡ None
   pub outside : IsOutsideBy option numbers
 
--- the subcommand takes the numbers of a configuration, and this one is outside its limits
+-- the subcommand wants a configuration, and this one of its numbers is outside its limits
 abbrev pub IsOutside : Text → List Row → ConfigOption → Type 0
-IsOutside name rows option = TakesNumbers name × (AreOutside rows option)
+IsOutside name rows option = WantsConfig name rows × AreOutside rows option
 
 -- from 1 to 64 workers, if the order has workers
 abbrev pub HasFewWorkers : Order → Type 0
@@ -111,22 +111,23 @@ abbrev pub IsBlamed : (pages quantum every : ℕ) → ConfigOption → Type 0
 IsBlamed pages quantum every Trigger = (1 ≤ pages) × (pages ≤ 4096) × (209 ≤ quantum) × (quantum ≤ 1000000) × (every ≤ 1000000)
 IsBlamed pages quantum every option = IsOutsideBy option (record { pages = pages; quantum = quantum; trigger = 0; every = every })
 
--- what is wrong with the options of a subcommand: one is no number, or is missing, or is given beside `--sessions`, or is outside its limits
-abbrev pub IsOptionFault : List Row → OptionFault → Type 0
-IsOptionFault rows (NoNumber name text) = IsConfigOption name.now × LacksNumber rows name.now
-IsOptionFault rows (Missing name) = IsConfigOption name.now × (one_of name.now rows ≡ None)
-IsOptionFault rows (Unwanted name) = IsConfigOption name.now × (is_flagged (codes "sessions") rows ≡ true) × IsSome (one_of name.now rows)
-IsOptionFault rows (Outside option) = AreOutside rows option
+-- what is wrong with the options of a configuration: one is no number, or is missing, or is outside its limits
+abbrev pub IsNumberFault : List Row → OptionFault → Type 0
+IsNumberFault rows (NoNumber name text) = IsConfigOption name.now × LacksNumber rows name.now
+IsNumberFault rows (Missing name) = IsConfigOption name.now × (one_of name.now rows ≡ None)
+IsNumberFault rows (Unwanted name) = ⊥
+IsNumberFault rows (Outside option) = AreOutside rows option
 
--- `clap` takes the options, and an option of a configuration is amiss: the kind of fault that this is
-pub data AreAmiss (rows : List Row) : ErrorKind → Type 0 where
-  IsNoNumber : (option : Text) → IsConfigOption option → LacksNumber rows option → AreAmiss rows ValueValidation
-  IsMissing : (option : Text) → IsConfigOption option → one_of option rows ≡ None → AreAmiss rows MissingRequiredArgument
-  IsUnwanted : (option : Text) → IsConfigOption option → is_flagged (codes "sessions") rows ≡ true → IsSome (one_of option rows) → AreAmiss rows ArgumentConflict
+-- what is wrong with those of a subcommand: these are, if it wants a configuration; or one is given beside `--sessions`
+abbrev pub HasOptionFault : Text → List Row → OptionFault → Type 0
+HasOptionFault subcommand rows (Unwanted name) = (subcommand ≡ codes "check") × IsConfigOption name.now × (is_flagged (codes "sessions") rows ≡ true) × IsSome (one_of name.now rows)
+HasOptionFault subcommand rows fault = WantsConfig subcommand rows × IsNumberFault rows fault
 
--- the subcommand takes the numbers of a configuration, and its options are amiss
-abbrev pub HasAmiss : ErrorKind → Text → List Row → Type 0
-HasAmiss kind name rows = TakesNumbers name × AreAmiss rows kind
+-- `clap` takes the options of a subcommand, and one of a configuration is amiss: the kind of fault that this is
+pub data AreAmiss (name : Text) (rows : List Row) : ErrorKind → Type 0 where
+  IsNoNumber : WantsConfig name rows → (option : Text) → IsConfigOption option → LacksNumber rows option → AreAmiss name rows ValueValidation
+  IsMissing : WantsConfig name rows → (option : Text) → IsConfigOption option → one_of option rows ≡ None → AreAmiss name rows MissingRequiredArgument
+  IsUnwanted : name ≡ codes "check" → (option : Text) → IsConfigOption option → is_flagged (codes "sessions") rows ≡ true → IsSome (one_of option rows) → AreAmiss name rows ArgumentConflict
 
 -- Words ------------------------------------------------------------------------------------------
 
@@ -149,7 +150,7 @@ pub record AsksOutside (words : List Text) (option : ConfigOption) : Type 0 wher
 -- `clap` takes the words, and the options of their subcommand are amiss
 pub record AskAmiss (words : List Text) (kind : ErrorKind) : Type 0 where
   pub taken : fault_of metroheap words ≡ []
-  pub named : IsSomeAnd (subcommand_of metroheap words) (λ subcommand. HasAmiss kind subcommand.0 subcommand.1)
+  pub named : IsSomeAnd (subcommand_of metroheap words) (λ subcommand. AreAmiss subcommand.0 subcommand.1 kind)
 
 -- why words give no order, of which `clap` says what is wrong: it doesn't take them, or their options are amiss
 pub data AreRefused (words : List Text) (kind : ErrorKind) : Type 0 where
@@ -176,10 +177,6 @@ OrdersBy words (Ok order) = GivesOrder words order
 OrdersBy words (Err fault) = IsFault words fault
 
 -- Refusals ---------------------------------------------------------------------------------------
-
--- the subcommand takes the numbers of a configuration, and its options have this fault
-abbrev pub HasOptionFault : Text → List Row → OptionFault → Type 0
-HasOptionFault name rows fault = TakesNumbers name × IsOptionFault rows fault
 
 -- the kind by which `clap` refuses options with a fault, which is none of its own if a number is outside its limits
 abbrev pub kind_of_fault : OptionFault → Option ErrorKind

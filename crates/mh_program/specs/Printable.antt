@@ -6,9 +6,12 @@ use Rattle.std.specs.List.{All}
 abbrev pub is_printable : ℕ → Bool
 is_printable byte = nat_le 32 byte && nat_le byte 126
 
+abbrev pub IsSign : ℕ → Type 0
+IsSign byte = (32 ≤ byte) × (byte ≤ 126)
+
 -- the byte ends a line, or can be printed
 abbrev pub IsPrintableByte : ℕ → Type 0
-IsPrintableByte byte = (byte ≡ 10) ⊎ ((32 ≤ byte) × (byte ≤ 126))
+IsPrintableByte byte = (byte ≡ 10) ⊎ IsSign byte
 
 -- a text in which nothing but the ends of lines can't be printed
 abbrev pub IsPrintable : List ℕ → Type 0

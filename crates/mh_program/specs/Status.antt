@@ -1,7 +1,7 @@
 -- Exit statuses.
 use Rattle.std.specs.Prelude.{ℕ, Result, Ok, Err}
-use Rattle.mh_model.specs.declared.history.Verdict.{Verdict}
-use Rattle.mh_model.specs.declared.history.Verdict.TheVariants as verdict
+use Rattle.mh_findings.specs.declared.judgement.Judgement.{Judgement}
+use Rattle.mh_findings.specs.declared.judgement.Judgement.TheVariants as judgement
 use Rattle.mh_script.specs.declared.end.End.{End}
 use Rattle.mh_script.specs.declared.end.End.TheVariants.{Done, Refused}
 use Rattle.mh_program.specs.declared.fault.LineFault.{LineFault}
@@ -20,11 +20,11 @@ live_status_of (Ok nothing) = 0
 live_status_of (Err fault) = 3
 
 -- 0 for a legal history, 1 for a text that was refused as one, 4 for a history that isn't legal, 3 for a fault
-abbrev pub verdict_status_of : Result Verdict ScriptFault → ℕ
-verdict_status_of (Ok (verdict.Legal entries)) = 0
-verdict_status_of (Ok (verdict.Refused line)) = 1
-verdict_status_of (Ok (verdict.FirstBad entry)) = 4
-verdict_status_of (Err fault) = 3
+abbrev pub judgement_status_of : Result Judgement ScriptFault → ℕ
+judgement_status_of (Ok (judgement.Legal entries)) = 0
+judgement_status_of (Ok (judgement.Refused line reason)) = 1
+judgement_status_of (Ok (judgement.FirstBad entry fault)) = 4
+judgement_status_of (Err fault) = 3
 
 -- 2 for words that are refused, 3 if memory was refused
 abbrev pub line_status_of : LineFault → ℕ

@@ -1,3 +1,4 @@
+use crate::errors::Errors;
 use crate::program::program;
 use crate::words::words;
 use mh_scan::gate::Open;
@@ -21,6 +22,6 @@ pub fn launch<R: Threads + Wait + Sync, V: Env, I: Read + Drop, O: Write + Drop,
     let words = words(env, alloc);
     let mut source = StdSource::new(input);
     let mut sink = StdSink::new(output);
-    let mut errors = StdSink::new(errors);
+    let mut errors = Errors::new(alloc, StdSink::new(errors));
     program(rt, alloc, words, &mut source, &mut sink, &mut errors, &Open)
 }

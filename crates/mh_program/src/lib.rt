@@ -2,6 +2,7 @@
 #![tactic(auto)]
 
 mod command;
+pub mod errors;
 pub mod fault;
 pub mod launch;
 pub mod line;
@@ -11,5 +12,6 @@ pub mod program;
 pub mod prompt;
 mod quoted;
 pub mod status;
+mod telling;
 pub mod version;
 pub mod words;

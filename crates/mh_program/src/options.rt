@@ -4,7 +4,7 @@ ghost use Rattle.std.specs.List.{list_all};
 ghost use Rattle.std.specs.Str.Parse.{without_leading_plus};
 ghost use Rattle.clap.specs.Words.{found_of, one_of, rows_of};
 ghost use Rattle.mh_program.specs.Line.{AsksForFew, AsksForRules, AsksToCheck, AsksToRun, HasFlag, HoldsNumber, IsConfigOption, IsNumber, ReadsNumber, is_flagged, rules_numbered, rules_of, workers_of};
-ghost use Rattle.mh_program.specs.Orders.{AreRunOptions, HasFewWorkers, HasFirstRules, IsBlamed, IsOptionFault, IsOrder, MakesConfig};
+ghost use Rattle.mh_program.specs.Orders.{AreRunOptions, HasFewWorkers, HasFirstRules, HasOptionFault, IsBlamed, IsNumberFault, IsOrder, MakesConfig};
 
 use crate::line::{ConfigOption, Form, Order, RunOptions};
 use clap::ArgMatches;
@@ -130,7 +130,7 @@ pub(crate) fn run_asked(matches: &ArgMatches<'_>) -> RunOptions
 fn number_given<'a>(matches: &ArgMatches<'a>, name: &'static str) -> Result<u32, OptionFault<'a>>
     requires { IsConfigOption name.now }
     ensures number { IfOk result (HoldsNumber (rows_of (found_of matches.now)) name.now) }
-    ensures fault { IfErr result (IsOptionFault (rows_of (found_of matches.now))) }
+    ensures fault { IfErr result (IsNumberFault (rows_of (found_of matches.now))) }
 {
     if let Some(number) = matches.get_one::<OptionNumber>(name) {
         return Ok(number.value);
@@ -162,7 +162,7 @@ pub(crate) fn config_given<'a>(
     rules: Rules,
 ) -> Result<Config, OptionFault<'a>>
     ensures config { IfOk result (MakesConfig rules (rows_of (found_of matches.now))) }
-    ensures fault { IfErr result (IsOptionFault (rows_of (found_of matches.now))) }
+    ensures fault { IfErr result (IsNumberFault (rows_of (found_of matches.now))) }
 {
     let pages = number_given(matches, "pages")?;
     let quantum = number_given(matches, "quantum")?;
@@ -179,7 +179,7 @@ fn unwanted<'a>(matches: &ArgMatches<'a>, name: &'static str) -> Result<(), Opti
     requires option { IsConfigOption name.now }
     requires sessions { is_flagged (codes "sessions") (rows_of (found_of matches.now)) ≡ true }
     ensures none { OnOk result (one_of name.now (rows_of (found_of matches.now)) ≡ None) }
-    ensures fault { IfErr result (IsOptionFault (rows_of (found_of matches.now))) }
+    ensures fault { IfErr result (HasOptionFault (codes "check") (rows_of (found_of matches.now))) }
 {
     match matches.get_str(name) {
         None => Ok(()),
@@ -193,7 +193,7 @@ pub(crate) fn check_asked<'a>(matches: &ArgMatches<'a>) -> Result<Order, OptionF
     ensures order { IfOk result (IsOrder (codes "check") (rows_of (found_of matches.now))) }
     ensures few { IfOk result HasFewWorkers }
     ensures rules { IfOk result HasFirstRules }
-    ensures fault { IfErr result (IsOptionFault (rows_of (found_of matches.now))) }
+    ensures fault { IfErr result (HasOptionFault (codes "check") (rows_of (found_of matches.now))) }
 {
     if !is_flagged(matches, "sessions") {
         let rules = rules_asked(matches, Rules::First);

@@ -1,24 +1,22 @@
 ghost use Rattle.std.specs.Prelude.{◌≡◌, ◌<◌, ◌≤◌, ◌^◌, Result, Err, IfOk, MatchResult, map};
 ghost use Rattle.std.specs.String.{string_bytes};
-ghost use Rattle.mh_model.specs.Bytes.{line_text};
 ghost use Rattle.mh_program.specs.declared.fault.LineFault.{LineFault};
 ghost use Rattle.mh_program.specs.declared.line.Order.{Order};
 ghost use Rattle.mh_program.specs.Orders.{HasFewWorkers, HasFirstRules, OrdersBy};
-ghost use Rattle.mh_program.specs.Program.{fault_text, outside_text, IsRunBy, Obeys, Serves, Tells, TellsEnd, TellsLine, TellsQuoted, TellsRefusal, TellsRun, TellsWords, WritesVersion};
-ghost use Rattle.mh_program.specs.Printable.{IsPrintable};
-ghost use Rattle.mh_program.specs.Status.{live_status_of, status_of, verdict_status_of};
+ghost use Rattle.mh_program.specs.Program.{AnswersLines, IsRunBy, Obeys, Serves, WritesVersion};
+ghost use Rattle.mh_program.specs.Telling.{TellsEnd, TellsFault, TellsJudgement, TellsRun};
+ghost use Rattle.mh_program.specs.Status.{judgement_status_of, status_of};
 ghost use Rattle.mh_model.specs.declared.config.Rules.TheVariants.{First};
 ghost use Rattle.mh_judging.specs.Judged.{IsAuditing, IsChecking, IsMigrating};
 ghost use Rattle.mh_racing.specs.Raced.{IsRaceRun};
-ghost use Rattle.mh_live.specs.Feeding.{IsLiveRun};
 ghost use Rattle.mh_sessions.specs.Texts.{IsSessionsJudging};
 ghost use Rattle.mh_script.specs.Run.{device};
 
+use crate::errors::Errors;
 use crate::fault::LineFault;
-use crate::line::{ConfigOption, Form, Order, RunOptions};
+use crate::line::{Form, Order, RunOptions};
 use crate::order::line_order;
-use crate::quoted::printable;
-use crate::status::{line_status, live_status, status, verdict_status};
+use crate::status::{judgement_status, line_status, live_status, status};
 use crate::version::VERSION_LINE;
 use mh_judging::judge::{audit_script, check_script};
 use mh_judging::migrate::migrate_script;
@@ -27,135 +25,16 @@ use mh_live::feed::run_live;
 use mh_model::config::{Config, Rules};
 use mh_racing::race::race_script;
 use mh_scan::crew_scan::CrewGate;
-use mh_script::end::{End, Refusal};
-use mh_script::fault::{HISTORY_FULL, NO_MEMORY, READ_FAILED, ScriptFault, WRITE_FAILED};
+use mh_script::end::End;
+use mh_script::fault::ScriptFault;
 use mh_script::run::run_script;
 use mh_sessions::texts::check_sessions;
 use mh_text::sink::Sink;
 use mh_text::source::Source;
 use mh_text::stream::write_text;
-use std::alloc::{AllocError, Global};
+use std::alloc::Global;
 use std::sync::Wait;
 use std::thread::Threads;
-
-/// The line that names a fault of a run.
-fn fault_line(fault: ScriptFault) -> &'static [u8]
-    ensures { result.now ≡ line_text (fault_text fault) }
-{
-    match fault {
-        ScriptFault::Read => READ_FAILED.as_bytes(),
-        ScriptFault::Write => WRITE_FAILED.as_bytes(),
-        ScriptFault::NoMemory => NO_MEMORY.as_bytes(),
-        ScriptFault::HistoryFull => HISTORY_FULL.as_bytes(),
-    }
-}
-
-/// Writes a text to standard error. If that fails there is nobody left to hear.
-fn tell<E: Sink>(errors: &mut E, text: &[u8])
-    requires { E.failures errors.old < 2 ^ 62 }
-    ensures { Tells (device (E.written errors.old) (E.failures errors.old)) (device (E.written errors.new) (E.failures errors.new)) text.now }
-{
-    let _ = write_text(errors, text);
-}
-
-/// Tells the fault of a run, if it has one.
-fn tell_fault<T, E: Sink>(errors: &mut E, ended: &Result<T, ScriptFault>)
-    requires { E.failures errors.old < 2 ^ 62 }
-    ensures { TellsRun (device (E.written errors.old) (E.failures errors.old)) (device (E.written errors.new) (E.failures errors.new)) ended.now }
-{
-    if let Err(fault) = ended {
-        tell(errors, fault_line(*fault));
-    }
-}
-
-fn words_text(alloc: Global, error: &clap::Error) -> Result<Vec<u8>, AllocError>
-    ensures { IfOk result (λ text. IsPrintable text.items) }
-{
-    let text = format!(in alloc; "{error}")?;
-    printable(alloc, text.as_str())
-}
-
-/// Writes a text that quotes an input, or another if there was no memory for it.
-fn tell_quoted<E: Sink>(errors: &mut E, text: Result<Vec<u8>, AllocError>, other: &[u8])
-    requires count { E.failures errors.old < 2 ^ 62 }
-    requires printable { IfOk text (λ text. IsPrintable text.items) }
-    ensures { TellsQuoted (device (E.written errors.old) (E.failures errors.old)) (device (E.written errors.new) (E.failures errors.new)) other.now }
-{
-    match text {
-        Ok(text) => tell(errors, text.as_slice()),
-        Err(_) => tell(errors, other),
-    }
-}
-
-/// Writes what `clap` says of words, or if there is no memory for that, that they are bad.
-fn tell_words<E: Sink>(alloc: Global, errors: &mut E, error: &clap::Error)
-    requires { E.failures errors.old < 2 ^ 62 }
-    ensures { TellsWords (device (E.written errors.old) (E.failures errors.old)) (device (E.written errors.new) (E.failures errors.new)) }
-{
-    let text = words_text(alloc, error);
-    tell_quoted(errors, text, b"metroheap: bad command line\n");
-}
-
-fn refusal_text(alloc: Global, refusal: &Refusal) -> Result<Vec<u8>, AllocError>
-    ensures { IfOk result (λ text. IsPrintable text.items) }
-{
-    let line = refusal.line;
-    let reason = &refusal.reason;
-    let text = format!(in alloc; "metroheap: line {line}: {reason}\n")?;
-    printable(alloc, text.as_str())
-}
-
-/// Reports why a script is refused, if it is.
-fn tell_refusal<E: Sink>(alloc: Global, errors: &mut E, end: &End)
-    requires { E.failures errors.old < 2 ^ 62 }
-    ensures { TellsRefusal (device (E.written errors.old) (E.failures errors.old)) (device (E.written errors.new) (E.failures errors.new)) end.now }
-{
-    if let End::Refused(refusal) = end {
-        let text = refusal_text(alloc, refusal);
-        tell_quoted(
-            errors,
-            text,
-            b"metroheap: the script is outside the grammar\n",
-        );
-    }
-}
-
-/// Reports how a run or a race ended, if not well.
-fn tell_end<E: Sink>(alloc: Global, errors: &mut E, ended: &Result<End, ScriptFault>)
-    requires { E.failures errors.old < 2 ^ 62 }
-    ensures { TellsEnd (device (E.written errors.old) (E.failures errors.old)) (device (E.written errors.new) (E.failures errors.new)) ended.now }
-{
-    match ended {
-        Ok(end) => tell_refusal(alloc, errors, end),
-        Err(fault) => tell(errors, fault_line(*fault)),
-    }
-}
-
-/// The line for an option that is outside the limits of a configuration.
-fn outside_line(option: ConfigOption) -> &'static [u8]
-    ensures { result.now ≡ line_text (outside_text option) }
-{
-    match option {
-        ConfigOption::Pages => b"metroheap: bad configuration: --pages goes from 1 to 4096\n",
-        ConfigOption::Quantum =>
-            b"metroheap: bad configuration: --quantum goes from 209 to 1000000\n",
-        ConfigOption::Trigger =>
-            b"metroheap: bad configuration: --trigger goes from 0 to the number of pages\n",
-        ConfigOption::Every => b"metroheap: bad configuration: --every goes from 0 to 1000000\n",
-    }
-}
-
-fn tell_line<E: Sink>(alloc: Global, errors: &mut E, fault: &LineFault)
-    requires { E.failures errors.old < 2 ^ 62 }
-    ensures { TellsLine (device (E.written errors.old) (E.failures errors.old)) (device (E.written errors.new) (E.failures errors.new)) fault.now }
-{
-    match fault {
-        LineFault::Words(error) => tell_words(alloc, errors, error),
-        LineFault::NotText => tell(errors, b"metroheap: a word is not text\n"),
-        LineFault::Configuration(option) => tell(errors, outside_line(*option)),
-        LineFault::NoMemory => tell(errors, b"metroheap: no memory\n"),
-    }
-}
 
 /// The run of a script in a form under rules.
 fn ran<R: Threads, S: Source, W: Sink, G: CrewGate>(
@@ -191,44 +70,42 @@ fn run<R: Threads, S: Source, W: Sink, E: Sink, G: CrewGate>(
     options: RunOptions,
     source: &mut S,
     sink: &mut W,
-    errors: &mut E,
+    errors: &mut Errors<E>,
     gate: &G,
 ) -> u8
     requires few { (0 < options.workers) × (options.workers ≤ 64) }
     requires source_count { S.failures source.old < 2 ^ 62 }
     requires sink_count { W.failures sink.old < 2 ^ 62 }
-    requires errors_count { E.failures errors.old < 2 ^ 62 }
     ensures { Obeys (IsRunBy options.form options.rules
         (device (S.rest source.old) (S.failures source.old)) (device (S.rest source.new) (S.failures source.new))
-        (device (W.written sink.old) (W.failures sink.old)) (device (W.written sink.new) (W.failures sink.new))) TellsEnd status_of
-        (device (E.written errors.old) (E.failures errors.old)) (device (E.written errors.new) (E.failures errors.new)) result }
+        (device (W.written sink.old) (W.failures sink.old)) (device (W.written sink.new) (W.failures sink.new))) (TellsRun TellsEnd) status_of
+        errors.old errors.new result }
 {
     let ended = ran(rt, alloc, options, source, sink, gate);
-    tell_end(alloc, errors, &ended);
+    errors.tell_end(&ended);
     status(&ended)
 }
 
-/// Answers lines as they come, and reports a fault of that.
+/// Answers lines as they come, and reports those that are refused and a fault of all that.
 fn live<R: Threads, S: Source, W: Sink, E: Sink, G: CrewGate>(
     rt: &R,
     alloc: Global,
     workers: usize,
     source: &mut S,
     sink: &mut W,
-    errors: &mut E,
+    errors: &mut Errors<E>,
     gate: &G,
 ) -> u8
     requires few { (0 < workers) × (workers ≤ 64) }
     requires source_count { S.failures source.old < 2 ^ 62 }
     requires sink_count { W.failures sink.old < 2 ^ 62 }
-    requires errors_count { E.failures errors.old < 2 ^ 62 }
-    ensures { Obeys (IsLiveRun
+    ensures { AnswersLines
         (device (S.rest source.old) (S.failures source.old)) (device (S.rest source.new) (S.failures source.new))
-        (device (W.written sink.old) (W.failures sink.old)) (device (W.written sink.new) (W.failures sink.new))) TellsRun live_status_of
-        (device (E.written errors.old) (E.failures errors.old)) (device (E.written errors.new) (E.failures errors.new)) result }
+        (device (W.written sink.old) (W.failures sink.old)) (device (W.written sink.new) (W.failures sink.new))
+        errors.old errors.new result }
 {
-    let ended = run_live(rt, alloc, source, sink, workers, gate);
-    tell_fault(errors, &ended);
+    let ended = run_live(rt, alloc, source, sink, errors, workers, gate);
+    errors.tell_fault(&ended);
     live_status(&ended)
 }
 
@@ -239,20 +116,19 @@ fn race<R: Threads + Wait + Sync, S: Source, W: Sink, E: Sink, G: CrewGate + Syn
     workers: usize,
     source: &mut S,
     sink: &mut W,
-    errors: &mut E,
+    errors: &mut Errors<E>,
     gate: &G,
 ) -> u8
     requires workers { (0 < workers) × (workers ≤ 64) }
     requires source_count { S.failures source.old < 2 ^ 62 }
     requires sink_count { W.failures sink.old < 2 ^ 62 }
-    requires errors_count { E.failures errors.old < 2 ^ 62 }
     ensures { Obeys (IsRaceRun
         (device (S.rest source.old) (S.failures source.old)) (device (S.rest source.new) (S.failures source.new))
-        (device (W.written sink.old) (W.failures sink.old)) (device (W.written sink.new) (W.failures sink.new))) TellsEnd status_of
-        (device (E.written errors.old) (E.failures errors.old)) (device (E.written errors.new) (E.failures errors.new)) result }
+        (device (W.written sink.old) (W.failures sink.old)) (device (W.written sink.new) (W.failures sink.new))) (TellsRun TellsEnd) status_of
+        errors.old errors.new result }
 {
     let ended = race_script(rt, alloc, source, sink, workers, gate);
-    tell_end(alloc, errors, &ended);
+    errors.tell_end(&ended);
     status(&ended)
 }
 
@@ -262,19 +138,18 @@ fn check<S: Source, W: Sink, E: Sink>(
     config: Config,
     source: &mut S,
     sink: &mut W,
-    errors: &mut E,
+    errors: &mut Errors<E>,
 ) -> u8
     requires source_count { S.failures source.old < 2 ^ 62 }
     requires sink_count { W.failures sink.old < 2 ^ 62 }
-    requires errors_count { E.failures errors.old < 2 ^ 62 }
     ensures { Obeys (IsChecking config
         (device (S.rest source.old) (S.failures source.old)) (device (S.rest source.new) (S.failures source.new))
-        (device (W.written sink.old) (W.failures sink.old)) (device (W.written sink.new) (W.failures sink.new))) TellsRun verdict_status_of
-        (device (E.written errors.old) (E.failures errors.old)) (device (E.written errors.new) (E.failures errors.new)) result }
+        (device (W.written sink.old) (W.failures sink.old)) (device (W.written sink.new) (W.failures sink.new))) (TellsRun TellsJudgement) judgement_status_of
+        errors.old errors.new result }
 {
     let ended = check_script(alloc, config, source, sink);
-    tell_fault(errors, &ended);
-    verdict_status(&ended)
+    errors.tell_judgement(&ended);
+    judgement_status(&ended)
 }
 
 /// Checks a history by what its sessions see, and reports a fault of that.
@@ -283,19 +158,18 @@ fn check_seen<S: Source, W: Sink, E: Sink>(
     rules: Rules,
     source: &mut S,
     sink: &mut W,
-    errors: &mut E,
+    errors: &mut Errors<E>,
 ) -> u8
     requires source_count { S.failures source.old < 2 ^ 62 }
     requires sink_count { W.failures sink.old < 2 ^ 62 }
-    requires errors_count { E.failures errors.old < 2 ^ 62 }
     ensures { Obeys (IsSessionsJudging rules
         (device (S.rest source.old) (S.failures source.old)) (device (S.rest source.new) (S.failures source.new))
-        (device (W.written sink.old) (W.failures sink.old)) (device (W.written sink.new) (W.failures sink.new))) TellsRun verdict_status_of
-        (device (E.written errors.old) (E.failures errors.old)) (device (E.written errors.new) (E.failures errors.new)) result }
+        (device (W.written sink.old) (W.failures sink.old)) (device (W.written sink.new) (W.failures sink.new))) (TellsRun TellsJudgement) judgement_status_of
+        errors.old errors.new result }
 {
     let ended = check_sessions(alloc, rules, source, sink);
-    tell_fault(errors, &ended);
-    verdict_status(&ended)
+    errors.tell_judgement(&ended);
+    judgement_status(&ended)
 }
 
 /// Audits a history, and reports a fault of that.
@@ -303,19 +177,18 @@ fn audit<S: Source, W: Sink, E: Sink>(
     alloc: Global,
     source: &mut S,
     sink: &mut W,
-    errors: &mut E,
+    errors: &mut Errors<E>,
 ) -> u8
     requires source_count { S.failures source.old < 2 ^ 62 }
     requires sink_count { W.failures sink.old < 2 ^ 62 }
-    requires errors_count { E.failures errors.old < 2 ^ 62 }
     ensures { Obeys (IsAuditing
         (device (S.rest source.old) (S.failures source.old)) (device (S.rest source.new) (S.failures source.new))
-        (device (W.written sink.old) (W.failures sink.old)) (device (W.written sink.new) (W.failures sink.new))) TellsRun verdict_status_of
-        (device (E.written errors.old) (E.failures errors.old)) (device (E.written errors.new) (E.failures errors.new)) result }
+        (device (W.written sink.old) (W.failures sink.old)) (device (W.written sink.new) (W.failures sink.new))) (TellsRun TellsJudgement) judgement_status_of
+        errors.old errors.new result }
 {
     let ended = audit_script(alloc, source, sink);
-    tell_fault(errors, &ended);
-    verdict_status(&ended)
+    errors.tell_judgement(&ended);
+    judgement_status(&ended)
 }
 
 /// Migrates a history, and reports a fault of that.
@@ -324,20 +197,19 @@ fn migrate<S: Source, W: Sink, E: Sink>(
     config: Config,
     source: &mut S,
     sink: &mut W,
-    errors: &mut E,
+    errors: &mut Errors<E>,
 ) -> u8
     requires first { config.rules ≡ First }
     requires source_count { S.failures source.old < 2 ^ 62 }
     requires sink_count { W.failures sink.old < 2 ^ 62 }
-    requires errors_count { E.failures errors.old < 2 ^ 62 }
     ensures { Obeys (IsMigrating config
         (device (S.rest source.old) (S.failures source.old)) (device (S.rest source.new) (S.failures source.new))
-        (device (W.written sink.old) (W.failures sink.old)) (device (W.written sink.new) (W.failures sink.new))) TellsRun verdict_status_of
-        (device (E.written errors.old) (E.failures errors.old)) (device (E.written errors.new) (E.failures errors.new)) result }
+        (device (W.written sink.old) (W.failures sink.old)) (device (W.written sink.new) (W.failures sink.new))) (TellsRun TellsJudgement) judgement_status_of
+        errors.old errors.new result }
 {
     let ended = migrate_script(alloc, config, source, sink);
-    tell_fault(errors, &ended);
-    verdict_status(&ended)
+    errors.tell_judgement(&ended);
+    judgement_status(&ended)
 }
 
 fn written_version<W: Sink>(sink: &mut W) -> Result<End, ScriptFault>
@@ -351,14 +223,13 @@ fn written_version<W: Sink>(sink: &mut W) -> Result<End, ScriptFault>
 }
 
 /// Writes the version, and reports a fault of that.
-fn version<W: Sink, E: Sink>(sink: &mut W, errors: &mut E) -> u8
+fn version<W: Sink, E: Sink>(sink: &mut W, errors: &mut Errors<E>) -> u8
     requires sink_count { W.failures sink.old < 2 ^ 62 }
-    requires errors_count { E.failures errors.old < 2 ^ 62 }
-    ensures { Obeys (WritesVersion (device (W.written sink.old) (W.failures sink.old)) (device (W.written sink.new) (W.failures sink.new))) TellsRun status_of
-        (device (E.written errors.old) (E.failures errors.old)) (device (E.written errors.new) (E.failures errors.new)) result }
+    ensures { Obeys (WritesVersion (device (W.written sink.old) (W.failures sink.old)) (device (W.written sink.new) (W.failures sink.new))) TellsFault status_of
+        errors.old errors.new result }
 {
     let ended = written_version(sink);
-    tell_fault(errors, &ended);
+    errors.tell_fault(&ended);
     status(&ended)
 }
 
@@ -369,18 +240,17 @@ pub fn serve<R: Threads + Wait + Sync, S: Source, W: Sink, E: Sink, G: CrewGate 
     order: Result<Order, LineFault>,
     source: &mut S,
     sink: &mut W,
-    errors: &mut E,
+    errors: &mut Errors<E>,
     gate: &G,
 ) -> u8
     requires few { IfOk order HasFewWorkers }
     requires rules { IfOk order HasFirstRules }
     requires source_count { S.failures source.old < 2 ^ 62 }
     requires sink_count { W.failures sink.old < 2 ^ 62 }
-    requires errors_count { E.failures errors.old < 2 ^ 62 }
     ensures { Serves order
         (device (S.rest source.old) (S.failures source.old)) (device (S.rest source.new) (S.failures source.new))
         (device (W.written sink.old) (W.failures sink.old)) (device (W.written sink.new) (W.failures sink.new))
-        (device (E.written errors.old) (E.failures errors.old)) (device (E.written errors.new) (E.failures errors.new)) result }
+        errors.old errors.new result }
 {
     match order {
         Ok(Order::Run(options)) => run(rt, alloc, options, source, sink, errors, gate),
@@ -392,7 +262,7 @@ pub fn serve<R: Threads + Wait + Sync, S: Source, W: Sink, E: Sink, G: CrewGate 
         Ok(Order::Migrate(config)) => migrate(alloc, config, source, sink, errors),
         Ok(Order::Version) => version(sink, errors),
         Err(fault) => {
-            tell_line(alloc, errors, &fault);
+            errors.tell_line(&fault);
             line_status(&fault)
         }
     }
@@ -406,18 +276,17 @@ pub fn program<R: Threads + Wait + Sync, S: Source, W: Sink, E: Sink, G: CrewGat
     words: Result<Vec<String>, LineFault>,
     source: &mut S,
     sink: &mut W,
-    errors: &mut E,
+    errors: &mut Errors<E>,
     gate: &G,
 ) -> u8
     requires source_count { S.failures source.old < 2 ^ 62 }
     requires sink_count { W.failures sink.old < 2 ^ 62 }
-    requires errors_count { E.failures errors.old < 2 ^ 62 }
     ensures { (order : Result Order LineFault)
         × MatchResult words (λ words. OrdersBy (map string_bytes words.items) order) (λ fault. order ≡ Err fault)
         × Serves order
         (device (S.rest source.old) (S.failures source.old)) (device (S.rest source.new) (S.failures source.new))
         (device (W.written sink.old) (W.failures sink.old)) (device (W.written sink.new) (W.failures sink.new))
-        (device (E.written errors.old) (E.failures errors.old)) (device (E.written errors.new) (E.failures errors.new)) result }
+        errors.old errors.new result }
 {
     let order = line_order(alloc, words);
     serve(rt, alloc, order, source, sink, errors, gate)

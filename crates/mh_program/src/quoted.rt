@@ -1,6 +1,7 @@
 //! Words of the command line as they can be printed.
 ghost use Rattle.std.specs.Prelude.{◌≡◌, IfOk};
-ghost use Rattle.mh_program.specs.Printable.{is_printable, IsPrintable, IsPrintableByte};
+ghost use Rattle.std.specs.List.{All};
+ghost use Rattle.mh_program.specs.Printable.{is_printable, IsPrintable, IsPrintableByte, IsSign};
 
 use std::alloc::{AllocError, Global};
 use std::convert::AsStr;
@@ -59,6 +60,24 @@ fn printable_byte(byte: u8) -> u8
     } else {
         b'?'
     }
+}
+
+/// The byte, or a question mark if it can't be printed.
+fn sign(byte: u8) -> u8
+    ensures { IsSign result }
+{
+    if is_printable(byte) { byte } else { b'?' }
+}
+
+/// A text with a question mark for each byte that can't be printed, ends of lines among them.
+pub(crate) fn signs(alloc: Global, text: &str) -> Result<Vec<u8>, AllocError>
+    ensures { IfOk result (λ text. All IsSign text.items) }
+{
+    let mut bytes = Vec::new(alloc);
+    for byte in text.as_bytes() {
+        bytes.push(sign(*byte))?;
+    }
+    Ok(bytes)
 }
 
 /// A text with a question mark for each byte that ends no line and can't be printed.

@@ -1,8 +1,8 @@
 ghost use Rattle.std.specs.Prelude.{◌≡◌};
-ghost use Rattle.mh_program.specs.Status.{line_status_of, live_status_of, status_of, verdict_status_of};
+ghost use Rattle.mh_program.specs.Status.{judgement_status_of, line_status_of, live_status_of, status_of};
 
 use crate::fault::LineFault;
-use mh_model::history::Verdict;
+use mh_findings::judgement::Judgement;
 use mh_script::end::End;
 use mh_script::fault::ScriptFault;
 
@@ -28,13 +28,13 @@ pub fn live_status(ended: &Result<(), ScriptFault>) -> u8
 }
 
 /// The exit status that the judgement of a history gives the program.
-pub fn verdict_status(ended: &Result<Verdict, ScriptFault>) -> u8
-    ensures { result ≡ verdict_status_of ended.now }
+pub fn judgement_status(ended: &Result<Judgement, ScriptFault>) -> u8
+    ensures { result ≡ judgement_status_of ended.now }
 {
     match ended {
-        Ok(Verdict::Legal(_)) => 0,
-        Ok(Verdict::Refused(_)) => 1,
-        Ok(Verdict::FirstBad(_)) => 4,
+        Ok(Judgement::Legal(_)) => 0,
+        Ok(Judgement::Refused { .. }) => 1,
+        Ok(Judgement::FirstBad { .. }) => 4,
         Err(_) => 3,
     }
 }

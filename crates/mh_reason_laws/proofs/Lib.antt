@@ -1,4 +1,8 @@
 pub mod WrongWords
+pub mod SoundWords
+pub mod SoundLines
 pub mod WrongLines
+pub mod SoundEntries
+pub mod SoundEntryLines
 pub mod WrongEntries
 pub mod WrongHeaders

@@ -1,4 +1,4 @@
--- What reasons say of the words of an entry makes them no entry.
+-- What reasons say of a line after the first makes it no entry.
 use Rattle.std.proofs.Common.{◌≡◌, ◌≢◌, ℕ, nat_lt, ◌&&◌, ◌||◌, Bool, true, false, Option, Some, None, IsSome, option_map, option_and_then, List, [], ◌∷◌, length, inl, inr, ◌⊎◌, refl, sym, ap, ◌∙◌, arith}
 use Rattle.std.specs.Prelude.{if◌then◌else◌, codes, is_some}
 use Rattle.std.proofs.lemmas.Bool.{false≢true}
@@ -22,8 +22,12 @@ use Rattle.mh_reasons.specs.declared.reason.LineReason.TheVariants as reason
 use Rattle.mh_reasons.specs.declared.verb.Verb.TheVariants as verb
 use Rattle.mh_reasons.specs.Operands.{are_numbers_below, fit, IsOperandReason}
 use Rattle.mh_reasons.specs.Reasons.{word_at}
-use Rattle.mh_reasons.specs.HistoryReasons.{is_caller, IsEventReason, IsReplyReason, IsEntryWordsReason, IsUnitsReason, IsMeasuredReason, IsVersionReason, IsEntryWrong}
-use Rattle.mh_reasons.proofs.EntryLemmas.{session_name}
+use Rattle.mh_reasons.specs.HistoryReasons.{is_caller, IsEventReason, IsReplyReason, IsEntryWordsReason, IsUnitsReason, IsMeasuredReason, IsVersionReason, IsEntryReason, IsEntryWrong}
+use Rattle.mh_reasons.proofs.EntryLemmas.{session_name, entry_from}
+use Rattle.mh_reason_laws.proofs.SoundWords.{are_sound}
+use Rattle.mh_reason_laws.proofs.SoundLines.{fault_unsound}
+use Rattle.mh_reason_laws.proofs.SoundEntries.{is_printable, printable_stray}
+use Rattle.mh_reason_laws.proofs.SoundEntryLines.{no_entry_line}
 use Rattle.mh_reason_laws.proofs.WrongWords.{IsTailWrong, words_tail, miscounted, operand_unfit}
 
 -- Events and replies -----------------------------------------------------------------------------
@@ -70,10 +74,6 @@ reply_none version reply (history.Reply quoted) is = is.1
 reply_none version reply _ is = absurd is
 
 -- Entries ----------------------------------------------------------------------------------------
-
--- an entry, if there are an event and a reply
-abbrev entry_from : Option Event → Option Reply → Option Entry
-entry_from event reply = option_and_then (λ event. option_map (λ reply. record { event = event; reply = reply }) reply) event
 
 no_event : (event : Option Event) (reply : Option Reply) → event ≡ None → entry_from event reply ≡ None
 no_event None reply none = refl
@@ -157,7 +157,21 @@ measured_none : (measured : List Text) (r : HistoryLineReason) → IsMeasuredRea
 measured_none measured history.NoUnits is = ap (option_and_then measured_by) is
 measured_none measured r is = ap (option_and_then measured_by) is.1 ∙ measured_halves is.0 r is.2
 
--- what a reason says of the words of a line makes it no entry
-pub entry_wrong : (version : Version) (line : Text) (r : HistoryLineReason) → IsVersionReason version (words line) r → IsEntryWrong version line
-entry_wrong One line r is = entry_none One (words line) r is
-entry_wrong Two line r is = measured_none (words line) r is
+version_wrong : (version : Version) (line : Text) (r : HistoryLineReason) → IsVersionReason version (words line) r → IsEntryWrong version line
+version_wrong One line r is = entry_none One (words line) r is
+version_wrong Two line r is = measured_none (words line) r is
+
+-- Lines ------------------------------------------------------------------------------------------
+
+empty_unsound : (line : Text) → line ≡ [] → are_sound is_printable (words line) ≡ false
+empty_unsound line is = rw is refl
+
+unsound_wrong : (version : Version) (line : Text) → are_sound is_printable (words line) ≡ false → IsEntryWrong version line
+unsound_wrong version line unsound = no_entry_line version line (λ good. false≢true (sym unsound ∙ good.sound))
+
+-- a line of which a reason speaks is no entry
+pub entry_wrong : (version : Version) (line : Text) (r : HistoryLineReason) → IsEntryReason version line r → IsEntryWrong version line
+entry_wrong version line history.Blank is = unsound_wrong version line (empty_unsound line is)
+entry_wrong version line history.Comment is = no_entry_line version line (λ good. good.uncommented is)
+entry_wrong version line (history.Bytes fault) is = unsound_wrong version line (fault_unsound is_printable printable_stray line fault is.2)
+entry_wrong version line r is = version_wrong version line r is.3

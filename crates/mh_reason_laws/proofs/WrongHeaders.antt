@@ -1,6 +1,6 @@
--- What reasons say of the words of a first line makes it no first line.
+-- What reasons say of a first line makes it no first line.
 use Rattle.std.proofs.Common.{◌≡◌, ◌≢◌, ℕ, nat_lt, ◌&&◌, Bool, true, false, Option, Some, None, option_map, option_and_then, List, [], ◌∷◌, refl, sym, ap, ◌∙◌}
-use Rattle.std.specs.Prelude.{codes}
+use Rattle.std.specs.Prelude.{if◌then◌else◌, codes}
 use Rattle.std.specs.List.{list_all}
 use Rattle.std.proofs.lemmas.Bool.{false≢true, and_parts, and_from}
 use Rattle.mh_model.specs.declared.config.Rules.{Rules}
@@ -19,7 +19,10 @@ use Rattle.mh_reasons.specs.declared.reason.LineReason.TheVariants as reason
 use Rattle.mh_reasons.specs.declared.verb.Verb.TheVariants as verb
 use Rattle.mh_reasons.specs.Operands.{are_numbers_below, fit, IsOperandReason}
 use Rattle.mh_reasons.specs.Reasons.{word_at}
-use Rattle.mh_reasons.specs.HistoryReasons.{headed, IsGivenReason, IsFirstWordsReason, IsFirstWrong}
+use Rattle.mh_reasons.specs.HistoryReasons.{headed, IsGivenReason, IsFirstWordsReason, IsFirstLineReason, IsFirstWrong}
+use Rattle.mh_reason_laws.proofs.SoundWords.{is_sound, are_sound, unsound_numbers}
+use Rattle.mh_reason_laws.proofs.SoundLines.{fault_unsound}
+use Rattle.mh_reason_laws.proofs.SoundEntries.{is_printable, printable_digit, printable_stray}
 use Rattle.mh_reason_laws.proofs.WrongWords.{miscounted, operand_unfit, outside_none, limit_outside}
 use Rattle.mh_reason_laws.proofs.WrongEntries.{small}
 
@@ -143,7 +146,38 @@ first_two line history.Script is = header_first (words line) (rw is refl)
 first_two line (history.NotHistory of) is = header_other (words line) is.1
 first_two line r is = ap header_of is.1.1 ∙ given_none is.1.0 r is.1.2
 
--- what a reason says of the words of a first line makes it none
-pub first_wrong : (version : Version) (line : Text) (r : HistoryLineReason) → IsFirstWordsReason version line r → IsFirstWrong version line
-first_wrong One line r is = first_one line r is
-first_wrong Two line r is = first_two line r is
+words_wrong : (version : Version) (line : Text) (r : HistoryLineReason) → IsFirstWordsReason version line r → IsFirstWrong version line
+words_wrong One line r is = first_one line r is
+words_wrong Two line r is = first_two line r is
+
+-- Bytes ------------------------------------------------------------------------------------------
+
+unsound_one : (line : Text) → are_sound is_printable (words line) ≡ false → is_text line (codes "history 1") ≡ false
+unsound_one line unsound = not_one line (λ same. false≢true (sym unsound ∙ ap (λ (l : Text). are_sound is_printable (words l)) same))
+
+unsound_by : (is : Bool) (a b c : Text) (given : List Text) → (is_text a (codes "history") && (is_text b (codes "2") && is_text c (codes "rules"))) ≡ is → are_sound is_printable (a ∷ b ∷ c ∷ given) ≡ false
+    → (if is then option_and_then header_by (numbers given) else None) ≡ None
+unsound_by true a b c given same unsound =
+    let first = and_parts (is_text a (codes "history")) (is_text b (codes "2") && is_text c (codes "rules")) same in
+    let next = and_parts (is_text b (codes "2")) (is_text c (codes "rules")) first.1 in
+    let one : is_sound is_printable a ≡ true = ap (is_sound is_printable) (text_is a (codes "history") first.0) in
+    let two : is_sound is_printable b ≡ true = ap (is_sound is_printable) (text_is b (codes "2") next.0) in
+    let three : is_sound is_printable c ≡ true = ap (is_sound is_printable) (text_is c (codes "rules") next.1) in
+    let rest : are_sound is_printable given ≡ false = rw (one, two, three) at unsound in
+    ap (option_and_then header_by) (unsound_numbers is_printable printable_digit given rest)
+unsound_by false a b c given same unsound = refl
+
+unsound_two : (words : List Text) → are_sound is_printable words ≡ false → header_of words ≡ None
+unsound_two [] unsound = refl
+unsound_two (a ∷ []) unsound = refl
+unsound_two (a ∷ b ∷ []) unsound = refl
+unsound_two (a ∷ b ∷ c ∷ given) unsound = unsound_by (is_text a (codes "history") && (is_text b (codes "2") && is_text c (codes "rules"))) a b c given refl unsound
+
+unsound_wrong : (version : Version) (line : Text) → are_sound is_printable (words line) ≡ false → IsFirstWrong version line
+unsound_wrong One line unsound = unsound_one line unsound
+unsound_wrong Two line unsound = unsound_two (words line) unsound
+
+-- a line of which a reason speaks is no first line
+pub first_wrong : (version : Version) (line : Text) (r : HistoryLineReason) → IsFirstLineReason version line r → IsFirstWrong version line
+first_wrong version line (history.Bytes fault) is = unsound_wrong version line (fault_unsound is_printable printable_stray line fault is)
+first_wrong version line r is = words_wrong version line r is.1

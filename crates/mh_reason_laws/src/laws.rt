@@ -6,12 +6,12 @@ pub fn lines_with_reasons_are_wrong()
     ensures { LinesWithReasonsAreWrong }
 {}
 
-/// A line of which the words have a reason is no first line of a history.
+/// A first line with a reason is no first line of a history.
 pub fn first_lines_with_reasons_are_wrong()
     ensures { FirstLinesWithReasonsAreWrong }
 {}
 
-/// A line of a history of which the words have a reason is no entry.
+/// A line after the first with a reason is no entry.
 pub fn entries_with_reasons_are_wrong()
     ensures { EntriesWithReasonsAreWrong }
 {}

@@ -67,7 +67,7 @@ is_caller-session word some = caller_by (is_text word (codes "*")) (is_some (ses
 
 -- Entries ----------------------------------------------------------------------------------------
 
-abbrev entry_from : Option Event → Option Reply → Option Entry
+abbrev pub entry_from : Option Event → Option Reply → Option Entry
 entry_from event reply = option_and_then (λ event. option_map (λ reply. record { event = event; reply = reply }) reply) event
 
 reply_by : (event : Option Event) (reply : Option Reply) → entry_from event reply ≡ None → IsSome event → reply ≡ None

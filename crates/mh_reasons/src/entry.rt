@@ -1,5 +1,5 @@
-ghost use Rattle.std.specs.Prelude.{◌≡◌, ◌↔◌, None, IfSome, IfNone, IsSome, IsTrue};
-ghost use Rattle.mh_model.specs.HistoryTexts.{entry_of, measured_of, event_of, session_of};
+ghost use Rattle.std.specs.Prelude.{◌≡◌, None, IfSome, IfNone, IsSome};
+ghost use Rattle.mh_model.specs.HistoryTexts.{entry_of, measured_of, event_of};
 ghost use Rattle.mh_model.specs.Replies.{reply_of};
 ghost use Rattle.mh_reasons.specs.HistoryReasons.{IsEntryReason, IsEntryWordsReason, IsEntryWrong, IsEventReason, IsMeasuredReason, IsReplyReason};
 
@@ -9,10 +9,11 @@ use crate::history_reason::HistoryLineReason;
 use crate::operands::operands_fault;
 use crate::quoted::quote;
 use crate::verb::Verb;
+use mh_history::event::session_of;
 use mh_model::history::Version;
 use mh_text::forms::{command_of, control_of};
 use mh_text::pieces::Words;
-use mh_text::word::{is_word, number};
+use mh_text::word::is_word;
 
 /// What is wrong with a line after the first of a history of this version.
 pub fn entry_line_reason(version: Version, line: &[u8]) -> HistoryLineReason
@@ -74,25 +75,12 @@ fn event_fault(version: Version, mut words: Words<'_>) -> Option<HistoryLineReas
             None => Some(HistoryLineReason::Words(control_reason(version, words))),
         };
     }
-    if !is_session(word) {
+    if session_of(word).is_none() {
         return Some(HistoryLineReason::Session(quote(word)));
     }
     match command_of(words.copy()) {
         Some(_) => None,
         None => Some(HistoryLineReason::Words(command_reason(word, words))),
-    }
-}
-
-/// Whether a word is one of `s0` to `s8`.
-fn is_session(word: &[u8]) -> bool
-    ensures { IsTrue result ↔ IsSome (session_of word.now) }
-{
-    match word {
-        [b's', ..] => match number(&word[1..]) {
-            Some(who) => who <= 8,
-            None => false,
-        },
-        _ => false,
     }
 }
 

@@ -4,6 +4,8 @@ ghost use Rattle.mh_reasons.specs.HistoryReasons.{IsHistoryReason, IsRefusedAt, 
 use crate::entry::entry_line_reason;
 use crate::header::first_line_reason;
 use crate::history_reason::HistoryReason;
+use mh_history::history::HISTORY_BYTES;
+use mh_history::record::RECORD_BYTES;
 use mh_model::history::Version;
 use mh_text::pieces::Lines;
 
@@ -38,7 +40,7 @@ fn most_bytes(version: Version) -> usize
     ensures { result ≡ most_bytes version }
 {
     match version {
-        Version::One => 1_073_741_824,
-        Version::Two => 2_147_483_648,
+        Version::One => HISTORY_BYTES,
+        Version::Two => RECORD_BYTES,
     }
 }

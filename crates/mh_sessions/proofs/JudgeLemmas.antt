@@ -55,7 +55,7 @@ module _ (rules : Rules) (seen : List Entry) (entry : Entry) (old new : World) (
   longer = omega (arith, has.count, length_push seen entry)
 
   -- one that is right
-  followed_more : count ≢ most_entries → IsFollowed old entry new true → HasFollowed rules (seen ++ entry ∷ []) new (count + 1)
+  pub followed_more : count ≢ most_entries → IsFollowed old entry new true → HasFollowed rules (seen ++ entry ∷ []) new (count + 1)
   followed_more other is =
       let config = old.config in
       let kept : new.config ≡ config = ap (λ (world : World). world.config) is.1 ∙ beside-config old entry.event entry.reply in

@@ -4,3 +4,5 @@ pub mod LegalLemmas
 pub mod VerdictLemmas
 pub mod JudgeLemmas
 pub mod TextLemmas
+pub mod FaultLemmas
+pub mod ExplainedLemmas

@@ -78,7 +78,7 @@ beside-config world (event.Session who command) answer = by (is_heap_full answer
   by false = step-config world who command
 beside-config world (event.Control control) answer = refl
 
-beside-under : (config : Config) (world : World) → config.rules ≡ world.config.rules → (event : Event) (answer : Reply) → world_beside_event (world_under config world) event answer ≡ world_under config (world_beside_event world event answer)
+pub beside-under : (config : Config) (world : World) → config.rules ≡ world.config.rules → (event : Event) (answer : Reply) → world_beside_event (world_under config world) event answer ≡ world_under config (world_beside_event world event answer)
 beside-under config world same (event.Session who command) answer = by (is_heap_full answer) where
   by : (full : Bool) → (if full then world_under config world else (world_step (world_under config world) who command).state) ≡ world_under config (if full then world else (world_step world who command).state)
   by true = refl

@@ -54,10 +54,10 @@ module _ {X : Type 0} {read : Text → Option X} {seen_of : X → Entry} {rules 
 
 -- Versions ---------------------------------------------------------------------------------------
 
-reading_one : (text : Text) → is_of_version_one (cut_after 10 text) ≡ true → entries_reading text ≡ history_reading text
+pub reading_one : (text : Text) → is_of_version_one (cut_after 10 text) ≡ true → entries_reading text ≡ history_reading text
 reading_one text one = ap (λ (b : Bool). if b then history_reading text else reading_map entries_recorded (recorded_reading text)) one
 
-reading_two : (text : Text) → is_of_version_one (cut_after 10 text) ≡ false → entries_reading text ≡ reading_map entries_recorded (recorded_reading text)
+pub reading_two : (text : Text) → is_of_version_one (cut_after 10 text) ≡ false → entries_reading text ≡ reading_map entries_recorded (recorded_reading text)
 reading_two text other = ap (λ (b : Bool). if b then history_reading text else reading_map entries_recorded (recorded_reading text)) other
 
 -- Sources ----------------------------------------------------------------------------------------
@@ -66,11 +66,14 @@ pub seen_by : (rules : Rules) → GoesBy entries_reading (IsSeenThrough rules)
 seen_by rules a b verdict same h = rw same h
 
 -- a text that is too long is refused in either version
+pub seen_long : (text : Text) → 2147483648 < length text → entries_reading text ≡ BadLine 0
+seen_long text long = by (is_of_version_one (cut_after 10 text)) refl where
+  by : (one : Bool) → is_of_version_one (cut_after 10 text) ≡ one → entries_reading text ≡ BadLine 0
+  by true is = reading_one text is ∙ history_long text (omega (arith, long))
+  by false is = reading_two text is ∙ ap (reading_map entries_recorded) (record_long text long)
+
 pub seen_bounded : IsBounded entries_reading 2147483648
-seen_bounded = record { refused = BadLine 0; long = λ text long. by text long (is_of_version_one (cut_after 10 text)) refl } where
-  by : (text : Text) → 2147483648 < length text → (one : Bool) → is_of_version_one (cut_after 10 text) ≡ one → entries_reading text ≡ BadLine 0
-  by text long true is = reading_one text is ∙ history_long text (omega arith)
-  by text long false is = reading_two text is ∙ ap (reading_map entries_recorded) (record_long text long)
+seen_bounded = record { refused = BadLine 0; long = seen_long }
 
 pub either_short : (text : Text) → BeginsWithEither text → length text ≤ 2147483648
 either_short text (inl begins) = omega (arith, begins.short)

@@ -1,3 +1,4 @@
+pub mod Faults
 pub mod Judging
 pub mod Laws
 pub mod Texts

@@ -2,12 +2,13 @@
 ghost use Rattle.std.specs.Prelude.{◌≡◌, ◌<◌, ◌≤◌, ◌+◌, List, [], ◌∷◌, ◌++◌, IsSome, IsOk, IsTrue, IfOk, OnOk, OnErr};
 ghost use Rattle.mh_heap.specs.PlainHeap.{world_of};
 ghost use Rattle.mh_model.specs.declared.birth.TheConstants.{LIFE};
+ghost use Rattle.mh_model.specs.declared.config.Config.{Config};
 ghost use Rattle.mh_model.specs.declared.config.Rules.{Rules};
 ghost use Rattle.mh_model.specs.declared.history.Entry.{Entry};
 ghost use Rattle.mh_model.specs.HistoryTexts.{IsJudged};
 ghost use Rattle.mh_model.specs.Limits.{most_entries};
 ghost use Rattle.mh_model.specs.Sessions.{IsLegalForSessions, lacks_room};
-ghost use Rattle.mh_model.specs.World.{births};
+ghost use Rattle.mh_model.specs.World.{births, first_world};
 ghost use Rattle.mh_sessions.specs.Judging.{HasSeenSessions, IsFollowed, IsTried, MakesObject};
 
 use mh_heap::perform::perform;
@@ -31,7 +32,7 @@ fn lacks_room(command: &Command, reply: &Reply) -> bool
 
 /// Performs a session's command, if there was room for it, and reports whether the session may see the entry's reply. It
 /// passes over controls.
-fn follow(heap: &mut PlainHeap, entry: &Entry) -> Result<bool, NoMemory>
+pub(crate) fn follow(heap: &mut PlainHeap, entry: &Entry) -> Result<bool, NoMemory>
     requires { births (world_of heap.old) < LIFE }
     ensures followed { IfOk result (IsFollowed (world_of heap.old) entry.now (world_of heap.new)) }
     ensures few { births (world_of heap.new) ≤ births (world_of heap.old) + 1 }
@@ -64,6 +65,16 @@ fn try_entry(heap: &mut PlainHeap, followed: u64, entry: &Entry) -> Result<bool,
     follow(heap, entry)
 }
 
+/// The heap that never collects, under these rules.
+pub(crate) fn plain_heap(alloc: Global, rules: Rules) -> PlainHeap
+    ensures { (config : Config) × (config.rules ≡ rules) × (world_of result ≡ first_world config) }
+{
+    let Some(config) = Config::under(rules, 1, LEAST_QUANTUM, 0, 0) else {
+        unreachable!();
+    };
+    PlainHeap::open(alloc, config)
+}
+
 /// A judge of what sessions see, who is shown the entries of a history one by one and keeps none of them. An entry past the
 /// 1,000,000th is bad.
 #[derive(Drop)]
@@ -92,11 +103,8 @@ impl SessionsJudge {
     pub fn open(alloc: Global, rules: Rules) -> SessionsJudge
         ensures { HasSeenSessions rules [] result }
     {
-        let Some(config) = Config::under(rules, 1, LEAST_QUANTUM, 0, 0) else {
-            unreachable!();
-        };
         SessionsJudge {
-            heap: PlainHeap::open(alloc, config),
+            heap: plain_heap(alloc, rules),
             followed: 0,
             first_bad: None,
         }

@@ -2,22 +2,27 @@
 ghost use Rattle.std.specs.Prelude.{◌≡◌, ◌≢◌, ◌<◌, ◌^◌, map, IfOk, IfErr, OnErr, IsErrOf};
 ghost use Rattle.std.specs.Io.KnownBytes.{Keeps};
 ghost use Rattle.mh_history.specs.Beginnings.{HasEntry, entries_left};
-ghost use Rattle.mh_judging.specs.Judged.{BeginsToJudge, IsVerdictOn, Judges};
-ghost use Rattle.mh_model.specs.declared.history.Entry.{Entry};
+ghost use Rattle.mh_findings.specs.Judgements.{IsRefusal, verdict_of};
+ghost use Rattle.mh_judging.specs.Judged.{BeginsToJudge, Explains, IsVerdictOn, Judges};
+ghost use Rattle.mh_model.specs.declared.history.Verdict.TheVariants.{FirstBad};
 ghost use Rattle.mh_model.specs.Bytes.{cut_after};
-ghost use Rattle.mh_model.specs.Script.{reading_map};
+ghost use Rattle.mh_model.specs.Script.{BadLine, reading_map};
 ghost use Rattle.mh_model.specs.Sessions.{IsLegalForSessions, IsSeenThrough, entries_reading, is_of_version_one};
 ghost use Rattle.mh_script.specs.Texts.{Blames, LeavesSource, WantsMemory};
-ghost use Rattle.mh_sessions.specs.Texts.{BeginsWithEither};
+ghost use Rattle.mh_sessions.specs.Texts.{BeginsWithEither, IsSeenExplained, IsSeenFault, version_of};
 ghost use Rattle.mh_text.specs.TextErrors.{Refuses};
 
+use crate::fault::fault_in;
 use crate::judge::SessionsJudge;
 use crate::laws::texts_are_seen_through;
+use crate::lines::SeenLine;
+use mh_findings::entry_fault::EntryFault;
+use mh_findings::judgement::Judgement;
 use mh_history::history::history_lines;
-use mh_history::lines::{FromLine, next_entry};
+use mh_history::lines::next_entry;
 use mh_history::record::{RECORD_BYTES, record_lines};
 use mh_model::config::Rules;
-use mh_model::history::{Entry, Measured, Verdict};
+use mh_model::history::{Entry, Measured, Verdict, Version};
 use mh_model::memory::NoMemory;
 use mh_script::fault::ScriptFault;
 use mh_script::texts::{read_whole, write_verdict};
@@ -28,31 +33,6 @@ use mh_text::source::Source;
 use mh_text::text_error::TextError;
 use mh_text::word::is_word;
 use std::alloc::Global;
-
-/// What a line of some version is read as, of which its sessions see an entry.
-trait SeenLine: FromLine + Drop {
-    // The entry that its sessions see.
-    ghost seen: { Self → Entry };
-
-    fn entry(&self) -> &Entry
-        ensures { result.now ≡ seen self.now };
-}
-
-impl SeenLine for Entry {
-    ghost seen = { λ entry. entry };
-
-    fn entry(&self) -> &Entry {
-        self
-    }
-}
-
-impl SeenLine for Measured {
-    ghost seen = { λ measured. measured.entry };
-
-    fn entry(&self) -> &Entry {
-        &self.entry
-    }
-}
 
 /// The verdict on the entries that are left of a history, each of which is followed as it is read.
 fn judge_lines<E: SeenLine>(
@@ -108,6 +88,58 @@ pub fn verdict_on_sessions(alloc: Global, rules: Rules, text: &[u8]) -> Result<V
     }
 }
 
+/// What is wrong with the first bad entry of a text, whose entries are followed once more.
+fn entry_fault(
+    alloc: Global,
+    rules: Rules,
+    text: &[u8],
+    number: u64,
+) -> Result<EntryFault, NoMemory>
+    requires { IsSeenThrough rules text.now (FirstBad number) }
+    ensures fault { IfOk result (IsSeenFault rules text.now number) }
+    ensures memory { OnErr result (BeginsWithEither text.now) }
+{
+    if is_of_version_one(text) {
+        let Ok(lines) = history_lines(text) else {
+            unreachable!();
+        };
+        return fault_in::<Entry>(alloc, rules, lines, number);
+    }
+    let Ok((_, lines)) = record_lines(text) else {
+        unreachable!();
+    };
+    fault_in::<Measured>(alloc, rules, lines, number)
+}
+
+/// That a text is refused with its first bad line, as a history of the version of its first line.
+fn refused(text: &[u8], line: u64) -> Judgement
+    requires { entries_reading text.now ≡ BadLine line }
+    ensures { IsRefusal (version_of text.now) text.now line result }
+{
+    if is_of_version_one(text) {
+        Judgement::refused(Version::One, text, line)
+    } else {
+        Judgement::refused(Version::Two, text, line)
+    }
+}
+
+/// The verdict on a text of either version by what its sessions see, and what is wrong with the text. Up to its first bad
+/// entry it is followed twice.
+pub fn judge_sessions(alloc: Global, rules: Rules, text: &[u8]) -> Result<Judgement, NoMemory>
+    ensures verdict { IfOk result (λ judgement. IsSeenThrough rules text.now (verdict_of judgement)) }
+    ensures explained { IfOk result (IsSeenExplained rules text.now) }
+    ensures memory { OnErr result (BeginsWithEither text.now) }
+{
+    match verdict_on_sessions(alloc, rules, text)? {
+        Verdict::Legal(count) => Ok(Judgement::Legal(count)),
+        Verdict::Refused(line) => Ok(refused(text, line)),
+        Verdict::FirstBad(number) => Ok(Judgement::FirstBad {
+            number,
+            fault: entry_fault(alloc, rules, text, number)?,
+        }),
+    }
+}
+
 /// Reads a whole history of either version, judges it by what its sessions see under these rules, and then writes the line
 /// of its verdict, for which it takes no memory.
 pub fn check_sessions<S: Source, W: Sink>(
@@ -115,10 +147,11 @@ pub fn check_sessions<S: Source, W: Sink>(
     rules: Rules,
     source: &mut S,
     sink: &mut W,
-) -> Result<Verdict, ScriptFault>
+) -> Result<Judgement, ScriptFault>
     requires source_count { S.failures source.old < 2 ^ 62 }
     requires sink_count { W.failures sink.old < 2 ^ 62 }
-    ensures judged { IfOk result (Judges (IsSeenThrough rules) (S.rest source.old) (W.written sink.old) (W.written sink.new)) }
+    ensures judged { IfOk result (λ judgement. Judges (IsSeenThrough rules) (S.rest source.old) (W.written sink.old) (W.written sink.new) (verdict_of judgement)) }
+    ensures explained { IfOk result (Explains (IsSeenExplained rules) (S.rest source.old)) }
     ensures begun { OnErr result (BeginsToJudge (IsSeenThrough rules) (S.rest source.old) (W.written sink.old) (W.written sink.new)) }
     ensures never_full { result ≢ Err ScriptFault.HistoryFull }
     ensures unread { IsErrOf result ScriptFault.Read → Keeps (W.written sink.old) (W.written sink.new) }
@@ -129,9 +162,9 @@ pub fn check_sessions<S: Source, W: Sink>(
 {
     texts_are_seen_through();
     let text = read_whole(alloc, source, RECORD_BYTES)?;
-    let verdict = verdict_on_sessions(alloc, rules, text.as_slice())?;
-    match write_verdict(verdict, sink) {
-        Ok(()) => Ok(verdict),
+    let judgement = judge_sessions(alloc, rules, text.as_slice())?;
+    match write_verdict(judgement.verdict(), sink) {
+        Ok(()) => Ok(judgement),
         Err(DeviceFailed) => Err(ScriptFault::Write),
     }
 }

@@ -45,7 +45,7 @@ pub const SOUND_DEVICES: Devices = Devices {
 pub enum Outcome {
     /// As it does if no device fails.
     Right,
-    /// With what may be written before a read fails, and a line that says that one did.
+    /// With what may be written before a read fails, and a line that says that one did after those on refused lines.
     ReadFailed,
     /// With less than the output, a prefix of it, and a line that says that a write failed.
     WriteFailed,
@@ -76,6 +76,19 @@ fn is_told(errors: &Troubled<'_>, text: &[u8]) -> bool {
     told == text || (errors.at > 0 && errors.at == errors.calls && text.starts_with(told))
 }
 
+/// Whether a fault was reported, and before it the lines that were refused until then.
+fn is_fault_told(case: &Case<'_>, errors: &Troubled<'_>, fault: &[u8]) -> bool {
+    let told = errors.taken.as_slice();
+    if is_told(errors, fault) {
+        return true;
+    }
+    if !case.is_live() || !told.ends_with(fault) {
+        return false;
+    }
+    let before = &told[..told.len() - fault.len()];
+    before.ends_with(b"\n") && case.told.starts_with(before)
+}
+
 /// Whether what was reported begins so, or as far as standard error took it.
 fn begins_to_tell(errors: &Troubled<'_>, text: &[u8]) -> bool {
     is_told(errors, text) || (errors.calls > 0 && errors.taken.as_slice().starts_with(text))
@@ -90,12 +103,11 @@ fn failure(
     status: u8,
 ) -> Outcome {
     match status {
-        3 if case.is_written_early(output.taken.as_slice()) && is_told(errors, READ_FAILED) => {
-            Outcome::ReadFailed
-        }
-        3 if case.is_begun(output.taken.as_slice()) && is_told(errors, WRITE_FAILED) => {
-            Outcome::WriteFailed
-        }
+        3
+            if case.is_written_early(output.taken.as_slice())
+                && is_fault_told(case, errors, READ_FAILED) => { Outcome::ReadFailed }
+        3 if case.is_begun(output.taken.as_slice()) && is_fault_told(case, errors, WRITE_FAILED) =>
+            { Outcome::WriteFailed }
         2 if input.calls == 0 && output.calls == 0 && begins_to_tell(errors, case.told) => {
             Outcome::WordsRefused
         }

@@ -22,7 +22,7 @@
 //! | `% answer STATUS` | the status, and the output |
 //! | `% audited` | the status is 0, and these lines are what `audit` writes of the output |
 //! | `% holds` | a line that the output has |
-//! | `% errors`, `% errors begin` | what standard error gets, or how that begins; if neither stands, nothing |
+//! | `% errors`, `% errors begin` | what standard error gets, or how that begins; if neither stands, a line for each refused line and for a bad entry, which names it |
 //!
 //! Types that own many texts have a `drop` of their own, which takes them apart: who owns one proves one call if it is dropped.
 #![tactic(auto)]
@@ -42,6 +42,7 @@ mod list;
 mod reader;
 mod report;
 mod spoil;
+mod told;
 mod trial;
 
 use crate::reader::read_cases;

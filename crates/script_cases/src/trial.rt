@@ -10,6 +10,7 @@ use crate::input::Input;
 use crate::lines::has_line;
 use crate::report::Report;
 use crate::spoil::spoil_text;
+use crate::told::is_told;
 use anyhow::Result;
 use std::alloc::Global;
 use std::sync::Wait;
@@ -66,28 +67,15 @@ fn is_held(alloc: Global, output: &[u8], held: &[u8]) -> Result<bool> {
     Ok(held.is_empty() || has_line(alloc, output, held)?)
 }
 
-/// What standard error says of the line at which a script is refused.
-fn reason<'a>(refusal: &[u8], errors: &'a [u8]) -> Option<&'a [u8]> {
-    let line = refusal.strip_prefix(b"refused 10 ")?.strip_suffix(b"\n")?;
-    let told = errors.strip_prefix(b"metroheap: ")?.strip_suffix(b"\n")?;
-    told.strip_prefix(line)?.strip_prefix(b": ")
-}
-
-/// Whether standard error has one line, with a reason.
-fn has_reason(refusal: &[u8], errors: &[u8]) -> bool {
-    reason(refusal, errors).is_some_and(|reason| !reason.is_empty() && !reason.contains(&b'\n'))
-}
-
-/// Whether standard error has what the answer says. Of a script that is refused it has some reason if nothing is said.
-fn are_errors(line: &[u8], written: &Written, answer: &Answer) -> bool {
+/// Whether standard error has what the answer says. If nothing is said, it has a line for each line of the output that asks for one.
+fn are_errors(alloc: Global, written: &Written, answer: &Answer) -> Result<bool> {
     let errors = written.errors.as_slice();
-    let is_script = line.starts_with(b"run") || line.starts_with(b"race");
     if answer.errors_go_on {
-        errors.starts_with(answer.errors.as_slice())
-    } else if is_script && answer.status == 1 && answer.errors.is_empty() {
-        has_reason(answer.output.as_slice(), errors)
+        Ok(errors.starts_with(answer.errors.as_slice()))
+    } else if answer.errors.is_empty() {
+        is_told(alloc, written.output.as_slice(), errors)
     } else {
-        errors == answer.errors.as_slice()
+        Ok(errors == answer.errors.as_slice())
     }
 }
 
@@ -102,7 +90,7 @@ fn try_input<R: Threads + Wait + Sync>(
     let written = call(rt, trial.alloc, trial.line.as_slice(), input)?;
     let output = written.output.as_slice();
     let is_right = written.status == answer.status
-        && are_errors(trial.line.as_slice(), &written, answer)
+        && are_errors(trial.alloc, &written, answer)?
         && is_held(trial.alloc, output, answer.held.as_slice())?
         && is_output(rt, trial.alloc, output, answer)?;
     report.count(trial, &written, is_right)?;

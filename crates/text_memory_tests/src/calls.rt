@@ -1,9 +1,9 @@
 //! Calls of the program that may be refused memory.
-use crate::comparing::{Comparing, Tellings};
-use crate::live_answers::{are_right, has_starved};
-use crate::texts::REFUSED_REASON;
+use crate::comparing::Comparing;
+use crate::live_answers::{are_right, has_starved, refused_in};
+use mh_findings::judgement::Judgement;
 use mh_judging::judge::audit_script;
-use mh_model::history::Verdict;
+use mh_program::errors::Errors;
 use mh_program::launch::launch;
 use mh_program::order::line_order;
 use mh_program::program::serve;
@@ -28,6 +28,16 @@ pub enum Wanted<'a> {
     Answers(usize),
 }
 
+/// What standard error gets if the program isn't refused memory.
+#[derive(Clone, Copy)]
+pub enum Told<'a> {
+    Nothing,
+    /// One line, or another if there is no memory for it.
+    Line { reason: &'a [u8], other: &'a [u8] },
+    /// A line for each that is answered as outside the grammar.
+    Refusals,
+}
+
 /// When the words of a command line are read.
 #[derive(Clone, Copy)]
 pub enum Reading {
@@ -42,6 +52,7 @@ pub struct Call<'a> {
     pub words: &'a [&'a [u8]],
     pub text: &'a [u8],
     pub wanted: Wanted<'a>,
+    pub told: Told<'a>,
     pub status: u8,
     pub reading: Reading,
 }
@@ -58,7 +69,7 @@ pub enum Outcome {
 /// How the program ended.
 #[derive(Clone, Copy)]
 enum Ending {
-    /// With this status, and nothing was reported but why a script is refused.
+    /// With this status, and what is then to be told.
     Quiet(u8),
     /// For refused memory, which was reported.
     NoMemory,
@@ -67,16 +78,11 @@ enum Ending {
 
 const NO_MEMORY: &[u8] = b"metroheap: no memory\n";
 
-const NO_REASON: &[u8] = b"metroheap: the script is outside the grammar\n";
-
-/// The status of a text that is refused.
-const REFUSED_STATUS: u8 = 1;
-
 /// So many bytes are enough for the words of a command line, and to judge a history.
 const ENOUGH: usize = 1 << 20;
 
-/// The history of one race is not longer.
-const MOST_BYTES: usize = 1_024;
+/// The history of one race is not longer, nor what is reported.
+const MOST_BYTES: usize = 2_048;
 
 /// Does what a command line asks for, whose words are read before all but so many bytes are taken.
 fn serve_with<R: Threads + Wait + Sync, W: Write + Drop>(
@@ -86,13 +92,13 @@ fn serve_with<R: Threads + Wait + Sync, W: Write + Drop>(
     left: usize,
     call: &Call<'_>,
     output: W,
-    errors: &mut Tellings,
+    errors: &mut Vec<u8>,
 ) -> Result<u8, AllocError> {
     famine.leave(ENOUGH)?;
     let order = line_order(alloc, words(&Words(call.words), alloc));
     let mut source = StdSource::new(call.text);
     let mut sink = StdSink::new(output);
-    let mut errors = StdSink::new(errors);
+    let mut errors = Errors::new(alloc, StdSink::new(errors));
     famine.leave(left)?;
     Ok(serve(rt, alloc, order, &mut source, &mut sink, &mut errors, &Open))
 }
@@ -101,13 +107,43 @@ fn serve_with<R: Threads + Wait + Sync, W: Write + Drop>(
 fn legal_entries(alloc: Global, history: &[u8]) -> Option<u64> {
     let mut sink = StdSink::new(Vec::new(alloc));
     match audit_script(alloc, &mut StdSource::new(history), &mut sink) {
-        Ok(Verdict::Legal(count)) => Some(count),
+        Ok(Judgement::Legal(count)) => Some(count),
         _ => None,
     }
 }
 
+fn lines_in(text: &[u8]) -> usize {
+    text.iter().filter(|byte| **byte == b'\n').count()
+}
+
+/// Whether a line was told for each that was answered as outside the grammar, and one more at the end if memory was refused.
+fn is_told(answers: &[u8], told: &[u8], ending: &Ending) -> bool {
+    let refused = refused_in(answers);
+    match ending {
+        Ending::NoMemory => lines_in(told) == refused.wrapping_add(1),
+        _ => lines_in(told) == refused,
+    }
+}
+
 impl Call<'_> {
-    /// The program with so many bytes left.
+    /// How the program ended with this status and this on standard error.
+    fn ending(&self, status: u8, told: &[u8]) -> Ending {
+        if status == 3 && told == NO_MEMORY {
+            return Ending::NoMemory;
+        }
+        let is_right = match self.told {
+            Told::Nothing => told.is_empty(),
+            Told::Line { reason, other } => told == reason || told == other,
+            Told::Refusals => true,
+        };
+        match (is_right, self.told) {
+            (true, Told::Refusals) if status == 3 && told.ends_with(NO_MEMORY) => Ending::NoMemory,
+            (true, _) => Ending::Quiet(status),
+            _ => Ending::Other,
+        }
+    }
+
+    /// The program with so many bytes left, and with room for what it tells.
     fn carry_out<R: Threads + Wait + Sync, W: Write + Drop>(
         &self,
         rt: &R,
@@ -115,26 +151,17 @@ impl Call<'_> {
         famine: &mut Famine,
         left: usize,
         output: W,
+        told: &mut Vec<u8>,
     ) -> Result<Ending, AllocError> {
-        let mut errors = Tellings {
-            no_memory: Comparing::new(NO_MEMORY),
-            reason: Comparing::new(REFUSED_REASON),
-            no_reason: Comparing::new(NO_REASON),
-        };
         let status = match self.reading {
-            Reading::Before => serve_with(rt, alloc, famine, left, self, output, &mut errors)?,
+            Reading::Before => serve_with(rt, alloc, famine, left, self, output, told)?,
             Reading::Within => {
                 famine.leave(left)?;
                 let words = Words(self.words);
-                launch(rt, alloc, &words, self.text, output, &mut errors)
+                launch(rt, alloc, &words, self.text, output, told)
             }
         };
-        Ok(match status {
-            REFUSED_STATUS if errors.is_refusal() => Ending::Quiet(status),
-            3 if errors.no_memory.is_whole() => Ending::NoMemory,
-            _ if status != REFUSED_STATUS && errors.is_silent() => Ending::Quiet(status),
-            _ => Ending::Other,
-        })
+        Ok(self.ending(status, told.as_slice()))
     }
 
     /// A call whose output is known.
@@ -146,8 +173,10 @@ impl Call<'_> {
         left: usize,
         output: &[u8],
     ) -> Result<Outcome, AllocError> {
+        famine.leave(ENOUGH)?;
+        let mut told = Vec::with_capacity(alloc, MOST_BYTES)?;
         let mut output = Comparing::new(output);
-        let ending = self.carry_out(rt, alloc, famine, left, &mut output)?;
+        let ending = self.carry_out(rt, alloc, famine, left, &mut output, &mut told)?;
         Ok(match (ending, output.begun()) {
             (Ending::Quiet(status), Some(_)) if status == self.status && output.is_whole() => {
                 Outcome::Right
@@ -168,7 +197,8 @@ impl Call<'_> {
     ) -> Result<Outcome, AllocError> {
         famine.leave(ENOUGH)?;
         let mut history = Vec::with_capacity(alloc, MOST_BYTES)?;
-        let ending = self.carry_out(rt, alloc, famine, left, &mut history)?;
+        let mut told = Vec::with_capacity(alloc, MOST_BYTES)?;
+        let ending = self.carry_out(rt, alloc, famine, left, &mut history, &mut told)?;
         famine.leave(ENOUGH)?;
         Ok(match (ending, legal_entries(alloc, history.as_slice())) {
             (Ending::Quiet(status), Some(count)) if status == self.status && count == entries => {
@@ -193,12 +223,14 @@ impl Call<'_> {
     ) -> Result<Outcome, AllocError> {
         famine.leave(ENOUGH)?;
         let mut answers = Vec::with_capacity(alloc, MOST_BYTES)?;
-        let ending = self.carry_out(rt, alloc, famine, left, &mut answers)?;
+        let mut told = Vec::with_capacity(alloc, MOST_BYTES)?;
+        let ending = self.carry_out(rt, alloc, famine, left, &mut answers, &mut told)?;
         famine.leave(ENOUGH)?;
         let answers = answers.as_slice();
         let is_right = are_right(rt, alloc, self.text, answers, true)?
             || are_right(rt, alloc, self.text, answers, false)?;
-        let lines = answers.iter().filter(|byte| **byte == b'\n').count();
+        let lines = lines_in(answers);
+        let is_right = is_right && is_told(answers, told.as_slice(), &ending);
         Ok(match ending {
             Ending::Quiet(0) if is_right && lines == count && !has_starved(answers) =>
                 Outcome::Right,

@@ -33,40 +33,6 @@ impl<'a> Comparing<'a> {
     }
 }
 
-/// What standard error may get, each as far as it was written.
-#[derive(Drop)]
-pub struct Tellings {
-    pub no_memory: Comparing<'static>,
-    /// Why a script is refused.
-    pub reason: Comparing<'static>,
-    /// The same if there is no memory for the reason.
-    pub no_reason: Comparing<'static>,
-}
-
-impl Tellings {
-    /// Whether nothing was written.
-    pub fn is_silent(&self) -> bool {
-        self.no_memory.begun() == Some(0)
-    }
-
-    /// Whether a refused script was reported.
-    pub fn is_refusal(&self) -> bool {
-        self.reason.is_whole() || self.no_reason.is_whole()
-    }
-}
-
-impl Write for Tellings {
-    fn write(&mut self, bytes: &[u8]) -> io::Result<usize> {
-        self.no_memory.write(bytes)?;
-        self.reason.write(bytes)?;
-        self.no_reason.write(bytes)
-    }
-
-    fn flush(&mut self) -> io::Result<()> {
-        Ok(())
-    }
-}
-
 impl Write for Comparing<'_> {
     fn write(&mut self, bytes: &[u8]) -> io::Result<usize> {
         let end = self.written.saturating_add(bytes.len());

@@ -1,6 +1,8 @@
 //! Answers to lines while memory is refused.
 use mh_live::feed::run_live;
+use mh_live::listener::Listener;
 use mh_scan::gate::Open;
+use mh_script::end::Refusal;
 use mh_text::sink::StdSink;
 use mh_text::source::StdSource;
 use std::alloc::{AllocError, Global};
@@ -16,10 +18,39 @@ pub fn has_starved(answers: &[u8]) -> bool {
         .any(|answer| answer == STARVED)
 }
 
+/// How many lines were answered as outside the grammar.
+pub fn refused_in(answers: &[u8]) -> usize {
+    answers
+        .split_inclusive(|byte| *byte == b'\n')
+        .filter(|answer| answer.starts_with(b"refused 10 "))
+        .count()
+}
+
+/// Hears nothing.
+struct Deaf;
+
+impl Listener for Deaf {
+    ghost hears = { λ _ _ _. Unit {0} };
+
+    fn refused(&mut self, _refusal: &Refusal) {}
+
+    ghost silence = { λ _. tt };
+
+    ghost onward = { λ _ _ _ _ _ _ _. tt };
+}
+
 /// What the lines of a text are answered with all memory there.
 fn answers_to<R: Threads>(rt: &R, alloc: Global, text: &[u8]) -> Option<Vec<u8>> {
     let mut sink = StdSink::new(Vec::new(alloc));
-    match run_live(rt, alloc, &mut StdSource::new(text), &mut sink, 1, &Open) {
+    match run_live(
+        rt,
+        alloc,
+        &mut StdSource::new(text),
+        &mut sink,
+        &mut Deaf,
+        1,
+        &Open,
+    ) {
         Ok(()) => Some(sink.writer),
         Err(_) => None,
     }

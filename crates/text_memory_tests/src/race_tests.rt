@@ -1,4 +1,4 @@
-use crate::calls::{Call, Outcome, Reading, Wanted};
+use crate::calls::{Call, Outcome, Reading, Told, Wanted};
 use crate::comparing::Comparing;
 use crate::sweep::check;
 use crate::texts::{ALONE, ALONE_HISTORY, RACE, RACE_BY_TWO, SHARED, SHARED_ENTRIES, repeated};
@@ -12,6 +12,7 @@ const SESSION: Call<'static> = Call {
     words: RACE,
     text: ALONE,
     wanted: Wanted::Output(ALONE_HISTORY),
+    told: Told::Nothing,
     status: 0,
     reading: Reading::Before,
 };
@@ -36,6 +37,7 @@ const SESSIONS: Call<'static> = Call {
     words: RACE_BY_TWO,
     text: SHARED,
     wanted: Wanted::History(SHARED_ENTRIES),
+    told: Told::Nothing,
     status: 0,
     reading: Reading::Before,
 };

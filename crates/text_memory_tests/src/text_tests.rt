@@ -1,10 +1,11 @@
 //! Texts whose output is known.
-use crate::calls::{Call, Reading, Wanted};
+use crate::calls::{Call, Reading, Told, Wanted};
 use crate::sweep::check;
 use crate::texts::{
-    AUDIT, BAD_HISTORY, BAD_RECORD, CHECK, CHECK_SESSIONS, COLLECTED, COLLECTED_OUTPUT, FIRST_BAD,
-    HISTORY, LEGAL, LIVE, MIGRATE, MIGRATE_CYCLES, RACE, RECORD, REFUSED, REFUSED_OUTPUT, RUN,
-    RUN_BY_TWO, RUN_HISTORY, crowded, crowded_output, repeated, wide, wide_output,
+    AUDIT, BAD_HISTORY, BAD_NUMBER, BAD_RECORD, CHECK, CHECK_SESSIONS, COLLECTED, COLLECTED_OUTPUT,
+    FIRST_BAD, HISTORY, LEGAL, LIVE, MIGRATE, MIGRATE_CYCLES, RACE, RECORD, REFUSED,
+    REFUSED_OUTPUT, REFUSED_REASON, RUN, RUN_BY_TWO, RUN_HISTORY, crowded, crowded_output,
+    repeated, wide, wide_output,
 };
 use std::alloc::{AllocError, Global};
 use std::process::Abort;
@@ -12,11 +13,24 @@ use std::sync::Wait;
 use std::test::Fail;
 use std::thread::Threads;
 
+/// What is reported of the refused script.
+const REFUSAL: Told<'static> = Told::Line {
+    reason: REFUSED_REASON,
+    other: b"metroheap: the script is outside the grammar\n",
+};
+
+/// What is reported of a bad entry.
+const BAD_ENTRY: Told<'static> = Told::Line {
+    reason: BAD_NUMBER,
+    other: b"metroheap: an entry is bad\n",
+};
+
 const SCRIPTS: &[Call<'static>] = &[
     Call {
         words: RUN,
         text: COLLECTED,
         wanted: Wanted::Output(COLLECTED_OUTPUT),
+        told: Told::Nothing,
         status: 0,
         reading: Reading::Before,
     },
@@ -24,6 +38,7 @@ const SCRIPTS: &[Call<'static>] = &[
         words: RUN,
         text: REFUSED,
         wanted: Wanted::Output(REFUSED_OUTPUT),
+        told: REFUSAL,
         status: 1,
         reading: Reading::Before,
     },
@@ -34,6 +49,7 @@ const CHECKED: &[Call<'static>] = &[
         words: CHECK,
         text: HISTORY,
         wanted: Wanted::Output(LEGAL),
+        told: Told::Nothing,
         status: 0,
         reading: Reading::Before,
     },
@@ -41,6 +57,7 @@ const CHECKED: &[Call<'static>] = &[
         words: CHECK,
         text: BAD_HISTORY,
         wanted: Wanted::Output(FIRST_BAD),
+        told: BAD_ENTRY,
         status: 4,
         reading: Reading::Before,
     },
@@ -51,6 +68,7 @@ const AUDITED: &[Call<'static>] = &[
         words: AUDIT,
         text: RECORD,
         wanted: Wanted::Output(LEGAL),
+        told: Told::Nothing,
         status: 0,
         reading: Reading::Before,
     },
@@ -58,6 +76,7 @@ const AUDITED: &[Call<'static>] = &[
         words: AUDIT,
         text: BAD_RECORD,
         wanted: Wanted::Output(FIRST_BAD),
+        told: BAD_ENTRY,
         status: 4,
         reading: Reading::Before,
     },
@@ -68,6 +87,7 @@ const MIGRATED: &[Call<'static>] = &[
         words: MIGRATE,
         text: HISTORY,
         wanted: Wanted::Output(RECORD),
+        told: Told::Nothing,
         status: 0,
         reading: Reading::Before,
     },
@@ -75,6 +95,7 @@ const MIGRATED: &[Call<'static>] = &[
         words: MIGRATE,
         text: BAD_HISTORY,
         wanted: Wanted::Output(FIRST_BAD),
+        told: BAD_ENTRY,
         status: 4,
         reading: Reading::Before,
     },
@@ -129,6 +150,7 @@ const RECORDED: &[Call<'static>] = &[Call {
     words: RUN_HISTORY,
     text: CYCLE,
     wanted: Wanted::Output(RECORD),
+    told: Told::Nothing,
     status: 0,
     reading: Reading::Before,
 }];
@@ -144,6 +166,7 @@ const SEEN: &[Call<'static>] = &[
         words: CHECK_SESSIONS,
         text: HISTORY,
         wanted: Wanted::Output(LEGAL),
+        told: Told::Nothing,
         status: 0,
         reading: Reading::Before,
     },
@@ -151,6 +174,7 @@ const SEEN: &[Call<'static>] = &[
         words: CHECK_SESSIONS,
         text: BAD_RECORD,
         wanted: Wanted::Output(FIRST_BAD),
+        told: BAD_ENTRY,
         status: 4,
         reading: Reading::Before,
     },
@@ -170,6 +194,7 @@ const ANSWERED: &[Call<'static>] = &[Call {
     words: LIVE,
     text: LINES_ANSWERED,
     wanted: Wanted::Answers(12),
+    told: Told::Refusals,
     status: 0,
     reading: Reading::Before,
 }];
@@ -184,6 +209,7 @@ const BY_CREW: Call<'static> = Call {
     words: RUN_BY_TWO,
     text: COLLECTED,
     wanted: Wanted::Output(COLLECTED_OUTPUT),
+    told: Told::Nothing,
     status: 0,
     reading: Reading::Within,
 };
@@ -220,6 +246,7 @@ fn check_beginnings<R: Threads + Wait + Sync + Abort>(
         words,
         text,
         wanted: Wanted::Output(output),
+        told: Told::Nothing,
         status: 0,
         reading: Reading::Before,
     };

@@ -186,6 +186,9 @@ pub const BAD_RECORD: &[u8] =
 
 pub const FIRST_BAD: &[u8] = b"first bad 3\n";
 
+/// What is reported of both.
+pub const BAD_NUMBER: &[u8] = b"metroheap: line 4, entry 3: number 6, and right is number 5\n";
+
 /// A text, and after it another, so many times.
 pub fn repeated(
     alloc: Global,

@@ -2,6 +2,7 @@
 ghost use Rattle.std.specs.Prelude.{◌<◌, ◌≤◌};
 
 use mh_model::config::Rules;
+use mh_program::errors::Errors;
 use mh_program::program::program;
 use mh_racing::race::race_script;
 use mh_scan::crew_scan::CrewGate;
@@ -85,7 +86,7 @@ pub fn printed_by_program<R: Threads + Wait + Sync, G: CrewGate + Sync>(
     let words = Ok(words_of(alloc, workers)?);
     let mut source = StdSource::new(script);
     let mut sink = StdSink::new(Vec::new(alloc));
-    let mut errors = StdSink::new(Vec::new(alloc));
+    let mut errors = Errors::new(alloc, StdSink::new(Vec::new(alloc)));
     if program(rt, alloc, words, &mut source, &mut sink, &mut errors, gate) != 0 {
         return Err(Fail::from("another status"));
     }

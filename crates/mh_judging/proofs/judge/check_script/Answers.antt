@@ -2,6 +2,7 @@ use Rattle.std.proofs.lemmas.Result.{err_from_is_err_and}
 use Rattle.mh_text.proofs.ErrorLemmas.{same_error}
 use Rattle.mh_script.specs.Texts.{ForBytes}
 use Rattle.mh_script.proofs.AddedLines.{on_err}
+use Rattle.mh_judging.proofs.ExplainedLemmas.{check_explains}
 use Rattle.mh_judging.proofs.JudgedLemmas.{checked_by, begins_to_judge_nothing, begins_to_judge_reads, judges_reads}
 use Rattle.mh_script.proofs.SourceLemmas.{history_bounded, reads_slice, wants_text}
 use Rattle.mh_judging.proofs.judge.check_script.Goals as goal
@@ -9,24 +10,28 @@ use Rattle.mh_judging.proofs.judge.check_script.Goals as goal
 pub returns-in_err-text-clause-begun : goal.returns-in_err-text-clause-begun
 returns-in_err-text-clause-begun g c = on_err _ (begins_to_judge_nothing _ (c.texts_are_checked.ensures c.args.config) _ _)
 
-pub returns-in_err-verdict-clause-begun : goal.returns-in_err-verdict-clause-begun
-returns-in_err-verdict-clause-begun g c = on_err _ (begins_to_judge_nothing _ (c.texts_are_checked.ensures c.args.config) _ _)
+pub returns-in_err-judgement-clause-begun : goal.returns-in_err-judgement-clause-begun
+returns-in_err-judgement-clause-begun g c = on_err _ (begins_to_judge_nothing _ (c.texts_are_checked.ensures c.args.config) _ _)
 
 pub returns-in-Ok-clause-judged : goal.returns-in-Ok-clause-judged
 returns-in-Ok-clause-judged g c =
     let reads = reads_slice _ _ history_bounded _ _ _ _ c.as_slice.ensures.value c.in_ok-text.ensures.read c.in_ok-text.ensures.whole in
-    judges_reads reads _ (checked_by c.args.config) _ _ _ c.in_ok-verdict.ensures.verdict c.in-Ok.ensures.done
+    judges_reads reads _ (checked_by c.args.config) _ _ _ c.in_ok-judgement.ensures.verdict (rw c.verdict.ensures at c.in-Ok.ensures.done)
 
 pub returns-clause-begun : goal.returns-clause-begun
 returns-clause-begun g c =
     let reads = reads_slice _ _ history_bounded _ _ _ _ c.as_slice.ensures.value c.in_ok-text.ensures.read c.in_ok-text.ensures.whole in
-    begins_to_judge_reads reads _ (checked_by c.args.config) _ _ _ c.in_ok-verdict.ensures.verdict c.in-Err.ensures.begun
+    begins_to_judge_reads reads _ (checked_by c.args.config) _ _ _ c.in_ok-judgement.ensures.verdict (rw c.verdict.ensures at c.in-Err.ensures.begun)
 
 pub returns-in_err-text-clause-memory : goal.returns-in_err-text-clause-memory
 returns-in_err-text-clause-memory g c =
     let p = err_from_is_err_and c.from_residual.result c.from_residual.ensures.1 in
     rw (p.1, p.2) (λ is. ForBytes (c.in_err-text.ensures.took (same_error _ _ is)))
 
-pub returns-in_err-verdict-clause-memory : goal.returns-in_err-verdict-clause-memory
-returns-in_err-verdict-clause-memory g c =
-    λ _. wants_text _ _ _ _ _ _ c.as_slice.ensures.value c.in_ok-text.ensures.read c.in_ok-text.ensures.whole c.in_err-verdict.ensures.memory.short c.in_err-verdict.ensures.memory
+pub returns-in_err-judgement-clause-memory : goal.returns-in_err-judgement-clause-memory
+returns-in_err-judgement-clause-memory g c =
+    λ _. wants_text _ _ _ _ _ _ c.as_slice.ensures.value c.in_ok-text.ensures.read c.in_ok-text.ensures.whole c.in_err-judgement.ensures.memory.short c.in_err-judgement.ensures.memory
+
+pub returns-in-Ok-clause-explained : goal.returns-in-Ok-clause-explained
+returns-in-Ok-clause-explained g c =
+    check_explains _ _ _ _ _ c.as_slice.ensures.value c.in_ok-text.ensures.read c.args.config c.in_ok-text.ensures.whole c.in_ok-judgement.ensures.verdict c.in_ok-judgement.ensures.explained

@@ -2,6 +2,8 @@ use Rattle.std.proofs.lemmas.Result.{IfOk-weaker, err_from_is_err_and, on_err_we
 use Rattle.mh_text.proofs.ErrorLemmas.{same_error}
 use Rattle.mh_script.specs.Texts.{ForBytes}
 use Rattle.mh_script.proofs.AddedLines.{on_err}
+use Rattle.mh_findings.specs.Judgements.{verdict_of}
+use Rattle.mh_judging.proofs.ExplainedLemmas.{both_ok, check_explains}
 use Rattle.mh_judging.proofs.MigratedLemmas.{begins_to_migrate_nothing, begins_to_migrate_reads, migrates_reads, takes_short}
 use Rattle.mh_script.proofs.SourceLemmas.{history_bounded, reads_slice, wants_text}
 use Rattle.mh_judging.proofs.migrate.migrate_script.Goals as goal
@@ -12,7 +14,12 @@ returns-in_err-text-clause-begun g c = on_err _ (begins_to_migrate_nothing c.tex
 pub returns-clause-migrated : goal.returns-clause-migrated
 returns-clause-migrated g c =
     let reads = reads_slice _ _ history_bounded _ _ _ _ c.as_slice.ensures.value c.in_ok-text.ensures.read c.in_ok-text.ensures.whole in
-    IfOk-weaker _ _ _ (migrates_reads reads c.migrated_texts_are_legal.ensures _ c.requires.first _ _) c.write_migrated.ensures.done
+    IfOk-weaker c.write_migrated.result _ _ (λ found made. migrates_reads reads c.migrated_texts_are_legal.ensures _ c.requires.first _ _ (verdict_of found) made) c.write_migrated.ensures.done
+
+pub returns-clause-explained : goal.returns-clause-explained
+returns-clause-explained g c =
+    both_ok c.write_migrated.result _ _ _ (λ found made explained. check_explains _ _ _ _ found c.as_slice.ensures.value c.in_ok-text.ensures.read c.args.config c.in_ok-text.ensures.whole made.checked explained)
+    c.write_migrated.ensures.done c.write_migrated.ensures.explained
 
 pub returns-clause-begun : goal.returns-clause-begun
 returns-clause-begun g c =

@@ -1,4 +1,4 @@
-use Rattle.std.proofs.Common.{sym}
+use Rattle.std.proofs.Common.{refl, sym}
 use Rattle.clap.specs.Words.{found_of}
 use Rattle.mh_program.proofs.ReadingLemmas.{is_given, not_given, some_is}
 use Rattle.mh_program.proofs.options.unwanted.Goals as goal
@@ -9,4 +9,4 @@ returns-in-None-clause-none c = not_given (found_of c.args.matches.now) c.args.n
 pub returns-in-Some-clause-fault : goal.returns-in-Some-clause-fault
 returns-in-Some-clause-fault c =
     let given = is_given (found_of c.args.matches.now) c.args.name.now c.in-Some.field-0.now (sym c.in-Some.ensures) in
-    (c.requires.option, c.requires.sessions, some_is _ given.0 given.1)
+    (refl, c.requires.option, c.requires.sessions, some_is _ given.0 given.1)

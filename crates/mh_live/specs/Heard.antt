@@ -1,0 +1,58 @@
+-- Which lines are outside the grammar, why, and what a listener hears of them.
+use Rattle.std.specs.Prelude.{◌≡◌, ℕ, suc, Bool, true, false, Option, Some, None, List, [], ◌∷◌, ◌++◌, length}
+use Rattle.std.specs.Option.{option_to_list}
+use Rattle.mh_model.specs.Bytes.{Text, cut_after}
+use Rattle.mh_model.specs.Live.{Live, Turn, Waits, Runs, IsTurn, unended_text}
+use Rattle.mh_reasons.specs.declared.reason.LineReason.{LineReason}
+use Rattle.mh_reasons.specs.declared.reason.ScriptReason.TheVariants.{Line, NoNewline}
+use Rattle.mh_reasons.specs.Reasons.{IsLineReason, IsWrong}
+use Rattle.mh_script.specs.declared.end.Refusal.{Refusal}
+
+-- whether the configuration has come
+abbrev pub is_configured : Live → Bool
+is_configured Waits = false
+is_configured (Runs machine names count) = true
+
+-- what is wrong with a line before or after the configuration; none if it isn't outside the grammar
+abbrev pub IsWhy : Bool → Text → Option LineReason → Type 0
+IsWhy configured line None = ¬ IsWrong configured line
+IsWhy configured line (Some reason) = IsWrong configured line × IsLineReason configured line reason
+
+-- what is heard of line n: nothing if it isn't outside the grammar, and else its number and why
+abbrev pub IsHeard : ℕ → Live → Text → Option Refusal → Type 0
+IsHeard n live line None = ¬ IsWrong (is_configured live) line
+IsHeard n live line (Some refusal) =
+    (refusal.line ≡ n) × ((reason : LineReason) × (refusal.reason ≡ Line reason) × IsWrong (is_configured live) line × IsLineReason (is_configured live) line reason)
+
+-- what the lines from line n on may be answered one after another, what is heard of them, and what is then
+pub data AreHeard : ℕ → Live → List Text → List Refusal → Text → Live → Type 0 where
+  Ended : (n : ℕ) (live : Live) → AreHeard n live [] [] [] live
+  Turned : (n : ℕ) (live : Live) (line : Text) (lines : List Text) (first : Turn) (heard : Option Refusal) (refusals : List Refusal) (text : Text) (after : Live)
+      → IsTurn n live line first → IsHeard n live line heard → AreHeard (suc n) first.live lines refusals text after
+      → AreHeard n live (line ∷ lines) (option_to_list heard ++ refusals) (first.text ++ text) after
+
+-- what is heard of a last line without its end, which is line n
+abbrev pub unended_refusal : ℕ → Text → Option Refusal
+unended_refusal n [] = None
+unended_refusal n (byte ∷ bytes) = Some (record { line = n; reason = NoNewline })
+
+-- The answers to a text of lines, to its end, and all that is heard of them
+pub record IsLiveHeard (text written : Text) (refusals : List Refusal) : Type 0 where
+  pub answers : Text
+  pub heard : List Refusal
+  pub after : Live
+  pub turns : AreHeard 1 Waits (cut_after 10 text).pieces heard answers after
+  pub whole : written ≡ answers ++ unended_text (suc (length (cut_after 10 text).pieces)) (cut_after 10 text).rest
+  pub all : refusals ≡ heard ++ option_to_list (unended_refusal (suc (length (cut_after 10 text).pieces)) (cut_after 10 text).rest)
+
+-- Listeners --------------------------------------------------------------------------------------
+
+-- the refusal of line n for a reason, if there is one
+abbrev pub refusal_of : ℕ → Option LineReason → Option Refusal
+refusal_of n None = None
+refusal_of n (Some reason) = Some (record { line = n; reason = Line reason })
+
+-- by what it hears, a listener was told of one refusal, or of none
+abbrev pub IsTold : {X : Type 0} → (X → List Refusal → X → Type 0) → X → Option Refusal → X → Type 0
+IsTold hears old None new = new ≡ old
+IsTold hears old (Some refusal) new = hears old (refusal ∷ []) new

@@ -1,0 +1,63 @@
+//! Standard error.
+ghost use Rattle.std.specs.Prelude.{◌≡◌, ◌<◌, ◌^◌, false};
+ghost use Rattle.mh_program.specs.Telling.{Tells, fresh};
+ghost use Rattle.mh_script.specs.Run.{device};
+
+use mh_text::sink::Sink;
+use mh_text::stream::write_text;
+use std::alloc::Global;
+use std::marker::Model;
+
+/// Where the program tells what went wrong, until that fails: then there is nobody left to hear.
+#[derive(Drop)]
+pub struct Errors<E: Sink> {
+    alloc: Global,
+    sink: E,
+    has_failed: bool,
+}
+
+impl<E: Sink> Model for Errors<E> {
+    ghost use Rattle.std.specs.Prelude.{◌≡◌, ◌<◌, ◌^◌, false};
+    ghost use Rattle.mh_program.specs.Telling.{ErrorStream};
+    ghost use Rattle.mh_script.specs.Run.{device};
+
+    ghost Value = { ErrorStream };
+
+    ghost view = { λ errors. record { device = device (E.written errors.sink) (E.failures errors.sink); has_failed = errors.has_failed } };
+
+    ghost invariant = { λ errors. errors.has_failed ≡ false → E.failures errors.sink < 2 ^ 62 };
+}
+
+impl<E: Sink> Errors<E> {
+    /// The allocator is that of the texts.
+    pub fn new(alloc: Global, sink: E) -> Errors<E>
+        requires { E.failures sink < 2 ^ 62 }
+        ensures { result ≡ fresh (device (E.written sink) (E.failures sink)) }
+    {
+        Errors {
+            alloc,
+            sink,
+            has_failed: false,
+        }
+    }
+
+    /// Writes a text, if no write has failed yet.
+    pub(crate) fn tell(&mut self, text: &[u8])
+        ensures { Tells self.old self.new text.now }
+    {
+        if self.has_failed {
+            return;
+        }
+        self.has_failed = write_text(&mut self.sink, text).is_err();
+    }
+
+    pub(crate) fn alloc(&self) -> Global {
+        self.alloc
+    }
+
+    pub fn into_sink(self) -> E
+        ensures { device (E.written result) (E.failures result) ≡ self.device }
+    {
+        self.sink
+    }
+}

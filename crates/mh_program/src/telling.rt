@@ -1,0 +1,213 @@
+//! What standard error gets of words, scripts and histories that are refused, and of faults.
+ghost use Rattle.std.specs.Prelude.{◌≡◌, ◌+◌, IfOk, MatchResult};
+ghost use Rattle.std.specs.String.{string_bytes};
+ghost use Rattle.mh_model.specs.Bytes.{line_text};
+ghost use Rattle.mh_program.specs.Printable.{IsPrintable};
+ghost use Rattle.mh_program.specs.Telling.{IsComplaint, More, None, Tells, TellsEnd, TellsFault, TellsJudgement, TellsLine, TellsRefusal, TellsRefusals, TellsRun, TellsWords, entry_place, fault_text, line_place, outside_text};
+
+use crate::errors::Errors;
+use crate::fault::LineFault;
+use crate::line::ConfigOption;
+use crate::quoted::{printable, signs};
+use mh_findings::judgement::Judgement;
+use mh_live::listener::Listener;
+use mh_script::end::{End, Refusal};
+use mh_script::fault::{HISTORY_FULL, NO_MEMORY, READ_FAILED, ScriptFault, WRITE_FAILED};
+use mh_text::sink::Sink;
+use std::alloc::{AllocError, Global};
+use std::fmt;
+use std::fmt::Write;
+
+/// The line that names a fault of a run.
+fn fault_line(fault: ScriptFault) -> &'static [u8]
+    ensures { result.now ≡ line_text (fault_text fault) }
+{
+    match fault {
+        ScriptFault::Read => READ_FAILED.as_bytes(),
+        ScriptFault::Write => WRITE_FAILED.as_bytes(),
+        ScriptFault::NoMemory => NO_MEMORY.as_bytes(),
+        ScriptFault::HistoryFull => HISTORY_FULL.as_bytes(),
+    }
+}
+
+/// The line for an option that is outside the limits of a configuration.
+fn outside_line(option: ConfigOption) -> &'static [u8]
+    ensures { result.now ≡ line_text (outside_text option) }
+{
+    match option {
+        ConfigOption::Pages => b"metroheap: bad configuration: --pages goes from 1 to 4096\n",
+        ConfigOption::Quantum =>
+            b"metroheap: bad configuration: --quantum goes from 209 to 1000000\n",
+        ConfigOption::Trigger =>
+            b"metroheap: bad configuration: --trigger goes from 0 to the number of pages\n",
+        ConfigOption::Every => b"metroheap: bad configuration: --every goes from 0 to 1000000\n",
+    }
+}
+
+fn line_place(alloc: Global, line: u64) -> Result<String, AllocError>
+    ensures { IfOk result (λ place. string_bytes place ≡ line_place line) }
+{
+    format!(in alloc; "metroheap: line {line}: ")
+}
+
+/// The line of an entry. Entries begin at line 2.
+fn line_of_entry(number: u64) -> u128
+    ensures { result ≡ number + 1 }
+{
+    u128::from(number) + 1
+}
+
+fn entry_place(alloc: Global, number: u64) -> Result<String, AllocError>
+    ensures { IfOk result (λ place. string_bytes place ≡ entry_place number) }
+{
+    let line = line_of_entry(number);
+    let mut place = format!(in alloc; "metroheap: line {line}")?;
+    write!(place, ", entry {number}: ")?;
+    Ok(place)
+}
+
+/// A line that says at which place what is wrong.
+fn complaint<T: fmt::Display>(alloc: Global, place: String, what: &T) -> Result<Vec<u8>, AllocError>
+    ensures { IfOk result (λ text. IsComplaint (string_bytes place) text.items) }
+{
+    let what = format!(in alloc; "{what}")?;
+    let what = signs(alloc, what.as_str())?;
+    let mut text = place.into_bytes();
+    text.extend_from_slice(what.as_slice())?;
+    text.push(b'\n')?;
+    Ok(text)
+}
+
+fn line_complaint<T: fmt::Display>(
+    alloc: Global,
+    line: u64,
+    what: &T,
+) -> Result<Vec<u8>, AllocError>
+    ensures { IfOk result (λ text. IsComplaint (line_place line) text.items) }
+{
+    let place = line_place(alloc, line)?;
+    complaint(alloc, place, what)
+}
+
+fn entry_complaint<T: fmt::Display>(
+    alloc: Global,
+    number: u64,
+    what: &T,
+) -> Result<Vec<u8>, AllocError>
+    ensures { IfOk result (λ text. IsComplaint (entry_place number) text.items) }
+{
+    let place = entry_place(alloc, number)?;
+    complaint(alloc, place, what)
+}
+
+fn words_text(alloc: Global, error: &clap::Error) -> Result<Vec<u8>, AllocError>
+    ensures { IfOk result (λ text. IsPrintable text.items) }
+{
+    let text = format!(in alloc; "{error}")?;
+    printable(alloc, text.as_str())
+}
+
+impl<E: Sink> Errors<E> {
+    /// Writes a text that quotes an input, or another if there was no memory for it.
+    fn tell_quoted(&mut self, text: Result<Vec<u8>, AllocError>, other: &[u8])
+        ensures { MatchResult text (λ text. Tells self.old self.new text.items) (λ _. Tells self.old self.new other.now) }
+    {
+        match text {
+            Ok(text) => self.tell(text.as_slice()),
+            Err(_) => self.tell(other),
+        }
+    }
+
+    /// Tells what `clap` says of words, or if there is no memory for that, that they are bad.
+    fn tell_words(&mut self, error: &clap::Error)
+        ensures { TellsWords self.old self.new }
+    {
+        let text = words_text(self.alloc(), error);
+        self.tell_quoted(text, b"metroheap: bad command line\n");
+    }
+
+    /// Tells why words gave no order.
+    pub(crate) fn tell_line(&mut self, fault: &LineFault)
+        ensures { TellsLine self.old self.new fault.now }
+    {
+        match fault {
+            LineFault::Words(error) => self.tell_words(error),
+            LineFault::NotText => self.tell(b"metroheap: a word is not text\n"),
+            LineFault::Configuration(option) => self.tell(outside_line(*option)),
+            LineFault::NoMemory => self.tell(b"metroheap: no memory\n"),
+        }
+    }
+
+    /// Tells where and why a script is refused.
+    pub(crate) fn tell_refusal(&mut self, refusal: &Refusal)
+        ensures { TellsRefusal self.old self.new refusal.now }
+    {
+        let text = line_complaint(self.alloc(), refusal.line, &refusal.reason);
+        self.tell_quoted(text, b"metroheap: the script is outside the grammar\n");
+    }
+
+    fn tell_done(&mut self, end: &End)
+        ensures { TellsEnd self.old self.new end.now }
+    {
+        if let End::Refused(refusal) = end {
+            self.tell_refusal(refusal);
+        }
+    }
+
+    /// Tells how a run or a race ended, if not well.
+    pub(crate) fn tell_end(&mut self, ended: &Result<End, ScriptFault>)
+        ensures { TellsRun TellsEnd self.old self.new ended.now }
+    {
+        match ended {
+            Ok(end) => self.tell_done(end),
+            Err(fault) => self.tell(fault_line(*fault)),
+        }
+    }
+
+    fn tell_found(&mut self, judgement: &Judgement)
+        ensures { TellsJudgement self.old self.new judgement.now }
+    {
+        match judgement {
+            Judgement::Legal(_) => {}
+            Judgement::Refused { line, reason } => {
+                let text = line_complaint(self.alloc(), *line, reason);
+                self.tell_quoted(text, b"metroheap: the history is outside the grammar\n");
+            }
+            Judgement::FirstBad { number, fault } => {
+                let text = entry_complaint(self.alloc(), *number, fault);
+                self.tell_quoted(text, b"metroheap: an entry is bad\n");
+            }
+        }
+    }
+
+    /// Tells what is wrong with a history, or the fault at which its judging ended.
+    pub(crate) fn tell_judgement(&mut self, ended: &Result<Judgement, ScriptFault>)
+        ensures { TellsRun TellsJudgement self.old self.new ended.now }
+    {
+        match ended {
+            Ok(judgement) => self.tell_found(judgement),
+            Err(fault) => self.tell(fault_line(*fault)),
+        }
+    }
+
+    /// Tells the fault of a run, if it has one.
+    pub(crate) fn tell_fault<T>(&mut self, ended: &Result<T, ScriptFault>)
+        ensures { TellsFault self.old self.new ended.now }
+    {
+        if let Err(fault) = ended {
+            self.tell(fault_line(*fault));
+        }
+    }
+}
+
+impl<E: Sink> Listener for Errors<E> {
+    ghost hears = { TellsRefusals };
+
+    fn refused(&mut self, refusal: &Refusal) {
+        self.tell_refusal(refusal);
+    }
+
+    ghost silence = { None };
+
+    ghost onward = { More };
+}

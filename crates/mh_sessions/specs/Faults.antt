@@ -1,0 +1,26 @@
+-- What is wrong with the first entry that its session may not see.
+use Rattle.std.specs.Prelude.{◌≡◌, List, false}
+use Rattle.mh_findings.specs.declared.entry_fault.EntryFault.{EntryFault}
+use Rattle.mh_findings.specs.Faults.{IsReplyFault}
+use Rattle.mh_model.specs.declared.command.Event.{Event}
+use Rattle.mh_model.specs.declared.command.Event.TheVariants as event
+use Rattle.mh_model.specs.declared.config.Config.{Config}
+use Rattle.mh_model.specs.declared.config.Rules.{Rules}
+use Rattle.mh_model.specs.declared.history.Entry.{Entry}
+use Rattle.mh_model.specs.declared.reply.Reply.{Reply}
+use Rattle.mh_model.specs.History.{events_of, replies_of}
+use Rattle.mh_model.specs.Sessions.{lacks_room}
+use Rattle.mh_model.specs.Snapshot.{world_beside}
+use Rattle.mh_model.specs.World.{World, first_world, world_step}
+
+-- what a fault says of a reply to an event beside the world's: a control's is never wrong
+abbrev pub IsUnseenReply : World → Event → Reply → EntryFault → Type 0
+IsUnseenReply world (event.Session who command) answer fault = (lacks_room command answer ≡ false) × IsReplyFault answer (world_step world who command).reply fault
+IsUnseenReply world (event.Control control) answer fault = ⊥
+
+abbrev pub IsUnseen : World → Entry → EntryFault → Type 0
+IsUnseen world entry fault = IsUnseenReply world entry.event entry.reply fault
+
+-- of an entry after others, with the world beside these, whatever pages and quanta it has
+abbrev pub IsUnseenAfter : Rules → List Entry → Entry → EntryFault → Type 0
+IsUnseenAfter rules before entry fault = (config : Config) → config.rules ≡ rules → IsUnseen (world_beside (first_world config) (events_of before) (replies_of before)) entry fault
