@@ -158,7 +158,7 @@ impl Call<'_> {
             Reading::Within => {
                 famine.leave(left)?;
                 let words = Words(self.words);
-                launch(rt, alloc, &words, self.text, output, told)
+                launch(rt, alloc, &words, self.text, output, &mut *told)
             }
         };
         Ok(self.ending(status, told.as_slice()))

@@ -27,6 +27,7 @@ pub fn refused_in(answers: &[u8]) -> usize {
 }
 
 /// Hears nothing.
+#[derive(Drop)]
 struct Deaf;
 
 impl Listener for Deaf {

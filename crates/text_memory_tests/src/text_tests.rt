@@ -235,12 +235,12 @@ fn a_crew_without_threads_and_with_them(rt: HostRuntime) -> Result<(), Fail> {
 }
 
 /// A prefix of the output is written before memory is refused.
-fn check_beginnings<R: Threads + Wait + Sync + Abort>(
+fn check_beginnings<'a, R: Threads + Wait + Sync + Abort>(
     rt: &R,
     alloc: Global,
-    words: &[&[u8]],
-    text: &[u8],
-    output: &[u8],
+    words: &'a [&'a [u8]],
+    text: &'a [u8],
+    output: &'a [u8],
 ) -> Result<(), AllocError> {
     let call = Call {
         words,
