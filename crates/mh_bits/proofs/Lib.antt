@@ -1,3 +1,4 @@
 pub mod BitLemmas
 pub mod SetLemmas
+pub mod PlaceLemmas
 pub mod ZeroLemmas

@@ -4,8 +4,7 @@ use Rattle.std.specs.Int.{bit_not, w64, trailing_zeros}
 use Rattle.std.specs.Int.RustNames.{bit_or}
 use lib.Bits.{bit_and}
 use mir.Val.{bits}
-use Rattle.std.proofs.lemmas.Nat.{and_le_l}
-use Rattle.std.proofs.lemmas.Bool.{cases_eq, cases_lt, lt-ltb, le-ltb, ne_eqb, eqb-true, not-false, true≢false}
+use Rattle.std.proofs.lemmas.Bool.{cases_eq, cases_lt, lt-ltb, le-ltb, eqb-true, not-false, true≢false}
 use Rattle.std.proofs.lemmas.List.{length-set, length-replicate}
 use Rattle.mh_bits.specs.Bits.{has_bit, has_bit_among, bits_of}
 use Rattle.mh_bits.specs.Sets.{empty_sets, has_member, HasLower, HasNoLower, IsEmptySet, IsLeastMember, IsSummed}

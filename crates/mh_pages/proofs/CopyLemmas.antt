@@ -1,17 +1,17 @@
 -- Words copied one after another, and a block copied to a place that was taken for it.
 use Rattle.std.proofs.Common.{◌≡◌, ℕ, suc, ◌+◌, ◌*◌, ◌/◌, ◌<◌, ◌≤◌, ◌⊎◌, Bool, inl, inr, Some, is_some, IsSome, unwrap_or, List, [], length, get_or, ap, ◌∙◌, sym, subst, arith}
 use Rattle.std.proofs.lemmas.Bool.{cases_eq, cases_lt, false≢true}
-use Rattle.std.proofs.lemmas.Option.{same_Some}
 use Rattle.std.proofs.Math.Nat.{mul-le-mul_right}
 use Rattle.mh_model.specs.Pages.{Table, page_number, slot_number, block_at, class_at, with_block, with_taken, IsFreeFor}
 use Rattle.mh_pages.specs.Shown.{words_from, shown_table}
 use Rattle.mh_pages.specs.Words.{words_at}
 use Rattle.mh_pages.specs.Kept.{IsCopied, AreApart, AreStored}
-use Rattle.mh_table_laws.proofs.placing.Places.{block_at-with_taken_same, block_at-with_taken_there, with_block-with_taken}
-use Rattle.mh_pages.proofs.TableLemmas.{page_of_block, class_taken, other_class}
+use Rattle.mh_table_laws.proofs.placing.Places.{block_at-with_taken_there, with_block-with_taken}
+use Rattle.mh_pages.proofs.TableLemmas.{page_of_block, other_class}
 use Rattle.mh_pages.proofs.ShownLemmas.{IsTaken, block_at-shown}
 use Rattle.mh_pages.proofs.WriteLemmas.{block_fits, shown-copied}
-use Rattle.mh_pages.proofs.KeptLemmas.{start, block_of, class_shown, kept-block}
+use Rattle.mh_pages.proofs.KeptLemmas.{start, kept-block, block_of}
+use Rattle.mh_pages.proofs.TakenLemmas.{size_shown, place_taken, size_taken}
 
 -- two slots of a size have no word in common
 slots_apart : (page slot other_page other_slot size : ℕ) → slot * size + size ≤ 256 → other_slot * size + size ≤ 256 → ((page ≡ other_page) × (slot ≡ other_slot) → ⊥)
@@ -31,26 +31,22 @@ slots_apart page slot other_page other_slot size fits other_fits apart = by_page
     ]
 
 -- A place taken for a copy of a block of the class
-module _ (heads frees words : List ℕ) (sets : List Bool) (free : ℕ) (kept : AreStored heads frees words sets free) (old table : Table (List ℕ)) (size place source : ℕ) (zeros : List ℕ)
-    (shown : shown_table heads frees words ≡ table) (taken : table ≡ with_taken old size place zeros)
+module _ (heads frees words : List ℕ) (sets : List Bool) (free : ℕ) (kept : AreStored heads frees words sets free) (old table : Table (List ℕ)) (size place source : ℕ) (block : List ℕ)
+    (shown : shown_table heads frees words ≡ table) (taken : table ≡ with_taken old size place block)
     (is : IsFreeFor old size place) (there : IsSome (block_at old source)) (class : class_at old (page_number source) ≡ Some size) where
   pub copy_taken : IsTaken heads frees place
-  copy_taken = block_of heads frees words sets free kept table place shown (ap (λ t. is_some (block_at t place)) taken ∙ ap is_some (block_at-with_taken_same old size place zeros is))
+  copy_taken = place_taken heads frees words sets free kept old table size place block shown taken is
 
   pub source_taken : IsTaken heads frees source
-  source_taken = block_of heads frees words sets free kept table source shown (ap (λ t. is_some (block_at t source)) taken ∙ (ap is_some (block_at-with_taken_there old size place source zeros is there) ∙ there))
-
-  size_shown : (other : ℕ) → IsTaken heads frees other → class_at table (page_number other) ≡ Some size → get_or heads (page_number other) 0 / 2 ≡ size
-  size_shown other its e =
-      same_Some _ _ (sym (class_shown heads frees words sets free kept (page_number other) (record { inside = its.inside; used = its.used })) ∙ (ap (λ t. class_at t (page_number other)) shown ∙ e))
+  source_taken = block_of heads frees words sets free kept table source shown (ap (λ t. is_some (block_at t source)) taken ∙ (ap is_some (block_at-with_taken_there old size place source block is there) ∙ there))
 
   pub copy_size : get_or heads (page_number place) 0 / 2 ≡ size
-  copy_size = size_shown place copy_taken (ap (λ t. class_at t (page_number place)) taken ∙ class_taken old size place zeros is)
+  copy_size = size_taken heads frees words sets free kept old table size place block shown taken is
 
   pub source_size : get_or heads (page_number source) 0 / 2 ≡ size
   source_size =
-      size_shown source source_taken
-      (ap (λ t. class_at t (page_number source)) taken ∙ (other_class old size place zeros (page_number source) is (ap is_some (page_of_block old source there).is) ∙ class))
+      size_shown heads frees words sets free kept table size shown source source_taken
+      (ap (λ t. class_at t (page_number source)) taken ∙ (other_class old size place block (page_number source) is (ap is_some (page_of_block old source there).is) ∙ class))
 
   not_there : (page_number source ≡ page_number place) × (slot_number source ≡ slot_number place) → ⊥
   not_there both = false≢true (sym (ap is_some is.empty) ∙ (ap (λ k. is_some (block_at old k)) (one_place both.0 both.1) ∙ there))
@@ -83,10 +79,10 @@ module _ (heads frees words : List ℕ) (sets : List Bool) (free : ℕ) (kept : 
     block_copied =
         ap (λ s. Some (words_from words (256 * page_number source + slot_number source * (get_or heads (page_number source) 0 / 2)) s)) (copy_size ∙ sym source_size)
         ∙ (ap (λ o. Some (unwrap_or o [])) (sym (block_at-shown heads frees words source source_taken))
-        ∙ (ap (λ t. Some (words_at t source)) (shown ∙ taken) ∙ ap (λ o. Some (unwrap_or o [])) (block_at-with_taken_there old size place source zeros is there)))
+        ∙ (ap (λ t. Some (words_at t source)) (shown ∙ taken) ∙ ap (λ o. Some (unwrap_or o [])) (block_at-with_taken_there old size place source block is there)))
 
     pub copied_shown : shown_table heads frees new ≡ with_taken old size place (words_at old source)
     copied_shown =
         shown-copied heads frees words place kept.pages new _ copy_taken of_its_size
         ∙ (ap (with_block (shown_table heads frees words) place) block_copied
-        ∙ (ap (λ t. with_block t place (Some (words_at old source))) (shown ∙ taken) ∙ with_block-with_taken old size place zeros (words_at old source) is))
+        ∙ (ap (λ t. with_block t place (Some (words_at old source))) (shown ∙ taken) ∙ with_block-with_taken old size place block (words_at old source) is))

@@ -1,15 +1,15 @@
 -- What is kept of pages through each change.
-use Rattle.std.proofs.Common.{◌≡◌, ◌≢◌, ℕ, ◌+◌, ◌-◌, ◌*◌, ◌/◌, ◌%◌, ◌^◌, ◌<◌, ◌≤◌, ◌==◌, ◌⊎◌, Bool, true, false, if◌then◌else◌, inl, inr, Option, Some, None, is_some, IsSome, option_map, unwrap_or, List, [], length, get_or, set, replicate, refl, ap, ◌∙◌, sym, subst, arith, eq-eqb}
+use Rattle.std.proofs.Common.{◌≡◌, ◌≢◌, ℕ, ◌+◌, ◌-◌, ◌*◌, ◌/◌, ◌%◌, ◌^◌, ◌<◌, ◌≤◌, ◌==◌, ◌⊎◌, Bool, true, false, inl, inr, Option, Some, None, is_some, IsSome, option_map, unwrap_or, List, [], length, get_or, set, refl, ap, ◌∙◌, sym, subst, arith, eq-eqb}
 use Rattle.std.specs.Int.{bit_not, w64}
 use mir.Val.{bits, bool_byte}
 use Rattle.std.proofs.lemmas.Bool.{cases_eq, cases_lt, cases_Bool, ne_eqb, or_right, or_cases, eqb-true, false≢true}
 use Rattle.std.proofs.lemmas.Option.{none-some}
-use Rattle.std.proofs.lemmas.List.{length-set, set-get_or, length-replicate}
+use Rattle.std.proofs.lemmas.List.{length-set, set-get_or}
 use Rattle.std.proofs.lemmas.Nat.Bits.{bit_at_and, ones_shr}
 use Rattle.mh_model.specs.Classes.{is_class_size, slots_in}
-use Rattle.mh_model.specs.Pages.{Page, Table, page_at, block_at, live_in, count_at, class_at, flag_at, page_with, page_for, with_block, with_taken, with_flag, flagged_as, free_pages, IsFreeFor, HasItsSlots, HaveTheirSlots}
+use Rattle.mh_model.specs.Pages.{Page, Table, page_at, block_at, class_at, flag_at, page_with, page_for, with_block, with_taken, with_flag, flagged_as, free_pages, IsFreeFor, HasItsSlots, HaveTheirSlots}
 use Rattle.mh_model.proofs.TabulateLemmas.{length-tabulate}
-use Rattle.mh_bits.specs.Bits.{has_bit, IsZeroed}
+use Rattle.mh_bits.specs.Bits.{has_bit}
 use Rattle.mh_bits.proofs.BitLemmas.{has_bit-zero, has_bit-ones_above, has_bit-set_other, bit_clear}
 use Rattle.mh_bits.proofs.SetLemmas.{with_bit, without_bit}
 use Rattle.mh_classes.proofs.ClassLemmas.{IsClass, class_is}
@@ -18,12 +18,11 @@ use Rattle.mh_pages.specs.Words.{words_at, with_word}
 use Rattle.mh_pages.specs.Addresses.{Address, address_in}
 use Rattle.mh_pages.specs.Indexed.{IsIndexed, indexed_again, indexed_after, HasRoomFor}
 use Rattle.mh_pages.specs.Kept.{is_head, AgreeOutside, AreStored}
-use Rattle.mh_pages.proofs.ShownLemmas.{length-shown, page_at-shown, page_at-shown_past, block_at-shown, slot_at, head_class, free_page, used_page, used_page_of, shown-set, in_page, IsTaken, IsWord, word_taken, taken_place}
-use Rattle.mh_pages.proofs.WriteLemmas.{shown-block, shown-word, slots-released, slots-taken, slots-fresh, block_fits, written_inside, zeroed_inside}
-use Rattle.mh_pages.proofs.CleanLemmas.{LosesClean, clean-set, clean-block, loses-released, clean-used, clean-free}
+use Rattle.mh_pages.proofs.ShownLemmas.{length-shown, page_at-shown, page_at-shown_past, block_at-shown, head_class, free_page, used_page, used_page_of, shown-set, IsTaken, IsWord, word_taken, taken_place}
+use Rattle.mh_pages.proofs.WriteLemmas.{shown-block, shown-word, slots-released, slots-taken, slots-fresh, block_fits, written_inside}
 use Rattle.mh_pages.proofs.IndexLemmas.{indexed-set, indexed-after, pages-set, length-indexed_again, length-indexed_after}
 use Rattle.mh_pages.proofs.CountLemmas.{free_pages-taken, free_pages-same, free_pages-freed, free_pages-some, free_pages-few}
-use Rattle.mh_table_laws.proofs.placing.Places.{with_block-twice, block_count-none}
+use Rattle.mh_table_laws.proofs.placing.Places.{block_at-with_taken_same}
 
 -- a bit that isn't set isn't set after another is cleared
 has_bit-less : (n k i : ℕ) → has_bit n i ≡ false → has_bit (without_bit n k) i ≡ false
@@ -44,6 +43,11 @@ pub record IsMarked (old head : ℕ) (flag : Bool) : Type 0 where
 pub marked : (old : ℕ) (flag : Bool) → 4 ≤ old / 2 → IsMarked old (old / 2 * 2 + bool_byte flag) flag
 marked old true few = record { some = λ e. absurd (omega (arith, e)); same = omega arith; is_flag = eq-eqb _ _ (omega arith) }
 marked old false few = record { some = λ e. absurd (omega (arith, e)); same = omega arith; is_flag = ne_eqb _ _ (λ e. absurd (omega (arith, e))) }
+
+-- what stands at a place that was taken is its block
+pub told_taken : (old new : Table (List ℕ)) (size place : ℕ) (block : List ℕ) → IsFreeFor old size place → new ≡ with_taken old size place block → new ≡ with_taken old size place (words_at new place)
+told_taken old new size place block is taken =
+    taken ∙ ap (λ o. with_taken old size place (unwrap_or o [])) (sym (ap (λ t. block_at t place) taken ∙ block_at-with_taken_same old size place block is))
 
 module _ (heads frees words : List ℕ) (sets : List Bool) (free : ℕ) (kept : AreStored heads frees words sets free) where
   -- Pages in use, places with a block, and words of blocks --------------------------------------
@@ -162,7 +166,6 @@ module _ (heads frees words : List ℕ) (sets : List Bool) (free : ℕ) (kept : 
     };
     pages = kept.pages;
     indexed = kept.indexed;
-    clean = clean-block heads frees words place kept.pages kept.clean new is agree;
     free_count = kept.free_count ∙ (sym (free_pages-with_block place _ is) ∙ ap free_pages (sym (shown-block heads frees words place kept.pages new is agree)));
   }
 
@@ -180,10 +183,9 @@ module _ (heads frees words : List ℕ) (sets : List Bool) (free : ℕ) (kept : 
 
   kept-set : (page head new_free count : ℕ) (new_sets : List Bool) → page < length heads → is_head head ≡ true → ((slot : ℕ) → slots_in (head / 2) ≤ slot → has_bit new_free slot ≡ false)
       → IsIndexed (set heads page head) (set frees page new_free) new_sets → length new_sets ≡ length sets
-      → LosesClean words page (get_or heads page 0) (get_or frees page 0) head new_free
       → count ≡ free_pages (set (shown_table heads frees words) page (shown_page head new_free words page))
       → AreStored (set heads page head) (set frees page new_free) words new_sets count
-  kept-set page head new_free count new_sets inside is none indexed same loses counted = record {
+  kept-set page head new_free count new_sets inside is none indexed same counted = record {
     sized = record {
       few_pages = omega (arith, length-set heads page head, kept.sized.few_pages);
       as_many_frees = length-set frees page new_free ∙ (kept.sized.as_many_frees ∙ sym (length-set heads page head));
@@ -192,31 +194,27 @@ module _ (heads frees words : List ℕ) (sets : List Bool) (free : ℕ) (kept : 
     };
     pages = pages-set heads frees page head new_free kept.pages inside kept.sized.as_many_frees is none;
     indexed = indexed;
-    clean = clean-set heads frees words page head new_free kept.clean inside kept.sized.as_many_frees loses;
     free_count = counted ∙ ap free_pages (sym (shown-set heads frees words page head new_free inside kept.sized.as_many_frees));
   }
 
   -- a page that is in use before and after
   kept-used : (page head new_free : ℕ) (new_sets : List Bool) → IsUsed page → head ≢ 0 → is_head head ≡ true → ((slot : ℕ) → slots_in (head / 2) ≤ slot → has_bit new_free slot ≡ false)
       → IsIndexed (set heads page head) (set frees page new_free) new_sets → length new_sets ≡ length sets
-      → LosesClean words page (get_or heads page 0) (get_or frees page 0) head new_free
       → AreStored (set heads page head) (set frees page new_free) words new_sets free
-  kept-used page head new_free new_sets is some is_head none indexed same loses =
-      kept-set page head new_free free new_sets is.inside is_head none indexed same loses
+  kept-used page head new_free new_sets is some is_head none indexed same =
+      kept-set page head new_free free new_sets is.inside is_head none indexed same
       (kept.free_count
       ∙ (sym (free_pages-same (shown_table heads frees words) page _ _ (page_used page is))
       ∙ ap (λ p. free_pages (set (shown_table heads frees words) page p)) (sym (used_page head new_free words page some))))
 
   -- the free slots of a page in use changed
   pub kept-free : (page new_free : ℕ) → IsUsed page → ((slot : ℕ) → slots_in (get_or heads page 0 / 2) ≤ slot → has_bit new_free slot ≡ false)
-      → LosesClean words page (get_or heads page 0) (get_or frees page 0) (get_or heads page 0) new_free
       → AreStored heads (set frees page new_free) words (indexed_after sets page (get_or heads page 0 / 2) (get_or heads page 0) (get_or frees page 0) new_free) free
-  kept-free page new_free is none loses =
+  kept-free page new_free is none =
       subst (λ h. AreStored h (set frees page new_free) words (indexed_after sets page (get_or heads page 0 / 2) (get_or heads page 0) (get_or frees page 0) new_free) free) (set-get_or heads page 0)
       (kept-used page (get_or heads page 0) new_free _ is is.used (kept.pages.are_heads page) none
       (indexed-after heads frees sets page (get_or heads page 0 / 2) new_free kept.indexed kept.sized.as_many_sets is.inside kept.sized.few_pages kept.sized.as_many_frees (class_used page is.used) refl)
-      (length-indexed_after sets page (get_or heads page 0 / 2) (get_or heads page 0) (get_or frees page 0) new_free)
-      loses)
+      (length-indexed_after sets page (get_or heads page 0 / 2) (get_or heads page 0) (get_or frees page 0) new_free))
 
   shown-free : (page new_free : ℕ) → IsUsed page
       → shown_table heads (set frees page new_free) words ≡ set (shown_table heads frees words) page (Some (page_of (get_or heads page 0 / 2) (get_or heads page 0 % 2 == 1) (shown_slots new_free words page (get_or heads page 0 / 2))))
@@ -241,25 +239,16 @@ module _ (heads frees words : List ℕ) (sets : List Bool) (free : ℕ) (kept : 
       (λ slot past. kept.pages.no_more_slots page slot (subst (λ s. slots_in s ≤ slot) same past))
       (indexed-set heads frees sets page (get_or heads page 0 / 2) head (get_or frees page 0) kept.indexed kept.sized.as_many_sets is.inside kept.sized.few_pages kept.sized.as_many_frees class (inr refl) (inr same))
       (length-indexed_again sets page (get_or heads page 0 / 2) head (get_or frees page 0))
-      (λ offset small none. inl (λ word. none (record { used = some; within = subst (λ s. offset / s < slots_in s) (sym same) word.within; taken = subst (λ s. has_bit (get_or frees page 0) (offset / s) ≡ false) (sym same) word.taken })))
 
   -- A page without blocks freed
   pub freed_shown : (page : ℕ) → IsUsed page → shown_table (set heads page 0) (set frees page 0) words ≡ set (shown_table heads frees words) page None
   freed_shown page is = shown-set heads frees words page 0 0 is.inside kept.sized.as_many_frees
 
-  -- no slot of a page that has no block is taken
-  no_slot_taken : (page slot : ℕ) → IsUsed page → count_at (shown_table heads frees words) page ≡ 0 → slot < slots_in (get_or heads page 0 / 2) → has_bit (get_or frees page 0) slot ≢ false
-  no_slot_taken page slot is none within taken =
-      let empty : get_or (shown_slots (get_or frees page 0) words page (get_or heads page 0 / 2)) slot None ≡ None =
-      block_count-none _ slot (sym (ap (λ p. unwrap_or (option_map live_in p) 0) (page_used page is)) ∙ none) in
-      none-some _ (sym empty ∙ (slot_at (get_or frees page 0) words page (get_or heads page 0 / 2) slot within ∙ ap (λ b. if b then None else Some (words_from words (256 * page + slot * (get_or heads page 0 / 2)) (get_or heads page 0 / 2))) taken))
-
-  pub kept-freed : (page : ℕ) → IsUsed page → count_at (shown_table heads frees words) page ≡ 0 → AreStored (set heads page 0) (set frees page 0) words (indexed_again sets page (get_or heads page 0 / 2) 0 0) (free + 1)
-  kept-freed page is none =
+  pub kept-freed : (page : ℕ) → IsUsed page → AreStored (set heads page 0) (set frees page 0) words (indexed_again sets page (get_or heads page 0 / 2) 0 0) (free + 1)
+  kept-freed page is =
       kept-set page 0 0 (free + 1) _ is.inside refl (λ slot past. has_bit-zero slot)
       (indexed-set heads frees sets page (get_or heads page 0 / 2) 0 0 kept.indexed kept.sized.as_many_sets is.inside kept.sized.few_pages kept.sized.as_many_frees (class_used page is.used) (inr refl) (inl refl))
       (length-indexed_again sets page (get_or heads page 0 / 2) 0 0)
-      (λ offset small not_block. inl (λ word. no_slot_taken page (offset / (get_or heads page 0 / 2)) is none word.within word.taken))
       (omega (arith, kept.free_count, free_pages-freed (shown_table heads frees words) page _ (page_used page is)))
 
   module _ (place : ℕ) where
@@ -275,7 +264,7 @@ module _ (heads frees words : List ℕ) (sets : List Bool) (free : ℕ) (kept : 
     abbrev a_free : ℕ
     a_free = get_or frees (place / 64) 0
 
-    -- A slot given back whose words are 0
+    -- A slot given back
     pub released_shown : IsTaken heads frees place → shown_table heads (set frees a_page (with_bit a_free a_slot)) words ≡ with_block (shown_table heads frees words) place None
     released_shown is =
         let used : IsUsed a_page = record { inside = is.inside; used = is.used } in
@@ -284,12 +273,11 @@ module _ (heads frees words : List ℕ) (sets : List Bool) (free : ℕ) (kept : 
         (ap (λ slots. Some (page_of (a_head / 2) (a_head % 2 == 1) slots)) (slots-released heads frees words place kept.pages)
         ∙ ap (option_map (page_with a_slot None)) (sym (page_used a_page used)))
 
-    pub kept-released : IsTaken heads frees place → ((offset : ℕ) → a_slot * (a_head / 2) ≤ offset → offset < a_slot * (a_head / 2) + a_head / 2 → get_or words (256 * a_page + offset) 0 ≡ 0)
+    pub kept-released : IsTaken heads frees place
         → AreStored heads (set frees a_page (with_bit a_free a_slot)) words (indexed_after sets a_page (a_head / 2) a_head a_free (with_bit a_free a_slot)) free
-    kept-released is zeros =
+    kept-released is =
         kept-free a_page (with_bit a_free a_slot) (record { inside = is.inside; used = is.used })
         (λ slot past. has_bit-set_other a_free a_slot slot (omega arith) (λ e. absurd (omega (arith, is.within))) ∙ kept.pages.no_more_slots a_page slot past)
-        (loses-released heads frees words place kept.pages kept.clean is zeros)
 
     -- Places that are free for a class -----------------------------------------------------------
 
@@ -319,23 +307,22 @@ module _ (heads frees words : List ℕ) (sets : List Bool) (free : ℕ) (kept : 
           ];
         }
 
-    free_fresh : (size : ℕ) → IsFreeFor (shown_table heads frees words) size place → a_head ≡ 0 → a_slot < slots_in size
-    free_fresh size is none =
-        let at = page_at-shown heads frees words a_page (free_within size is) ∙ free_page a_head a_free words a_page none in
-        let within : a_slot < length {A = Option (List ℕ)} (replicate (slots_in size) None) = subst (λ p. a_slot < length (page_for size p).slots) at is.within in
-        omega (arith, within, length-replicate {A = Option (List ℕ)} (slots_in size) None)
+    -- the words at a place that is free for a class
+    abbrev block_there : ℕ → List ℕ
+    block_there size = words_from words (256 * (place / 64) + (place % 64) * size) size
 
     -- A place taken in a page in use
     pub taken_shown_used : (size : ℕ) → IsFreeFor (shown_table heads frees words) size place → a_head ≢ 0
-        → shown_table heads (set frees a_page (without_bit a_free a_slot)) words ≡ with_taken (shown_table heads frees words) size place (replicate size 0)
+        → shown_table heads (set frees a_page (without_bit a_free a_slot)) words ≡ with_taken (shown_table heads frees words) size place (words_at (shown_table heads (set frees a_page (without_bit a_free a_slot)) words) place)
     taken_shown_used size is used =
         let its = free_used size is used in
         let class = size_used a_page used in
-        shown-free a_page (without_bit a_free a_slot) its.page_is_used
+        told_taken (shown_table heads frees words) _ size place (block_there size) is
+        (shown-free a_page (without_bit a_free a_slot) its.page_is_used
         ∙ ap (λ p. set (shown_table heads frees words) a_page (Some p))
-        (ap (page_of (a_head / 2) (a_head % 2 == 1)) (slots-taken heads frees words place kept.pages (a_head / 2) a_free class.few (λ i small. clean-used heads frees words place kept.pages kept.clean i class its.within its.bit small))
-        ∙ (ap (λ s. page_with a_slot (Some (replicate s 0)) (page_of (a_head / 2) (a_head % 2 == 1) (shown_slots a_free words a_page (a_head / 2)))) its.same
-        ∙ ap (λ p. page_with a_slot (Some (replicate size 0)) (page_for size p)) (sym (page_used a_page its.page_is_used))))
+        (ap (page_of (a_head / 2) (a_head % 2 == 1)) (slots-taken heads frees words place kept.pages (a_head / 2) a_free class.few)
+        ∙ (ap (λ s. page_with a_slot (Some (block_there s)) (page_of (a_head / 2) (a_head % 2 == 1) (shown_slots a_free words a_page (a_head / 2)))) its.same
+        ∙ ap (λ p. page_with a_slot (Some (block_there size)) (page_for size p)) (sym (page_used a_page its.page_is_used)))))
 
     pub kept-taken_used : (size : ℕ) → IsFreeFor (shown_table heads frees words) size place → a_head ≢ 0
         → AreStored heads (set frees a_page (without_bit a_free a_slot)) words (indexed_after sets a_page size a_head a_free (without_bit a_free a_slot)) free
@@ -343,29 +330,27 @@ module _ (heads frees words : List ℕ) (sets : List Bool) (free : ℕ) (kept : 
         let its = free_used size is used in
         subst (λ s. AreStored heads (set frees a_page (without_bit a_free a_slot)) words (indexed_after sets a_page s a_head a_free (without_bit a_free a_slot)) free) its.same
         (kept-free a_page (without_bit a_free a_slot) its.page_is_used
-        (λ slot past. has_bit-less a_free a_slot slot (kept.pages.no_more_slots a_page slot past))
-        (λ offset small none. inl (λ word. none (record { used = word.used; within = word.within; taken = has_bit-less a_free a_slot _ word.taken }))))
+        (λ slot past. has_bit-less a_free a_slot slot (kept.pages.no_more_slots a_page slot past)))
 
     -- A place taken in a free page
     fresh_page : (size : ℕ) → is_class_size size ≡ true → IsFreeFor (shown_table heads frees words) size place → a_head ≡ 0
-        → shown_page (2 * size) (without_bit (2 ^ slots_in size - 1) a_slot) words a_page ≡ Some (page_with a_slot (Some (replicate size 0)) (page_for size (page_at (shown_table heads frees words) a_page)))
+        → shown_page (2 * size) (without_bit (2 ^ slots_in size - 1) a_slot) words a_page ≡ Some (page_with a_slot (Some (block_there size)) (page_for size (page_at (shown_table heads frees words) a_page)))
     fresh_page size class is none =
         let inside = free_within size is in
         let its = class_is size class in
-        let within = free_fresh size is none in
         used_page_of (2 * size) (without_bit (2 ^ slots_in size - 1) a_slot) words a_page size false (λ e. absurd (omega (arith, its.least))) (omega arith) (ne_eqb _ _ (λ e. absurd (omega arith)))
         ∙ ap Some
         (ap (page_of size false)
         (slots-taken heads frees words place kept.pages size (2 ^ slots_in size - 1) its.few
-        (λ i small. ap (λ k. get_or words k 0) (omega arith) ∙ clean-free heads frees words place kept.pages kept.clean (a_slot * size + i) none (in_page size a_slot i its within small))
-        ∙ ap (λ slots. set slots a_slot (Some (replicate size 0))) (slots-fresh heads frees words place kept.pages size))
-        ∙ ap (λ p. page_with a_slot (Some (replicate size 0)) (page_for size p)) (sym (page_at-shown heads frees words a_page inside ∙ free_page a_head a_free words a_page none)))
+        ∙ ap (λ slots. set slots a_slot (Some (block_there size))) (slots-fresh heads frees words place kept.pages size))
+        ∙ ap (λ p. page_with a_slot (Some (block_there size)) (page_for size p)) (sym (page_at-shown heads frees words a_page inside ∙ free_page a_head a_free words a_page none)))
 
     pub taken_shown_fresh : (size : ℕ) → is_class_size size ≡ true → IsFreeFor (shown_table heads frees words) size place → a_head ≡ 0
-        → shown_table (set heads a_page (2 * size)) (set frees a_page (without_bit (2 ^ slots_in size - 1) a_slot)) words ≡ with_taken (shown_table heads frees words) size place (replicate size 0)
+        → shown_table (set heads a_page (2 * size)) (set frees a_page (without_bit (2 ^ slots_in size - 1) a_slot)) words ≡ with_taken (shown_table heads frees words) size place (words_at (shown_table (set heads a_page (2 * size)) (set frees a_page (without_bit (2 ^ slots_in size - 1) a_slot)) words) place)
     taken_shown_fresh size class is none =
-        shown-set heads frees words a_page (2 * size) (without_bit (2 ^ slots_in size - 1) a_slot) (free_within size is) kept.sized.as_many_frees
-        ∙ ap (set (shown_table heads frees words) a_page) (fresh_page size class is none)
+        told_taken (shown_table heads frees words) _ size place (block_there size) is
+        (shown-set heads frees words a_page (2 * size) (without_bit (2 ^ slots_in size - 1) a_slot) (free_within size is) kept.sized.as_many_frees
+        ∙ ap (set (shown_table heads frees words) a_page) (fresh_page size class is none))
 
     pub kept-taken_fresh : (size : ℕ) → is_class_size size ≡ true → IsFreeFor (shown_table heads frees words) size place → a_head ≡ 0
         → AreStored (set heads a_page (2 * size)) (set frees a_page (without_bit (2 ^ slots_in size - 1) a_slot)) words (indexed_again sets a_page size (2 * size) (without_bit (2 ^ slots_in size - 1) a_slot)) (free - 1)
@@ -377,12 +362,11 @@ module _ (heads frees words : List ℕ) (sets : List Bool) (free : ℕ) (kept : 
         (λ slot past. has_bit-less (2 ^ slots_in size - 1) a_slot slot (has_bit-ones_above (slots_in size) slot (subst (λ s. slots_in s ≤ slot) half past)))
         (indexed-set heads frees sets a_page size (2 * size) (without_bit (2 ^ slots_in size - 1) a_slot) kept.indexed kept.sized.as_many_sets inside kept.sized.few_pages kept.sized.as_many_frees class (inl none) (inr half))
         (length-indexed_again sets a_page size (2 * size) (without_bit (2 ^ slots_in size - 1) a_slot))
-        (λ offset small not_block. inl (λ word. word.used none))
         (omega (
           arith,
           kept.free_count,
           ap (λ p. free_pages (set (shown_table heads frees words) a_page p)) (fresh_page size class is none),
-          free_pages-taken (shown_table heads frees words) a_page (page_with a_slot (Some (replicate size 0)) (page_for size (page_at (shown_table heads frees words) a_page))) (omega (arith, inside, length-shown heads frees words)) (page_at-shown heads frees words a_page inside ∙ free_page a_head a_free words a_page none),
+          free_pages-taken (shown_table heads frees words) a_page (page_with a_slot (Some (block_there size)) (page_for size (page_at (shown_table heads frees words) a_page))) (omega (arith, inside, length-shown heads frees words)) (page_at-shown heads frees words a_page inside ∙ free_page a_head a_free words a_page none),
         ))
 
     pub fresh_counted : (size : ℕ) → IsFreeFor (shown_table heads frees words) size place → a_head ≡ 0 → 0 < free
@@ -393,18 +377,3 @@ module _ (heads frees words : List ℕ) (sets : List Bool) (free : ℕ) (kept : 
 -- a place that is free for a class, told of the words
 pub free_of : (heads frees words : List ℕ) (table : Table (List ℕ)) (size place : ℕ) → shown_table heads frees words ≡ table → IsFreeFor table size place → IsFreeFor (shown_table heads frees words) size place
 free_of heads frees words table size place shown is = subst (λ t. IsFreeFor t size place) (sym shown) is
-
--- A block given back: its words set to 0, and its slot free
-module _ (heads frees words new : List ℕ) (sets : List Bool) (free : ℕ) (kept : AreStored heads frees words sets free) (place : ℕ) (is : IsTaken heads frees place)
-    (zeroed : IsZeroed words new (256 * (place / 64) + (place % 64) * (get_or heads (place / 64) 0 / 2)) (256 * (place / 64) + (place % 64) * (get_or heads (place / 64) 0 / 2) + get_or heads (place / 64) 0 / 2)) where
-  cleared : AreStored heads frees new sets free
-  cleared = kept-block heads frees words sets free kept place new is (zeroed_inside words new _ _ zeroed)
-
-  pub kept-given_back : AreStored heads (set frees (place / 64) (with_bit (get_or frees (place / 64) 0) (place % 64))) new (indexed_after sets (place / 64) (get_or heads (place / 64) 0 / 2) (get_or heads (place / 64) 0) (get_or frees (place / 64) 0) (with_bit (get_or frees (place / 64) 0) (place % 64))) free
-  kept-given_back = kept-released heads frees new sets free cleared place is (λ offset from under. zeroed.zeros (256 * (place / 64) + offset) (omega arith) (omega arith))
-
-  pub given_back_shown : shown_table heads (set frees (place / 64) (with_bit (get_or frees (place / 64) 0) (place % 64))) new ≡ with_block (shown_table heads frees words) place None
-  given_back_shown =
-      released_shown heads frees new sets free cleared place is
-      ∙ (ap (λ t. with_block t place None) (shown-block heads frees words place kept.pages new is (zeroed_inside words new _ _ zeroed))
-      ∙ with_block-twice (shown_table heads frees words) place _ None)

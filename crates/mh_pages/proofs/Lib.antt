@@ -6,8 +6,10 @@ pub mod LeastLemmas
 pub mod LowerLemmas
 pub mod CountLemmas
 pub mod LiveLemmas
+pub mod SlotLemmas
+pub mod FreePlaceLemmas
 pub mod OpenLemmas
-pub mod CleanLemmas
 pub mod KeptLemmas
+pub mod TakenLemmas
 pub mod CopyLemmas
 pub mod HeaderLemmas

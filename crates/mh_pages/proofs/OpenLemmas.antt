@@ -69,7 +69,6 @@ kept-open sets pages few so = record {
         so.others (3 * class_number size + kind) number (omega (arith, (class_is size class).number)) small
         ∙ sym (ap (λ f. belongs kind (get_or (replicate pages 0) number 1) f size) (same_at pages number 0) ∙ not_there kind size number (class_is size class).least);
   };
-  clean = record { clean = λ number offset small none. same_at (256 * pages) (256 * number + offset) 0 };
   free_count = sym (ap free_pages (shown-open pages) ∙ free_pages-all (List ℕ) pages);
 }
   where

@@ -138,6 +138,14 @@ module _ (heads frees words : List ℕ) (place : ℕ) (are : ArePages heads free
       copy_same : (start : ℕ) → the_start ≡ start → words_from new start the_size ≡ words_from words source the_size
       copy_same start e = tabulate_same (λ i. get_or new (start + i) 0) (λ i. get_or words (source + i) 0) 0 the_size (λ i a b. ap (λ k. get_or new (k + i) 0) (sym e) ∙ copied.copied i (omega arith))
 
+  -- A block whose words are set to 0
+  pub shown-zeroed : (new : List ℕ) → IsTaken heads frees place → IsZeroed words new the_start (the_start + the_size)
+      → shown_table heads frees new ≡ with_block (shown_table heads frees words) place (Some (replicate the_size 0))
+  shown-zeroed new is zeroed =
+      shown-block new is (zeroed_inside words new the_start (the_start + the_size) zeroed)
+      ∙ ap (λ block. with_block (shown_table heads frees words) place (Some block))
+      (tabulate-replicate (λ i. get_or new (the_start + i) 0) 0 the_size 0 (λ i a b. zeroed.zeros (the_start + i) (omega arith) (omega arith)))
+
   -- What a page shows ------------------------------------------------------------------------------
 
   -- one bit of the word of free slots set
@@ -147,15 +155,13 @@ module _ (heads frees words : List ℕ) (place : ℕ) (are : ArePages heads free
       (λ other within apart. slot-same the_free (with_bit the_free the_slot) words words the_page the_size other (has_bit-set_other the_free the_slot other (omega arith) apart) (λ i small. refl))
       (λ within. empty-slot_shown (with_bit the_free the_slot) words the_page the_size the_slot (has_bit-set_same the_free the_slot (omega arith)))
 
-  -- one bit cleared, of a slot whose words are 0
-  pub slots-taken : (size old_free : ℕ) → slots_in size ≤ 64 → ((i : ℕ) → i < size → get_or words (256 * the_page + the_slot * size + i) 0 ≡ 0)
-      → shown_slots (without_bit old_free the_slot) words the_page size ≡ set (shown_slots old_free words the_page size) the_slot (Some (replicate size 0))
-  slots-taken size old_free few clean =
-      slots-set old_free (without_bit old_free the_slot) words words the_page size the_slot (Some (replicate size 0))
+  -- one bit cleared
+  pub slots-taken : (size old_free : ℕ) → slots_in size ≤ 64
+      → shown_slots (without_bit old_free the_slot) words the_page size ≡ set (shown_slots old_free words the_page size) the_slot (Some (words_from words (256 * the_page + the_slot * size) size))
+  slots-taken size old_free few =
+      slots-set old_free (without_bit old_free the_slot) words words the_page size the_slot (Some (words_from words (256 * the_page + the_slot * size) size))
       (λ other within apart. slot-same old_free (without_bit old_free the_slot) words words the_page size other (has_bit-clear_other old_free the_slot other (omega arith) (omega (arith, within, few)) apart) (λ i small. refl))
-      (λ within.
-      taken-slot_shown (without_bit old_free the_slot) words the_page size the_slot (has_bit-clear_same old_free the_slot (omega arith))
-      ∙ ap Some (tabulate-replicate (λ i. get_or words (256 * the_page + the_slot * size + i) 0) 0 size 0 (λ i a b. clean i (omega arith))))
+      (λ within. taken-slot_shown (without_bit old_free the_slot) words the_page size the_slot (has_bit-clear_same old_free the_slot (omega arith)))
 
   -- the slots of a page for a class that was free
   pub slots-fresh : (size : ℕ) → shown_slots (2 ^ slots_in size - 1) words the_page size ≡ replicate (slots_in size) None

@@ -1,5 +1,5 @@
 -- What is kept of the words of pages.
-use Rattle.std.specs.Prelude.{◌≡◌, ◌≢◌, ◌≤◌, ◌<◌, ◌⊎◌, ℕ, ◌+◌, ◌*◌, ◌/◌, ◌==◌, ◌||◌, Bool, true, false, List, length, get_or}
+use Rattle.std.specs.Prelude.{◌≡◌, ◌≤◌, ◌<◌, ◌⊎◌, ℕ, ◌+◌, ◌*◌, ◌/◌, ◌==◌, ◌||◌, Bool, true, false, List, length, get_or}
 use Rattle.mh_model.specs.Classes.{is_class_size, slots_in}
 use Rattle.mh_model.specs.Pages.{free_pages}
 use Rattle.mh_bits.specs.Bits.{has_bit}
@@ -22,22 +22,11 @@ pub record AreSized (heads frees words : List ℕ) (sets : List Bool) : Type 0 w
   pub as_many_words : length words ≡ 256 * length heads
   pub as_many_sets : length sets ≡ 4096 * 61
 
--- the word so many words past the first of a page with this head and these free slots is a block's
-pub record IsBlockWord (head free offset : ℕ) : Type 0 where
-  pub used : head ≢ 0
-  pub within : offset / (head / 2) < slots_in (head / 2)
-  pub taken : has_bit free (offset / (head / 2)) ≡ false
-
--- each word that is no block's is 0
-pub record AreClean (heads frees words : List ℕ) : Type 0 where
-  pub clean : (number offset : ℕ) → offset < 256 → (IsBlockWord (get_or heads number 0) (get_or frees number 0) offset → ⊥) → get_or words (256 * number + offset) 0 ≡ 0
-
 -- all that is kept
 pub record AreStored (heads frees words : List ℕ) (sets : List Bool) (free : ℕ) : Type 0 where
   pub sized : AreSized heads frees words sets
   pub pages : ArePages heads frees
   pub indexed : IsIndexed heads frees sets
-  pub clean : AreClean heads frees words
   pub free_count : free ≡ free_pages (shown_table heads frees words)
 
 -- words that differ at most from one on to before another

@@ -3,3 +3,4 @@ pub mod Addresses
 pub mod Shown
 pub mod Indexed
 pub mod Kept
+pub mod FreePlaces

@@ -1,7 +1,9 @@
-ghost use Rattle.std.specs.Prelude.{◌≡◌, ◌<◌, ◌≤◌, ◌*◌, ◌+◌, ◌/◌, ◌^◌, length, get_or, replicate, set, None, Some, IfOk, is_some, IsSome, IfSome, IsTrue, MatchOption, true, false, option_map};
-ghost use Rattle.mh_model.specs.Classes.{is_class_size};
+ghost use Rattle.std.specs.Prelude.{ℕ, ◌≡◌, ◌<◌, ◌≤◌, ◌*◌, ◌+◌, ◌-◌, ◌/◌, ◌^◌, length, get_or, replicate, set, None, Some, IfOk, is_some, IsSome, IfSome, IsTrue, MatchOption, true, false, option_map};
+ghost use Rattle.mh_bits.specs.Bits.{has_bit};
+ghost use Rattle.mh_model.specs.Classes.{is_class_size, slots_in};
 ghost use Rattle.mh_model.specs.Pages.{HaveTheirSlots, IsFreeFor, block_at, class_at, count_at, flag_at, free_pages, fresh_slot, has_denser, is_sparse, least, least_dense_place, least_place, open_slot, page_at, page_number, slot_number, with_block, with_flag, with_released, with_taken};
 ghost use Rattle.mh_pages.specs.Addresses.{address_in};
+ghost use Rattle.mh_pages.specs.FreePlaces.{free_in, free_places};
 ghost use Rattle.mh_pages.specs.Kept.{AreApart, IsCopied};
 ghost use Rattle.mh_pages.specs.Words.{header_of, with_header, with_word, words_at};
 
@@ -48,6 +50,13 @@ fn class_of_head(head: u64) -> Class
     ensures { result ≡ head / 2 }
 {
     Class::of_size((head / 2) as usize)
+}
+
+/// A word with a bit for each slot of a page of this class.
+fn all_slots(class: Class) -> u64
+    ensures { result ≡ 2 ^ slots_in class - 1 }
+{
+    u64::MAX >> (PLACES - class.slots())
 }
 
 /// The first word of a slot of a page in use.
@@ -194,10 +203,10 @@ impl Pages {
 
     // Blocks made and given back -----------------------------------------------------------------
 
-    /// Takes a place that is free for a class, with a block of words that are 0.
-    pub fn take(&mut self, class: Class, place: Place)
+    /// Takes a place that is free for a class. Its block has the words that stand there already.
+    fn take_slot(&mut self, class: Class, place: Place)
         requires { IsFreeFor self.old class place }
-        ensures { self.new ≡ with_taken self.old class place (replicate class 0) }
+        ensures { self.new ≡ with_taken self.old class place (words_at self.new place) }
     {
         let page = place.page();
         let slot = 1 << place.slot();
@@ -205,7 +214,6 @@ impl Pages {
         let head = self.heads.read(page, &mut tally);
         if head == 0 {
             self.free -= 1;
-            let all = u64::MAX >> (PLACES - class.slots());
             change(
                 &mut self.heads,
                 &mut self.frees,
@@ -213,7 +221,7 @@ impl Pages {
                 page,
                 class,
                 2 * class.size() as u64,
-                all & !slot,
+                all_slots(class) & !slot,
             );
         } else {
             let before = self.frees.read(page, &mut tally);
@@ -228,6 +236,16 @@ impl Pages {
         }
     }
 
+    /// Takes a place that is free for a class, with a block of words that are 0.
+    pub fn take(&mut self, class: Class, place: Place)
+        requires { IsFreeFor self.old class place }
+        ensures { self.new ≡ with_taken self.old class place (replicate class 0) }
+    {
+        self.take_slot(class, place);
+        let first = start_of(&self.heads, place);
+        self.words.clear(first, first + class.size());
+    }
+
     /// Takes a place that is free for a class, with a copy of a block of the class.
     pub fn take_copy(&mut self, class: Class, place: Place, source: Place)
         requires free { IsFreeFor self.old class place }
@@ -235,13 +253,14 @@ impl Pages {
         requires class { class_at self.old (page_number source) ≡ Some class }
         ensures { self.new ≡ with_taken self.old class place (words_at self.old source) }
     {
-        self.take(class, place);
+        self.take_slot(class, place);
         let source = start_of(&self.heads, source);
         let first = start_of(&self.heads, place);
         copy_words(&mut self.words, source, first, class.size());
     }
 
-    /// Takes the block at a place back, whose page stays in use.
+    /// Takes the block at a place back, whose page stays in use. No word of the block is touched:
+    /// a block's words are cleared as its place is taken again.
     fn release_slot(&mut self, place: Place)
         requires { IsSome (block_at self.old place) }
         ensures { self.new ≡ with_block self.old place None }
@@ -251,8 +270,6 @@ impl Pages {
         let head = self.heads.read(page, &mut tally);
         let before = self.frees.read(page, &mut tally);
         let class = class_of_head(head);
-        let first = start_of(&self.heads, place);
-        self.words.clear(first, first + class.size());
         change_free(
             &self.heads,
             &mut self.frees,
@@ -369,11 +386,54 @@ impl Pages {
         class_of_head(head).slots() - self.frees.read(page, &mut tally).count_ones() as usize
     }
 
+    /// The slots of a page that have a block, as the bits of a word.
+    pub fn taken_slots(&self, page: usize) -> u64
+        requires { page < length self.now }
+        ensures { (slot : ℕ) → slot < 64 → has_bit result slot ≡ is_some (block_at self.now (64 * page + slot)) }
+    {
+        let mut tally = Tally::new();
+        let head = self.heads.read(page, &mut tally);
+        if head == 0 {
+            return 0;
+        }
+        let free = self.frees.read(page, &mut tally);
+        !free & all_slots(class_of_head(head))
+    }
+
     /// How many pages are free.
     pub fn free_pages(&self) -> usize
         ensures { result ≡ free_pages self.now }
     {
         self.free
+    }
+
+    /// How many places of a page are free for a class, whether the page is flagged or not.
+    fn free_in(&self, page: usize, class: Class) -> usize
+        requires { page < length self.now }
+        ensures count { result ≡ free_in class (page_at self.now page) }
+        ensures few { result ≤ 64 }
+    {
+        let mut tally = Tally::new();
+        let head = self.heads.read(page, &mut tally);
+        if head == 0 {
+            return class.slots();
+        }
+        if head / 2 != class.size() as u64 {
+            return 0;
+        }
+        self.frees.read(page, &mut tally).count_ones() as usize
+    }
+
+    /// How many places are free for a class. Each page is read.
+    pub fn free_places(&self, class: Class) -> usize
+        ensures count { result ≡ free_places self.now class }
+        ensures slots { HaveTheirSlots self.now }
+    {
+        let mut count = 0;
+        for page in 0..self.len() {
+            count += self.free_in(page, class);
+        }
+        count
     }
 
     // Words --------------------------------------------------------------------------------------

@@ -1,5 +1,4 @@
-use Rattle.std.proofs.Common.{◌∙◌, ap, arith}
-use Rattle.mh_model.specs.Pages.{count_at}
+use Rattle.std.proofs.Common.{arith}
 use Rattle.mh_pages.proofs.KeptLemmas.{used_of, class_used, room, free_few, kept-freed, freed_shown}
 use Rattle.mh_pages.proofs.pages.Pages.free_page.Goals as goal
 
@@ -18,7 +17,7 @@ change-requires c = room _ _ _ _ _ c.self.invariant _ (used_of _ _ _ _ _ c.self.
 pub invariant_of-self : goal.invariant_of-self
 invariant_of-self c =
     rw (c.change.ensures.heads, c.change.ensures.frees, c.change.ensures.sets, c.class_of_head-class.ensures, c.read.ensures.value)
-    (kept-freed _ _ _ _ _ c.self.invariant _ (used_of _ _ _ _ _ c.self.invariant _ _ c.self.view_is c.requires.used) (ap (λ t. count_at t c.args.page) c.self.view_is ∙ c.requires.empty))
+    (kept-freed _ _ _ _ _ c.self.invariant _ (used_of _ _ _ _ _ c.self.invariant _ _ c.self.view_is c.requires.used))
 
 pub returns : goal.returns
 returns c =

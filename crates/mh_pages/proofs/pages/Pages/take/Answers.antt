@@ -1,37 +1,35 @@
-use Rattle.std.proofs.Common.{◌∙◌, ap, sym, get_or}
-use Rattle.mh_pages.proofs.KeptLemmas.{free_of, free_within, room, fresh_counted, full_word, kept-taken_fresh, kept-taken_used, taken_shown_fresh, taken_shown_used}
+use Rattle.std.proofs.Common.{arith}
+use Rattle.mh_pages.proofs.KeptLemmas.{size_used}
+use Rattle.mh_pages.proofs.TakenLemmas.{place_taken, block_within, kept-cleared, cleared_shown}
 use Rattle.mh_pages.proofs.pages.Pages.take.Goals as goal
 
-pub read-head-requires-clause-within : goal.read-head-requires-clause-within
-read-head-requires-clause-within c = rw c.page-page.ensures (free_within _ _ _ _ _ c.self.invariant _ _ (free_of _ _ _ _ _ _ c.self.view_is c.requires))
+pub start_of-first-requires-clause-page : goal.start_of-first-requires-clause-page
+start_of-first-requires-clause-page c = (place_taken _ _ _ _ _ c.self.invariant _ _ _ _ _ c.self.view_is c.take_slot.ensures c.requires).inside
 
-pub overflow_sub-self : goal.overflow_sub-self
-overflow_sub-self c =
-    fresh_counted _ _ _ _ _ c.self.invariant _ _ (free_of _ _ _ _ _ _ c.self.view_is c.requires) (ap (λ k. get_or c.self.inside.heads k 0) (sym c.page-page.ensures) ∙ (sym c.read-head.ensures.value ∙ c.if-head-eq0.true))
+pub start_of-first-requires-clause-class : goal.start_of-first-requires-clause-class
+start_of-first-requires-clause-class c = (size_used _ _ _ _ _ c.self.invariant _ (place_taken _ _ _ _ _ c.self.invariant _ _ _ _ _ c.self.view_is c.take_slot.ensures c.requires).used).most
 
-pub change-requires : goal.change-requires
-change-requires c = rw c.page-page.ensures (room _ _ _ _ _ c.self.invariant _ (free_within _ _ _ _ _ c.self.invariant _ _ (free_of _ _ _ _ _ _ c.self.view_is c.requires)))
+pub overflow_add-first : goal.overflow_add-first
+overflow_add-first c =
+    omega (
+      arith,
+      c.start_of-first.ensures,
+      c.size.ensures.value,
+      block_within _ _ _ _ _ c.self.invariant _ _ _ _ _ c.self.view_is c.take_slot.ensures c.requires,
+      c.self.invariant.sized.as_many_words,
+      c.self.invariant.sized.few_pages,
+    )
+
+pub clear-requires-clause-within : goal.clear-requires-clause-within
+clear-requires-clause-within c =
+    omega (arith, c.start_of-first.ensures, c.size.ensures.value, block_within _ _ _ _ _ c.self.invariant _ _ _ _ _ c.self.view_is c.take_slot.ensures c.requires)
 
 pub invariant_of-self : goal.invariant_of-self
 invariant_of-self c =
-    let full = full_word c.slots.result c.slots.ensures.few in
-    let none = ap (λ k. get_or c.self.inside.heads k 0) (sym c.page-page.ensures) ∙ (sym c.read-head.ensures.value ∙ c.if-head-eq0.true) in
-    rw (c.change.ensures.heads, c.change.ensures.frees, c.change.ensures.sets, full, c.slots.ensures.value, c.size.ensures.value, c.slot.ensures, c.page-page.ensures)
-    (kept-taken_fresh _ _ _ _ _ c.self.invariant _ _ c.size.ensures.class (free_of _ _ _ _ _ _ c.self.view_is c.requires) none)
+    let zeroed = rw (c.start_of-first.ensures, c.size.ensures.value) at c.clear.ensures in
+    kept-cleared _ _ _ _ _ c.self.invariant _ _ _ _ _ c.self.view_is c.take_slot.ensures c.requires _ zeroed
 
-pub returns-then-head-eq0 : goal.returns-then-head-eq0
-returns-then-head-eq0 c =
-    let full = full_word c.slots.result c.slots.ensures.few in
-    let none = ap (λ k. get_or c.self.inside.heads k 0) (sym c.page-page.ensures) ∙ (sym c.read-head.ensures.value ∙ c.if-head-eq0.true) in
-    rw (c.change.ensures.heads, c.change.ensures.frees, full, c.slots.ensures.value, c.size.ensures.value, c.slot.ensures, c.page-page.ensures, ← c.self.view_is)
-    (taken_shown_fresh _ _ _ _ _ c.self.invariant _ _ c.size.ensures.class (free_of _ _ _ _ _ _ c.self.view_is c.requires) none)
-
-pub invariant_of-self-else-head-eq0 : goal.invariant_of-self-else-head-eq0
-invariant_of-self-else-head-eq0 c =
-    rw (c.change_free.ensures.frees, c.change_free.ensures.sets, c.read-before.ensures.value, c.slot.ensures, c.page-page.ensures)
-    (kept-taken_used _ _ _ _ _ c.self.invariant _ _ (free_of _ _ _ _ _ _ c.self.view_is c.requires) (λ e. c.if-head-eq0.false (c.read-head.ensures.value ∙ (ap (λ k. get_or c.self.inside.heads k 0) c.page-page.ensures ∙ e))))
-
-pub returns-else-head-eq0 : goal.returns-else-head-eq0
-returns-else-head-eq0 c =
-    rw (c.change_free.ensures.frees, c.read-before.ensures.value, c.slot.ensures, c.page-page.ensures, ← c.self.view_is)
-    (taken_shown_used _ _ _ _ _ c.self.invariant _ _ (free_of _ _ _ _ _ _ c.self.view_is c.requires) (λ e. c.if-head-eq0.false (c.read-head.ensures.value ∙ (ap (λ k. get_or c.self.inside.heads k 0) c.page-page.ensures ∙ e))))
+pub returns : goal.returns
+returns c =
+    let zeroed = rw (c.start_of-first.ensures, c.size.ensures.value) at c.clear.ensures in
+    cleared_shown _ _ _ _ _ c.self.invariant _ _ _ _ _ c.self.view_is c.take_slot.ensures c.requires _ zeroed
