@@ -77,7 +77,7 @@ released_counted table place frees_page blocks forwarders this counted = record 
   counts = rw (with_released-table_map block_of table place frees_page) this.counts;
 }
 
-original_at : (content : Option Block) (block : Block) → content ≡ Some block → option_and_then (λ (b : Block). b.forward) content ≡ None → block.forward ≡ None
+pub original_at : (content : Option Block) (block : Block) → content ≡ Some block → option_and_then (λ (b : Block). b.forward) content ≡ None → block.forward ≡ None
 original_at content block is original = ap (option_and_then (λ (b : Block). b.forward)) (sym is) ∙ original
 
 pub moved_counted : (table : Table (List ℕ)) (size place target word blocks forwarders : ℕ) → IsMoved table (blocks_of table) size place target → IsSome (block_at (blocks_of table) place) → forward_at (blocks_of table) place ≡ None → class_at table (page_number place) ≡ Some size → place_in word ≡ Some target → AreCounted table blocks forwarders

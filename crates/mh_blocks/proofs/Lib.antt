@@ -10,4 +10,8 @@ pub mod PackedLemmas
 pub mod FreeLemmas
 pub mod MadeLemmas
 pub mod MovedLemmas
+pub mod IndexLemmas
 pub mod InvariantLemmas
+pub mod IndexedLemmas
+pub mod DeadLemmas
+pub mod FreePlaceLemmas

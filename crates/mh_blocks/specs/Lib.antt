@@ -2,4 +2,5 @@ pub mod TableMaps
 pub mod Words
 pub mod Packed
 pub mod Counted
+pub mod Marks
 pub mod Headers

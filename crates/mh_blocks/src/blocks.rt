@@ -5,7 +5,9 @@ ghost use Rattle.mh_model.specs.Table.{references_at, reference_at, with_referen
 ghost use Rattle.mh_model.specs.Collector.{moved_table};
 ghost use Rattle.mh_model.specs.Machine.{blocks_of};
 ghost use Rattle.mh_pages.specs.Addresses.{address_in};
+ghost use Rattle.mh_pages.specs.FreePlaces.{free_places};
 
+use crate::index::Index;
 use crate::packing::{
     header_in, new_header, number_count, part_in, place_in, place_word, reference_count,
 };
@@ -26,10 +28,11 @@ use std::marker::Model;
 #[derive(Clone, Copy, Debug, PartialEq, Eq)]
 pub struct Full;
 
-/// The table of blocks, with how many there are and how many of them are forwarders.
+/// The table of blocks, with its index, how many there are and how many of them are forwarders.
 #[derive(Drop)]
 pub struct Blocks {
-    pages: Pages,
+    pub(crate) pages: Pages,
+    pub(crate) index: Index,
     block_count: u64,
     forwarder_count: u64,
 }
@@ -39,12 +42,13 @@ impl Model for Blocks {
     ghost use Rattle.mh_model.specs.Table.{Block};
     ghost use Rattle.mh_blocks.specs.Words.{blocks_of};
     ghost use Rattle.mh_blocks.specs.Counted.{AreCounted};
+    ghost use Rattle.mh_blocks.specs.Marks.{IsIndexOf};
 
     ghost Value = { Table Block };
 
     ghost view = { λ blocks. blocks_of blocks.pages };
 
-    ghost invariant = { λ blocks. AreCounted blocks.pages blocks.block_count blocks.forwarder_count };
+    ghost invariant = { λ blocks. AreCounted blocks.pages blocks.block_count blocks.forwarder_count × IsIndexOf (blocks_of blocks.pages) blocks.index };
 }
 
 /// Pages and places.
@@ -54,9 +58,11 @@ impl Blocks {
         requires { pages ≤ 4096 }
         ensures { IfOk result (λ opened. opened ≡ replicate pages None) }
     {
+        let index = Index::open(alloc, pages)?;
         let pages = Pages::open(alloc, pages)?;
         Ok(Blocks {
             pages,
+            index,
             block_count: 0,
             forwarder_count: 0,
         })
@@ -196,6 +202,7 @@ impl Blocks {
         self.pages.take(part.class(), place);
         let header = new_header(birth, stamp, index, part.header());
         self.pages.set_header(place, header);
+        self.index.stamp(place, stamp);
         self.block_count += 1;
     }
 
@@ -228,8 +235,9 @@ impl Blocks {
         requires alone { frees_page ≡ true → count_at self.old (page_number place) ≡ 1 }
         ensures { self.new ≡ with_released self.old place frees_page }
     {
-        let is_forwarder = self.forward(place).is_some();
+        let is_forwarder = self.is_forwarder(place);
         self.pages.release(place, frees_page);
+        self.index.release(place);
         self.block_count -= 1;
         self.forwarder_count -= u64::from(is_forwarder);
     }
@@ -248,6 +256,7 @@ impl Blocks {
         let address = self.pages.address(place);
         self.pages
             .set_word_from(address, FORWARD, place_word(Some(to)));
+        self.index.relocate(place, to);
         self.block_count += 1;
         self.forwarder_count += 1;
     }
@@ -315,6 +324,7 @@ impl Blocks {
         ensures { self.new ≡ with_stamp_at self.old address.place stamp }
     {
         self.pages.set_word_from(address, STAMP, stamp);
+        self.index.stamp(address.place, stamp);
     }
 
     /// The place that a forwarder's block moved to.
@@ -339,7 +349,11 @@ impl Blocks {
         requires { IsSome (block_at self.now place) }
         ensures { result ≡ resolve self.now place }
     {
-        self.forward(place).unwrap_or(place)
+        if self.is_forwarder(place) {
+            self.forward(place).unwrap_or(place)
+        } else {
+            place
+        }
     }
 }
 
@@ -440,5 +454,16 @@ impl Blocks {
         let references = self.reference_count_from(address);
         self.pages
             .set_word_from(address, HEADER + references + index, number);
+    }
+}
+
+/// Room for large objects.
+impl Blocks {
+    /// How many places are free for a class, those of flagged pages among them. Each page is read.
+    pub fn free_places(&self, class: Class) -> usize
+        ensures count { result ≡ free_places self.now class }
+        ensures slots { HaveTheirSlots self.now }
+    {
+        self.pages.free_places(class)
     }
 }

@@ -4,7 +4,7 @@
 //!
 //! | word | what it has |
 //! |---|---|
-//! | 0 | the birth and 1 more; a slot without a block has 0 there |
+//! | 0 | the birth and 1 more |
 //! | 1 | part * 2^40 + references * 2^20 + numbers: which part of its object the block is, and the counts of its header |
 //! | 2 | the mark stamp |
 //! | 3 | 0, or the place that the block moved to and 1 more |
@@ -20,4 +20,6 @@
 #![tactic(auto)]
 
 pub mod blocks;
+mod index;
+mod marks;
 mod packing;

@@ -10,16 +10,16 @@ address-address-requires c = let there = rw (← c.self.view_is) at c.requires i
 pub word_from-requires-clause-within : goal.word_from-requires-clause-within
 word_from-requires-clause-within c =
     let there = rw (← c.self.view_is) at c.requires in
-    rw c.address-address.ensures (omega (arith, header_within _ _ (words_there _ _ c.self.invariant.packed there)))
+    rw c.address-address.ensures (omega (arith, header_within _ _ (words_there _ _ c.self.invariant.0.packed there)))
 
 pub overflow_sub-result : goal.overflow_sub-result
 overflow_sub-result c =
     let there = rw (← c.self.view_is) at c.requires in
     let read = rw c.address-address.ensures at c.word_from.ensures in
-    omega (arith, read, (words_there _ _ c.self.invariant.packed there).packed.born)
+    omega (arith, read, (words_there _ _ c.self.invariant.0.packed there).packed.born)
 
 pub returns : goal.returns
 returns c =
     let there = rw (← c.self.view_is) at c.requires in
     let read = rw c.address-address.ensures at c.word_from.ensures in
-    rw (← c.self.view_is, read) (birth_is _ _ (words_there _ _ c.self.invariant.packed there))
+    rw (← c.self.view_is, read) (birth_is _ _ (words_there _ _ c.self.invariant.0.packed there))

@@ -10,9 +10,9 @@ word_from-requires-clause-at c = let at = rw (← c.self.view_is) at c.requires.
 pub word_from-requires-clause-within : goal.word_from-requires-clause-within
 word_from-requires-clause-within c =
     let there = rw (← c.self.view_is) at c.requires.there in
-    omega (arith, header_within _ _ (words_there _ _ c.self.invariant.packed there))
+    omega (arith, header_within _ _ (words_there _ _ c.self.invariant.0.packed there))
 
 pub returns : goal.returns
 returns c =
     let there = rw (← c.self.view_is) at c.requires.there in
-    rw (← c.self.view_is) (c.place_in.ensures ∙ ap place_in c.word_from.ensures ∙ forward_is _ _ (words_there _ _ c.self.invariant.packed there))
+    rw (← c.self.view_is) (c.place_in.ensures ∙ ap place_in c.word_from.ensures ∙ forward_is _ _ (words_there _ _ c.self.invariant.0.packed there))

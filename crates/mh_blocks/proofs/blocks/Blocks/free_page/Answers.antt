@@ -1,3 +1,4 @@
+use Rattle.mh_blocks.proofs.IndexedLemmas.{freed_indexed}
 use Rattle.std.proofs.Common.{◌∙◌, sym}
 use Rattle.mh_blocks.proofs.TableMapLemmas.{freed-table_map}
 use Rattle.mh_blocks.proofs.PageMapLemmas.{is_used-table_map, count_at-table_map}
@@ -12,7 +13,7 @@ pub free_page-requires-clause-empty : goal.free_page-requires-clause-empty
 free_page-requires-clause-empty c = let empty = rw (← c.self.view_is) at c.requires.empty in sym (count_at-table_map block_of c.self.inside.pages _) ∙ empty
 
 pub invariant_of-self : goal.invariant_of-self
-invariant_of-self c = let empty = rw (← c.self.view_is) at c.requires.empty in rw c.free_page.ensures (freed_counted _ _ _ _ empty c.self.invariant)
+invariant_of-self c = let empty = rw (← c.self.view_is) at c.requires.empty in rw c.free_page.ensures (freed_counted _ _ _ _ empty c.self.invariant.0, freed_indexed _ _ _ empty c.self.invariant.1)
 
 pub returns : goal.returns
 returns c = rw (c.free_page.ensures, ← c.self.view_is) (freed-table_map block_of c.self.inside.pages _)

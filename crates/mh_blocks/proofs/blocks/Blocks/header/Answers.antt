@@ -10,10 +10,10 @@ address-address-requires c = let there = rw (← c.self.view_is) at c.requires i
 pub word_from-requires-clause-within : goal.word_from-requires-clause-within
 word_from-requires-clause-within c =
     let there = rw (← c.self.view_is) at c.requires in
-    rw c.address-address.ensures (omega (arith, header_within _ _ (words_there _ _ c.self.invariant.packed there)))
+    rw c.address-address.ensures (omega (arith, header_within _ _ (words_there _ _ c.self.invariant.0.packed there)))
 
 pub returns : goal.returns
 returns c =
     let there = rw (← c.self.view_is) at c.requires in
     let read = rw c.address-address.ensures at c.word_from.ensures in
-    rw (← c.self.view_is, c.header_in.ensures, read) (header_is _ _ (words_there _ _ c.self.invariant.packed there))
+    rw (← c.self.view_is, c.header_in.ensures, read) (header_is _ _ (words_there _ _ c.self.invariant.0.packed there))

@@ -8,7 +8,7 @@ use Rattle.mh_blocks.proofs.blocks.Blocks.load_int.Goals as goal
 pub overflow_add-references-2 : goal.overflow_add-references-2
 overflow_add-references-2 c =
     let there = rw (← c.self.view_is) at c.requires in
-    let number = has_number _ _ _ c.self.invariant.packed there in
+    let number = has_number _ _ _ c.self.invariant.0.packed there in
     let count = rw (c.address-address.ensures, ← c.self.view_is) at c.reference_count_from-references.ensures.count in
     let same : c.reference_count_from-references.result ≡ reference_words (words_at c.self.inside.pages c.args.place) = count ∙ number.references in
     omega (arith, same, number_within _ _ _ number)
@@ -19,7 +19,7 @@ word_from-requires-clause-at c = rw (c.address-address.ensures, ← c.self.view_
 pub word_from-requires-clause-within : goal.word_from-requires-clause-within
 word_from-requires-clause-within c =
     let there = rw (← c.self.view_is) at c.requires in
-    let number = has_number _ _ _ c.self.invariant.packed there in
+    let number = has_number _ _ _ c.self.invariant.0.packed there in
     let count = rw (c.address-address.ensures, ← c.self.view_is) at c.reference_count_from-references.ensures.count in
     let same : c.reference_count_from-references.result ≡ reference_words (words_at c.self.inside.pages c.args.place) = count ∙ number.references in
     rw (c.address-address.ensures, same) (number_within _ _ _ number).0
@@ -27,7 +27,7 @@ word_from-requires-clause-within c =
 pub returns : goal.returns
 returns c =
     let there = rw (← c.self.view_is) at c.requires in
-    let number = has_number _ _ _ c.self.invariant.packed there in
+    let number = has_number _ _ _ c.self.invariant.0.packed there in
     let count = rw (c.address-address.ensures, ← c.self.view_is) at c.reference_count_from-references.ensures.count in
     let same : c.reference_count_from-references.result ≡ reference_words (words_at c.self.inside.pages c.args.place) = count ∙ number.references in
     let read = rw (c.address-address.ensures, same) at c.word_from.ensures in

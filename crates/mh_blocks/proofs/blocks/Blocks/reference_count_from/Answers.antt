@@ -11,14 +11,14 @@ word_from-requires-clause-at c = let at = rw (← c.self.view_is) at c.requires.
 pub word_from-requires-clause-within : goal.word_from-requires-clause-within
 word_from-requires-clause-within c =
     let there = rw (← c.self.view_is) at c.requires.there in
-    omega (arith, header_within _ _ (words_there _ _ c.self.invariant.packed there))
+    omega (arith, header_within _ _ (words_there _ _ c.self.invariant.0.packed there))
 
 pub returns-clause-count : goal.returns-clause-count
 returns-clause-count c =
     let there = rw (← c.self.view_is) at c.requires.there in
-    rw (← c.self.view_is) (c.reference_count.ensures ∙ ap reference_count (c.header_in.ensures ∙ ap header_in c.word_from.ensures) ∙ reference_count_is _ _ (words_there _ _ c.self.invariant.packed there))
+    rw (← c.self.view_is) (c.reference_count.ensures ∙ ap reference_count (c.header_in.ensures ∙ ap header_in c.word_from.ensures) ∙ reference_count_is _ _ (words_there _ _ c.self.invariant.0.packed there))
 
 pub returns-clause-few : goal.returns-clause-few
 returns-clause-few c =
     let there = rw (← c.self.view_is) at c.requires.there in
-    omega (arith, c.reference_count.ensures ∙ ap reference_count (c.header_in.ensures ∙ ap header_in c.word_from.ensures), few_references _ _ (words_there _ _ c.self.invariant.packed there))
+    omega (arith, c.reference_count.ensures ∙ ap reference_count (c.header_in.ensures ∙ ap header_in c.word_from.ensures), few_references _ _ (words_there _ _ c.self.invariant.0.packed there))

@@ -1,3 +1,4 @@
+use Rattle.mh_blocks.proofs.IndexedLemmas.{moved_indexed}
 use Rattle.std.proofs.Common.{◌∙◌, refl, sym, arith, ap}
 use Rattle.mh_model.specs.Pages.{page_number, class_at}
 use Rattle.mh_blocks.specs.Words.{block_of, blocks_of}
@@ -22,7 +23,7 @@ unwrap-class-requires c =
 pub take_copy-requires-clause-free : goal.take_copy-requires-clause-free
 take_copy-requires-clause-free c =
     let class = ap (class_at c.self.inside.pages) (sym c.page.ensures) ∙ sym c.class_at.ensures ∙ c.unwrap-class.ensures in
-    let moved = moves c.self.inside.pages _ _ c.args.place c.args.to c.self.view_is c.self.invariant.packed c.requires.there c.requires.free class in
+    let moved = moves c.self.inside.pages _ _ c.args.place c.args.to c.self.view_is c.self.invariant.0.packed c.requires.there c.requires.free class in
     moved.free
 
 pub take_copy-requires-clause-there : goal.take_copy-requires-clause-there
@@ -33,32 +34,32 @@ take_copy-requires-clause-there c =
 pub address-address-requires : goal.address-address-requires
 address-address-requires c =
     let class = ap (class_at c.self.inside.pages) (sym c.page.ensures) ∙ sym c.class_at.ensures ∙ c.unwrap-class.ensures in
-    let moved = moves c.self.inside.pages _ _ c.args.place c.args.to c.self.view_is c.self.invariant.packed c.requires.there c.requires.free class in
+    let moved = moves c.self.inside.pages _ _ c.args.place c.args.to c.self.view_is c.self.invariant.0.packed c.requires.there c.requires.free class in
     rw c.take_copy.ensures moved.there
 
 pub place_word-requires : goal.place_word-requires
 place_word-requires c =
     let class = ap (class_at c.self.inside.pages) (sym c.page.ensures) ∙ sym c.class_at.ensures ∙ c.unwrap-class.ensures in
-    let moved = moves c.self.inside.pages _ _ c.args.place c.args.to c.self.view_is c.self.invariant.packed c.requires.there c.requires.free class in
+    let moved = moves c.self.inside.pages _ _ c.args.place c.args.to c.self.view_is c.self.invariant.0.packed c.requires.there c.requires.free class in
     moved.small
 
 pub set_word_from-requires-clause-within : goal.set_word_from-requires-clause-within
 set_word_from-requires-clause-within c =
     let class = ap (class_at c.self.inside.pages) (sym c.page.ensures) ∙ sym c.class_at.ensures ∙ c.unwrap-class.ensures in
-    let moved = moves c.self.inside.pages _ _ c.args.place c.args.to c.self.view_is c.self.invariant.packed c.requires.there c.requires.free class in
+    let moved = moves c.self.inside.pages _ _ c.args.place c.args.to c.self.view_is c.self.invariant.0.packed c.requires.there c.requires.free class in
     rw (c.address-address.ensures, c.take_copy.ensures) moved.within
 
 pub overflow_add-self : goal.overflow_add-self
 overflow_add-self c =
     let slots = rw (← c.self.view_is) at c.len.ensures.slots in
     let count = rw (← c.self.view_is) at c.len.ensures.count in
-    omega (arith, (few_counts _ _ _ slots (omega (arith, count, c.len.ensures.few)) c.self.invariant.counts).0)
+    omega (arith, (few_counts _ _ _ slots (omega (arith, count, c.len.ensures.few)) c.self.invariant.0.counts).0)
 
 pub overflow_add-self-2 : goal.overflow_add-self-2
 overflow_add-self-2 c =
     let slots = rw (← c.self.view_is) at c.len.ensures.slots in
     let count = rw (← c.self.view_is) at c.len.ensures.count in
-    omega (arith, (few_counts _ _ _ slots (omega (arith, count, c.len.ensures.few)) c.self.invariant.counts).1)
+    omega (arith, (few_counts _ _ _ slots (omega (arith, count, c.len.ensures.few)) c.self.invariant.0.counts).1)
 
 pub invariant_of-self : goal.invariant_of-self
 invariant_of-self c =
@@ -66,13 +67,13 @@ invariant_of-self c =
     let original = rw (← c.self.view_is) at c.requires.original in
     let free = rw (← c.self.view_is) at c.requires.free in
     let class = ap (class_at c.self.inside.pages) (sym c.page.ensures) ∙ sym c.class_at.ensures ∙ c.unwrap-class.ensures in
-    let moved = moves c.self.inside.pages _ _ c.args.place c.args.to refl c.self.invariant.packed there free class in
+    let moved = moves c.self.inside.pages _ _ c.args.place c.args.to refl c.self.invariant.0.packed there free class in
     let written = rw (c.address-address.ensures, c.take_copy.ensures) at c.set_word_from.ensures in
-    rw written (moved_counted _ _ _ _ _ _ _ moved there original class c.place_word.ensures c.self.invariant)
+    rw (written, c.relocate.ensures) (moved_counted _ _ _ _ _ _ _ moved there original class c.place_word.ensures c.self.invariant.0, moved_indexed _ _ _ _ _ _ moved there original class c.place_word.ensures c.self.invariant.1)
 
 pub returns : goal.returns
 returns c =
     let class = ap (class_at c.self.inside.pages) (sym c.page.ensures) ∙ sym c.class_at.ensures ∙ c.unwrap-class.ensures in
-    let moved = moves c.self.inside.pages _ _ c.args.place c.args.to c.self.view_is c.self.invariant.packed c.requires.there c.requires.free class in
+    let moved = moves c.self.inside.pages _ _ c.args.place c.args.to c.self.view_is c.self.invariant.0.packed c.requires.there c.requires.free class in
     let written = rw (c.address-address.ensures, c.take_copy.ensures) at c.set_word_from.ensures in
     rw written (moved.moved c.place_word.result c.place_word.ensures)

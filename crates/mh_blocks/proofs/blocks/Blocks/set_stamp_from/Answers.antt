@@ -1,4 +1,5 @@
-use Rattle.std.proofs.Common.{◌∙◌, arith}
+use Rattle.mh_blocks.proofs.IndexedLemmas.{stamp_indexed}
+use Rattle.std.proofs.Common.{◌∙◌, ap, arith}
 use Rattle.mh_blocks.proofs.PageMapLemmas.{address_in-table_map}
 use Rattle.mh_blocks.proofs.InvariantLemmas.{stamp_counted}
 use Rattle.mh_blocks.proofs.ReadLemmas.{words_there, header_within}
@@ -12,10 +13,10 @@ set_word_from-requires-clause-at c = let at = rw (← c.self.view_is) at c.requi
 pub set_word_from-requires-clause-within : goal.set_word_from-requires-clause-within
 set_word_from-requires-clause-within c =
     let there = rw (← c.self.view_is) at c.requires.there in
-    omega (arith, header_within _ _ (words_there _ _ c.self.invariant.packed there))
+    omega (arith, header_within _ _ (words_there _ _ c.self.invariant.0.packed there))
 
 pub invariant_of-self : goal.invariant_of-self
-invariant_of-self c = let there = rw (← c.self.view_is) at c.requires.there in rw c.set_word_from.ensures (stamp_counted _ _ _ _ _ there c.self.invariant)
+invariant_of-self c = let there = rw (← c.self.view_is) at c.requires.there in rw (c.set_word_from.ensures, c.stamp.ensures, ap (λ address. address.place) c.address.view_is) (stamp_counted _ _ _ _ _ there c.self.invariant.0, stamp_indexed _ _ _ _ c.self.invariant.0.packed there c.self.invariant.1)
 
 pub returns : goal.returns
-returns c = rw (c.set_word_from.ensures, ← c.self.view_is) (with_word-stamp _ _ _ c.self.invariant.packed)
+returns c = rw (c.set_word_from.ensures, ← c.self.view_is) (with_word-stamp _ _ _ c.self.invariant.0.packed)

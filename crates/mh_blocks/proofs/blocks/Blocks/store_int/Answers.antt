@@ -1,3 +1,4 @@
+use Rattle.mh_blocks.proofs.IndexedLemmas.{number_indexed}
 use Rattle.std.proofs.Common.{◌≡◌, ◌∙◌, arith}
 use Rattle.mh_blocks.proofs.PageMapLemmas.{address_in-table_map}
 use Rattle.mh_blocks.proofs.InvariantLemmas.{number_counted}
@@ -10,7 +11,7 @@ use Rattle.mh_blocks.proofs.blocks.Blocks.store_int.Goals as goal
 pub overflow_add-references-2 : goal.overflow_add-references-2
 overflow_add-references-2 c =
     let there = rw (← c.self.view_is) at c.requires in
-    let number = has_number _ _ _ c.self.invariant.packed there in
+    let number = has_number _ _ _ c.self.invariant.0.packed there in
     let count = rw (c.address-address.ensures, ← c.self.view_is) at c.reference_count_from-references.ensures.count in
     let same : c.reference_count_from-references.result ≡ reference_words (words_at c.self.inside.pages c.args.place) = count ∙ number.references in
     omega (arith, same, number_within _ _ _ number)
@@ -21,7 +22,7 @@ set_word_from-requires-clause-at c = rw (c.address-address.ensures, ← c.self.v
 pub set_word_from-requires-clause-within : goal.set_word_from-requires-clause-within
 set_word_from-requires-clause-within c =
     let there = rw (← c.self.view_is) at c.requires in
-    let number = has_number _ _ _ c.self.invariant.packed there in
+    let number = has_number _ _ _ c.self.invariant.0.packed there in
     let count = rw (c.address-address.ensures, ← c.self.view_is) at c.reference_count_from-references.ensures.count in
     let same : c.reference_count_from-references.result ≡ reference_words (words_at c.self.inside.pages c.args.place) = count ∙ number.references in
     rw (c.address-address.ensures, same) (number_within _ _ _ number).0
@@ -29,16 +30,16 @@ set_word_from-requires-clause-within c =
 pub invariant_of-self : goal.invariant_of-self
 invariant_of-self c =
     let there = rw (← c.self.view_is) at c.requires in
-    let number = has_number _ _ _ c.self.invariant.packed there in
+    let number = has_number _ _ _ c.self.invariant.0.packed there in
     let count = rw (c.address-address.ensures, ← c.self.view_is) at c.reference_count_from-references.ensures.count in
     let same : c.reference_count_from-references.result ≡ reference_words (words_at c.self.inside.pages c.args.place) = count ∙ number.references in
     let written = rw (c.address-address.ensures, same) at c.set_word_from.ensures in
-    rw written (number_counted _ _ _ _ _ _ number c.self.invariant)
+    rw written (number_counted _ _ _ _ _ _ number c.self.invariant.0, number_indexed _ _ _ _ _ number c.self.invariant.1)
 
 pub returns : goal.returns
 returns c =
     let there = rw (← c.self.view_is) at c.requires in
-    let number = has_number _ _ _ c.self.invariant.packed there in
+    let number = has_number _ _ _ c.self.invariant.0.packed there in
     let count = rw (c.address-address.ensures, ← c.self.view_is) at c.reference_count_from-references.ensures.count in
     let same : c.reference_count_from-references.result ≡ reference_words (words_at c.self.inside.pages c.args.place) = count ∙ number.references in
     let written = rw (c.address-address.ensures, same) at c.set_word_from.ensures in

@@ -1,3 +1,4 @@
+use Rattle.mh_blocks.proofs.IndexedLemmas.{flagged_indexed}
 use Rattle.std.proofs.Common.{◌∙◌, sym}
 use Rattle.mh_blocks.proofs.TableMapLemmas.{with_flag-table_map}
 use Rattle.mh_blocks.proofs.PageMapLemmas.{is_used-table_map}
@@ -9,7 +10,7 @@ pub unflag-requires : goal.unflag-requires
 unflag-requires c = let used = rw (← c.self.view_is) at c.requires in sym (is_used-table_map block_of c.self.inside.pages _) ∙ used
 
 pub invariant_of-self : goal.invariant_of-self
-invariant_of-self c = rw c.unflag.ensures (flagged_counted _ _ _ _ _ c.self.invariant)
+invariant_of-self c = rw c.unflag.ensures (flagged_counted _ _ _ _ _ c.self.invariant.0, flagged_indexed _ _ _ _ c.self.invariant.1)
 
 pub returns : goal.returns
 returns c = rw (c.unflag.ensures, ← c.self.view_is) (with_flag-table_map block_of c.self.inside.pages _ _)

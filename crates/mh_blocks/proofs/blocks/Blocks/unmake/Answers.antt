@@ -1,4 +1,5 @@
-use Rattle.std.proofs.Common.{◌∙◌, sym, ap, is_some}
+use Rattle.mh_blocks.proofs.IndexedLemmas.{released_indexed}
+use Rattle.std.proofs.Common.{◌∙◌, sym, ap}
 use mir.Val.{bool_byte}
 use Rattle.mh_blocks.proofs.TableMapLemmas.{with_released-table_map}
 use Rattle.mh_blocks.proofs.PageMapLemmas.{is_taken-table_map, count_at-table_map}
@@ -16,22 +17,22 @@ release-requires-clause-alone c = λ frees. let alone = rw (← c.self.view_is) 
 pub overflow_sub-self : goal.overflow_sub-self
 overflow_sub-self c =
     let there = rw (← c.self.view_is) at c.requires.there in
-    let released = released_counts _ c.args.place c.args.frees_page _ _ there (λ frees. rw (← c.self.view_is) at (c.requires.alone frees)) c.self.invariant.counts in
+    let released = released_counts _ c.args.place c.args.frees_page _ _ there (λ frees. rw (← c.self.view_is) at (c.requires.alone frees)) c.self.invariant.0.counts in
     released.some
 
 pub overflow_sub-self-2 : goal.overflow_sub-self-2
 overflow_sub-self-2 c =
     let there = rw (← c.self.view_is) at c.requires.there in
-    let released = released_counts _ c.args.place c.args.frees_page _ _ there (λ frees. rw (← c.self.view_is) at (c.requires.alone frees)) c.self.invariant.counts in
-    let old = rw (← c.self.view_is) at (c.from.ensures ∙ ap bool_byte (c.is_some-is_forwarder.ensures ∙ ap is_some c.forward.ensures)) in
+    let released = released_counts _ c.args.place c.args.frees_page _ _ there (λ frees. rw (← c.self.view_is) at (c.requires.alone frees)) c.self.invariant.0.counts in
+    let old = rw (← c.self.view_is) at (c.from.ensures ∙ ap bool_byte c.is_forwarder-is_forwarder.ensures) in
     rw old released.enough
 
 pub invariant_of-self : goal.invariant_of-self
 invariant_of-self c =
     let there = rw (← c.self.view_is) at c.requires.there in
-    let released = released_counts _ c.args.place c.args.frees_page _ _ there (λ frees. rw (← c.self.view_is) at (c.requires.alone frees)) c.self.invariant.counts in
-    let old = rw (← c.self.view_is) at (c.from.ensures ∙ ap bool_byte (c.is_some-is_forwarder.ensures ∙ ap is_some c.forward.ensures)) in
-    rw (c.release.ensures, old) (released_counted _ _ _ _ _ released c.self.invariant)
+    let released = released_counts _ c.args.place c.args.frees_page _ _ there (λ frees. rw (← c.self.view_is) at (c.requires.alone frees)) c.self.invariant.0.counts in
+    let old = rw (← c.self.view_is) at (c.from.ensures ∙ ap bool_byte c.is_forwarder-is_forwarder.ensures) in
+    rw (c.release.ensures, c.release-2.ensures, old) (released_counted _ _ _ _ _ released c.self.invariant.0, released_indexed _ _ _ _ there (λ frees. rw (← c.self.view_is) at (c.requires.alone frees)) c.self.invariant.1)
 
 pub returns : goal.returns
 returns c = rw (c.release.ensures, ← c.self.view_is) (with_released-table_map block_of c.self.inside.pages _ _)
