@@ -32,6 +32,7 @@ queue-push items capacity pages place queue below apart = record {
   once = IsDistinct-push nat_eq_equiv items place queue.once apart;
   below = below-push items place (64 * pages) queue.below below;
   room = queue.room;
+  few = queue.few;
 }
 
 pub queue-drop : (count : ℕ) (items : List ℕ) (capacity pages : ℕ) → IsQueue items capacity pages → IsQueue (drop count items) capacity pages
@@ -41,11 +42,12 @@ queue-drop (suc count) (place ∷ items) capacity pages queue = queue-drop count
   once = IsDistinct-tail (λ a b. a == b) place items queue.once;
   below = λ other is. queue.below other (or_right (other == place) (is_in other items) is);
   room = queue.room;
+  few = queue.few;
 })
 
-pub queue-open : (pages : ℕ) → IsQueue [] (64 * pages) pages
+pub queue-open : (pages : ℕ) → pages ≤ 4096 → IsQueue [] (64 * pages) pages
 unfolding IsDistinct
-queue-open pages = record { once = tt; below = λ place is. absurd (false≢true is); room = refl }
+queue-open pages few = record { once = tt; below = λ place is. absurd (false≢true is); room = refl; few = few }
 
 -- what is pushed if there is room is there
 pub pushed : {E : Type 0} (result : Result Unit E) (P Q : Type 0) → (IsOk result ↔ P) → P → OnOk result Q → Q

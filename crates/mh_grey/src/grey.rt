@@ -1,19 +1,18 @@
 ghost use Rattle.std.specs.Prelude.{◌≡◌, ◌==◌, ◌*◌, ◌<◌, ◌≤◌, false, IfOk, IsSome, [], ◌∷◌, ◌++◌, length, slice_get, take, drop, Some};
 ghost use Rattle.mh_model.specs.Pages.{block_at};
-ghost use Rattle.mh_model.specs.Table.{stamp_at, resolve};
+ghost use Rattle.mh_model.specs.Table.{stamp_at};
 ghost use Rattle.mh_model.specs.Collector.{shade, shade_place};
 ghost use Rattle.mh_model.specs.Batches.{NoneTwice};
-ghost use Rattle.mh_pages.specs.Addresses.{address_in};
 ghost use Rattle.mh_grey.specs.Queue.{is_in};
 ghost use Rattle.mh_grey.specs.Shading.{marking, IsApart, IsApartAt};
 
+use crate::order::Order;
 use arrayvec::ArrayVec;
 use circular_buffer::HeapCircularBuffer;
 use mh_blocks::blocks::Blocks;
 use mh_model::limits::PLACES;
 use mh_model::memory::NoMemory;
 use mh_model::place::Place;
-use mh_pages::address::Address;
 use std::alloc::Global;
 use std::marker::Model;
 /// The grey places in the order in which they were shaded, with room for one entry a place.
@@ -21,6 +20,7 @@ use std::marker::Model;
 pub struct Grey {
     places: HeapCircularBuffer<Place>,
     pages: usize,
+    order: Order,
 }
 
 impl Model for Grey {
@@ -38,20 +38,7 @@ pub fn is_marked(blocks: &Blocks, cycle: u64, place: Place) -> bool
     requires { IsSome (block_at blocks.now place) }
     ensures { result ≡ (stamp_at blocks.now place == cycle) }
 {
-    blocks.stamp(place) == cycle
-}
-
-/// The address of the block that a place leads to.
-fn target_address(blocks: &Blocks, place: Place) -> Address
-    requires there { IsSome (block_at blocks.now place) }
-    requires leads { IsSome (block_at blocks.now (resolve blocks.now place)) }
-    ensures { result ≡ address_in blocks.now (resolve blocks.now place) }
-{
-    let address = blocks.address(place);
-    match blocks.forward_from(address) {
-        None => address,
-        Some(target) => blocks.address(target),
-    }
+    blocks.is_marked(place, cycle)
 }
 
 impl Grey {
@@ -64,7 +51,26 @@ impl Grey {
         ensures { IfOk result (λ grey. grey ≡ record { places = []; pages = pages }) }
     {
         let places = HeapCircularBuffer::with_capacity(alloc, PLACES * pages)?;
-        Ok(Grey { places, pages })
+        let order = Order::open(alloc, pages)?;
+        Ok(Grey {
+            places,
+            pages,
+            order,
+        })
+    }
+
+    /// Lets the order in which blocks become grey be that of a new cycle.
+    pub fn begin_cycle(&mut self)
+        ensures { self.new ≡ self.old }
+    {
+        self.order.begin();
+    }
+
+    /// Loads words of the blocks ahead, by the order of the cycle before. It is called once for each place that is taken off.
+    pub fn touch(&mut self, blocks: &Blocks)
+        ensures { self.new ≡ self.old }
+    {
+        self.order.take(blocks);
     }
 
     pub fn len(&self) -> usize
@@ -93,6 +99,7 @@ impl Grey {
         ensures { self.new ≡ record { places = self.old.places ++ place ∷ []; pages = self.old.pages } }
     {
         let _ = self.places.try_push_back(place);
+        self.order.push(place);
     }
 
     /// Marks the block to which a reference leads, if it isn't marked, and makes it grey.
@@ -104,23 +111,22 @@ impl Grey {
         ensures grey { self.new ≡ record { places = (shade (marking blocks.old self.old.places cycle) reference).grey; pages = self.old.pages } }
     {
         if let Some(place) = reference {
-            let address = target_address(blocks, place);
-            self.shade_from(blocks, cycle, address);
+            let target = blocks.resolve(place);
+            self.shade_place(blocks, cycle, target);
         }
     }
 
-    /// Marks the block at an address, if it isn't marked, and makes it grey. It shades a reference that is resolved already.
-    pub fn shade_from(&mut self, blocks: &mut Blocks, cycle: u64, address: Address)
+    /// Marks the block at a place, if it isn't marked, and makes it grey. It shades a reference that is resolved already.
+    pub fn shade_place(&mut self, blocks: &mut Blocks, cycle: u64, place: Place)
         requires pages { self.old.pages ≡ length blocks.old }
-        requires at { address ≡ address_in blocks.old address.place }
-        requires there { IsSome (block_at blocks.old address.place) }
-        requires apart { IsApartAt blocks.old cycle self.old.places address.place }
-        ensures table { blocks.new ≡ (shade_place (marking blocks.old self.old.places cycle) address.place).table }
-        ensures grey { self.new ≡ record { places = (shade_place (marking blocks.old self.old.places cycle) address.place).grey; pages = self.old.pages } }
+        requires there { IsSome (block_at blocks.old place) }
+        requires apart { IsApartAt blocks.old cycle self.old.places place }
+        ensures table { blocks.new ≡ (shade_place (marking blocks.old self.old.places cycle) place).table }
+        ensures grey { self.new ≡ record { places = (shade_place (marking blocks.old self.old.places cycle) place).grey; pages = self.old.pages } }
     {
-        if blocks.stamp_from(address) != cycle {
-            blocks.set_stamp_from(address, cycle);
-            self.push(address.place);
+        if !blocks.is_marked(place, cycle) {
+            blocks.set_stamp(place, cycle);
+            self.push(place);
         }
     }
 

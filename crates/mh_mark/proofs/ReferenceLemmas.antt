@@ -1,12 +1,12 @@
 -- One reference of a block: where it leads, and what writing it back and shading it are.
-use Rattle.std.proofs.Common.{◌≡◌, ℕ, zero, suc, ◌+◌, ◌*◌, Bool, true, false, not, inl, inr, List, [], ◌∷◌, get_or, set, Option, Some, None, option_map, option_and_then, unwrap_or, IsSome, refl, sym, ap, ◌∙◌, subst}
+use Rattle.std.proofs.Common.{◌≡◌, ℕ, zero, suc, ◌+◌, ◌*◌, Bool, true, false, not, inl, inr, List, [], ◌∷◌, get_or, set, Option, Some, None, option_map, option_and_then, unwrap_or, is_some, IsSome, refl, sym, ap, ◌∙◌, subst}
 use Rattle.std.specs.Option.{option_eq}
 use Rattle.std.proofs.lemmas.Bool.{false≢true}
 use Rattle.std.proofs.lemmas.List.{set-get_or}
 use Rattle.mh_model.specs.Pages.{Table, page_number, slot_number, page_at, block_in, block_at, class_at, page_with, with_block}
 use Rattle.mh_model.specs.Table.{Block, resolve, target_of, references_at, reference_at, with_reference_at, forward_at, LeadsOn, LeadsHome}
 use Rattle.mh_model.specs.Collector.{Marking, shade_place, shade, mark_reference}
-use Rattle.mh_pages.specs.Addresses.{Address, address_in}
+use Rattle.mh_pages.specs.Addresses.{address_in}
 use Rattle.mh_table_laws.proofs.marking.BatchMarking.{there_before}
 use Rattle.mh_table_laws.proofs.placing.Places.{block_at-with_block_there}
 use Rattle.mh_grey.specs.Queue.{is_in}
@@ -108,11 +108,11 @@ marked-null m place index read at null =
     sym (ap (mark_reference m place index) is ∙ ap (λ table. record m { table = table }) (same_reference m.table place index None is))
 
 -- one that leads straight to its block is only shaded
-pub marked-straight : (m : Marking) (place index target : ℕ) (read : Option ℕ) (address : Address) (forward : Option ℕ) → read ≡ reference_at m.table place index → read ≡ Some target
-    → address ≡ address_in m.table target → forward ≡ forward_at m.table (address.place) → forward ≡ None → shade_place m target ≡ mark_reference m place index (reference_at m.table place index)
-marked-straight m place index target read address forward at reads stands seen none =
+pub marked-straight : (m : Marking) (place index target : ℕ) (read : Option ℕ) (moved : Bool) → read ≡ reference_at m.table place index → read ≡ Some target → moved ≡ is_some (forward_at m.table target) → moved ≡ false
+    → shade_place m target ≡ mark_reference m place index (reference_at m.table place index)
+marked-straight m place index target read moved at reads seen none =
     let is : reference_at m.table place index ≡ Some target = sym at ∙ reads in
-    let straight : forward_at m.table target ≡ None = sym (ap (λ (a : Address). forward_at m.table (a.place)) stands) ∙ sym seen ∙ none in
+    let straight : forward_at m.table target ≡ None = none_of (forward_at m.table target) (sym seen ∙ none) in
     let same : resolve m.table target ≡ target = ap (λ o. unwrap_or o target) straight in
     sym (
     ap (mark_reference m place index) is
@@ -120,26 +120,27 @@ marked-straight m place index target read address forward at reads stands seen n
     ∙ write-home m place index target straight
     ∙ ap (λ table. shade_place (record m { table = table }) target) (same_reference m.table place index (Some target) is)
     )
+  where
+    none_of : (o : Option ℕ) → is_some o ≡ false → o ≡ None
+    none_of None e = refl
+    none_of (Some x) e = absurd (false≢true (sym e))
 
--- one to a forwarder is written back and shaded
+-- one to a forwarder is written back as where it leads and shaded
 pub record IsMoved (table : Table Block) (place index from target : ℕ) : Type 0 where
   pub reference : reference_at table place index ≡ Some from
-  pub moved : forward_at table from ≡ Some target
+  pub leads : target ≡ resolve table from
   pub home : IsAtHome table (Some target)
 
-pub is_moved : (table : Table Block) (place index from target : ℕ) (read : Option ℕ) (address : Address) (forward : Option ℕ) → LeadsHome table (reference_at table place index)
-    → read ≡ reference_at table place index → read ≡ Some from → address ≡ address_in table from → forward ≡ forward_at table (address.place) → forward ≡ Some target → IsMoved table place index from target
-is_moved table place index from target read address forward home at is stands seen moves =
+pub is_moved : (table : Table Block) (place index from target : ℕ) (read : Option ℕ) → LeadsHome table (reference_at table place index) → read ≡ reference_at table place index → read ≡ Some from → target ≡ resolve table from
+    → IsMoved table place index from target
+is_moved table place index from target read home at is leads =
     let reference : reference_at table place index ≡ Some from = sym at ∙ is in
-    let moved : forward_at table from ≡ Some target = sym (ap (λ (a : Address). forward_at table (a.place)) stands) ∙ sym seen ∙ moves in
-    let same : resolve table from ≡ target = ap (λ o. unwrap_or o from) moved in
-    record { reference = reference; moved = moved; home = subst (λ p. IsAtHome table (Some p)) same (subst (LeadsHome table) reference home) }
+    record { reference = reference; leads = leads; home = subst (λ p. IsAtHome table (Some p)) (sym leads) (subst (LeadsHome table) reference home) }
 
 pub marked-moved : (m : Marking) (place index from target : ℕ) → IsMoved m.table place index from target
     → shade_place (record m { table = with_reference_at m.table place index (Some target) }) target ≡ mark_reference m place index (reference_at m.table place index)
 marked-moved m place index from target is =
-    let same : resolve m.table from ≡ target = ap (λ o. unwrap_or o from) is.moved in
-    sym (ap (mark_reference m place index) is.reference ∙ ap (λ p. write m place index (Some p)) same ∙ write-home m place index target is.home.1)
+    sym (ap (mark_reference m place index) is.reference ∙ ap (λ p. write m place index (Some p)) (sym is.leads) ∙ write-home m place index target is.home.1)
 
 -- the block is there after the reference was written
 pub written-there : (table : Table Block) (place index target : ℕ) (reference : Option ℕ) → IsAtHome table (Some target) → IsSome (block_at (with_reference_at table place index reference) target)

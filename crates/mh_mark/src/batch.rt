@@ -51,8 +51,7 @@ fn write_reference(
         None => store_reference(blocks, address, index, None),
         Some(place) => {
             store_reference(blocks, address, index, Some(place));
-            let target = blocks.address(place);
-            grey.shade_from(blocks, cycle, target);
+            grey.shade_place(blocks, cycle, place);
         }
     }
 }

@@ -45,14 +45,12 @@ fn mark_reference(blocks: &mut Blocks, grey: &mut Grey, cycle: u64, address: Add
     ensures grey { grey.new ≡ record { places = (mark_reference (marking blocks.old grey.old.places cycle) address.place index (reference_at blocks.old address.place index)).grey; pages = grey.old.pages } }
 {
     if let Some(place) = blocks.reference_from(address, index) {
-        let straight = blocks.address(place);
-        match blocks.forward_from(straight) {
-            None => grey.shade_from(blocks, cycle, straight),
-            Some(target) => {
-                blocks.set_reference_from(address, index, Some(target));
-                let target = blocks.address(target);
-                grey.shade_from(blocks, cycle, target);
-            }
+        if blocks.is_forwarder(place) {
+            let target = blocks.resolve(place);
+            blocks.set_reference_from(address, index, Some(target));
+            grey.shade_place(blocks, cycle, target);
+        } else {
+            grey.shade_place(blocks, cycle, place);
         }
     }
 }

@@ -1,9 +1,10 @@
 -- Several steps of the sweep in one page.
-use Rattle.std.proofs.Common.{None, Some, zero, suc, ◌≤◌, ◌≡◌, ◌≢◌, ℕ, ◌+◌, ◌*◌, ◌/◌, ◌%◌, ◌<◌, true, length, is_some, refl, sym, ap, ◌∙◌, subst, arith, add-one, below_more}
+use Rattle.std.proofs.Common.{None, Some, zero, suc, ◌≤◌, ◌≡◌, ◌≢◌, ℕ, ◌+◌, ◌*◌, ◌/◌, ◌%◌, ◌<◌, ◌⊎◌, true, if◌then◌else◌, inl, inr, length, is_some, refl, sym, ap, ◌∙◌, subst, arith, add-one, below_more}
+use Rattle.std.proofs.lemmas.Bool.{cases_lt, lt-ltb, le-ltb}
 use Rattle.mh_model.specs.Classes.{slots_in}
 use Rattle.mh_model.specs.Pages.{Table, page_number, slot_number, page_at, class_at, HaveTheirSlots}
 use Rattle.mh_model.specs.Table.{Block}
-use Rattle.mh_sweep.specs.Swept.{slot_swept, judged, AreFree, Sweeping, swept_once, swept_on, IsSweptTo}
+use Rattle.mh_sweep.specs.Swept.{slot_swept, slots_swept, stretch_end, judged, AreFree, Sweeping, swept_once, swept_on, IsSweptTo}
 use Rattle.mh_sweep.proofs.SweepLemmas.{slot_count_in, used-classed, slots-classed, step-free, step-slot, step-last, swept-class, swept-slots, swept-long}
 
 abbrev pub sweeping : Table Block → ℕ → Sweeping
@@ -69,6 +70,55 @@ sweeping-last cycle table new place size count on inside fits last =
 
 pub sweeping-ends : (cycle : ℕ) (table new : Table Block) (place size count next : ℕ) → IsSweepingOn cycle table place size new count → 0 < count → next ≡ place + count → IsSweptTo cycle (sweeping table place) (sweeping new next) count
 sweeping-ends cycle table new place size count next on some is = record { is = at_parts _ _ _ _ refl is ∙ on.is; some = some; inside = on.inside }
+
+-- Stretches of slots -----------------------------------------------------------------------------------
+
+-- a stretch ends after the last slot of the page, or goes past it
+pub end-cases : (slots slot : ℕ) → ((slot < slots) × (stretch_end slots slot ≡ slots)) ⊎ ((slots ≤ slot) × (stretch_end slots slot ≡ 64))
+end-cases slots slot = elim (cases_lt slot slots) [
+  | inl before ↦ inl (before, ap (λ b. if b then slots else 64) (lt-ltb slot slots before))
+  | inr past ↦ inr (past, ap (λ b. if b then slots else 64) (le-ltb slot slots past))
+]
+
+-- a stretch that doesn't end after the last slot hasn't that slot, and one that is whole fills the longest page
+pub not_last : (slots slot count : ℕ) → slot + count ≤ stretch_end slots slot → slot + count ≢ slots → (k : ℕ) → k < count → slot + k + 1 ≢ slots
+not_last slots slot count within apart k below = elim (end-cases slots slot) [
+  | inl before ↦ λ last. absurd (omega (arith, before.0, before.1, apart))
+  | inr past ↦ λ last. absurd (omega (arith, past.0))
+]
+
+pub whole : (slots slot count : ℕ) → slot + count ≡ stretch_end slots slot → slot + count ≢ slots → slot + count ≡ 64
+whole slots slot count is apart = elim (end-cases slots slot) [
+  | inl before ↦ absurd (apart (is ∙ before.1))
+  | inr past ↦ is ∙ past.1
+]
+
+pub sweeping-all : (cycle : ℕ) (table : Table Block) (place size count : ℕ) → HaveTheirSlots table → class_at table (page_number place) ≡ Some size → page_number place < length table → place % 64 + count ≤ 64
+    → ((k : ℕ) → k < count → place % 64 + k + 1 ≢ slots_in size) → IsSweepingOn cycle table place size (slots_swept cycle table place count) count
+sweeping-all cycle table place size zero all class inside fits more = sweeping-starts cycle table place size all class
+sweeping-all cycle table place size (suc count) all class inside fits more =
+    subst (IsSweepingOn cycle table place size (slots_swept cycle table place (suc count))) (add-one count)
+    (sweeping-goes cycle table (slots_swept cycle table place count) place size count (sweeping-all cycle table place size count all class inside (omega arith) (λ k below. more k (omega arith))) inside (omega arith) (more count (omega arith)))
+
+-- a stretch up to the last slot, and the page judged
+pub sweeping-judged : (cycle : ℕ) (table : Table Block) (place size count : ℕ) → HaveTheirSlots table → class_at table (page_number place) ≡ Some size → page_number place < length table → place % 64 + count ≤ 64 → 0 < count → place % 64 + count ≡ slots_in size
+    → IsSweptTo cycle (sweeping table place) (sweeping (judged (slots_swept cycle table place count) (page_number place)) (64 * (place / 64 + 1))) count
+sweeping-judged cycle table place size zero all class inside fits some last = absurd (omega arith)
+sweeping-judged cycle table place size (suc count) all class inside fits some last =
+    subst (IsSweptTo cycle (sweeping table place) (sweeping (judged (slots_swept cycle table place (suc count)) (page_number place)) (64 * (place / 64 + 1)))) (add-one count)
+    (sweeping-last cycle table (slots_swept cycle table place count) place size count (sweeping-all cycle table place size count all class inside (omega arith) (λ k below same. absurd (omega arith))) inside (omega arith) (omega arith))
+
+-- the page keeps its class, and the table its pages
+pub stretch-class : (cycle : ℕ) (table : Table Block) (place count : ℕ) → place % 64 + count ≤ 64 → class_at (slots_swept cycle table place count) (page_number place) ≡ class_at table (page_number place)
+stretch-class cycle table place zero fits = refl
+stretch-class cycle table place (suc count) fits =
+    let page : (place + count) / 64 ≡ place / 64 = omega arith in
+    let new : Table Block = slots_swept cycle table place count in
+    sym (ap (class_at (slot_swept cycle new (place + count))) page) ∙ swept-class cycle new (place + count) ∙ ap (class_at new) page ∙ stretch-class cycle table place count (omega arith)
+
+pub stretch-long : (cycle : ℕ) (table : Table Block) (place count : ℕ) → length (slots_swept cycle table place count) ≡ length table
+stretch-long cycle table place zero = refl
+stretch-long cycle table place (suc count) = swept-long cycle (slots_swept cycle table place count) (place + count) ∙ stretch-long cycle table place count
 
 -- Free pages passed ----------------------------------------------------------------------------------
 

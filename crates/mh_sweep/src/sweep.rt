@@ -1,8 +1,10 @@
 ghost use Rattle.std.specs.Prelude.{◌≡◌, ◌+◌, ◌<◌, ◌≤◌, Some, length};
+ghost use Rattle.mh_model.specs.Classes.{slots_in};
 ghost use Rattle.mh_model.specs.Pages.{page_number, page_at, class_at};
 ghost use Rattle.mh_model.specs.Collector.{swept_table, next_place};
-ghost use Rattle.mh_sweep.specs.Swept.{slot_swept, judged, AreFree, IsSweptTo};
+ghost use Rattle.mh_sweep.specs.Swept.{slot_swept, stretch_end, judged, AreFree, IsSweptTo};
 
+use crate::slots::sweep_slots;
 use mh_blocks::blocks::Blocks;
 use mh_classes::class::Class;
 use mh_model::limits::PLACES;
@@ -21,8 +23,7 @@ fn sweep_slot(blocks: &mut Blocks, cycle: u64, place: Place)
     if !blocks.is_taken(place) {
         return;
     }
-    let address = blocks.address(place);
-    if blocks.forward_from(address).is_none() && blocks.stamp_from(address) == cycle {
+    if !blocks.is_forwarder(place) && blocks.is_marked(place, cycle) {
         return;
     }
     blocks.unmake(place, false);
@@ -82,6 +83,17 @@ fn free_run(blocks: &Blocks, first: usize, most: usize) -> usize
     most
 }
 
+/// The slot before which a stretch of a page ends that begins at a slot.
+fn stretch_end(class: Class, slot: usize) -> usize
+    requires { slot < 64 }
+    ensures end { result ≡ stretch_end (slots_in class) slot }
+    ensures inside { slot < result }
+    ensures few { result ≤ 64 }
+{
+    let slots = class.slots();
+    if slot < slots { slots } else { PLACES }
+}
+
 /// Takes steps in one page, as many as are asked for or up to its end. Of free pages it passes as many as are asked for
 /// and stand one after the other.
 pub fn sweep_page(blocks: &mut Blocks, cycle: u64, place: Place, most: usize) -> Swept
@@ -102,22 +114,18 @@ pub fn sweep_page(blocks: &mut Blocks, cycle: u64, place: Place, most: usize) ->
             count,
         };
     };
-    let slots = class.slots();
-    let first = place.0;
     let slot = place.slot();
-    let most = most.min(PLACES - slot);
-    for count in 0..most {
-        sweep_slot(blocks, cycle, Place(first + count));
-        if slot + count + 1 == slots {
-            judge(blocks, page, class);
-            return Swept {
-                next: Place(PLACES * (page + 1)),
-                count: count + 1,
-            };
-        }
+    let count = most.min(stretch_end(class, slot) - slot);
+    sweep_slots(blocks, cycle, place, count);
+    if slot + count != class.slots() {
+        return Swept {
+            next: Place(place.0 + count),
+            count,
+        };
     }
+    judge(blocks, page, class);
     Swept {
-        next: Place(first + most),
-        count: most,
+        next: Place(PLACES * (page + 1)),
+        count,
     }
 }
