@@ -6,3 +6,5 @@ pub mod SweepLemmas
 pub mod PassLemmas
 pub mod ReadyLemmas
 pub mod SnapshotLemmas
+pub mod HopLemmas
+pub mod DefragLemmas

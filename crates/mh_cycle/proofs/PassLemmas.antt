@@ -4,9 +4,9 @@ use Rattle.mh_model.specs.declared.cycle.Phase.TheVariants.{Defrag}
 use Rattle.mh_model.specs.Pages.{Page, Table, page_at, block_in, slot_number, flag_at}
 use Rattle.mh_model.specs.Table.{Block}
 use Rattle.mh_model.specs.Collector.{Collector, if_flagged, move_of, move_cost, next_move, next_place, flagged_page, cycle_end, is_idle, is_moving, collector_step, step_cost}
-use Rattle.mh_defrag.specs.Moves.{moved, slots_moved, AreUnflagged}
+use Rattle.mh_defrag.specs.Moves.{moved, AreUnflagged}
 use Rattle.mh_cycle.specs.Advance.{IsStride}
-use Rattle.mh_cycle.proofs.StepLemmas.{cost-is, defrag-ends, defrag-goes}
+use Rattle.mh_cycle.proofs.StepLemmas.{slots_moved, cost-is, defrag-ends, defrag-goes}
 use Rattle.mh_cycle.proofs.StrideLemmas.{stride-then, stride-one, stride-many, still}
 
 -- the place of the next step after so many pages were passed

@@ -7,7 +7,8 @@ use Rattle.mh_model.specs.declared.cycle.Phase.TheVariants.{Roots, Mark, Sweep, 
 use Rattle.mh_model.specs.Pages.{Table}
 use Rattle.mh_model.specs.Table.{Block, references_at}
 use Rattle.mh_model.specs.Collector.{Collector, Move, cycle_end, next_move, next_place, flagged_page, with_move, moved_table, forwarded_slots, is_moving, is_moving_in, is_past, roots_step, mark_step, sweep_step, defrag_step, with_phase, with_marking, marking_of, after_mark, phase_after, step_in, cost_in, first_mark_cost, step_cost, collector_step}
-use Rattle.mh_defrag.specs.Moves.{IsTarget, moved, slots_moved}
+use Rattle.mh_defrag.specs.Moves.{IsTarget, moved}
+use Rattle.mh_cycle.specs.State.{with_slots, step_beside_slots}
 
 pub step-is : (c : Collector) (phase : Phase) → c.phase ≡ phase → collector_step c ≡ phase_after phase (step_in phase c)
 unfolding collector_step
@@ -54,17 +55,22 @@ sweep-stays c phase inside = step-is c Sweep phase ∙ ap (λ b. if b then with_
 
 -- Defragmentation ----------------------------------------------------------------------------------
 
-abbrev defrag_next : Collector → Bool → Collector
+-- the slots after a move, if there is one
+abbrev pub slots_moved : Table Block → ℕ → List (Option ℕ) → Option Move → List (Option ℕ)
+slots_moved table place slots None = slots
+slots_moved table place slots (Some move) = forwarded_slots (moved_table table place move) slots
+
+abbrev pub defrag_next : Collector → Bool → Collector
 defrag_next r past = if past then cycle_end r else r
 
-defrag-is : (c : Collector) → c.phase ≡ Defrag → collector_step c ≡ defrag_next (defrag_step c) (is_past (defrag_step c).table (defrag_step c).cursor)
+pub defrag-is : (c : Collector) → c.phase ≡ Defrag → collector_step c ≡ defrag_next (defrag_step c) (is_past (defrag_step c).table (defrag_step c).cursor)
 defrag-is c phase = step-is c Defrag phase
 
 -- a collector after a step of defragmentation whose parts are these
-abbrev shifted : Collector → Table Block → List (Option ℕ) → ℕ → Collector
+abbrev pub shifted : Collector → Table Block → List (Option ℕ) → ℕ → Collector
 shifted c table slots cursor = record c { table = table; slots = slots; cursor = cursor }
 
-defrag-parts : (c : Collector) → c.phase ≡ Defrag → defrag_step c ≡ shifted c (moved c.table c.cursor (next_move c.table c.cursor)) (slots_moved c.table c.cursor c.slots (next_move c.table c.cursor)) (next_place c.cursor (flagged_page c.table c.cursor))
+pub defrag-parts : (c : Collector) → c.phase ≡ Defrag → defrag_step c ≡ shifted c (moved c.table c.cursor (next_move c.table c.cursor)) (slots_moved c.table c.cursor c.slots (next_move c.table c.cursor)) (next_place c.cursor (flagged_page c.table c.cursor))
 defrag-parts c phase = go (next_move c.table c.cursor)
   where
     go : (move : Option Move) → with_phase (with_move c move) Defrag (next_place c.cursor (flagged_page c.table c.cursor)) ≡ shifted c (moved c.table c.cursor move) (slots_moved c.table c.cursor c.slots move) (next_place c.cursor (flagged_page c.table c.cursor))
@@ -86,6 +92,15 @@ defrag-goes c table slots cursor phase a b d inside =
     let r : Collector = shifted c table slots cursor in
     let is : r ≡ defrag_step c = rw (a, b, d) (sym (defrag-parts c phase)) in
     sym (defrag-is c phase ∙ ap (λ x. defrag_next x (is_past x.table x.cursor)) (sym is) ∙ ap (defrag_next r) (lt-leb (length table) (cursor / 64) inside))
+
+-- the same of steps that leave the slots
+pub beside-ends : (c : Collector) (table : Table Block) (cursor : ℕ) → c.phase ≡ Defrag → table ≡ moved c.table c.cursor (next_move c.table c.cursor) → cursor ≡ next_place c.cursor (flagged_page c.table c.cursor)
+    → length table ≤ cursor / 64 → cycle_end (shifted c table c.slots cursor) ≡ step_beside_slots c
+beside-ends c table cursor phase a d past = ap (λ r. with_slots r c.slots) (defrag-ends c table (slots_moved c.table c.cursor c.slots (next_move c.table c.cursor)) cursor phase a refl d past)
+
+pub beside-goes : (c : Collector) (table : Table Block) (cursor : ℕ) → c.phase ≡ Defrag → table ≡ moved c.table c.cursor (next_move c.table c.cursor) → cursor ≡ next_place c.cursor (flagged_page c.table c.cursor)
+    → cursor / 64 < length table → shifted c table c.slots cursor ≡ step_beside_slots c
+beside-goes c table cursor phase a d inside = ap (λ r. with_slots r c.slots) (defrag-goes c table (slots_moved c.table c.cursor c.slots (next_move c.table c.cursor)) cursor phase a refl d inside)
 
 pub moving-defrag : (c : Collector) (target : Option ℕ) → c.phase ≡ Defrag → IsTarget c.table c.cursor target → is_some target ≡ is_moving c
 moving-defrag c target phase of = ap is_some of.is ∙ go (next_move c.table c.cursor) ∙ sym (ap (λ p. is_moving_in p c) phase)

@@ -1,11 +1,11 @@
 -- A collector with its configuration, and what holds of its parts at each moment.
-use Rattle.std.specs.Prelude.{◌≡◌, ℕ, ◌<◌, length}
+use Rattle.std.specs.Prelude.{◌≡◌, ℕ, ◌<◌, Option, List, length}
 use Rattle.mh_model.specs.declared.config.Config.{Config}
 use Rattle.mh_model.specs.declared.cycle.Phase.{Phase}
 use Rattle.mh_model.specs.declared.cycle.Phase.TheVariants.{Roots, Mark, Sweep, Defrag}
 use Rattle.mh_model.specs.Pages.{Table, page_number}
 use Rattle.mh_model.specs.Table.{Block}
-use Rattle.mh_model.specs.Collector.{Collector, first_collector}
+use Rattle.mh_model.specs.Collector.{Collector, first_collector, forwarded_slots, collector_step}
 use Rattle.mh_grey.specs.Queue.{Queue}
 
 pub record CycleState : Type 0 where
@@ -15,6 +15,22 @@ pub record CycleState : Type 0 where
 -- the same configuration with another collector
 abbrev pub with_collector : CycleState → Collector → CycleState
 with_collector state collector = record state { collector = collector }
+
+-- a collector with other slots
+abbrev pub with_slots : Collector → List (Option ℕ) → Collector
+with_slots collector slots = record collector { slots = slots }
+
+-- with its slots forwarded: each leads straight to where it led
+abbrev pub with_forwarded : Collector → Collector
+with_forwarded collector = with_slots collector (forwarded_slots collector.table collector.slots)
+
+-- after a step that leaves its slots as they were
+abbrev pub step_beside_slots : Collector → Collector
+step_beside_slots collector = with_slots (collector_step collector) collector.slots
+
+-- a state with its slots forwarded
+abbrev pub forwarded_state : CycleState → CycleState
+forwarded_state state = with_collector state (with_forwarded state.collector)
 
 -- the first collector with its configuration
 abbrev pub first_state : Config → CycleState

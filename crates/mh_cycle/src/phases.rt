@@ -2,6 +2,8 @@
 ghost use Rattle.std.specs.Prelude.{◌≡◌, ◌-◌, false};
 ghost use Rattle.mh_model.specs.declared.cycle.Phase.TheVariants.{Mark, Sweep, Defrag};
 ghost use Rattle.mh_model.specs.Invariant.{IsSteady};
+ghost use Rattle.mh_roots.specs.Roots.{SlotsLead};
+ghost use Rattle.mh_cycle.specs.State.{with_forwarded, forwarded_state};
 ghost use Rattle.mh_cycle.specs.Advance.{IsFrom, IsAdvance, IsRest};
 
 use crate::cycle::Cycle;
@@ -11,6 +13,13 @@ use mh_scan::scan::Scanner;
 
 /// What the scan of one slot costs.
 const ROOT_COST: u64 = 2;
+
+/// What steps of defragmentation cost, and whether one of them moved a block.
+#[derive(Clone, Copy)]
+struct Moves {
+    spent: u64,
+    has_moved: bool,
+}
 
 impl Cycle {
     /// Scans roots while they fit in what is left. Answers what that cost.
@@ -103,11 +112,14 @@ impl Cycle {
         spent
     }
 
-    /// Moves blocks while steps fit in what is left. Answers what that cost.
-    pub(crate) fn defragment(&mut self, left: u64) -> u64
+    /// Moves blocks while steps fit in what is left. The slots stay as they were, since no step reads one: from each a hop
+    /// at most leads to its object.
+    fn move_blocks(&mut self, left: u64) -> Moves
         requires steady { IsSteady self.old.collector }
         requires from { IsFrom Defrag left self.old.collector }
-        ensures { IsRest left self.old result self.new }
+        ensures rest { IsRest left self.old result.spent (forwarded_state self.new) }
+        ensures still { result.has_moved ≡ false → with_forwarded self.new.collector ≡ self.new.collector }
+        ensures lead { SlotsLead self.new.collector.table self.new.collector.slots }
     {
         collectors_stay_steady();
         let mut spent = 0;
@@ -128,6 +140,20 @@ impl Cycle {
             has_moved = has_moved || target.is_some();
             spent += cost;
         }
-        spent
+        Moves { spent, has_moved }
+    }
+
+    /// Moves blocks while steps fit in what is left, and then forwards the slots, once for all moves. Answers what that
+    /// cost.
+    pub(crate) fn defragment(&mut self, left: u64) -> u64
+        requires steady { IsSteady self.old.collector }
+        requires from { IsFrom Defrag left self.old.collector }
+        ensures { IsRest left self.old result self.new }
+    {
+        let moves = self.move_blocks(left);
+        if moves.has_moved {
+            self.roots.forward_all(&self.blocks);
+        }
+        moves.spent
     }
 }

@@ -1,5 +1,5 @@
 //! What a quantum does in one go: its start, and one step or some steps of a phase.
-ghost use Rattle.std.specs.Prelude.{◌≡◌, ◌+◌, ◌^◌, ◌<◌, ◌≤◌, ◌==◌, Bool, true, if◌then◌else◌, length};
+ghost use Rattle.std.specs.Prelude.{◌≡◌, ◌+◌, ◌^◌, ◌<◌, ◌≤◌, ◌==◌, ℕ, Bool, true, if◌then◌else◌, Option, List, length};
 ghost use Rattle.mh_model.specs.declared.cycle.Phase.TheVariants.{Roots, Mark, Sweep, Defrag};
 ghost use Rattle.mh_model.specs.Pages.{page_number};
 ghost use Rattle.mh_model.specs.Collector.{is_idle, quantum_start, collector_step, step_cost};
@@ -7,7 +7,7 @@ ghost use Rattle.mh_model.specs.Mutator.{in_roots, in_roots_or_mark};
 ghost use Rattle.mh_model.specs.Invariant.{IsSteady};
 ghost use Rattle.mh_mark.specs.First.{IsFirstGrey};
 ghost use Rattle.mh_defrag.specs.Moves.{IsTarget, AreUnflagged};
-ghost use Rattle.mh_cycle.specs.State.{with_collector};
+ghost use Rattle.mh_cycle.specs.State.{with_collector, with_slots, step_beside_slots};
 ghost use Rattle.mh_cycle.specs.Advance.{IsRun, IsStride};
 
 use crate::cycle::Cycle;
@@ -76,6 +76,8 @@ impl Cycle {
             self.phase = Phase::Roots;
             self.cursor = 0;
             self.number += 1;
+            self.blocks.begin_cycle(self.number);
+            self.grey.begin_cycle();
             self.is_asked = false;
             self.quanta = 0;
         }
@@ -121,6 +123,7 @@ impl Cycle {
     {
         references_lead_on();
         mark_step(&mut self.blocks, &mut self.grey, self.number, first);
+        self.grey.touch(&self.blocks);
         self.cursor = 0;
         self.phase = after_mark(&self.grey);
     }
@@ -181,7 +184,9 @@ impl Cycle {
         requires unflagged { AreUnflagged self.old.collector.table (page_number self.old.collector.cursor) count }
         requires inside { page_number self.old.collector.cursor + count ≤ length self.old.collector.table }
         ensures state { self.new ≡ with_collector self.old self.new.collector }
-        ensures stride { (moved : Bool) → IsStride count moved self.old.collector moved self.new.collector }
+        ensures table { self.new.collector.table ≡ self.old.collector.table }
+        ensures slots { self.new.collector.slots ≡ self.old.collector.slots }
+        ensures stride { (slots : List (Option ℕ)) (moved : Bool) → IsStride count moved (with_slots self.old.collector slots) moved (with_slots self.new.collector slots) }
     {
         let pages = self.blocks.len();
         let end = Place(self.cursor).page() + count;
@@ -210,16 +215,14 @@ impl Cycle {
         defrag::cost(&self.blocks, Place(self.cursor), target, has_moved)
     }
 
-    /// One step of defragmentation.
+    /// One step of defragmentation. The slots aren't forwarded.
     pub(crate) fn defrag_step(&mut self, target: Option<Place>)
         requires phase { self.old.collector.phase ≡ Defrag }
         requires target { IsTarget self.old.collector.table self.old.collector.cursor target }
-        requires steady { IsSteady self.old.collector }
-        ensures { self.new ≡ with_collector self.old (collector_step self.old.collector) }
+        ensures { self.new ≡ with_collector self.old (step_beside_slots self.old.collector) }
     {
-        references_lead_on();
         let place = Place(self.cursor);
-        let next = defrag::step(&mut self.blocks, &mut self.roots, place, target);
+        let next = defrag::step(&mut self.blocks, place, target);
         self.cursor = next.0;
         if next.page() >= self.blocks.len() {
             self.cursor = 0;

@@ -1,13 +1,12 @@
 -- The next move, and what it leaves.
-use Rattle.std.proofs.Common.{◌≡◌, ℕ, inl, inr, Bool, true, false, if◌then◌else◌, List, get_or, Option, Some, None, option_map, option_and_then, is_some, IsSome, refl, sym, ap, ◌∙◌, subst}
+use Rattle.std.proofs.Common.{◌≡◌, ◌⊎◌, ℕ, inl, inr, Bool, true, false, if◌then◌else◌, Option, Some, None, option_map, option_and_then, is_some, IsSome, refl, sym, ap, ◌∙◌, subst}
 use Rattle.std.specs.Prelude.{IfSome}
 use Rattle.std.proofs.lemmas.Bool.{cases_eq}
 use Rattle.std.proofs.lemmas.Option.{none-some, same_Some}
-use Rattle.mh_model.specs.Pages.{Page, Table, page_number, slot_number, page_at, block_in, block_at, class_at, Leads, least_dense_place, with_block, with_taken, IsFreeFor}
+use Rattle.mh_model.specs.Pages.{Page, Table, page_number, slot_number, page_at, block_in, block_at, class_at, least_dense_place, with_taken, IsFreeFor}
 use Rattle.mh_model.specs.Table.{Block, is_forwarder}
 use Rattle.mh_model.specs.Collector.{Move, if_flagged, move_of, next_move, moved_table}
 use Rattle.mh_table_laws.proofs.placing.Places.{block_at-with_block_there, block_at-with_block_other, block_at-with_taken_there}
-use Rattle.mh_roots.specs.Roots.{SlotsLead}
 use Rattle.mh_defrag.specs.Moves.{IsTarget, moved}
 
 -- the move in a slot of a page
@@ -61,38 +60,45 @@ move-is table place target of = go (next_move table place) refl of.is
         let found = move_in-is table (slot_number place) (page_at table (page_number place)) move at in
         (move, record { next = at; there = found.there; class = found.class; target_is = same_Some target move.target e })
 
+-- no move, where there is no target
+pub none-moves : (table : Table Block) (place : ℕ) → IsTarget table place None → next_move table place ≡ None
+none-moves table place of = go (next_move table place) of.is
+  where
+    go : (next : Option Move) → None ≡ place_of next → next ≡ None
+    go None e = refl
+    go (Some move) e = absurd (none-some move.target e)
+
 -- What it leaves ----------------------------------------------------------------------------------
 
--- the table after the block was moved
-pub moved-by : (table new : Table Block) (place target : ℕ) → IsTarget table place (Some target)
-    → IfSome (block_at table place) (λ block. IfSome (class_at table (page_number place)) (λ size. new ≡ moved_table table place (record { block = block; class_size = size; target = target }))) → new ≡ moved table place (next_move table place)
-moved-by table new place target of is =
-    let (move, m) = move-is table place target of in
-    let block : IfSome (class_at table (page_number place)) (λ size. new ≡ moved_table table place (record { block = move.block; class_size = size; target = target }))
-    = subst (λ content. IfSome content (λ block. IfSome (class_at table (page_number place)) (λ size. new ≡ moved_table table place (record { block = block; class_size = size; target = target })))) m.there is in
-    let done : new ≡ moved_table table place (record { block = move.block; class_size = move.class_size; target = target })
-    = subst (λ class. IfSome class (λ size. new ≡ moved_table table place (record { block = move.block; class_size = size; target = target }))) m.class block in
-    done ∙ ap (λ t. moved_table table place (record move { target = t })) m.target_is ∙ sym (ap (moved table place) m.next)
-
--- where a block was, one is
-leads-moved : (table : Table Block) (place size target : ℕ) (block forwarder : Block) (q : ℕ) → IsFreeFor table size target → block_at table place ≡ Some block → IsSome (block_at table q)
-    → IsSome (block_at (with_block (with_taken table size target block) place (Some forwarder)) q)
-leads-moved table place size target block forwarder q free at there = elim (cases_eq q place) [
-  | inl same ↦ rw same (ap is_some (block_at-with_block_there (with_taken table size target block) place (Some forwarder) (still place (ap is_some at))))
-  | inr apart ↦ ap is_some (block_at-with_block_other (with_taken table size target block) place q (Some forwarder) apart) ∙ still q there
-]
-  where
-    still : (other : ℕ) → IsSome (block_at table other) → IsSome (block_at (with_taken table size target block) other)
-    still other is = ap is_some (block_at-with_taken_there table size target other block free is) ∙ is
-
--- slots lead on
-pub slots-lead : (table : Table Block) (place target : ℕ) (slots : List (Option ℕ)) → IsTarget table place (Some target) → SlotsLead table slots → SlotsLead (moved table place (next_move table place)) slots
-slots-lead table place target slots of lead =
+-- the move that leads to a target, and that the target is free for it
+target-free : (table : Table Block) (place target : ℕ) → IsTarget table place (Some target) → (move : Move) × IsMove table place target move × IsFreeFor table move.class_size move.target
+target-free table place target of =
     let (move, m) = move-is table place target of in
     let free : IsFreeFor table move.class_size target = subst (λ class. IfSome class (λ size. IsFreeFor table size target)) m.class of.free in
-    subst (λ next. SlotsLead (moved table place next) slots) (sym m.next) (λ slot. by_slot move (get_or slots slot None) free m (lead slot))
+    (move, m, subst (IsFreeFor table move.class_size) m.target_is free)
+
+-- a block at another place stays
+elsewhere : (table : Table Block) (place : ℕ) (move : Move) (q : ℕ) → IsFreeFor table move.class_size move.target → IsSome (block_at table q) → (q ≡ place → ⊥) → block_at (moved_table table place move) q ≡ block_at table q
+elsewhere table place move q free there apart =
+    block_at-with_block_other (with_taken table move.class_size move.target move.block) place q (Some (record (move.block) { forward = Some move.target })) apart
+    ∙ block_at-with_taken_there table move.class_size move.target q move.block free there
+
+pub stays-elsewhere : (table : Table Block) (place : ℕ) (target : Option ℕ) (q : ℕ) → IsTarget table place target → IsSome (block_at table q) → (q ≡ place → ⊥) → block_at (moved table place (next_move table place)) q ≡ block_at table q
+stays-elsewhere table place None q of there apart = ap (λ next. block_at (moved table place next) q) (none-moves table place of)
+stays-elsewhere table place (Some target) q of there apart =
+    let (move, m, free) = target-free table place target of in
+    ap (λ next. block_at (moved table place next) q) m.next ∙ elsewhere table place move q free there apart
+
+-- where a block was, one is
+pub still-there : (table : Table Block) (place : ℕ) (target : Option ℕ) (q : ℕ) → IsTarget table place target → IsSome (block_at table q) → IsSome (block_at (moved table place (next_move table place)) q)
+still-there table place None q of there = subst (λ next. IsSome (block_at (moved table place next) q)) (sym (none-moves table place of)) there
+still-there table place (Some target) q of there =
+    let (move, m, free) = target-free table place target of in
+    subst (λ next. IsSome (block_at (moved table place next) q)) (sym m.next) (by_place move m free (cases_eq q place))
   where
-    by_slot : (move : Move) (reference : Option ℕ) → IsFreeFor table move.class_size target → IsMove table place target move → Leads table reference → Leads (moved_table table place move) reference
-    by_slot move None free m l = tt
-    by_slot move (Some q) free m l =
-        leads-moved table place move.class_size move.target move.block (record (move.block) { forward = Some move.target }) q (subst (IsFreeFor table move.class_size) m.target_is free) m.there l
+    by_place : (move : Move) → IsMove table place target move → IsFreeFor table move.class_size move.target → (q ≡ place) ⊎ (q ≡ place → ⊥) → IsSome (block_at (moved_table table place move) q)
+    by_place move m free (inl same) =
+        let was : IsSome (block_at table place) = ap is_some m.there in
+        let kept : IsSome (block_at (with_taken table move.class_size move.target move.block) place) = ap is_some (block_at-with_taken_there table move.class_size move.target place move.block free was) ∙ was in
+        rw same (ap is_some (block_at-with_block_there (with_taken table move.class_size move.target move.block) place (Some (record (move.block) { forward = Some move.target })) kept))
+    by_place move m free (inr apart) = ap is_some (elsewhere table place move q free there apart) ∙ there

@@ -1,8 +1,8 @@
 -- The parts of a step of defragmentation.
-use Rattle.std.specs.Prelude.{◌≡◌, ℕ, ◌+◌, ◌<◌, false, Option, Some, None, IfSome, option_map, List}
+use Rattle.std.specs.Prelude.{◌≡◌, ℕ, ◌+◌, ◌<◌, false, Option, Some, None, IfSome, option_map}
 use Rattle.mh_model.specs.Pages.{Table, page_number, class_at, flag_at, IsFreeFor}
 use Rattle.mh_model.specs.Table.{Block}
-use Rattle.mh_model.specs.Collector.{Move, next_move, moved_table, forwarded_slots}
+use Rattle.mh_model.specs.Collector.{Move, next_move, moved_table}
 
 -- the place that the next move leads to, if there is one, which is free for the class of the page
 pub record IsTarget (table : Table Block) (place : ℕ) (target : Option ℕ) : Type 0 where
@@ -13,11 +13,6 @@ pub record IsTarget (table : Table Block) (place : ℕ) (target : Option ℕ) : 
 abbrev pub moved : Table Block → ℕ → Option Move → Table Block
 moved table place None = table
 moved table place (Some move) = moved_table table place move
-
--- the slots after that move
-abbrev pub slots_moved : Table Block → ℕ → List (Option ℕ) → Option Move → List (Option ℕ)
-slots_moved table place slots None = slots
-slots_moved table place slots (Some move) = forwarded_slots (moved_table table place move) slots
 
 -- so many pages from one on are free or not flagged
 abbrev pub AreUnflagged : Table Block → ℕ → ℕ → Type 0

@@ -1,13 +1,11 @@
 ghost use Rattle.std.specs.Prelude.{◌≡◌, ◌+◌, ◌<◌, ◌≤◌, true, length};
 ghost use Rattle.mh_model.specs.Pages.{page_number, flag_at};
 ghost use Rattle.mh_model.specs.Collector.{next_move, move_cost, next_place, flagged_page};
-ghost use Rattle.mh_roots.specs.Roots.{SlotsLead};
-ghost use Rattle.mh_defrag.specs.Moves.{IsTarget, moved, slots_moved, AreUnflagged};
+ghost use Rattle.mh_defrag.specs.Moves.{IsTarget, moved, AreUnflagged};
 
 use mh_blocks::blocks::Blocks;
 use mh_model::limits::{PLACES, ROOT_SLOTS};
 use mh_model::place::Place;
-use mh_roots::roots::Roots;
 /// Where the block at a place moves, if the step at this place moves one.
 pub fn next_target(blocks: &Blocks, place: Place) -> Option<Place>
     requires { page_number place < length blocks.now }
@@ -77,19 +75,17 @@ fn next_place(blocks: &Blocks, place: Place) -> Place
     }
 }
 
-/// Takes the step at a place: its block moves to the target, if there is one, and then all roots lead there. Answers the place of the next step, which may be past the last page.
-pub fn step(blocks: &mut Blocks, roots: &mut Roots, place: Place, target: Option<Place>) -> Place
+/// Takes the step at a place: its block moves to the target, if there is one. Root slots that held the place still do,
+/// and are for the caller to forward. Answers the place of the next step, which may be past the last page.
+pub fn step(blocks: &mut Blocks, place: Place, target: Option<Place>) -> Place
     requires inside { page_number place < length blocks.old }
     requires target { IsTarget blocks.old place target }
-    requires slots { SlotsLead blocks.old roots.old }
     ensures table { blocks.new ≡ moved blocks.old place (next_move blocks.old place) }
-    ensures slots { roots.new ≡ slots_moved blocks.old place roots.old (next_move blocks.old place) }
     ensures next { result ≡ next_place place (flagged_page blocks.old place) }
 {
     let next = next_place(blocks, place);
     if let Some(target) = target {
         blocks.relocate(place, target);
-        roots.forward_all(blocks);
     }
     next
 }

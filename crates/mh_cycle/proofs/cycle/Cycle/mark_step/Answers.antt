@@ -10,9 +10,9 @@ mark_step-requires-clause-walkable c =
     walkable c.references_lead_on.ensures _ steady
 
 pub invariant_of-self : goal.invariant_of-self
-invariant_of-self c = framed-next _ _ _ _ _ _ _ _ c.self.invariant (rw c.mark_step.ensures.table (length-mark_step _)) (rw c.mark_step.ensures.grey refl) c.after_mark-self-inside.ensures
+invariant_of-self c = framed-next _ _ _ _ _ _ _ _ c.self.invariant (rw c.mark_step.ensures.table (length-mark_step _)) (rw (c.touch.ensures, c.mark_step.ensures.grey) refl) c.after_mark-self-inside.ensures
 
 pub returns : goal.returns
 returns c =
-    let next = rw c.mark_step.ensures.grey at c.after_mark-self-inside.ensures in
-    rw (mark-after c.args.self.now.collector c.after_mark-self-inside.result c.requires.phase (rw (← c.self.view_is) next), ← c.self.view_is, c.mark_step.ensures.table, c.mark_step.ensures.grey) refl
+    let next = rw (c.touch.ensures, c.mark_step.ensures.grey) at c.after_mark-self-inside.ensures in
+    rw (mark-after c.args.self.now.collector c.after_mark-self-inside.result c.requires.phase (rw (← c.self.view_is) next), ← c.self.view_is, c.mark_step.ensures.table, c.touch.ensures, c.mark_step.ensures.grey) refl
