@@ -2,3 +2,5 @@ mod MadeLemmas
 mod LinkLemmas
 mod ChildLemmas
 mod GroupLemmas
+mod FullLemmas
+mod RoomLemmas

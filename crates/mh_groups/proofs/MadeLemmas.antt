@@ -111,7 +111,7 @@ made_parts-none table birth stamp index part parts e =
     ap (option_and_then (λ (made : Made). option_map (λ (rest : MadeParts). record { places = made.place ∷ rest.places; table = rest.table }) (made_parts made.table birth stamp (suc index) parts))) e
 
 -- a part whose class has a least place
-made_part-at : (table : Table Block) (birth stamp index size place : ℕ) (part : Part) → class_of (part_words part) ≡ Some size → least_place table size ≡ Some place
+pub made_part-at : (table : Table Block) (birth stamp index size place : ℕ) (part : Part) → class_of (part_words part) ≡ Some size → least_place table size ≡ Some place
     → made_part table birth stamp index part ≡ Some (record { place = place; table = with_taken table size place (new_block birth stamp index part) })
 made_part-at table birth stamp index size place part class least =
     ap (option_and_then (made_in_class table (new_block birth stamp index part))) class

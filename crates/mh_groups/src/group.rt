@@ -1,17 +1,28 @@
 //! Objects made with all their parts or not at all.
-ghost use Rattle.std.specs.Prelude.{◌≡◌, ◌<◌, ◌≤◌, ◌^◌, ℕ, IsSome, IfOk, OnOk, OnErr, Some, None, length, get_or, map, take};
+ghost use Rattle.std.specs.Prelude.{◌≡◌, ◌<◌, ◌≤◌, ◌^◌, ◌&&◌, ℕ, nat_lt, true, IsSome, IfOk, OnOk, OnErr, Some, None, length, get_or, map, take};
 ghost use Rattle.mh_model.specs.Pages.{block_at};
 ghost use Rattle.mh_model.specs.Table.{references_at, with_block_change, made_parts, linked_parts, made_group};
+ghost use Rattle.mh_classes.specs.Fits.{AreParts};
+ghost use Rattle.mh_pages.specs.FreePlaces.{free_places};
 ghost use Rattle.mh_groups.specs.Making.{HaveTheirChildren, without_parts, AllCanBeUnmade, AreUnlinked};
+ghost use Rattle.mh_groups.specs.Room.{full_count};
 
 use mh_blocks::blocks::{Blocks, Full};
+use mh_classes::class::Class;
 use mh_classes::parts::Parts;
 use mh_model::birth::Birth;
-use mh_model::limits::MOST_PARTS;
+use mh_model::limits::{MOST_PARTS, RUN};
 use mh_model::memory::NoMemory;
 use mh_model::place::Place;
 use std::alloc::Global;
 use std::marker::Model;
+
+/// The words of a block of the largest class.
+const LARGEST: usize = 64;
+
+/// Objects of more parts are not begun before their room is counted.
+const MANY_PARTS: usize = 64;
+
 /// Room for the places of the parts of one object, taken once, so that making an object takes no memory.
 #[derive(Drop)]
 pub struct PartPlaces {
@@ -38,6 +49,27 @@ impl PartPlaces {
             fresh: Vec::from_elem(alloc, false, MOST_PARTS)?,
         })
     }
+}
+
+/// How many parts have 60 fields of their own: all arraylets but the last, which may have fewer.
+fn full_parts(parts: &Parts) -> usize
+    requires { AreParts parts.now }
+    ensures { result ≡ full_count parts.now }
+{
+    let object = parts.get(0).header();
+    ((object.references + object.numbers) / RUN) as usize
+}
+
+/// Whether an object of many parts has more full ones than there are places for. Then it is refused before any part is
+/// made, since making thousands of parts and taking them back is slow. Objects of few parts cost nothing more.
+fn lacks_room(blocks: &Blocks, parts: &Parts) -> bool
+    ensures lacks { result ≡ (nat_lt 64 (length parts.now) && nat_lt (free_places blocks.now 64) (full_count parts.now)) }
+    ensures refused { result ≡ true → (birth : ℕ) → (stamp : ℕ) → made_group blocks.now birth stamp parts.now ≡ None }
+{
+    if parts.count() <= MANY_PARTS {
+        return false;
+    }
+    blocks.free_places(Class::of_size(LARGEST)) < full_parts(parts)
 }
 
 /// Takes back so many parts, from the last to the first.
@@ -132,6 +164,9 @@ pub fn make_group(
     let count = parts.count();
     if count == 1 {
         return blocks.make(parts.get(0), 0, birth, stamp);
+    }
+    if lacks_room(blocks, parts) {
+        return Err(Full);
     }
     make_parts(
         blocks,

@@ -1,0 +1,14 @@
+use Rattle.std.proofs.Common.{refl, arith}
+use Rattle.std.proofs.lemmas.Bool.{ltb-true}
+use Rattle.mh_model.specs.Classes.{is_class_size}
+use Rattle.mh_groups.proofs.RoomLemmas.{no_room}
+use Rattle.mh_groups.proofs.group.lacks_room.Goals as goal
+
+pub of_size-requires : goal.of_size-requires
+unfolding is_class_size
+of_size-requires c = refl
+
+pub returns-clause-refused : goal.returns-clause-refused
+returns-clause-refused c = λ less birth stamp.
+    let room = rw c.of_size.ensures at c.free_places.ensures.count in
+    no_room c.args.blocks.now birth stamp c.args.parts.now c.free_places.ensures.slots (omega (arith, ltb-true _ _ less, room, c.full_parts.ensures))
