@@ -1,5 +1,7 @@
 -- A stretch that slid on over a trace.
-use Rattle.std.specs.Prelude.{◌≡◌, ◌+◌, ◌≤◌, ◌++◌, List, length}
+use Rattle.std.specs.Prelude.{◌≡◌, ℕ, ◌+◌, ◌≤◌, ◌++◌, List, length}
+use Rattle.std.specs.List.{Any}
+use Rattle.std.specs.List.Sorted.{IsNonDecreasingBy}
 use Rattle.mh_model.specs.Trace.{Letter}
 use Rattle.mh_report.specs.declared.segment.Segment.{Segment}
 use Rattle.mh_report.specs.declared.point.Point.{Point}
@@ -20,3 +22,11 @@ pub record IsWalk (segments : List Segment) (walk : Walk) : Type 0 where
 -- points keep their letters, and these are added
 abbrev pub KeepsPoints : List Segment → List Segment → List Letter → Type 0
 KeepsPoints old new letters = (point : Point) → IsPoint old point → IsPoint new point × (after new point ≡ after old point ++ letters)
+
+-- no walk is of a shorter window than one before it
+abbrev pub AreInOrder : List Walk → Type 0
+AreInOrder walks = IsNonDecreasingBy (λ walk. walk.window) walks
+
+-- one of these walks is of this window
+abbrev pub HasWalk : List Walk → ℕ → Type 0
+HasWalk walks window = Any (λ walk. walk.window ≡ window) walks

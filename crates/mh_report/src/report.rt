@@ -6,8 +6,8 @@ use crate::trace::Trace;
 use mh_model::config::Config;
 use mh_model::report::Report;
 
-/// The report of a window. Of up to 16 windows it is remembered how far the trace was gone over, so that only what it
-/// has grown by since then is.
+/// The report of a window. Of the first 512 windows it is remembered how far the trace was gone over, so that only what
+/// it has grown by since then is, as `Trace::resume_least_mutator` says.
 pub fn report(trace: &mut Trace, config: &Config, window: u64) -> Report
     ensures report { result ≡ report_on config.now trace.old.trace window }
     ensures kept { trace.new ≡ trace.old }

@@ -1,44 +1,51 @@
-ghost use Rattle.std.specs.Prelude.{◌≡◌, ◌≤◌, [], List, length, IfSome};
-ghost use Rattle.std.specs.List.{All};
+ghost use Rattle.std.specs.Prelude.{◌≡◌, ◌<◌, ◌≤◌, [], ℕ, List, length, nat_lt, slice_index_or, IfSome, IsSome};
+ghost use Rattle.std.specs.List.{All, Contains};
 ghost use Rattle.mh_report.specs.declared.segment.Segment.{Segment};
-ghost use Rattle.mh_report.specs.Walks.{IsWalk};
+ghost use Rattle.mh_report.specs.declared.walk.Walk.{Walk};
+ghost use Rattle.mh_report.specs.Walks.{IsWalk, AreInOrder, HasWalk};
 
 use crate::walk::Walk;
-use arrayvec::ArrayVec;
+use std::alloc::Global;
 
 /// For how many windows a walk is kept.
-const WINDOWS: usize = 16;
+const WINDOWS: usize = 512;
 
-/// Walks of windows that were asked for, each of another one.
+/// Walks of the windows that were asked for first, in the order of their windows.
 #[derive(Drop)]
 pub struct Walks {
-    pub walks: ArrayVec<Walk, WINDOWS>,
+    pub walks: Vec<Walk>,
 }
 
 impl Walks {
-    pub fn new() -> Walks
+    /// No walk, which takes no memory.
+    pub fn new(alloc: Global) -> Walks
         ensures { result.walks.items ≡ [] }
     {
         Walks {
-            walks: ArrayVec::new(),
+            walks: Vec::new(alloc),
         }
     }
 
-    /// The number of the walk of this window, or how many walks there are if it has none.
+    /// How many walks are of a shorter window.
     fn position(&self, window: u64) -> usize
-        ensures { result ≤ length self.now.walks.items }
+        requires { AreInOrder self.now.walks.items }
+        ensures within { result ≤ length self.now.walks.items }
+        ensures shorter { (k : ℕ) (d : Walk) → k < result → (slice_index_or self.now.walks.items k d).window < window }
+        ensures rest { (k : ℕ) (d : Walk) → result ≤ k → k < length self.now.walks.items → window ≤ (slice_index_or self.now.walks.items k d).window }
     {
-        for number in 0..self.walks.len() {
-            if self.walks[number].window == window {
-                return number;
-            }
-        }
-        self.walks.len()
+        self.walks.as_slice().partition_point(
+            |walk: &Walk| -> bool
+                ensures { result ≡ nat_lt walk.now.window window }
+            { walk.window < window },
+        )
     }
 
+    /// The walk of this window, if it has one.
     pub fn find(&self, window: u64) -> Option<Walk>
+        requires { AreInOrder self.now.walks.items }
         ensures walk { (segments : List Segment) → All (IsWalk segments) self.now.walks.items → IfSome result (IsWalk segments) }
         ensures window { IfSome result (λ walk. walk.window ≡ window) }
+        ensures found { HasWalk self.now.walks.items window → IsSome result }
     {
         let number = self.position(window);
         if number == self.walks.len() {
@@ -52,17 +59,21 @@ impl Walks {
         }
     }
 
-    /// Keeps it in place of that of its window, or of another one if there is no room.
+    /// Keeps it in place of that of its window. If its window has none, it is kept while there are fewer than 512 and
+    /// there is memory for it.
     pub fn keep(&mut self, walk: Walk)
-        ensures { (segments : List Segment) → All (IsWalk segments) self.old.walks.items → IsWalk segments walk → All (IsWalk segments) self.new.walks.items }
+        requires { AreInOrder self.old.walks.items }
+        ensures order { AreInOrder self.new.walks.items }
+        ensures kept { (window : ℕ) → HasWalk self.old.walks.items window → HasWalk self.new.walks.items window }
+        ensures put { HasWalk self.old.walks.items walk.window → Contains self.new.walks.items walk }
+        ensures walks { (segments : List Segment) → All (IsWalk segments) self.old.walks.items → IsWalk segments walk → All (IsWalk segments) self.new.walks.items }
     {
         let number = self.position(walk.window);
-        if number < self.walks.len() {
+        let count = self.walks.len();
+        if number < count && self.walks[number].window == walk.window {
             self.walks[number] = walk;
-        } else if self.walks.is_full() {
-            self.walks[(walk.window % WINDOWS as u64) as usize] = walk;
-        } else {
-            self.walks.push(walk);
+        } else if count < WINDOWS {
+            let _is_kept = self.walks.insert(number, walk).is_ok();
         }
     }
 }

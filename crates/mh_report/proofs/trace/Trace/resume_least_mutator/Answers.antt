@@ -23,4 +23,4 @@ to_end-walk-requires-clause-letters c =
 pub invariant_of-self : goal.invariant_of-self
 invariant_of-self c =
     let walk = c.to_end-walk.ensures.walk in
-    (c.self.invariant.0, c.self.invariant.1, c.self.invariant.2, c.keep.ensures c.self.inside.segments.items c.self.invariant.3 (rw c.as_slice-segments.ensures.value at walk))
+    (c.self.invariant.0, c.self.invariant.1, c.self.invariant.2, c.keep.ensures.walks c.self.inside.segments.items c.self.invariant.3 (rw c.as_slice-segments.ensures.value at walk), c.keep.ensures.order)
