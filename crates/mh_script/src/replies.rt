@@ -12,10 +12,9 @@ use mh_model::command::Event;
 use mh_model::memory::NoMemory;
 use mh_scan::scan::Scanner;
 use mh_state::machine::{Machine, Stop};
-use mh_text::reply_text::ReplyText;
+use mh_text::reply_line::push_reply_line;
 use mh_text::sink::Sink;
 use std::alloc::Global;
-use std::fmt::Write;
 
 /// Does an event, and adds the line of its reply to the text.
 fn answer<S: Scanner>(
@@ -34,9 +33,7 @@ fn answer<S: Scanner>(
         Err(Stop::NoMemory) => return Err(NoMemory),
         Err(Stop::HistoryFull) => unreachable!(),
     };
-    let line = ReplyText(&reply);
-    writeln!(text, "{line}")?;
-    Ok(())
+    push_reply_line(text, &reply)
 }
 
 /// Does the events in turn, and writes the lines of their replies.

@@ -2,6 +2,7 @@ pub mod StreamLemmas
 pub mod PieceLemmas
 pub mod HalfLemmas
 pub mod WordLemmas
+pub mod DigitLemmas
 pub mod RowLemmas
 pub mod FormLemmas
 pub mod LineLemmas

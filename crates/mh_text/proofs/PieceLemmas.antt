@@ -2,7 +2,9 @@
 use Rattle.std.proofs.Common.{◌≡◌, ℕ, suc, ◌+◌, ◌<◌, ◌==◌, not, cond, Bool, true, false, Option, Some, None, List, [], ◌∷◌, ◌++◌, length, take, drop, ap, sym, refl, subst, ◌≤◌, ◌-◌, nat_lt, MatchOption, IsTrue, ◌↔◌, arith}
 use Rattle.std.proofs.lemmas.Bool.Decides.{nat_tests}
 use Rattle.std.proofs.lemmas.List.{take_rest}
+use Rattle.std.proofs.lemmas.List.Sums.{position_or_len_is}
 use Rattle.std.specs.List.{position, position_or_len}
+use Rattle.memchr.specs.Find.{IsFirstByte, is_byte}
 use Rattle.mh_model.specs.Bytes.{Text, Cut, cut_after, with_byte}
 use Rattle.mh_text.specs.Pieces.{with_piece, lines_from}
 
@@ -62,6 +64,28 @@ place_or_none : (end : ℕ) (text : Text) (is : Bool) (found : Option ℕ) → i
     → MatchOption found (length text ≤ before end text) (λ place. (place ≡ before end text) × (place < length text))
 place_or_none end text true found is same = let P : Option ℕ → Type 0 = λ o. MatchOption o (length text ≤ before end text) (λ place. (place ≡ before end text) × (place < length text)) in subst P same (refl, grind (arith, nat_tests))
 place_or_none end text false found is same = let P : Option ℕ → Type 0 = λ o. MatchOption o (length text ≤ before end text) (λ place. (place ≡ before end text) × (place < length text)) in subst P same (grind (arith, nat_tests))
+
+not_true : (is : Bool) → (is ≡ true → ⊥) → is ≡ false
+not_true true never = absurd (never refl)
+not_true false never = refl
+
+some_below : (place count : ℕ) → place < count → Some place ≡ cond (nat_lt place count) (Some place) None
+some_below place count below = let is : nat_lt place count ≡ true = grind (arith, nat_tests) in rw is refl
+
+none_at_end : (count : ℕ) → cond (nat_lt count count) (Some count) None ≡ None
+none_at_end count = let is : nat_lt count count ≡ false = grind (arith, nat_tests) in rw is refl
+
+-- a search for a byte finds its first place
+pub place_searched : (end : ℕ) (text : Text) (found : Option ℕ) → IsFirstByte (is_byte end) text found → found ≡ position (λ b. b == end) text
+place_searched end text None none =
+    let all : before end text ≡ length text =
+    position_or_len_is (λ b. b == end) text (length text) 0 (omega arith) (λ k below. not_true _ (none k (omega arith) below)) (λ below. absurd (omega arith)) in
+    rw all (sym (none_at_end (length text)))
+place_searched end text (Some place) found =
+    let first = found.0 in
+    let is : before end text ≡ place =
+    position_or_len_is (λ b. b == end) text place 0 (omega arith) (λ k below. not_true _ (first.before k (omega arith) below)) (λ below. found.1) in
+    rw is (some_below place (length text) first.high)
 
 pub place_found : (end place : ℕ) (text : Text) → position (λ b. b == end) text ≡ Some place → place < length text
 place_found end place text found = (place_or_none end text _ (Some place) refl found).1

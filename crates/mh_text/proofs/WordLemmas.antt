@@ -1,9 +1,8 @@
 -- What the bytes of a word say of it.
-use Rattle.std.proofs.Common.{◌≡◌, ℕ, suc, ◌+◌, ◌*◌, ◌-◌, ◌<◌, ◌≤◌, ◌==◌, nat_lt, nat_le, ◌&&◌, ◌||◌, Bool, true, false, Option, Some, None, option_map, option_and_then, cond, List, [], ◌∷◌, ◌++◌, length, get_or, drop, ap, sym, refl, append_assoc, add-one, drop-cons, arith}
+use Rattle.std.proofs.Common.{◌≡◌, ℕ, suc, ◌+◌, ◌*◌, ◌-◌, ◌<◌, ◌≤◌, ◌==◌, nat_lt, nat_le, ◌&&◌, ◌||◌, Bool, true, false, Option, Some, None, option_map, option_and_then, cond, List, [], ◌∷◌, ◌++◌, length, get_or, ap, sym, refl, append_assoc, arith}
 use Rattle.std.specs.List.{list_all}
 use Rattle.std.proofs.lemmas.List.{append-nil}
 use Rattle.std.proofs.lemmas.Bool.Decides.{nat_tests}
-use Rattle.std.proofs.lemmas.Grind.{common_steps}
 use Rattle.std.proofs.Math.Bool.{and-false, and-true}
 use Rattle.mh_model.specs.Bytes.{Text, is_digit, is_letter, is_numeral, is_name, value_after, number, numbers}
 use Rattle.mh_text.specs.Words.{few_numbers}
@@ -35,12 +34,6 @@ pub value_after_grows : (n : ℕ) (word : Text) → n ≤ value_after n word
 value_after_grows n [] = omega arith
 value_after_grows n (byte ∷ bytes) = omega (arith, value_after_grows (10 * n + (byte - 48)) bytes)
 
-pub value_next : (n place : ℕ) (word : Text) → place < length word → value_after n (drop place word) ≡ value_after (10 * n + (get_or word place 0 - 48)) (drop (place + 1) word)
-value_next n place word below = rw (add-one, drop-cons word place 0) refl
-
-pub value_end : (n place : ℕ) (word : Text) → length word ≤ place → value_after n (drop place word) ≡ n
-value_end n place word past = let none : drop place word ≡ [] = grind (arith, common_steps) in rw none refl
-
 append_twice : (found : List ℕ) (n : ℕ) (more : Option (List ℕ)) → option_map (λ ns. found ++ ns) (option_map (λ ns. n ∷ ns) more) ≡ option_map (λ ns. (found ++ n ∷ []) ++ ns) more
 append_twice found n None = refl
 append_twice found n (Some more) = ap Some (sym (append_assoc found (n ∷ []) more))
@@ -48,9 +41,6 @@ append_twice found n (Some more) = ap Some (sym (append_assoc found (n ∷ []) m
 pub numbers_next : (found : List ℕ) (word : Text) (n : ℕ) (words : List Text) → number word ≡ Some n
     → option_map (λ more. found ++ more) (numbers (word ∷ words)) ≡ option_map (λ more. (found ++ n ∷ []) ++ more) (numbers words)
 numbers_next found word n words is = rw is (append_twice found n (numbers words))
-
-pub numbers_stop : (found : List ℕ) (word : Text) (words : List Text) → number word ≡ None → option_map (λ more. found ++ more) (numbers (word ∷ words)) ≡ None
-numbers_stop found word words is = rw is refl
 
 pub numbers_end : (found : List ℕ) → option_map (λ more. found ++ more) (numbers []) ≡ Some found
 numbers_end found = ap Some (append-nil found)

@@ -6,6 +6,7 @@ pub mod forms;
 pub mod line;
 mod names;
 pub mod pieces;
+pub mod reply_line;
 pub mod reply_text;
 pub mod script;
 pub mod sink;

@@ -4,6 +4,7 @@ ghost use Rattle.mh_model.specs.HistoryTexts.{halves_at};
 ghost use Rattle.mh_text.specs.Pieces.{with_piece, lines_from, TakesLine, text_shown, words_left};
 
 use crate::word::is_word;
+use memchr::memchr;
 use std::marker::Model;
 
 /// The place of the first such byte.
@@ -11,6 +12,14 @@ fn place_of(text: &[u8], byte: u8) -> Option<usize>
     ensures { result ≡ position (λ b. b == byte) text.now }
 {
     text.iter().position(|b| *b == byte)
+}
+
+/// The place of the first end of a line. A search by vectors pays for lines, which are longer than words.
+#[tactic(auto, using(crate::proofs::PieceLemmas::place_searched))]
+fn end_of_line(text: &[u8]) -> Option<usize>
+    ensures { result ≡ position (λ b. b == 10) text.now }
+{
+    memchr(b'\n', text)
 }
 
 /// The bytes before the first `end`, and those after it.
@@ -93,6 +102,13 @@ impl<'a> Words<'a> {
         }
     }
 
+    /// The bytes of the words, with a space between each two. None if no word is left.
+    pub(crate) fn left(self) -> Option<&'a [u8]>
+        ensures { self.entry ≡ words_left (text_shown result) }
+    {
+        self.left
+    }
+
     /// The words before the first that is this one, and those after it.
     pub fn cut_at(self, mark: &[u8]) -> Option<(Words<'a>, Words<'a>)>
         ensures some { IfSome result (λ halves. halves_at mark.now self.entry
@@ -146,14 +162,17 @@ impl<'a> Lines<'a> {
     }
 
     /// Takes the next line, with its number and without its end.
+    #[tactic(auto, using(crate::proofs::PieceLemmas::place_found, crate::proofs::PieceLemmas::split_some, crate::proofs::PieceLemmas::split_none))]
     pub fn next_line(&mut self) -> Option<(u64, &'a [u8])>
         ensures next { IfSome result (λ line. TakesLine self.old self.new line.0 line.1.now) }
         ensures end { IfNone result (self.old.lines ≡ []) }
         ensures same { IfNone result (self.new ≡ self.old) }
     {
-        let (line, rest) = split_at_byte(self.text, b'\n')?;
+        let text = self.text;
+        let end = end_of_line(text)?;
+        let line = &text[..end];
         let number = self.number;
-        self.text = rest;
+        self.text = &text[end + 1..];
         self.number += 1;
         Some((number, line))
     }

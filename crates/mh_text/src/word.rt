@@ -1,7 +1,8 @@
-ghost use Rattle.std.specs.Prelude.{◌≡◌, ◌<◌, ◌≤◌, ◌+◌, ◌*◌, ◌-◌, ◌^◌, ◌∷◌, length, Some, IfSome, IfNone, SomeIff, ◌||◌};
-ghost use Rattle.std.specs.List.{list_all};
-ghost use Rattle.mh_model.specs.Bytes.{is_text, is_digit, is_letter, is_numeral, is_name, value_after, number, numbers};
-ghost use Rattle.mh_text.specs.Words.{few_numbers};
+ghost use Rattle.std.specs.Prelude.{◌≡◌, ◌<◌, ◌≤◌, ◌+◌, ◌*◌, ◌-◌, ◌^◌, ◌∷◌, length, take, Some, IfSome, IfNone, ◌||◌};
+ghost use Rattle.std.specs.List.{list_all, prefix_len, take_while};
+ghost use Rattle.mh_model.specs.Bytes.{is_text, is_digit, is_letter, is_numeral, is_name, value_after, number, numbers, words};
+ghost use Rattle.mh_text.specs.Pieces.{text_shown, words_left};
+ghost use Rattle.mh_text.specs.Words.{BeginsWithNumber, few_numbers};
 
 use crate::pieces::Words;
 use arrayvec::ArrayVec;
@@ -28,62 +29,91 @@ fn is_letter(byte: u8) -> bool
     byte.is_ascii_lowercase()
 }
 
-fn are_digits(word: &[u8]) -> bool
-    ensures { result ≡ list_all is_digit word.now }
-{
-    word.iter().all(|byte| is_digit(*byte))
-}
-
 fn are_letters_or_digits(word: &[u8]) -> bool
     ensures { result ≡ list_all (λ c. is_letter c || is_digit c) word.now }
 {
     word.iter().all(|byte| is_letter(*byte) || is_digit(*byte))
 }
 
-#[tactic(auto, using(crate::proofs::WordLemmas::numeral_digits, crate::proofs::WordLemmas::numeral_zero))]
-fn is_numeral(word: &[u8]) -> bool
-    ensures { result ≡ is_numeral word.now }
-{
-    match word {
-        [] => false,
-        [digit] => is_digit(*digit),
-        [first, ..] => *first != b'0' && are_digits(word),
-    }
-}
-
-/// The number that a word of digits writes, if it has at most 64 bits.
-#[tactic(auto, using(crate::proofs::WordLemmas::value_after_grows, crate::proofs::WordLemmas::value_next, crate::proofs::WordLemmas::value_end))]
-fn value(word: &[u8]) -> Option<u64>
-    ensures { SomeIff result (value_after 0 word.now < 2 ^ 64) (value_after 0 word.now) }
+/// The number that the digits write which a text begins with, and how many they are. None past 64 bits.
+#[tactic(auto, using(crate::proofs::DigitLemmas::value_next, crate::proofs::DigitLemmas::value_stop, crate::proofs::DigitLemmas::value_end, crate::proofs::DigitLemmas::count_next, crate::proofs::DigitLemmas::count_stop, crate::proofs::DigitLemmas::count_end, crate::proofs::WordLemmas::value_after_grows))]
+fn leading_digits(text: &[u8]) -> Option<(u64, usize)>
+    ensures value { IfSome result (λ found. found.0 ≡ value_after 0 (take_while is_digit text.now)) }
+    ensures count { IfSome result (λ found. found.1 ≡ prefix_len is_digit text.now) }
+    ensures none { IfNone result (2 ^ 64 ≤ value_after 0 (take_while is_digit text.now)) }
 {
     let mut value = 0u64;
-    for byte in word {
-        value = value
-            .checked_mul(10)?
-            .checked_add(u64::from(byte.saturating_sub(b'0')))?;
+    for (count, byte) in text.iter().enumerate() {
+        if !is_digit(*byte) {
+            return Some((value, count));
+        }
+        value = value.checked_mul(10)?.checked_add(u64::from(*byte - b'0'))?;
     }
-    Some(value)
+    Some((value, text.len()))
+}
+
+/// Whether so many digits, which a text begins with, are written without needless zeros.
+#[tactic(auto, using(crate::proofs::DigitLemmas::numeral_one, crate::proofs::DigitLemmas::numeral_more))]
+fn is_numeral(text: &[u8], count: usize) -> bool
+    requires { count ≡ prefix_len is_digit text.now }
+    ensures { result ≡ is_numeral (take count text.now) }
+{
+    match count {
+        0 => false,
+        1 => true,
+        _ => text[0] != b'0',
+    }
 }
 
 /// The number that a word is, written without needless zeros.
+#[tactic(auto, using(crate::proofs::DigitLemmas::whole_number, crate::proofs::DigitLemmas::whole_numeral, crate::proofs::DigitLemmas::whole_other, crate::proofs::DigitLemmas::whole_large))]
 pub fn number(word: &[u8]) -> Option<u64>
     ensures { result ≡ number word.now }
 {
-    if is_numeral(word) { value(word) } else { None }
+    let (value, count) = leading_digits(word)?;
+    if count == word.len() && is_numeral(word, count) {
+        Some(value)
+    } else {
+        None
+    }
+}
+
+/// The number that the first word of a line is, and what follows the space after it.
+#[tactic(auto, using(crate::proofs::DigitLemmas::first_too_large, crate::proofs::DigitLemmas::first_no_numeral, crate::proofs::DigitLemmas::first_alone, crate::proofs::DigitLemmas::first_then, crate::proofs::DigitLemmas::first_other))]
+fn first_number(line: &[u8]) -> Option<(u64, Option<&[u8]>)>
+    ensures some { IfSome result (λ found. BeginsWithNumber (words line.now) found.0 (words_left (text_shown found.1))) }
+    ensures none { IfNone result (numbers (words line.now) ≡ None) }
+{
+    let (value, count) = leading_digits(line)?;
+    if !is_numeral(line, count) {
+        return None;
+    }
+    if count == line.len() {
+        Some((value, None))
+    } else if line[count] == b' ' {
+        Some((value, Some(&line[count + 1..])))
+    } else {
+        None
+    }
 }
 
 /// The numbers that the words are, if there are no more than one line has.
-#[tactic(auto, using(crate::proofs::WordLemmas::numbers_next, crate::proofs::WordLemmas::numbers_stop, crate::proofs::WordLemmas::numbers_end))]
-pub fn numbers(mut words: Words<'_>) -> Option<ArrayVec<u64, NUMBERS>>
+// Its loop is faster where it isn't unrolled into its callers.
+#[inline(never)]
+#[tactic(auto, using(crate::proofs::DigitLemmas::numbers_next, crate::proofs::DigitLemmas::numbers_stop, crate::proofs::WordLemmas::numbers_end))]
+pub fn numbers(words: Words<'_>) -> Option<ArrayVec<u64, NUMBERS>>
     ensures some { IfSome result (λ found. few_numbers words.entry ≡ Some found.items) }
     ensures none { IfNone result (few_numbers words.entry ≡ None) }
 {
     let mut found = ArrayVec::new();
-    while let Some(word) = words.next_word() {
+    let mut left = words.left();
+    while let Some(line) = left {
         if found.is_full() {
             return None;
         }
-        found.push(number(word)?);
+        let (number, rest) = first_number(line)?;
+        found.push(number);
+        left = rest;
     }
     Some(found)
 }
