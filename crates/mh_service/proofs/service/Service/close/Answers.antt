@@ -1,4 +1,5 @@
-use Rattle.std.proofs.Common.{arith, ◌≡◌, ◌∙◌, ap, sym, subst}
+use Rattle.std.proofs.Common.{arith, ◌≡◌, ◌∙◌, ap, sym, subst, All}
+use Rattle.mh_model.specs.History.{owner_of, owned_by}
 use Rattle.mh_service.proofs.ClosedServices.{closed-machine}
 use Rattle.mh_service.specs.Services.{AreMerged}
 use Rattle.mh_service.proofs.SharedStates.{closed-merged}
@@ -15,6 +16,11 @@ returns-in-Ok-clause-machine g c =
     let parts = c.into_parts-history.result in
     let told = c.into_parts-history.ensures in
     closed-machine c.args.self.config c.into_state-state.result parts.0.items parts.1.kept c.free_pages-free.result parts.2.trace config told.history told.heap (cc) told.trace told.replay
+
+pub returns-in-Ok-clause-logs : goal.returns-in-Ok-clause-logs
+returns-in-Ok-clause-logs g c =
+    let same : c.into_parts-history.result.0.items ≡ c.in-Ok.shared.history = c.into_parts-history.ensures.history ∙ ap (λ stored. stored.history) c.into_state-state.ensures in
+    subst (λ entries. All (λ seat. seat.log ≡ owned_by (λ entry. owner_of entry.event) seat.number entries) c.args.seats.items) (sym same) c.in-Ok.ensures.logs
 
 pub returns-in-Ok-clause-numbers : goal.returns-in-Ok-clause-numbers
 returns-in-Ok-clause-numbers g c = λ number below. c.in-Ok.ensures.numbers number (omega (arith, below, c.self.invariant))
