@@ -23,8 +23,7 @@ fn shaded(alloc: Global, blocks: &mut Blocks, place: Place) -> Result<Grey, Fail
     if blocks.len() != 1 || !blocks.is_taken(place) {
         return Err("no block")?;
     }
-    let address = blocks.address(place);
-    grey.shade_from(blocks, CYCLE, address);
+    grey.shade_place(blocks, CYCLE, place);
     Ok(grey)
 }
 
