@@ -15,3 +15,4 @@ pub mod InvariantLemmas
 pub mod IndexedLemmas
 pub mod DeadLemmas
 pub mod FreePlaceLemmas
+pub mod ForwarderLemmas

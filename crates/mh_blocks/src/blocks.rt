@@ -21,6 +21,7 @@ use mh_model::shape::Shape;
 use mh_pages::address::Address;
 use mh_pages::header::{BIRTH, COUNTS, FORWARD, STAMP};
 use mh_pages::pages::Pages;
+use mh_pages::warmth::Warmth;
 use std::alloc::Global;
 use std::marker::Model;
 
@@ -186,6 +187,13 @@ impl Blocks {
     {
         self.pages.address(place)
     }
+
+    /// Reads a word, if there is one of this number among the words of all pages, so that it is in the cache.
+    pub fn warm(&self, word: usize, warmth: &mut Warmth)
+        ensures { warmth.new ≡ warmth.old }
+    {
+        self.pages.warm(word, warmth);
+    }
 }
 
 /// Blocks made, moved and taken back.
@@ -300,7 +308,7 @@ impl Blocks {
     }
 
     /// The mark stamp of the block at an address.
-    pub fn stamp_from(&self, address: Address) -> u64
+    fn stamp_from(&self, address: Address) -> u64
         requires at { address ≡ address_in self.now address.place }
         requires there { IsSome (block_at self.now address.place) }
         ensures { result ≡ stamp_at self.now address.place }
@@ -318,7 +326,7 @@ impl Blocks {
     }
 
     /// Writes the mark stamp of the block at an address.
-    pub fn set_stamp_from(&mut self, address: Address, stamp: u64)
+    fn set_stamp_from(&mut self, address: Address, stamp: u64)
         requires at { address ≡ address_in self.old address.place }
         requires there { IsSome (block_at self.old address.place) }
         ensures { self.new ≡ with_stamp_at self.old address.place stamp }
@@ -336,7 +344,7 @@ impl Blocks {
     }
 
     /// The place that the block at an address moved to.
-    pub fn forward_from(&self, address: Address) -> Option<Place>
+    fn forward_from(&self, address: Address) -> Option<Place>
         requires at { address ≡ address_in self.now address.place }
         requires there { IsSome (block_at self.now address.place) }
         ensures { result ≡ forward_at self.now address.place }

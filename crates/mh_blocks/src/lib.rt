@@ -5,9 +5,9 @@
 //! | word | what it has |
 //! |---|---|
 //! | 0 | the birth and 1 more |
-//! | 1 | part * 2^40 + references * 2^20 + numbers: which part of its object the block is, and the counts of its header |
+//! | 1 | 0, or the place that the block moved to and 1 more |
 //! | 2 | the mark stamp |
-//! | 3 | 0, or the place that the block moved to and 1 more |
+//! | 3 | part * 2^40 + references * 2^20 + numbers: which part of its object the block is, and the counts of its header |
 //!
 //! The references follow from word 4 on, each 0 for null or else a place and 1 more, and then the numbers. The counts of
 //! a part's header are those of the object for part 0, those of its own run for an arraylet, and the number of its

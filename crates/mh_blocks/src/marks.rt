@@ -31,11 +31,13 @@ impl Blocks {
     }
 
     /// Whether the block at a place has moved and leads to where it is now.
+    #[tactic(auto, using(crate::proofs::ForwarderLemmas::no_forwarder))]
     pub fn is_forwarder(&self, place: Place) -> bool
         requires { IsSome (block_at self.now place) }
         ensures { result ≡ is_some (forward_at self.now place) }
     {
-        self.index.is_forwarder(place)
+        // Most of the time there is none, and the index needn't be asked.
+        self.forwarder_count() != 0 && self.index.is_forwarder(place)
     }
 
     /// Whether a sweep frees what is at a place.
@@ -60,6 +62,14 @@ impl Blocks {
             }
         }
         dead
+    }
+
+    /// The slots of a page that have a block, a bit for each.
+    pub fn taken_slots(&self, page: usize) -> u64
+        requires { page < length self.now }
+        ensures { (slot : ℕ) → slot < 64 → has_bit result slot ≡ is_some (block_at self.now (64 * page + slot)) }
+    {
+        self.pages.taken_slots(page)
     }
 
     /// The slots of a page whose blocks a sweep frees, a bit for each.

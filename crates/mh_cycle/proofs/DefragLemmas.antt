@@ -31,9 +31,9 @@ pub from-none : (left : ℕ) (c : Collector) → IsSteady c → IsFrom Defrag le
 from-none left c steady (inl is) = inl is
 from-none left c steady (inr over) = let e : left - 0 ≡ left = omega arith in inr (ap (λ n. is_over n false (with_forwarded c)) e ∙ ap (is_over left false) (steady-same c steady) ∙ over)
 
--- Pages that are passed ----------------------------------------------------------------------------
+-- Steps that move no block -------------------------------------------------------------------------
 
--- unflagged pages passed, whatever the slots are
+-- steps that move no block, whatever the slots are
 pub record IsPassed (count : ℕ) (old new : CycleState) : Type 0 where
   pub state : new ≡ with_collector old new.collector
   pub table : new.collector.table ≡ old.collector.table

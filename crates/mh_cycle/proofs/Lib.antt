@@ -1,6 +1,7 @@
 pub mod FrameLemmas
 pub mod StepLemmas
 pub mod StrideLemmas
+pub mod RunLemmas
 pub mod BatchLemmas
 pub mod SweepLemmas
 pub mod PassLemmas

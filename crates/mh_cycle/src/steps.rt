@@ -1,24 +1,24 @@
 //! What a quantum does in one go: its start, and one step or some steps of a phase.
 ghost use Rattle.std.specs.Prelude.{◌≡◌, ◌+◌, ◌^◌, ◌<◌, ◌≤◌, ◌==◌, ℕ, Bool, true, if◌then◌else◌, Option, List, length};
 ghost use Rattle.mh_model.specs.declared.cycle.Phase.TheVariants.{Roots, Mark, Sweep, Defrag};
-ghost use Rattle.mh_model.specs.Pages.{page_number};
 ghost use Rattle.mh_model.specs.Collector.{is_idle, quantum_start, collector_step, step_cost};
 ghost use Rattle.mh_model.specs.Mutator.{in_roots, in_roots_or_mark};
 ghost use Rattle.mh_model.specs.Invariant.{IsSteady};
 ghost use Rattle.mh_mark.specs.First.{IsFirstGrey};
-ghost use Rattle.mh_defrag.specs.Moves.{IsTarget, AreUnflagged};
+ghost use Rattle.mh_defrag.specs.Moves.{IsTarget, AreStill};
 ghost use Rattle.mh_cycle.specs.State.{with_collector, with_slots, step_beside_slots};
 ghost use Rattle.mh_cycle.specs.Advance.{IsRun, IsStride};
 
 use crate::cycle::Cycle;
 use mh_defrag::defrag;
+use mh_defrag::defrag::Still;
 use mh_grey::grey::Grey;
 use mh_laws::batches::any_cut_into_batches_is_the_same;
 use mh_laws::fields::references_lead_on;
 use mh_mark::batch::mark_batch;
 use mh_mark::mark::{FirstGrey, first_grey, mark_step};
 use mh_model::cycle::Phase;
-use mh_model::limits::{PLACES, ROOT_SLOTS};
+use mh_model::limits::ROOT_SLOTS;
 use mh_model::place::Place;
 use mh_scan::scan::Scanner;
 use mh_sweep::sweep;
@@ -123,14 +123,14 @@ impl Cycle {
     {
         references_lead_on();
         mark_step(&mut self.blocks, &mut self.grey, self.number, first);
-        self.grey.touch(&self.blocks);
+        self.grey.touch(&self.blocks, first.address, first.count);
         self.cursor = 0;
         self.phase = after_mark(&self.grey);
     }
 
     /// Marks through the longest front that fits in what is left, by the scanner. Answers what that cost, nothing if
     /// the first block doesn't fit.
-    pub(crate) fn mark_batch<S: Scanner>(&mut self, scanner: &mut S, left: u64) -> u64
+    fn mark_batch<S: Scanner>(&mut self, scanner: &mut S, left: u64) -> u64
         requires phase { self.old.collector.phase ≡ Mark }
         requires steady { IsSteady self.old.collector }
         ensures state { self.new ≡ with_collector self.old self.new.collector }
@@ -145,6 +145,33 @@ impl Cycle {
         }
         self.cursor = 0;
         self.phase = after_mark(&self.grey);
+        cost
+    }
+
+    /// What marking through the next batch costs at the most.
+    fn most_batch_cost(&self) -> u64
+        ensures { result ≤ 62464 }
+    {
+        61 * self.grey.len().min(1024) as u64
+    }
+
+    /// Marks through a batch by the scanner, or if no scan can pay for it through the first grey block alone. Answers what
+    /// that cost, nothing if the first block doesn't fit in what is left.
+    pub(crate) fn mark_front<S: Scanner>(&mut self, scanner: &mut S, left: u64) -> u64
+        requires phase { self.old.collector.phase ≡ Mark }
+        requires steady { IsSteady self.old.collector }
+        ensures state { self.new ≡ with_collector self.old self.new.collector }
+        ensures run { IsRun left self.old.collector result self.new.collector }
+    {
+        if scanner.pays(self.most_batch_cost()) {
+            return self.mark_batch(scanner, left);
+        }
+        let first = self.first_grey();
+        let cost = 1 + first.count as u64;
+        if left < cost {
+            return 0;
+        }
+        self.mark_step(first);
         cost
     }
 
@@ -167,31 +194,28 @@ impl Cycle {
         swept.count as u64
     }
 
-    /// How many unflagged pages the next steps of defragmentation pass, as many as fit in what is left.
-    pub(crate) fn unflagged_run(&self, left: u64) -> usize
+    /// The next steps of defragmentation that move no block, as many as fit in what is left.
+    pub(crate) fn still_run(&self, left: u64) -> Still
         requires { self.now.collector.phase ≡ Defrag }
-        ensures unflagged { AreUnflagged self.now.collector.table (page_number self.now.collector.cursor) result }
-        ensures fits { result ≤ left }
-        ensures inside { page_number self.now.collector.cursor + result ≤ length self.now.collector.table }
+        ensures still { AreStill self.now.collector.table self.now.collector.cursor result.count result.next }
+        ensures fits { result.count ≤ left }
     {
-        defrag::unflagged_run(&self.blocks, Place(self.cursor).page(), left as usize)
+        defrag::still_run(&self.blocks, Place(self.cursor), left as usize)
     }
 
-    /// Passes so many unflagged pages.
-    pub(crate) fn pass(&mut self, count: usize)
+    /// Takes steps of defragmentation that move no block.
+    pub(crate) fn pass(&mut self, run: Still)
         requires phase { self.old.collector.phase ≡ Defrag }
-        requires some { 0 < count }
-        requires unflagged { AreUnflagged self.old.collector.table (page_number self.old.collector.cursor) count }
-        requires inside { page_number self.old.collector.cursor + count ≤ length self.old.collector.table }
+        requires some { 0 < run.count }
+        requires still { AreStill self.old.collector.table self.old.collector.cursor run.count run.next }
         ensures state { self.new ≡ with_collector self.old self.new.collector }
         ensures table { self.new.collector.table ≡ self.old.collector.table }
         ensures slots { self.new.collector.slots ≡ self.old.collector.slots }
-        ensures stride { (slots : List (Option ℕ)) (moved : Bool) → IsStride count moved (with_slots self.old.collector slots) moved (with_slots self.new.collector slots) }
+        ensures stride { (slots : List (Option ℕ)) (moved : Bool) → IsStride run.count moved (with_slots self.old.collector slots) moved (with_slots self.new.collector slots) }
     {
-        let pages = self.blocks.len();
-        let end = Place(self.cursor).page() + count;
-        self.cursor = PLACES * end;
-        if end == pages {
+        let after = run.next;
+        self.cursor = after.0;
+        if after.page() >= self.blocks.len() {
             self.cursor = 0;
             self.quanta = 0;
             self.phase = Phase::Idle;

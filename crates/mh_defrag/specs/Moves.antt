@@ -1,8 +1,8 @@
 -- The parts of a step of defragmentation.
-use Rattle.std.specs.Prelude.{◌≡◌, ℕ, ◌+◌, ◌<◌, false, Option, Some, None, IfSome, option_map}
+use Rattle.std.specs.Prelude.{◌≡◌, ℕ, zero, suc, ◌+◌, ◌<◌, false, length, Option, Some, None, IfSome, option_map}
 use Rattle.mh_model.specs.Pages.{Table, page_number, class_at, flag_at, IsFreeFor}
 use Rattle.mh_model.specs.Table.{Block}
-use Rattle.mh_model.specs.Collector.{Move, next_move, moved_table}
+use Rattle.mh_model.specs.Collector.{Move, next_move, next_place, flagged_page, moved_table}
 
 -- the place that the next move leads to, if there is one, which is free for the class of the page
 pub record IsTarget (table : Table Block) (place : ℕ) (target : Option ℕ) : Type 0 where
@@ -17,3 +17,14 @@ moved table place (Some move) = moved_table table place move
 -- so many pages from one on are free or not flagged
 abbrev pub AreUnflagged : Table Block → ℕ → ℕ → Type 0
 AreUnflagged table first count = (k : ℕ) → k < count → flag_at table (first + k) ≡ false
+
+-- the place of the next step after so many steps from a place on that leave the table as it is
+abbrev pub place_after : Table Block → ℕ → ℕ → ℕ
+place_after table place zero = place
+place_after table place (suc count) = next_place (place_after table place count) (flagged_page table (place_after table place count))
+
+-- so many steps from a place on move no block, and another place is that of the step after them
+pub record AreStill (table : Table Block) (place count next : ℕ) : Type 0 where
+  pub leads : next ≡ place_after table place count
+  pub inside : (k : ℕ) → k < count → page_number (place_after table place k) < length table
+  pub stay : (k : ℕ) → k < count → next_move table (place_after table place k) ≡ None

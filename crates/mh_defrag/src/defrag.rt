@@ -1,11 +1,20 @@
-ghost use Rattle.std.specs.Prelude.{◌≡◌, ◌+◌, ◌<◌, ◌≤◌, true, length};
-ghost use Rattle.mh_model.specs.Pages.{page_number, flag_at};
+ghost use Rattle.std.specs.Prelude.{ℕ, ◌≡◌, ◌+◌, ◌<◌, ◌≤◌, true, None, Some, length};
+ghost use Rattle.mh_model.specs.Pages.{page_number, slot_number, class_at, flag_at};
 ghost use Rattle.mh_model.specs.Collector.{next_move, move_cost, next_place, flagged_page};
-ghost use Rattle.mh_defrag.specs.Moves.{IsTarget, moved, AreUnflagged};
+ghost use Rattle.mh_defrag.specs.Moves.{IsTarget, moved, AreUnflagged, AreStill};
 
 use mh_blocks::blocks::Blocks;
+use mh_classes::class::Class;
 use mh_model::limits::{PLACES, ROOT_SLOTS};
 use mh_model::place::Place;
+
+/// Steps that move no block: how many they are, and the place of the step after them.
+#[derive(Clone, Copy)]
+pub struct Still {
+    pub count: usize,
+    pub next: Place,
+}
+
 /// Where the block at a place moves, if the step at this place moves one.
 pub fn next_target(blocks: &Blocks, place: Place) -> Option<Place>
     requires { page_number place < length blocks.now }
@@ -41,7 +50,7 @@ pub fn cost(blocks: &Blocks, place: Place, target: Option<Place>, has_moved: boo
 
 /// How many pages are unflagged one after the other from one on, but no more than are asked for. Each is passed by one
 /// step.
-pub fn unflagged_run(blocks: &Blocks, first: usize, most: usize) -> usize
+fn unflagged_run(blocks: &Blocks, first: usize, most: usize) -> usize
     requires inside { first ≤ length blocks.now }
     ensures unflagged { AreUnflagged blocks.now first result }
     ensures few { result ≤ most }
@@ -55,6 +64,85 @@ pub fn unflagged_run(blocks: &Blocks, first: usize, most: usize) -> usize
         }
     }
     most
+}
+
+/// How many slots of a page from one on have no block that can move, but no more than are asked for. None can while the
+/// unflagged pages of the class have no room.
+fn still_count(blocks: &Blocks, place: Place, class: Class, most: usize) -> usize
+    requires inside { page_number place < length blocks.now }
+    requires class { class_at blocks.now (page_number place) ≡ Some class }
+    requires few { slot_number place + most ≤ 64 }
+    ensures still { (k : ℕ) → k < result → next_move blocks.now (place + k) ≡ None }
+    ensures few { result ≤ most }
+{
+    if blocks.place_dense(class).is_none() {
+        return most;
+    }
+    let taken = blocks.taken_slots(place.page()) >> place.slot();
+    most.min(taken.trailing_zeros() as usize)
+}
+
+/// The steps in a flagged page from a place on that move no block, but no more than are asked for.
+fn still_slots(blocks: &Blocks, place: Place, most: usize) -> Still
+    requires inside { page_number place < length blocks.now }
+    requires flagged { flag_at blocks.now (page_number place) ≡ true }
+    ensures still { AreStill blocks.now place result.count result.next }
+    ensures few { result.count ≤ most }
+{
+    // Its contract bounds the number of pages, and gives each the slots of its class.
+    let _ = blocks.len();
+    let page = place.page();
+    let slot = place.slot();
+    let Some(class) = blocks.class_at(page) else {
+        return Still {
+            count: 0,
+            next: place,
+        };
+    };
+    let slots = class.slots();
+    if slot >= slots {
+        return Still {
+            count: 0,
+            next: place,
+        };
+    }
+    let count = still_count(blocks, place, class, most.min(slots - slot));
+    if slot + count != slots {
+        return Still {
+            count,
+            next: Place(place.0 + count),
+        };
+    }
+    Still {
+        count,
+        next: Place(PLACES * (page + 1)),
+    }
+}
+
+/// The next steps that move no block, but no more than are asked for: those that pass unflagged pages, or slots of a
+/// flagged page.
+pub fn still_run(blocks: &Blocks, place: Place, most: usize) -> Still
+    requires inside { page_number place < length blocks.now }
+    ensures still { AreStill blocks.now place result.count result.next }
+    ensures few { result.count ≤ most }
+{
+    // Its contract bounds the number of pages.
+    let _ = blocks.len();
+    let page = place.page();
+    if blocks.is_flagged(page) {
+        return still_slots(blocks, place, most);
+    }
+    let count = unflagged_run(blocks, page, most);
+    if count == 0 {
+        return Still {
+            count: 0,
+            next: place,
+        };
+    }
+    Still {
+        count,
+        next: Place(PLACES * (page + count)),
+    }
 }
 
 /// The place of the next step.

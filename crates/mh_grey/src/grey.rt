@@ -1,6 +1,5 @@
 ghost use Rattle.std.specs.Prelude.{◌≡◌, ◌==◌, ◌*◌, ◌<◌, ◌≤◌, false, IfOk, IsSome, [], ◌∷◌, ◌++◌, length, slice_get, take, drop, Some};
 ghost use Rattle.mh_model.specs.Pages.{block_at};
-ghost use Rattle.mh_model.specs.Table.{stamp_at};
 ghost use Rattle.mh_model.specs.Collector.{shade, shade_place};
 ghost use Rattle.mh_model.specs.Batches.{NoneTwice};
 ghost use Rattle.mh_grey.specs.Queue.{is_in};
@@ -13,6 +12,7 @@ use mh_blocks::blocks::Blocks;
 use mh_model::limits::PLACES;
 use mh_model::memory::NoMemory;
 use mh_model::place::Place;
+use mh_pages::address::Address;
 use std::alloc::Global;
 use std::marker::Model;
 /// The grey places in the order in which they were shaded, with room for one entry a place.
@@ -31,14 +31,6 @@ impl Model for Grey {
     ghost view = { λ grey. record { places = grey.places.items; pages = grey.pages } };
 
     ghost invariant = { λ grey. IsQueue grey.places.items grey.places.capacity grey.pages };
-}
-
-/// Whether the block at a place is marked in the cycle of this number.
-pub fn is_marked(blocks: &Blocks, cycle: u64, place: Place) -> bool
-    requires { IsSome (block_at blocks.now place) }
-    ensures { result ≡ (stamp_at blocks.now place == cycle) }
-{
-    blocks.is_marked(place, cycle)
 }
 
 impl Grey {
@@ -66,11 +58,12 @@ impl Grey {
         self.order.begin();
     }
 
-    /// Loads words of the blocks ahead, by the order of the cycle before. It is called once for each place that is taken off.
-    pub fn touch(&mut self, blocks: &Blocks)
+    /// Keeps where the block stands whose place is taken off, for the next cycle, and reads words of the blocks ahead, by
+    /// the order of the cycle before. It is called once for each block.
+    pub fn touch(&mut self, blocks: &Blocks, address: Address, count: usize)
         ensures { self.new ≡ self.old }
     {
-        self.order.take(blocks);
+        self.order.take(blocks, address, count);
     }
 
     pub fn len(&self) -> usize
@@ -99,7 +92,6 @@ impl Grey {
         ensures { self.new ≡ record { places = self.old.places ++ place ∷ []; pages = self.old.pages } }
     {
         let _ = self.places.try_push_back(place);
-        self.order.push(place);
     }
 
     /// Marks the block to which a reference leads, if it isn't marked, and makes it grey.

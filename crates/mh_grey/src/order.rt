@@ -1,35 +1,62 @@
-ghost use Rattle.std.specs.Prelude.{◌≡◌, ◌<◌, ◌≤◌, ◌^◌, IfOk};
-ghost use Rattle.mh_model.specs.Table.{stamp_at};
+ghost use Rattle.std.specs.Prelude.{◌≡◌, ◌≤◌, IfOk};
 
 use mh_blocks::blocks::Blocks;
-use mh_model::limits::PLACES;
+use mh_model::limits::{HEADER, PLACES};
 use mh_model::memory::NoMemory;
-use mh_model::place::Place;
+use mh_pages::address::Address;
+use mh_pages::header::COUNTS;
+use mh_pages::warmth::Warmth;
 use std::alloc::Global;
 use std::marker::Model;
 
-/// How many blocks are loaded together.
+/// Of how many blocks the words are read together.
 const TOGETHER: usize = 32;
 
-/// A cycle after one that marked fewer blocks than these loads none ahead.
+/// A cycle after one that marked fewer blocks than these reads none ahead.
 const FEW: usize = 4096;
 
-/// The places in the order in which they became grey, with those of the cycle before behind those of this one. A cycle
-/// mostly comes to the same blocks in the same order. So their words are loaded together before they are needed,
-/// while on a long chain a block is known only when the one before is loaded. What stands here is never trusted.
+/// Where marking reads a block: its first and its last word that are read, by their numbers among the words of all pages.
+#[derive(Clone, Copy, Debug)]
+struct Span {
+    first: u32,
+    last: u32,
+}
+
+/// A number of a word in four bytes. One that is too large leads nowhere.
+fn word_number(word: usize) -> u32 {
+    u32::try_from(word).unwrap_or(u32::MAX)
+}
+
+impl Span {
+    /// Of a block at an address with so many references. They follow its header, which marking reads from the counts on.
+    fn of(address: Address, count: usize) -> Span {
+        let first = address.word.saturating_add(COUNTS);
+        let last = address
+            .word
+            .saturating_add(count)
+            .saturating_add(HEADER - 1);
+        Span {
+            first: word_number(first),
+            last: word_number(last),
+        }
+    }
+}
+
+/// Where the blocks stand that were taken off, in this order, with those of the cycle before behind those of this one. A
+/// cycle mostly comes to the same blocks in the same order. So their words are read together before they are needed,
+/// while on a long chain a block is known only when the one before is read. What stands here is never trusted.
 #[derive(Drop)]
 pub(crate) struct Order {
-    places: Vec<u32>,
-    /// How many places became grey in this cycle.
-    reached: usize,
-    /// How many did in the cycle before.
+    spans: Vec<Span>,
+    /// How many blocks were taken off in this cycle.
+    taken: usize,
+    /// How many were in the cycle before.
     before: usize,
-    /// The first place whose block isn't loaded yet.
+    /// The first block whose words weren't read yet.
     next: usize,
-    /// How many blocks are still to be taken before it is.
+    /// How many blocks are still to be taken before they are.
     ahead: usize,
-    /// The words that were loaded, put together for no other use.
-    warmth: u64,
+    warmth: Warmth,
 }
 
 // Nothing that a caller may rest on.
@@ -39,66 +66,51 @@ impl Model for Order {
     ghost view = { λ order. tt };
 }
 
-/// A word of the block at a place, if one is there.
-fn word_at(blocks: &Blocks, place: Place) -> u64
-    ensures { result ≡ stamp_at blocks.now place }
-{
-    if !blocks.is_taken(place) {
-        return 0;
-    }
-    blocks.stamp(place)
-}
-
 impl Order {
-    /// No order yet, with room for the places of so many pages.
+    /// No order yet, with room for the blocks of so many pages.
     pub(crate) fn open(alloc: Global, pages: usize) -> Result<Order, NoMemory>
         requires { pages ≤ 4096 }
         ensures { IfOk result (λ order. order ≡ tt) }
     {
+        let nowhere = Span { first: 0, last: 0 };
         Ok(Order {
-            places: Vec::from_elem(alloc, 0, PLACES * pages)?,
-            reached: 0,
+            spans: Vec::from_elem(alloc, nowhere, PLACES * pages)?,
+            taken: 0,
             before: 0,
             next: 0,
             ahead: 0,
-            warmth: 0,
+            warmth: Warmth::new(),
         })
     }
 
-    /// Lets a cycle begin at the first place.
+    /// Lets a cycle begin at the first block.
     pub(crate) fn begin(&mut self)
         ensures { self.new ≡ self.old }
     {
-        self.before = self.reached;
-        self.reached = 0;
+        self.before = self.taken;
+        self.taken = 0;
         self.next = 0;
         self.ahead = 0;
     }
 
-    /// Adds a place that becomes grey.
-    pub(crate) fn push(&mut self, place: Place)
-        requires { place < 2 ^ 32 }
+    /// Reads words of the next blocks.
+    fn read(&mut self, blocks: &Blocks)
         ensures { self.new ≡ self.old }
     {
-        if self.reached < self.places.len() {
-            self.places[self.reached] = place.0 as u32;
-            self.reached += 1;
-        }
-    }
-
-    /// Loads words of the next blocks.
-    fn load(&mut self, blocks: &Blocks)
-        ensures { self.new ≡ self.old }
-    {
-        let end = self.places.len().min(self.next.saturating_add(TOGETHER));
+        let end = self.before.min(self.next.saturating_add(TOGETHER));
+        let end = end.min(self.spans.len());
+        let mut warmth = Warmth::new();
         for at in self.next..end {
-            self.warmth ^= word_at(blocks, Place(self.places[at] as usize));
+            let span = self.spans[at];
+            blocks.warm(span.first as usize, &mut warmth);
+            blocks.warm(span.last as usize, &mut warmth);
         }
+        self.warmth = warmth;
         self.next = end;
     }
 
-    /// Takes a block off, and loads the next ones if all before are taken.
-    pub(crate) fn take(&mut self, blocks: &Blocks)
+    /// Reads words of the next blocks, if all before are taken.
+    fn go_on(&mut self, blocks: &Blocks)
         ensures { self.new ≡ self.old }
     {
         if self.before < FEW {
@@ -108,7 +120,18 @@ impl Order {
             self.ahead -= 1;
             return;
         }
-        self.load(blocks);
+        self.read(blocks);
         self.ahead = TOGETHER - 1;
+    }
+
+    /// Adds a block that is taken off, and reads words of the next ones if all before are taken.
+    pub(crate) fn take(&mut self, blocks: &Blocks, address: Address, count: usize)
+        ensures { self.new ≡ self.old }
+    {
+        self.go_on(blocks);
+        if self.taken < self.spans.len() {
+            self.spans[self.taken] = Span::of(address, count);
+            self.taken += 1;
+        }
     }
 }

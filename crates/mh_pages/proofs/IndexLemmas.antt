@@ -1,5 +1,5 @@
 -- The sets of pages after one page is put in those to which it belongs.
-use Rattle.std.proofs.Common.{◌≡◌, ◌≢◌, ℕ, zero, suc, ◌+◌, ◌*◌, ◌/◌, ◌<◌, ◌≤◌, ◌==◌, ◌&&◌, ◌||◌, ◌⊎◌, not, Bool, true, false, if◌then◌else◌, inl, inr, List, length, get_or, set, refl, ap, ◌∙◌, sym, subst, arith, get_or-set_same, get_or-set_other}
+use Rattle.std.proofs.Common.{◌≡◌, ◌≢◌, ℕ, zero, suc, ◌+◌, ◌*◌, ◌/◌, ◌%◌, ◌<◌, ◌≤◌, ◌==◌, ◌&&◌, ◌||◌, ◌⊎◌, not, Bool, true, false, if◌then◌else◌, inl, inr, List, length, get_or, set, refl, ap, ◌∙◌, sym, subst, arith, eq-eqb, get_or-set_same, get_or-set_other}
 use Rattle.std.proofs.lemmas.Bool.{cases_eq, or_parts, ne_eqb, and_left}
 use Rattle.std.proofs.lemmas.List.{length-set, set-get_or}
 use Rattle.std.proofs.lemmas.List.{get_or_default}
@@ -136,13 +136,83 @@ indexed-kept heads frees sets page after so within same = record {
   ];
 }
 
+-- a page of a class that has the flag of a set for pages with a free slot
+belongs-own : (kind head free size : ℕ) → head / 2 ≡ size → kind ≡ 1 + head % 2 → belongs kind head free size ≡ not (free == 0)
+belongs-own zero head free size class own = absurd (omega arith)
+belongs-own (suc zero) head free size class own = ap (λ b. b && not (free == 0)) (eq-eqb head (2 * size) (omega arith))
+belongs-own (suc (suc zero)) head free size class own = ap (λ b. b && not (free == 0)) (eq-eqb head (2 * size + 1) (omega arith))
+belongs-own (suc (suc (suc kind))) head free size class own = absurd (omega arith)
+
+-- the other sets of its class don't depend on its free slots
+belongs-still : (kind head before after size : ℕ) → head / 2 ≡ size → kind < 3 → kind ≢ 1 + head % 2 → belongs kind head before size ≡ belongs kind head after size
+belongs-still zero head before after size class few other = refl
+belongs-still (suc zero) head before after size class few other =
+    let unlike : (head == 2 * size) ≡ false = ne_eqb head (2 * size) (λ e. other (omega arith)) in
+    and_left _ _ unlike ∙ sym (and_left _ _ unlike)
+belongs-still (suc (suc kind)) head before after size class few other =
+    let unlike : (head == 2 * size + 1) ≡ false = ne_eqb head (2 * size + 1) (λ e. other (omega arith)) in
+    and_left _ _ unlike ∙ sym (and_left _ _ unlike)
+
+-- the set of a class for those of its pages with a free slot that have the flag of a head
+abbrev set_row : ℕ → ℕ → ℕ
+set_row size head = 3 * class_number size + (1 + head % 2)
+
+-- The sets are those of the pages again after a page in use got its first free slot, or lost its last
+indexed-slots : (heads frees : List ℕ) (sets : List Bool) (page size after : ℕ) → IsIndexed heads frees sets → length sets ≡ 4096 * 61 → page < length heads → length heads ≤ 4096 → length frees ≡ length heads
+    → is_class_size size ≡ true → get_or heads page 0 / 2 ≡ size
+    → IsIndexed heads (set frees page after) (put_in sets (set_row size (get_or heads page 0)) page (not (after == 0)))
+indexed-slots heads frees sets page size after so all within few sizes class same = record {
+  free = λ number small. put_other sets (set_row size (get_or heads page 0)) page (not (after == 0)) 60 number small_page small (inl (λ e. omega (arith, few_rows))) ∙ so.free number small;
+  classes = λ kind other number k is small. elim (cases_eq number page) [
+    | inl here ↦ ap (has_member (put_in sets (set_row size (get_or heads page 0)) page (not (after == 0))) (3 * class_number other + kind)) here ∙ (at_page kind other k is (cases_eq other size) ∙ sym (now_at_page kind other number here))
+    | inr there ↦
+        put_other sets (set_row size (get_or heads page 0)) page (not (after == 0)) (3 * class_number other + kind) number small_page small (inr there)
+        ∙ (so.classes kind other number k is small ∙ ap (λ f. belongs kind (get_or heads number 1) f other) (sym (get_or-set_other frees page number after 0 there)))
+  ];
+}
+  where
+    small_page : page < 4096
+    small_page = omega arith
+
+    few_rows : class_number size < 20
+    few_rows = (class_is size class).number
+
+    now_at_page : (kind other number : ℕ) → number ≡ page → belongs kind (get_or heads number 1) (get_or (set frees page after) number 0) other ≡ belongs kind (get_or heads page 0) after other
+    now_at_page kind other number here =
+        ap (λ n. belongs kind (get_or heads n 1) (get_or (set frees page after) n 0) other) here
+        ∙ (ap (λ h. belongs kind h (get_or (set frees page after) page 0) other) (get_or_default heads page 1 0 within)
+        ∙ ap (λ f. belongs kind (get_or heads page 0) f other) (get_or-set_same frees page after 0 (omega (arith, sizes))))
+
+    was_at_page : (kind other : ℕ) → kind < 3 → is_class_size other ≡ true → has_member sets (3 * class_number other + kind) page ≡ belongs kind (get_or heads page 0) (get_or frees page 0) other
+    was_at_page kind other k is = so.classes kind other page k is small_page ∙ ap (λ h. belongs kind h (get_or frees page 0) other) (get_or_default heads page 1 0 within)
+
+    of_class : (kind : ℕ) → kind < 3 → ((kind ≡ 1 + get_or heads page 0 % 2) ⊎ (kind ≡ 1 + get_or heads page 0 % 2 → ⊥)) → has_member (put_in sets (set_row size (get_or heads page 0)) page (not (after == 0))) (3 * class_number size + kind) page ≡ belongs kind (get_or heads page 0) after size
+    of_class kind k (inl own) =
+        ap (λ n. has_member (put_in sets (set_row size (get_or heads page 0)) page (not (after == 0))) (3 * class_number size + n) page) own
+        ∙ (put_same sets (set_row size (get_or heads page 0)) page (not (after == 0)) (omega (arith, few_rows)) ∙ sym (belongs-own kind (get_or heads page 0) after size same own))
+    of_class kind k (inr other) =
+        put_other sets (set_row size (get_or heads page 0)) page (not (after == 0)) (3 * class_number size + kind) page small_page small_page (inl (λ e. other (omega arith)))
+        ∙ (was_at_page kind size k class ∙ belongs-still kind (get_or heads page 0) (get_or frees page 0) after size same k other)
+
+    at_page : (kind other : ℕ) → kind < 3 → is_class_size other ≡ true → ((other ≡ size) ⊎ (other ≡ size → ⊥)) → has_member (put_in sets (set_row size (get_or heads page 0)) page (not (after == 0))) (3 * class_number other + kind) page ≡ belongs kind (get_or heads page 0) after other
+    at_page kind other k is (inl alike) =
+        ap (λ s. has_member (put_in sets (set_row size (get_or heads page 0)) page (not (after == 0))) (3 * class_number s + kind) page) alike
+        ∙ (of_class kind k (cases_eq kind (1 + get_or heads page 0 % 2)) ∙ ap (belongs kind (get_or heads page 0) after) (sym alike))
+    at_page kind other k is (inr apart) =
+        let numbers_apart : class_number other ≢ class_number size = λ e. apart (class_number-same other size is class e) in
+        let four : 4 ≤ other = (class_is other is).least in
+        put_other sets (set_row size (get_or heads page 0)) page (not (after == 0)) (3 * class_number other + kind) page small_page small_page (inl (λ e. numbers_apart (omega arith)))
+        ∙ (was_at_page kind other k is
+        ∙ (other_class kind (get_or heads page 0) (get_or frees page 0) size other (inr same) four apart
+        ∙ sym (other_class kind (get_or heads page 0) after size other (inr same) four apart)))
+
 pub indexed-after : (heads frees : List ℕ) (sets : List Bool) (page size after : ℕ) → IsIndexed heads frees sets → length sets ≡ 4096 * 61 → page < length heads → length heads ≤ 4096 → length frees ≡ length heads
     → is_class_size size ≡ true → get_or heads page 0 / 2 ≡ size
     → IsIndexed (set heads page (get_or heads page 0)) (set frees page after) (indexed_after sets page size (get_or heads page 0) (get_or frees page 0) after)
 indexed-after heads frees sets page size after so all within few sizes class same = go ((get_or frees page 0 == 0) || (after == 0)) refl
   where
-    go : (b : Bool) → ((get_or frees page 0 == 0) || (after == 0)) ≡ b → IsIndexed (set heads page (get_or heads page 0)) (set frees page after) (if b then indexed_again sets page size (get_or heads page 0) after else sets)
-    go true e = indexed-set heads frees sets page size (get_or heads page 0) after so all within few sizes class (inr same) (inr same)
+    go : (b : Bool) → ((get_or frees page 0 == 0) || (after == 0)) ≡ b → IsIndexed (set heads page (get_or heads page 0)) (set frees page after) (if b then put_in sets (3 * class_number size + (1 + get_or heads page 0 % 2)) page (not (after == 0)) else sets)
+    go true e = subst (λ h. IsIndexed h (set frees page after) (put_in sets (3 * class_number size + (1 + get_or heads page 0 % 2)) page (not (after == 0)))) (sym (set-get_or heads page 0)) (indexed-slots heads frees sets page size after so all within few sizes class same)
     go false e =
         let (had, has) = or_parts (get_or frees page 0 == 0) (after == 0) e in
         subst (λ h. IsIndexed h (set frees page after) sets) (sym (set-get_or heads page 0)) (indexed-kept heads frees sets page after so (omega (arith, sizes)) (had ∙ sym has))
@@ -150,8 +220,8 @@ indexed-after heads frees sets page size after so all within few sizes class sam
 pub length-indexed_after : (sets : List Bool) (page size head before after : ℕ) → length (indexed_after sets page size head before after) ≡ length sets
 length-indexed_after sets page size head before after = go ((before == 0) || (after == 0))
   where
-    go : (b : Bool) → length (if b then indexed_again sets page size head after else sets) ≡ length sets
-    go true = length-indexed_again sets page size head after
+    go : (b : Bool) → length (if b then put_in sets (3 * class_number size + (1 + head % 2)) page (not (after == 0)) else sets) ≡ length sets
+    go true = length_put sets (3 * class_number size + (1 + head % 2)) page (not (after == 0))
     go false = refl
 
 -- Heads and free slots stay so after one page has changed

@@ -1,5 +1,5 @@
 -- The sets of pages that the search for a place reads: set 60 has the free pages, and each class has three: its unflagged pages, those of them with a free slot, and its flagged pages with a free slot.
-use Rattle.std.specs.Prelude.{◌≡◌, ◌≤◌, ℕ, zero, suc, ◌+◌, ◌*◌, ◌<◌, ◌==◌, ◌&&◌, ◌||◌, not, if◌then◌else◌, Bool, true, false, nat_lt, List, length, get_or, set}
+use Rattle.std.specs.Prelude.{◌≡◌, ◌≤◌, ℕ, zero, suc, ◌+◌, ◌*◌, ◌%◌, ◌<◌, ◌==◌, ◌&&◌, ◌||◌, not, if◌then◌else◌, Bool, true, false, nat_lt, List, length, get_or, set}
 use Rattle.mh_model.specs.Classes.{is_class_size}
 use Rattle.mh_bits.specs.Sets.{has_member}
 use Rattle.mh_classes.specs.Numbers.{class_number}
@@ -28,9 +28,9 @@ indexed_again sets page size head free =
     (3 * class_number size + 1) page (belongs 1 head free size))
     (3 * class_number size + 2) page (belongs 2 head free size)
 
--- the sets after the free slots of a page have changed: they stay where the page had a free slot and has one
+-- the sets after the free slots of a page in use have changed: with its first free slot it enters one of the sets of its class, by its flag, and with its last it leaves it
 abbrev pub indexed_after : List Bool → ℕ → ℕ → ℕ → ℕ → ℕ → List Bool
-indexed_after sets page size head before after = if (before == 0) || (after == 0) then indexed_again sets page size head after else sets
+indexed_after sets page size head before after = if (before == 0) || (after == 0) then put_in sets (3 * class_number size + (1 + head % 2)) page (not (after == 0)) else sets
 
 -- the lengths that a page's head, its word of free slots and its sets need
 pub record HasRoomFor (page : ℕ) (heads frees : List ℕ) (sets : List Bool) : Type 0 where

@@ -1,4 +1,5 @@
-ghost use Rattle.std.specs.Prelude.{◌≡◌, ◌<◌, ◌≤◌, ◌*◌, ◌+◌, length, get_or, set};
+ghost use Rattle.std.specs.Prelude.{◌≡◌, ◌<◌, ◌≤◌, ◌*◌, ◌+◌, ◌%◌, length, get_or, set};
+ghost use Rattle.mh_classes.specs.Numbers.{class_number};
 ghost use Rattle.mh_pages.specs.Indexed.{indexed_again, indexed_after, AllFree, HasRoomFor};
 
 use mh_bits::counted::{Counted, Tally};
@@ -53,7 +54,20 @@ pub fn change(
     index(sets, page, class, head, free);
 }
 
-/// Gives a page other free slots. Its sets stay where it had a free slot and has one.
+/// The set of a class for those of its pages with a free slot that have the flag of this head.
+fn set_with_slots(class: Class, head: u64) -> usize
+    ensures set { result ≡ 3 * class_number class + (1 + head % 2) }
+    ensures inside { result < 60 }
+{
+    let row = 3 * class.number();
+    if head % 2 == 0 {
+        row + ROOMY
+    } else {
+        row + SPARSE
+    }
+}
+
+/// Gives a page in use other free slots. It enters a set with its first free slot, and leaves it with its last.
 pub fn change_free(
     heads: &Counted,
     frees: &mut Counted,
@@ -70,7 +84,8 @@ pub fn change_free(
     let before = frees.read(page, &mut tally);
     frees.write(page, free);
     if before == 0 || free == 0 {
-        index(sets, page, class, heads.read(page, &mut tally), free);
+        let head = heads.read(page, &mut tally);
+        sets.put(set_with_slots(class, head), page, free != 0);
     }
 }
 

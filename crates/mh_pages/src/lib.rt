@@ -5,3 +5,4 @@ pub mod address;
 pub mod header;
 mod index;
 pub mod pages;
+pub mod warmth;

@@ -10,6 +10,7 @@ ghost use Rattle.mh_pages.specs.Words.{header_of, with_header, with_word, words_
 use crate::address::Address;
 use crate::header::{BIRTH, COUNTS, FORWARD, Header, STAMP};
 use crate::index::{DENSE, FREE, ROOMY, SPARSE, change, change_free, put_all};
+use crate::warmth::Warmth;
 use mh_bits::counted::{Counted, Tally};
 use mh_bits::page_sets::PageSets;
 use mh_classes::class::Class;
@@ -110,6 +111,16 @@ impl Pages {
         ensures slots { HaveTheirSlots self.now }
     {
         self.heads.len()
+    }
+
+    /// Reads a word, if there is one of this number among the words of all pages, so that it is in the cache.
+    pub fn warm(&self, word: usize, warmth: &mut Warmth)
+        ensures { warmth.new ≡ warmth.old }
+    {
+        let mut tally = Tally::new();
+        if word < self.words.len() {
+            warmth.add(self.words.read(word, &mut tally));
+        }
     }
 
     // The least place ----------------------------------------------------------------------------
@@ -314,11 +325,14 @@ impl Pages {
 
     // Pages --------------------------------------------------------------------------------------
 
-    /// Sets the flag of a page in use.
+    /// Sets the flag of a page in use. Its sets are touched only if the flag changes.
     fn set_flag(&mut self, page: usize, is_flagged: bool)
         requires { IsSome (page_at self.old page) }
         ensures { self.new ≡ with_flag self.old page is_flagged }
     {
+        if self.is_flagged(page) == is_flagged {
+            return;
+        }
         let mut tally = Tally::new();
         let head = self.heads.read(page, &mut tally);
         let free = self.frees.read(page, &mut tally);

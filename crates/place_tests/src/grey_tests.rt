@@ -1,7 +1,7 @@
 use crate::table::{STAMP, one_block};
 use arrayvec::ArrayVec;
 use mh_blocks::blocks::Blocks;
-use mh_grey::grey::{Grey, is_marked};
+use mh_grey::grey::Grey;
 use mh_model::place::Place;
 use mh_sweep::sweep::sweep_step;
 use std::alloc::Global;
@@ -14,7 +14,7 @@ fn is_marked_at(blocks: &Blocks, place: Place) -> bool {
     if !blocks.is_taken(place) {
         return false;
     }
-    is_marked(blocks, CYCLE, place)
+    blocks.is_marked(place, CYCLE)
 }
 
 /// A grey list in which the block at a place was shaded alone.

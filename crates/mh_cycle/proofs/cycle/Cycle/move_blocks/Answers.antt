@@ -28,9 +28,9 @@ loop-self-init c = record {
 pub loop-self-preserved-then-count-ne0 : goal.loop-self-preserved-then-count-ne0
 loop-self-preserved-then-count-ne0 c =
     let phase = c.is_in.ensures.yes c.loop-self-test.true in
-    let is : IsPassed c.unflagged_run-count.result c.loop-self.self c.pass.new.self = record { state = c.pass.ensures.state; table = c.pass.ensures.table; slots = c.pass.ensures.slots; stride = c.pass.ensures.stride } in
+    let is : IsPassed c.still_run-run.result.count c.loop-self.self c.pass.new.self = record { state = c.pass.ensures.state; table = c.pass.ensures.table; slots = c.pass.ensures.slots; stride = c.pass.ensures.stride } in
     record {
-      advance = advance-passed c.collectors_stay_steady.ensures _ _ _ _ _ _ c.loop-self.self c.pass.new.self c.loop-self.invariant.advance refl c.unflagged_run-count.ensures.fits is;
+      advance = advance-passed c.collectors_stay_steady.ensures _ _ _ _ _ _ c.loop-self.self c.pass.new.self c.loop-self.invariant.advance refl c.still_run-run.ensures.fits is;
       from = inl (later-stride Defrag _ c.loop-self.has_moved (with_forwarded c.loop-self.self.collector) (with_forwarded c.pass.new.self.collector) phase (stride-passed _ c.loop-self.has_moved c.loop-self.self c.pass.new.self is));
       lead = lead-passed _ c.loop-self.self c.pass.new.self is c.loop-self.invariant.lead;
       still = λ e. still-passed _ c.loop-self.self c.pass.new.self is (c.loop-self.invariant.still e);
