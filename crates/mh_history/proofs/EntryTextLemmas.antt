@@ -7,9 +7,9 @@ use Rattle.mh_model.specs.declared.reply.Reply.{Reply}
 use Rattle.mh_model.specs.declared.reply.Reply.TheVariants as reply
 use Rattle.mh_model.specs.declared.history.Measured.{Measured}
 use Rattle.mh_model.proofs.TextLemmas.{joined-append}
-use Rattle.mh_model.specs.Bytes.{Text, joined}
+use Rattle.mh_model.specs.Bytes.{Text, joined, line_text}
 use Rattle.mh_model.specs.Replies.{reply_words, reply_text}
-use Rattle.mh_model.specs.HistoryTexts.{event_words, measured_words}
+use Rattle.mh_model.specs.HistoryTexts.{event_words, measured_words, measured_line}
 
 -- words of which there is one at least
 record Full (words : List Text) : Type 0 where
@@ -51,3 +51,9 @@ pub measured_parts : (m : Measured)
     → joined (measured_words m)
     ≡ joined (event_words m.entry.event) ++ (codes " = " ++ (reply_text m.entry.reply ++ (codes " units " ++ (decimal m.mutator ++ (codes " " ++ decimal m.collector)))))
 measured_parts m = entry_parts m.entry.event m.entry.reply (codes "units") (decimal m.mutator ∷ decimal m.collector ∷ [])
+
+-- what was written part by part is the line
+pub measured_written : (text : Text) (m : Measured)
+    → ((((((text ++ joined (event_words m.entry.event)) ++ codes " = ") ++ reply_text m.entry.reply) ++ (codes " units " ++ decimal m.mutator)) ++ (codes " " ++ decimal m.collector)) ++ codes "\n")
+    ≡ text ++ line_text (measured_line m)
+measured_written text m = rw (measured_parts m) (simp append_assoc)

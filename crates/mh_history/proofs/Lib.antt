@@ -5,5 +5,6 @@ pub mod DumpLemmas
 pub mod ReplyLemmas
 pub mod HeaderLemmas
 pub mod EntryLemmas
+pub mod HalfLemmas
 pub mod LineLemmas
 pub mod HistoryLemmas

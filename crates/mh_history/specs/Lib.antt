@@ -1,2 +1,3 @@
 pub mod Dumps
 pub mod Beginnings
+pub mod Halves

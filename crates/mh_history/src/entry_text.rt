@@ -109,7 +109,7 @@ impl fmt::Display for CommandText {
 }
 
 #[derive(Clone, Copy)]
-struct ControlText(Control);
+pub(crate) struct ControlText(pub(crate) Control);
 
 impl fmt::Display for ControlText {
     ghost output = { λ text. Some (joined (phrase_words (control_phrase text.0))) };

@@ -9,6 +9,7 @@ mod header;
 pub mod history;
 mod keyed;
 pub mod lines;
+pub mod measured_line;
 mod parts;
 pub mod record;
 mod reply;

@@ -6,10 +6,10 @@ ghost use Rattle.mh_model.specs.Script.{Means};
 ghost use Rattle.mh_text.specs.TextErrors.{Refuses};
 ghost use Rattle.mh_history.specs.Beginnings.{entries_left, entry_before, HasEntry, TakesEntry};
 
-use crate::entry::{entry_of, measured_of};
-use mh_model::history::{Entry, Measured, Version};
+use crate::entry::{entry_in, measured_in};
+use mh_model::history::{Entry, Measured};
 use mh_model::memory::NoMemory;
-use mh_text::pieces::{Lines, Words};
+use mh_text::pieces::Lines;
 use mh_text::text_error::TextError;
 use std::alloc::Global;
 use thiserror::Error;
@@ -44,7 +44,7 @@ impl FromLine for Entry {
     ghost of_line = { λ line. entry_of One (words line) };
 
     fn from_line(alloc: Global, line: &[u8]) -> Result<Option<Entry>, NoMemory> {
-        entry_of(alloc, Version::One, Words::new(line))
+        entry_in(alloc, line)
     }
 }
 
@@ -52,7 +52,7 @@ impl FromLine for Measured {
     ghost of_line = { λ line. measured_of (words line) };
 
     fn from_line(alloc: Global, line: &[u8]) -> Result<Option<Measured>, NoMemory> {
-        measured_of(alloc, Words::new(line))
+        measured_in(alloc, line)
     }
 }
 

@@ -15,7 +15,8 @@ ghost use Rattle.mh_judging.specs.Recording.{Advances, IsFirst, WritesReading, W
 
 use mh_findings::measure::measure;
 use mh_findings::replay::entry_again;
-use mh_history::entry_text::{HeaderText, MeasuredText};
+use mh_history::entry_text::HeaderText;
+use mh_history::measured_line::push_measured_line;
 use mh_model::command::Event;
 use mh_model::config::Config;
 use mh_model::history::Entry;
@@ -74,9 +75,7 @@ impl Recording {
         ensures text { OnOk result (string_bytes self.new.text ≡ string_bytes self.old.text ++ event_line self.old.machine.machine event) }
     {
         let measured = measure(&mut self.machine, event, scanner)?;
-        let line = MeasuredText(&measured);
-        writeln!(self.text, "{line}")?;
-        Ok(())
+        push_measured_line(&mut self.text, &measured)
     }
 
     /// Does an event and writes its line, once the buffer is full.

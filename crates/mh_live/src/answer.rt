@@ -16,7 +16,7 @@ use mh_model::memory::NoMemory;
 use mh_model::reply::Reply;
 use mh_scan::scan::Scanner;
 use mh_state::machine::{Machine, Stop};
-use mh_text::reply_text::ReplyText;
+use mh_text::reply_line::push_reply_line;
 use std::alloc::Global;
 use std::fmt::Write;
 
@@ -47,22 +47,13 @@ pub(crate) fn refused(number: u64, text: &mut String) -> Result<(), NoMemory>
     Ok(())
 }
 
-/// Adds the line of a reply.
-fn write_reply(reply: &Reply, text: &mut String) -> Result<(), NoMemory>
-    ensures { OnOk result (string_bytes text.new ≡ string_bytes text.old ++ line_text (reply_text reply.now)) }
-{
-    let line = ReplyText(reply);
-    writeln!(text, "{line}")?;
-    Ok(())
-}
-
 /// The line of a dump, which needs memory of its own.
 fn write_dump(alloc: Global, machine: &Machine, text: &mut String) -> Result<(), NoMemory>
     ensures { OnOk result (string_bytes text.new
         ≡ string_bytes text.old ++ line_text (reply_text (reply.Dump (dump_pages 0 machine.now.machine.heap.collector.table)))) }
 {
     let reply = Reply::Dump(machine.heap().dump(alloc)?);
-    write_reply(&reply, text)
+    push_reply_line(text, &reply)
 }
 
 /// Does a dump, whose text is made before it is done: so all is as it was if memory is refused for either.
@@ -109,7 +100,7 @@ fn attempt<S: Scanner>(
         }
         Err(Stop::HistoryFull) => unreachable!(),
     };
-    write_reply(&reply, text)?;
+    push_reply_line(text, &reply)?;
     Ok(true)
 }
 

@@ -1,10 +1,12 @@
 -- What the bytes of a word say of it.
-use Rattle.std.proofs.Common.{◌≡◌, ℕ, suc, ◌+◌, ◌*◌, ◌-◌, ◌<◌, ◌≤◌, ◌==◌, nat_lt, nat_le, ◌&&◌, ◌||◌, Bool, true, false, Option, Some, None, option_map, option_and_then, cond, List, [], ◌∷◌, ◌++◌, length, get_or, ap, sym, refl, append_assoc, arith}
+use Rattle.std.proofs.Common.{◌≡◌, ℕ, suc, ◌+◌, ◌*◌, ◌-◌, ◌<◌, ◌≤◌, ◌==◌, nat_lt, nat_le, ◌&&◌, ◌||◌, Bool, true, false, Option, Some, None, option_map, option_and_then, cond, List, [], ◌∷◌, ◌++◌, length, get_or, ap, subst, sym, refl, ◌∙◌, append_assoc, arith}
+use Rattle.std.specs.Prelude.{Decides}
 use Rattle.std.specs.List.{list_all}
 use Rattle.std.proofs.lemmas.List.{append-nil}
 use Rattle.std.proofs.lemmas.Bool.Decides.{nat_tests}
 use Rattle.std.proofs.Math.Bool.{and-false, and-true}
-use Rattle.mh_model.specs.Bytes.{Text, is_digit, is_letter, is_numeral, is_name, value_after, number, numbers}
+use Rattle.mh_model.proofs.TextLemmas.{text_is, text_itself}
+use Rattle.mh_model.specs.Bytes.{Text, is_text, is_digit, is_letter, is_numeral, is_name, value_after, number, numbers}
 use Rattle.mh_text.specs.Words.{few_numbers}
 
 -- a numeral of several digits begins with none that is 0
@@ -75,3 +77,15 @@ same_by false all ns few = cc
 
 pub few_same : (words : List Text) (ns : List ℕ) → few_numbers words ≡ Some ns → numbers words ≡ Some ns
 few_same words ns few = same_by (nat_le (length words) 4) (numbers words) ns few
+
+-- Words that are the same ------------------------------------------------------------------------
+
+tested_by : (r is : Bool) (word other : Text) → is_text word other ≡ is → Decides r (word ≡ other) → r ≡ is
+tested_by true true word other test same = refl
+tested_by false false word other test same = refl
+tested_by true false word other test same = sym (subst (λ (o : Text). is_text word o ≡ true) (same.0 refl) (text_itself word)) ∙ test
+tested_by false true word other test same = same.1 (text_is word other test)
+
+-- a test of two words by their bytes
+pub same_words : (r : Bool) (word other : Text) → Decides r (word ≡ other) → r ≡ is_text word other
+same_words r word other same = tested_by r (is_text word other) word other refl same
