@@ -1,11 +1,15 @@
-//! Times places, words, blocks and objects over 4,096 pages, and cycles over graphs that are made by commands, by one thread
-//! and by crews. The figures go to standard error, since they differ from run to run.
+//! Times six kinds of script. Then come places, words, blocks and objects over 4,096 pages, and cycles over graphs that are
+//! made by commands, by one thread and by crews. The figures go to standard error, since they differ from run to run.
 #![tactic(auto)]
 
+mod churn;
 mod cycles;
 mod graph;
+mod graphs;
 mod objects;
 mod places;
+mod script;
+mod workloads;
 
 use crate::graph::Graph;
 use std::io;
@@ -46,6 +50,7 @@ fn time_cycles<R: Threads>(rt: &HostRuntime, threads: &R) -> io::Result<()> {
 }
 
 fn main(rt: HostRuntime) -> io::Result<()> {
+    workloads::run(&rt, &rt)?;
     time_blocks(&rt)?;
     time_cycles(&rt, &rt)
 }
