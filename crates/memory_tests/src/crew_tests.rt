@@ -228,10 +228,6 @@ impl CrewGate for Taking {
     ) -> Result<Vec<ArrayVec<Option<Place>, 60>>, NoMemory> {
         crew::scan(rt, alloc, workers, self, blocks, batch)
     }
-
-    fn pays(&self, _cost: u64) -> bool {
-        true
-    }
 }
 
 /// Takes all memory, if it isn't taken yet.

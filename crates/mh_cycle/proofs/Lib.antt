@@ -1,7 +1,6 @@
 pub mod FrameLemmas
 pub mod StepLemmas
 pub mod StrideLemmas
-pub mod RunLemmas
 pub mod BatchLemmas
 pub mod SweepLemmas
 pub mod PassLemmas

@@ -61,7 +61,7 @@ impl Cycle {
         spent
     }
 
-    /// Marks blocks by batches where that can pay.
+    /// Marks blocks by batches.
     fn mark_batches<S: Scanner>(&mut self, scanner: &mut S, left: u64) -> u64
         requires steady { IsSteady self.old.collector }
         requires from { IsFrom Mark left self.old.collector }
@@ -71,7 +71,7 @@ impl Cycle {
         collectors_stay_steady();
         let mut spent = 0;
         while self.is_in(Phase::Mark) {
-            let cost = self.mark_front(scanner, left - spent);
+            let cost = self.mark_batch(scanner, left - spent);
             if cost == 0 {
                 break;
             }

@@ -130,7 +130,7 @@ impl Cycle {
 
     /// Marks through the longest front that fits in what is left, by the scanner. Answers what that cost, nothing if
     /// the first block doesn't fit.
-    fn mark_batch<S: Scanner>(&mut self, scanner: &mut S, left: u64) -> u64
+    pub(crate) fn mark_batch<S: Scanner>(&mut self, scanner: &mut S, left: u64) -> u64
         requires phase { self.old.collector.phase ≡ Mark }
         requires steady { IsSteady self.old.collector }
         ensures state { self.new ≡ with_collector self.old self.new.collector }
@@ -145,33 +145,6 @@ impl Cycle {
         }
         self.cursor = 0;
         self.phase = after_mark(&self.grey);
-        cost
-    }
-
-    /// What marking through the next batch costs at the most.
-    fn most_batch_cost(&self) -> u64
-        ensures { result ≤ 62464 }
-    {
-        61 * self.grey.len().min(1024) as u64
-    }
-
-    /// Marks through a batch by the scanner, or if no scan can pay for it through the first grey block alone. Answers what
-    /// that cost, nothing if the first block doesn't fit in what is left.
-    pub(crate) fn mark_front<S: Scanner>(&mut self, scanner: &mut S, left: u64) -> u64
-        requires phase { self.old.collector.phase ≡ Mark }
-        requires steady { IsSteady self.old.collector }
-        ensures state { self.new ≡ with_collector self.old self.new.collector }
-        ensures run { IsRun left self.old.collector result self.new.collector }
-    {
-        if scanner.pays(self.most_batch_cost()) {
-            return self.mark_batch(scanner, left);
-        }
-        let first = self.first_grey();
-        let cost = 1 + first.count as u64;
-        if left < cost {
-            return 0;
-        }
-        self.mark_step(first);
         cost
     }
 

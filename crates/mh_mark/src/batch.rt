@@ -140,9 +140,9 @@ fn take_front(blocks: &Blocks, grey: &mut Grey, left: u64, batch: &mut ArrayVec<
     cost
 }
 
-/// Marks through the longest front that fits in what is left. If a scan pays for it, the scanner finds its references at
-/// once, which are then written back and shaded. Else, or if the scanner has no memory, the same blocks are marked one
-/// after the other. Answers what that costs, nothing if not even the first fits.
+/// Marks through the longest front that fits in what is left: the scanner finds its references at once, which are then
+/// written back and shaded, and if it has no memory the same blocks are marked one after the other. Answers what
+/// that costs, nothing if not even the first fits.
 pub fn mark_batch<S: Scanner>(
     blocks: &mut Blocks,
     grey: &mut Grey,
@@ -161,10 +161,6 @@ pub fn mark_batch<S: Scanner>(
     grey.has_each_once();
     let mut batch = ArrayVec::new();
     let cost = take_front(blocks, grey, left, &mut batch);
-    if !scanner.pays(cost) {
-        mark_blocks(blocks, grey, cycle, batch.as_slice());
-        return cost;
-    }
     match scanner.scan(blocks, batch.as_slice()) {
         Ok(found) => write_batch(blocks, grey, cycle, batch.as_slice(), &found),
         Err(_) => mark_blocks(blocks, grey, cycle, batch.as_slice()),

@@ -13,9 +13,6 @@ use mh_model::place::Place;
 use std::alloc::Global;
 use std::thread::Threads;
 
-/// For a batch of fewer units, to start and to await threads costs more than they spare.
-const LEAST_COST: u64 = 40_000;
-
 /// A gate that a crew can call from its threads. Each gate writes the method for its own type, with one call of
 /// `crew::scan`.
 pub trait CrewGate: Gate {
@@ -31,9 +28,6 @@ pub trait CrewGate: Gate {
         requires workers { (0 < workers) × (workers ≤ 64) }
         requires scannable { AreScannable blocks.now batch.now }
         ensures { IfOk result (λ found. lists found.items ≡ found_in blocks.now batch.now) };
-
-    /// Whether a crew is called for a batch that costs so many units to mark.
-    fn pays(&self, cost: u64) -> bool;
 }
 
 impl CrewGate for Open {
@@ -46,10 +40,6 @@ impl CrewGate for Open {
         batch: &[Place],
     ) -> Result<Vec<ArrayVec<Option<Place>, 60>>, NoMemory> {
         crew::scan(rt, alloc, workers, self, blocks, batch)
-    }
-
-    fn pays(&self, cost: u64) -> bool {
-        cost >= LEAST_COST
     }
 }
 
@@ -92,9 +82,5 @@ impl<'a, R: Threads, G: CrewGate> Scanner for CrewScan<'a, R, G> {
     /// A crew of one worker finds a batch no sooner than its caller would.
     fn is_alone(&self) -> bool {
         self.workers == 1
-    }
-
-    fn pays(&self, cost: u64) -> bool {
-        self.gate.pays(cost)
     }
 }

@@ -24,9 +24,6 @@ pub trait Scanner {
     /// Whether this scanner finds a batch no sooner than its caller would block by block. It is for the choice between
     /// the two alone: what is found is the same.
     fn is_alone(&self) -> bool;
-
-    /// Whether a scan pays for a batch that costs so many units to mark. It is for the choice alone too.
-    fn pays(&self, cost: u64) -> bool;
 }
 
 /// Where the references of a block lead, in order.
@@ -85,9 +82,5 @@ impl Scanner for OneScan {
 
     fn is_alone(&self) -> bool {
         true
-    }
-
-    fn pays(&self, _cost: u64) -> bool {
-        false
     }
 }

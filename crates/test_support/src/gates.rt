@@ -136,10 +136,6 @@ impl CrewGate for Arrivals {
         }
         crew::scan(rt, alloc, workers, self, blocks, batch)
     }
-
-    fn pays(&self, _cost: u64) -> bool {
-        true
-    }
 }
 
 /// A gate that holds the worker of the first piece until a later one was begun, for ever if no other worker draws it.
@@ -186,10 +182,6 @@ impl CrewGate for Hold {
         batch: &[Place],
     ) -> Result<Vec<ArrayVec<Option<Place>, 60>>, NoMemory> {
         crew::scan(rt, alloc, workers, self, blocks, batch)
-    }
-
-    fn pays(&self, _cost: u64) -> bool {
-        true
     }
 }
 
@@ -292,9 +284,5 @@ impl CrewGate for Watch {
         let found = crew::scan(rt, alloc, workers, self, blocks, batch);
         self.end(workers, count);
         found
-    }
-
-    fn pays(&self, _cost: u64) -> bool {
-        true
     }
 }
