@@ -5,6 +5,10 @@
 //!
 //! Its tricks: marks and forwarders as bits beside the words, blocks fetched ahead of their turn along the order of the cycle
 //! before, a sweep by words, huge pages, one pass over the bytes of a line, and no check of an index.
+//!
+//! With `--cfg no_huge_pages` it asks for none. With `--cfg no_prefetch` it fetches nothing ahead, and with `--cfg plain_loads`
+//! it reads the same words by plain loads. These two are what a language without the instruction can do.
+#![allow(unexpected_cfgs)]
 use std::arch::x86_64::{_MM_HINT_T0, _mm_prefetch};
 use std::io::{self, Read, Write};
 use std::process::exit;
@@ -31,7 +35,9 @@ fn huge(words: usize) -> &'static mut [u64] {
     unsafe {
         let at = mmap(std::ptr::null_mut(), len, 3, 0x22, -1, 0);
         let from = (at as usize).next_multiple_of(1 << 21) as *mut u8;
-        madvise(from, len - (1 << 21), 14);
+        if !cfg!(no_huge_pages) {
+            madvise(from, len - (1 << 21), 14);
+        }
         std::slice::from_raw_parts_mut(from as *mut u64, words)
     }
 }
@@ -453,8 +459,13 @@ impl Heap {
     fn fetch(&self, place: u32) {
         unsafe {
             let at = self.words.as_ptr().add(self.start(place));
-            _mm_prefetch(at as *const i8, _MM_HINT_T0);
-            _mm_prefetch(at.add(8) as *const i8, _MM_HINT_T0);
+            if cfg!(plain_loads) {
+                at.read_volatile();
+                at.add(8).read_volatile();
+            } else if !cfg!(no_prefetch) {
+                _mm_prefetch(at as *const i8, _MM_HINT_T0);
+                _mm_prefetch(at.add(8) as *const i8, _MM_HINT_T0);
+            }
         }
     }
     fn mark(&mut self, left: &mut u64) {
