@@ -22,19 +22,16 @@ struct Span {
     last: u32,
 }
 
-/// A number of a word in four bytes. One that is too large leads nowhere.
+/// A number of a word in four bytes. There are far fewer words than these can count.
 fn word_number(word: usize) -> u32 {
-    u32::try_from(word).unwrap_or(u32::MAX)
+    (word % (1 << 32)) as u32
 }
 
 impl Span {
     /// Of a block at an address with so many references. They follow its header, which marking reads from the counts on.
     fn of(address: Address, count: usize) -> Span {
-        let first = address.word.saturating_add(COUNTS);
-        let last = address
-            .word
-            .saturating_add(count)
-            .saturating_add(HEADER - 1);
+        let first = address.word.wrapping_add(COUNTS);
+        let last = address.word.wrapping_add(count).wrapping_add(HEADER - 1);
         Span {
             first: word_number(first),
             last: word_number(last),
