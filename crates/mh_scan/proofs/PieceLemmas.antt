@@ -1,17 +1,22 @@
 -- Pieces of a batch, and how often each was scanned.
-use Rattle.std.proofs.Common.{arith, ◌≡◌, ℕ, zero, suc, ◌+◌, ◌*◌, ◌<◌, ◌≤◌, ◌==◌, if◌then◌else◌, Option, List, [], ◌∷◌, ◌++◌, take, drop, remove, length, get_or, map, flat_map, count_by, All, refl, sym, ap, ◌∙◌}
+use Rattle.std.proofs.Common.{arith, ◌≡◌, ℕ, zero, suc, ◌+◌, ◌*◌, ◌<◌, ◌≤◌, ◌==◌, if◌then◌else◌, Bool, Option, List, [], ◌∷◌, ◌++◌, take, drop, remove, length, get_or, map, flat_map, count_by, All, refl, sym, ap, ◌∙◌}
 use Rattle.std.proofs.Math.Seq.{take-add}
+use Rattle.std.proofs.lemmas.List.{take_more}
 use Rattle.std.proofs.lemmas.List.Elements.{All-take, All-drop, All-append, All-from_get_or}
 use Rattle.std.proofs.lemmas.List.Sums.{sum_by-append, sum_by-cons}
 use Rattle.std.proofs.lemmas.Bool.Decides.{nat_tests}
 use mathlib.Core.List.{map-append}
 use Rattle.arrayvec.specs.ArrayVec.{ArrayVec}
 use Rattle.mh_model.specs.Pages.{Table}
-use Rattle.mh_model.specs.Table.{Block, found_in, references_at, target_of}
+use Rattle.mh_model.specs.Table.{Block, references_at, target_of}
 use Rattle.mh_model.specs.History.{times_drawn}
 use Rattle.mh_claims.specs.Seats.{DrawSeatView}
-use Rattle.mh_scan.specs.Scanning.{IsScannable, AreScannable, lists}
+use Rattle.mh_scan.specs.Scanning.{IsScannable, AreScannable, is_settled, lists}
+use Rattle.mh_scan.specs.Asking.{lists_asked, settled_asked, AreAnswers}
 use Rattle.mh_scan.specs.Crew.{piece_at, pieces_of, times_found, drawn_by}
+use Rattle.mh_scan.specs.declared.answers.Answers.{Answers}
+use Rattle.mh_scan.specs.declared.answers.Asks.{Asks}
+use Rattle.mh_scan.specs.declared.answers.Asks.TheVariants.{Lists, Settled}
 use Rattle.mh_scan.specs.declared.crew.Found.{Found}
 
 -- Pieces ----------------------------------------------------------------------------------------
@@ -30,11 +35,34 @@ piece-more batch piece = sym (take-add (piece * 16) 16 batch) ∙ ap (λ (count 
 pub all-remove : {X : Type 0} (P : X → Type 0) (xs : List X) (index : ℕ) → All P xs → All P (remove xs index)
 all-remove P xs index all = All-append P (take index xs) (drop (suc index) xs) (All-take P index xs all) (All-drop P (suc index) xs all)
 
-pub lists-append : (xs ys : List (ArrayVec (Option ℕ))) → lists (xs ++ ys) ≡ lists xs ++ lists ys
+lists-append : (xs ys : List (ArrayVec (Option ℕ))) → lists (xs ++ ys) ≡ lists xs ++ lists ys
 lists-append xs ys = map-append (λ (one : ArrayVec (Option ℕ)). one.items) xs ys
 
-pub found_in-append : (table : Table Block) (xs ys : List ℕ) → found_in table (xs ++ ys) ≡ found_in table xs ++ found_in table ys
-found_in-append table xs ys = map-append (λ (place : ℕ). map (target_of table) (references_at table place)) xs ys
+lists_asked-append : (table : Table Block) (asks : Asks) (xs ys : List ℕ) → lists_asked table asks (xs ++ ys) ≡ lists_asked table asks xs ++ lists_asked table asks ys
+lists_asked-append table Lists xs ys = map-append (λ (place : ℕ). map (target_of table) (references_at table place)) xs ys
+lists_asked-append table (Settled cycle) xs ys = refl
+
+settled_asked-append : (table : Table Block) (asks : Asks) (xs ys : List ℕ) → settled_asked table asks (xs ++ ys) ≡ settled_asked table asks xs ++ settled_asked table asks ys
+settled_asked-append table Lists xs ys = refl
+settled_asked-append table (Settled cycle) xs ys = map-append (is_settled table cycle) xs ys
+
+-- answers of places, and of those that follow them
+pub answers-append : (table : Table Block) (asks : Asks) (xs ys : List ℕ) (first more all : Answers) → AreAnswers table asks xs first → AreAnswers table asks ys more
+    → all.lists.items ≡ first.lists.items ++ more.lists.items → all.settled.items ≡ first.settled.items ++ more.settled.items → AreAnswers table asks (xs ++ ys) all
+answers-append table asks xs ys first more all a b of_lists of_settled = record {
+  lists = ap lists of_lists ∙ lists-append first.lists.items more.lists.items ∙ (λ i. a.lists i ++ b.lists i) ∙ sym (lists_asked-append table asks xs ys);
+  settled = of_settled ∙ (λ i. a.settled i ++ b.settled i) ∙ sym (settled_asked-append table asks xs ys);
+}
+
+-- and of the place that is next in a batch
+pub answers-next : (table : Table Block) (asks : Asks) (batch : List ℕ) (index place : ℕ) (first all : Answers) → index < length batch → place ≡ get_or batch index 0 → AreAnswers table asks (take index batch) first
+    → lists all.lists.items ≡ lists first.lists.items ++ lists_asked table asks (place ∷ []) → all.settled.items ≡ first.settled.items ++ settled_asked table asks (place ∷ []) → AreAnswers table asks (take (index + 1) batch) all
+answers-next table asks batch index place first all below here a of_lists of_settled =
+    let more : take (index + 1) batch ≡ take index batch ++ place ∷ [] = take_more batch index 0 below ∙ ap (λ (next : ℕ). take index batch ++ next ∷ []) (sym here) in
+    rw more (record {
+      lists = of_lists ∙ ap (λ (found : List (List (Option ℕ))). found ++ lists_asked table asks (place ∷ [])) a.lists ∙ sym (lists_asked-append table asks (take index batch) (place ∷ []));
+      settled = of_settled ∙ ap (λ (found : List Bool). found ++ settled_asked table asks (place ∷ [])) a.settled ∙ sym (settled_asked-append table asks (take index batch) (place ∷ []));
+    })
 
 pub pieces_of-push : (found : List Found) (one : Found) → pieces_of (found ++ one ∷ []) ≡ pieces_of found ++ one.piece ∷ []
 pieces_of-push found one = map-append (λ (found : Found). found.piece) found (one ∷ [])

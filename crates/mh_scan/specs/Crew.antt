@@ -1,9 +1,10 @@
--- A batch in pieces of 16 places, and the workers that draw and scan them.
+-- A batch in pieces of 16 places, and the workers that draw them and ask their blocks.
 use Rattle.std.specs.Prelude.{◌≡◌, ℕ, ◌+◌, ◌*◌, ◌/◌, ◌≤◌, ◌==◌, true, false, if◌then◌else◌, List, [], ◌∷◌, ◌++◌, All, map, take, drop}
 use Rattle.mh_model.specs.Pages.{Table}
-use Rattle.mh_model.specs.Table.{Block, found_in}
+use Rattle.mh_model.specs.Table.{Block}
 use Rattle.mh_claims.specs.Seats.{ClaimsView, DrawSeatView, IsOf, IsNew, seat_ended}
-use Rattle.mh_scan.specs.Scanning.{lists}
+use Rattle.mh_scan.specs.Asking.{AreAnswers}
+use Rattle.mh_scan.specs.declared.answers.Asks.{Asks}
 use Rattle.mh_scan.specs.declared.crew.Found.{Found}
 use Rattle.mh_scan.specs.declared.crew.Worker.{Worker}
 
@@ -15,15 +16,15 @@ piece_count count = (count + 15) / 16
 abbrev pub piece_at : List ℕ → ℕ → List ℕ
 piece_at batch piece = take 16 (drop (piece * 16) batch)
 
--- what was found in a piece is what a scan finds in its places
-abbrev pub IsFound : Table Block → List ℕ → Found → Type 0
-IsFound table batch found = lists found.lists.items ≡ found_in table (piece_at batch found.piece)
+-- what was found in a piece are the answers of its places
+abbrev pub IsFound : Table Block → Asks → List ℕ → Found → Type 0
+IsFound table asks batch found = AreAnswers table asks (piece_at batch found.piece) found.answers
 
 -- the pieces in which something was found, in order
 abbrev pub pieces_of : List Found → List ℕ
 pieces_of found = map (λ one. one.piece) found
 
--- how often a piece was scanned
+-- how often a piece was asked
 abbrev pub times_found : ℕ → List Found → ℕ
 times_found piece [] = 0
 times_found piece (one ∷ found) = (if one.piece == piece then 1 else 0) + times_found piece found
@@ -39,9 +40,9 @@ pub record IsHired (claims : ClaimsView) (worker : Worker) : Type 0 where
   pub granted : worker.refused ≡ false
 
 -- A worker that is done: what it has is found. If no memory was refused to it, it was answered at last that no piece is left, and has all others that it drew
-pub record HasWorked (claims : ClaimsView) (table : Table Block) (batch : List ℕ) (worker : Worker) : Type 0 where
+pub record HasWorked (claims : ClaimsView) (table : Table Block) (asks : Asks) (batch : List ℕ) (worker : Worker) : Type 0 where
   pub own : IsOf claims worker.seat
-  pub found : All (IsFound table batch) worker.done.items
+  pub found : All (IsFound table asks batch) worker.done.items
   pub ended : worker.refused ≡ false → seat_ended worker.seat ≡ true
   pub last : ℕ
   pub past : worker.refused ≡ false → claims.bound ≤ last

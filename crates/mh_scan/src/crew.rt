@@ -1,15 +1,14 @@
-//! A crew of workers, who draw the pieces of a batch and scan each.
+//! A crew of workers, who draw the pieces of a batch and ask the blocks of each.
 ghost use Rattle.std.specs.Prelude.{◌≡◌, ◌<◌, ◌≤◌, ℕ, true, All, IfOk, length, remove, slice_index_or, vec_len};
 ghost use Rattle.mh_model.specs.History.{times_drawn};
-ghost use Rattle.mh_model.specs.Table.{found_in};
 ghost use Rattle.mh_claims.specs.Seats.{IsOf, IsNew, seat_ended};
-ghost use Rattle.mh_scan.specs.Scanning.{AreScannable, lists};
+ghost use Rattle.mh_scan.specs.Scanning.{AreScannable};
+ghost use Rattle.mh_scan.specs.Asking.{AreAnswers};
 ghost use Rattle.mh_scan.specs.Crew.{piece_count, piece_at, IsFound, times_found, drawn_by, IsHired, HasWorked};
 
+use crate::answers::{Answers, Asks, ask_each};
 use crate::gate::Gate;
-use crate::scan::{scan_block, scan_each};
 use crate::team::on_each;
-use arrayvec::ArrayVec;
 use mh_blocks::blocks::Blocks;
 use mh_claims::claims::{Claims, DrawSeat};
 use mh_model::memory::NoMemory;
@@ -20,11 +19,11 @@ use std::thread::Threads;
 /// How many places a piece has. The last of a batch may have fewer.
 const PIECE: usize = 16;
 
-/// What was found in a piece: a list for each of its blocks.
+/// What was found in a piece.
 #[derive(Drop)]
 struct Found {
     piece: u64,
-    lists: Vec<ArrayVec<Option<Place>, 60>>,
+    answers: Answers,
 }
 
 /// A worker: its right to draw pieces, what it found in those that it drew, and whether memory was refused to it.
@@ -66,20 +65,21 @@ fn crew_size(workers: usize, pieces: usize) -> usize
 fn scan_alone<G: Gate>(
     alloc: Global,
     gate: &G,
+    asks: Asks,
     blocks: &Blocks,
     batch: &[Place],
-) -> Result<Vec<ArrayVec<Option<Place>, 60>>, NoMemory>
+) -> Result<Answers, NoMemory>
     requires { AreScannable blocks.now batch.now }
-    ensures { IfOk result (λ found. lists found.items ≡ found_in blocks.now batch.now) }
+    ensures { IfOk result (λ answers. AreAnswers blocks.now asks batch.now answers) }
 {
-    let mut found = Vec::with_capacity(alloc, batch.len())?;
+    let mut answers = Answers::with_room(alloc, asks, batch.len())?;
     for index in 0..batch.len() {
         if index % PIECE == 0 {
             gate.piece(0, (index / PIECE) as u64);
         }
-        found.push(scan_block(blocks, batch[index]))?;
+        answers.ask(asks, blocks, batch[index])?;
     }
-    Ok(found)
+    Ok(answers)
 }
 
 /// A worker for each seat.
@@ -105,6 +105,7 @@ fn work<G: Gate>(
     alloc: Global,
     claims: &Claims,
     gate: &G,
+    asks: Asks,
     blocks: &Blocks,
     batch: &[Place],
     index: usize,
@@ -113,15 +114,15 @@ fn work<G: Gate>(
     requires hired { IsHired claims.now worker.old }
     requires pieces { claims.now.bound ≡ piece_count (length batch.now) }
     requires scannable { AreScannable blocks.now batch.now }
-    ensures { HasWorked claims.now blocks.now batch.now worker.new }
+    ensures { HasWorked claims.now blocks.now asks batch.now worker.new }
 {
     while let Some(piece) = claims.draw(&mut worker.seat) {
         gate.piece(index, piece);
-        let Ok(lists) = scan_each(alloc, blocks, piece_of(batch, piece)) else {
+        let Ok(answers) = ask_each(alloc, asks, blocks, piece_of(batch, piece)) else {
             worker.refused = true;
             return;
         };
-        let Ok(()) = worker.done.push(Found { piece, lists }) else {
+        let Ok(()) = worker.done.push(Found { piece, answers }) else {
             worker.refused = true;
             return;
         };
@@ -134,6 +135,7 @@ fn work_all<G: Gate + Sync, R: Threads>(
     alloc: Global,
     claims: &Claims,
     gate: &G,
+    asks: Asks,
     blocks: &Blocks,
     batch: &[Place],
     workers: &mut [Worker],
@@ -142,12 +144,12 @@ fn work_all<G: Gate + Sync, R: Threads>(
     requires pieces { claims.now.bound ≡ piece_count (length batch.now) }
     requires few { length workers.old ≤ 64 }
     requires scannable { AreScannable blocks.now batch.now }
-    ensures { All (HasWorked claims.now blocks.now batch.now) workers.new }
+    ensures { All (HasWorked claims.now blocks.now asks batch.now) workers.new }
 {
     let one = |index: usize, worker: &mut Worker|
         requires { IsHired claims.now worker.now × (claims.now.bound ≡ piece_count (length batch.now)) × AreScannable blocks.now batch.now }
-        ensures { HasWorked claims.entry.now blocks.entry.now batch.entry.now worker.exit.now }
-    { work(alloc, claims, gate, blocks, batch, index, worker) };
+        ensures { HasWorked claims.entry.now blocks.entry.now asks batch.entry.now worker.exit.now }
+    { work(alloc, claims, gate, asks, blocks, batch, index, worker) };
     on_each(rt, workers, &one);
 }
 
@@ -155,17 +157,19 @@ fn work_all<G: Gate + Sync, R: Threads>(
 fn gather(
     alloc: Global,
     claims: &Claims,
+    asks: Asks,
     blocks: &Blocks,
     batch: &[Place],
     mut workers: Vec<Worker>,
 ) -> Result<(Vec<DrawSeat>, Vec<Found>), NoMemory>
-    requires { All (HasWorked claims.now blocks.now batch.now) workers.items }
+    requires { All (HasWorked claims.now blocks.now asks batch.now) workers.items }
     ensures count { IfOk result (λ gathered. vec_len gathered.0 ≡ vec_len workers) }
     ensures ended { IfOk result (λ gathered. All (λ seat. IsOf claims.now seat × (seat_ended seat ≡ true)) gathered.0.items) }
-    ensures found { IfOk result (λ gathered. All (IsFound blocks.now batch.now) gathered.1.items) }
+    ensures found { IfOk result (λ gathered. All (IsFound blocks.now asks batch.now) gathered.1.items) }
     ensures times { IfOk result (λ gathered. (number : ℕ) → number < claims.now.bound → times_drawn number (drawn_by gathered.0.items) ≡ times_found number gathered.1.items) }
 {
     let _ = claims;
+    let _ = asks;
     let _ = blocks;
     let _ = batch;
     let mut seats = Vec::new(alloc);
@@ -201,46 +205,57 @@ fn take_piece(found: &mut Vec<Found>, piece: u64) -> Found
 /// What was found in all pieces, in their order.
 fn merge(
     alloc: Global,
+    asks: Asks,
     blocks: &Blocks,
     batch: &[Place],
     mut found: Vec<Found>,
-) -> Result<Vec<ArrayVec<Option<Place>, 60>>, NoMemory>
-    requires found { All (IsFound blocks.now batch.now) found.items }
+) -> Result<Answers, NoMemory>
+    requires found { All (IsFound blocks.now asks batch.now) found.items }
     requires whole { (number : ℕ) → number < piece_count (length batch.now) → 0 < times_found number found.items }
-    ensures { IfOk result (λ merged. lists merged.items ≡ found_in blocks.now batch.now) }
+    ensures { IfOk result (λ merged. AreAnswers blocks.now asks batch.now merged) }
 {
     let _ = blocks;
-    let mut merged = Vec::with_capacity(alloc, batch.len())?;
+    let mut merged = Answers::with_room(alloc, asks, batch.len())?;
     for piece in 0..pieces_in(batch.len()) {
-        let mut taken = take_piece(&mut found, piece as u64);
-        merged.append(&mut taken.lists)?;
+        let taken = take_piece(&mut found, piece as u64);
+        merged.append(taken.answers)?;
     }
     Ok(merged)
 }
 
-/// What `Scanner::scan` finds, by as many workers at most as are asked for. One of them is the calling thread, which does
-/// all if there is one piece or one worker. A gate's `scan_by_crew` is one call of this.
+/// Asks each block of a batch, by as many workers at most as may be had. One of them is the calling thread, which does all
+/// if there is one piece or one worker. A gate's `scan_by_crew` is one call of this.
 pub fn scan<G: Gate + Sync, R: Threads>(
     rt: &R,
     alloc: Global,
     workers: usize,
     gate: &G,
+    asks: Asks,
     blocks: &Blocks,
     batch: &[Place],
-) -> Result<Vec<ArrayVec<Option<Place>, 60>>, NoMemory>
+) -> Result<Answers, NoMemory>
     requires workers { (0 < workers) × (workers ≤ 64) }
     requires scannable { AreScannable blocks.now batch.now }
-    ensures { IfOk result (λ found. lists found.items ≡ found_in blocks.now batch.now) }
+    ensures { IfOk result (λ answers. AreAnswers blocks.now asks batch.now answers) }
 {
     let pieces = pieces_in(batch.len());
     let size = crew_size(workers, pieces);
     if size == 1 {
-        return scan_alone(alloc, gate, blocks, batch);
+        return scan_alone(alloc, gate, asks, blocks, batch);
     }
     let (claims, seats) = Claims::new(alloc, pieces as u64, size)?;
     let mut crew = hire(alloc, &claims, seats)?;
-    work_all(rt, alloc, &claims, gate, blocks, batch, crew.as_mut_slice());
-    let (seats, found) = gather(alloc, &claims, blocks, batch, crew)?;
+    work_all(
+        rt,
+        alloc,
+        &claims,
+        gate,
+        asks,
+        blocks,
+        batch,
+        crew.as_mut_slice(),
+    );
+    let (seats, found) = gather(alloc, &claims, asks, blocks, batch, crew)?;
     claims.finish(seats);
-    merge(alloc, blocks, batch, found)
+    merge(alloc, asks, blocks, batch, found)
 }

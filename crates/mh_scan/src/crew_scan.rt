@@ -1,8 +1,9 @@
 //! The scanner that scans by a crew.
-ghost use Rattle.std.specs.Prelude.{◌≡◌, ◌<◌, ◌≤◌, IfOk};
-ghost use Rattle.mh_model.specs.Table.{found_in};
-ghost use Rattle.mh_scan.specs.Scanning.{AreScannable, lists};
+ghost use Rattle.std.specs.Prelude.{◌<◌, ◌≤◌, IfOk};
+ghost use Rattle.mh_scan.specs.Scanning.{AreScannable, settled_in, lists};
+ghost use Rattle.mh_scan.specs.Asking.{AreAnswers};
 
+use crate::answers::{Answers, Asks};
 use crate::crew;
 use crate::gate::{Gate, Open};
 use crate::scan::Scanner;
@@ -16,18 +17,23 @@ use std::thread::Threads;
 /// A gate that a crew can call from its threads. Each gate writes the method for its own type, with one call of
 /// `crew::scan`.
 pub trait CrewGate: Gate {
-    /// What `Scanner::scan` finds, by as many workers at most as are asked for.
+    /// Asks each block of a batch, by as many workers at most as may be had.
     fn scan_by_crew<R: Threads>(
         &self,
         rt: &R,
         alloc: Global,
         workers: usize,
+        asks: Asks,
         blocks: &Blocks,
         batch: &[Place],
-    ) -> Result<Vec<ArrayVec<Option<Place>, 60>>, NoMemory>
+    ) -> Result<Answers, NoMemory>
         requires workers { (0 < workers) × (workers ≤ 64) }
         requires scannable { AreScannable blocks.now batch.now }
-        ensures { IfOk result (λ found. lists found.items ≡ found_in blocks.now batch.now) };
+        ensures { IfOk result (λ answers. AreAnswers blocks.now asks batch.now answers) };
+
+    /// Whether a front whose marking costs so much is worth a crew. It is for the choice alone: what is marked is the
+    /// same.
+    fn pays(&self, cost: u64) -> bool;
 }
 
 impl CrewGate for Open {
@@ -36,15 +42,21 @@ impl CrewGate for Open {
         rt: &R,
         alloc: Global,
         workers: usize,
+        asks: Asks,
         blocks: &Blocks,
         batch: &[Place],
-    ) -> Result<Vec<ArrayVec<Option<Place>, 60>>, NoMemory> {
-        crew::scan(rt, alloc, workers, self, blocks, batch)
+    ) -> Result<Answers, NoMemory> {
+        crew::scan(rt, alloc, workers, self, asks, blocks, batch)
+    }
+
+    /// Below this the start of a thread and the claims of a crew cost more than they save.
+    fn pays(&self, cost: u64) -> bool {
+        cost >= 40_000
     }
 }
 
 /// The scanner of a crew. Its workers draw pieces of 16 places of the batch, and each calls `gate.piece` with its number
-/// and the piece's before it scans the piece. The calling thread is one of them, and does all with one worker or one
+/// and the piece's before it asks the piece. The calling thread is one of them, and does all with one worker or one
 /// piece. So does it the part of a thread that can't be started.
 #[derive(Drop)]
 pub struct CrewScan<'a, R, G> {
@@ -75,12 +87,32 @@ impl<'a, R: Threads, G: CrewGate> Scanner for CrewScan<'a, R, G> {
         blocks: &Blocks,
         batch: &[Place],
     ) -> Result<Vec<ArrayVec<Option<Place>, 60>>, NoMemory> {
-        self.gate
-            .scan_by_crew(self.rt, self.alloc, self.workers, blocks, batch)
+        let asks = Asks::Lists;
+        let answers = self
+            .gate
+            .scan_by_crew(self.rt, self.alloc, self.workers, asks, blocks, batch)?;
+        Ok(answers.lists)
+    }
+
+    fn settled(
+        &mut self,
+        blocks: &Blocks,
+        cycle: u64,
+        batch: &[Place],
+    ) -> Result<Vec<bool>, NoMemory> {
+        let asks = Asks::Settled(cycle);
+        let answers = self
+            .gate
+            .scan_by_crew(self.rt, self.alloc, self.workers, asks, blocks, batch)?;
+        Ok(answers.settled)
     }
 
     /// A crew of one worker finds a batch no sooner than its caller would.
     fn is_alone(&self) -> bool {
         self.workers == 1
+    }
+
+    fn pays(&self, cost: u64) -> bool {
+        self.workers > 1 && self.gate.pays(cost)
     }
 }

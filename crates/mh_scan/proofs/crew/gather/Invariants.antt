@@ -7,9 +7,9 @@ use Rattle.mh_scan.proofs.crew.gather.Given as goal
 abbrev pub invariant-loop-worker : goal.invariant-loop-worker
 invariant-loop-worker l = record {
   count : vec_len l.seats + vec_len l.workers ≡ vec_len l.fn.workers;
-  left : All (HasWorked l.claims l.blocks l.batch) l.workers.items;
+  left : All (HasWorked l.claims l.blocks l.fn.asks l.batch) l.workers.items;
   ended : All (λ seat. IsOf l.claims seat × (seat_ended seat ≡ true)) l.seats.items;
-  found : All (IsFound l.blocks l.batch) l.found.items;
+  found : All (IsFound l.blocks l.fn.asks l.batch) l.found.items;
   times : (number : ℕ) → number < l.claims.bound → times_drawn number (drawn_by l.seats.items) ≡ times_found number l.found.items;
 }
 

@@ -1,12 +1,11 @@
-use Rattle.std.proofs.Common.{◌≡◌, ℕ, ◌<◌, ◌≤◌, ◌*◌, All, take, length}
-use Rattle.mh_model.specs.Table.{found_in}
-use Rattle.mh_scan.specs.Scanning.{lists}
+use Rattle.std.proofs.Common.{ℕ, ◌<◌, ◌≤◌, ◌*◌, All, take, length}
+use Rattle.mh_scan.specs.Asking.{AreAnswers}
 use Rattle.mh_scan.specs.Crew.{IsFound, piece_count, times_found}
 use Rattle.mh_scan.proofs.crew.merge.Given as goal
 
 abbrev pub invariant-loop-piece : goal.invariant-loop-piece
 invariant-loop-piece l = record {
-  found : All (IsFound l.blocks l.batch) l.found.items;
+  found : All (IsFound l.blocks l.fn.asks l.batch) l.found.items;
   whole : (number : ℕ) → l.piece ≤ number → number < piece_count (length l.batch) → 0 < times_found number l.found.items;
-  merged : lists l.merged.items ≡ found_in l.blocks (take (l.piece * 16) l.batch);
+  merged : AreAnswers l.blocks l.fn.asks (take (l.piece * 16) l.batch) l.merged;
 }

@@ -7,7 +7,7 @@ abbrev pub invariant-loop-piece : goal.invariant-loop-piece
 invariant-loop-piece g l = record {
   own : IsOf l.claims l.worker.seat;
   going : seat_ended l.worker.seat ≡ false;
-  found : All (IsFound l.blocks l.batch) l.worker.done.items;
+  found : All (IsFound l.blocks l.asks l.batch) l.worker.done.items;
   drawn : l.worker.seat.drawn ≡ pieces_of l.worker.done.items;
   granted : l.worker.refused ≡ false;
 }

@@ -1,0 +1,23 @@
+-- What a batch is asked, and what its answers are.
+use Rattle.std.specs.Prelude.{◌≡◌, ℕ, Bool, Option, List, []}
+use Rattle.mh_model.specs.Pages.{Table}
+use Rattle.mh_model.specs.Table.{Block, found_in}
+use Rattle.mh_scan.specs.Scanning.{lists, settled_in}
+use Rattle.mh_scan.specs.declared.answers.Answers.{Answers}
+use Rattle.mh_scan.specs.declared.answers.Asks.{Asks}
+use Rattle.mh_scan.specs.declared.answers.Asks.TheVariants.{Lists, Settled}
+
+-- where the references of the blocks lead, if that is asked
+abbrev pub lists_asked : Table Block → Asks → List ℕ → List (List (Option ℕ))
+lists_asked table Lists batch = found_in table batch
+lists_asked table (Settled cycle) batch = []
+
+-- which of the blocks are settled, if that is asked
+abbrev pub settled_asked : Table Block → Asks → List ℕ → List Bool
+settled_asked table Lists batch = []
+settled_asked table (Settled cycle) batch = settled_in table cycle batch
+
+-- these are the answers of a batch
+pub record AreAnswers (table : Table Block) (asks : Asks) (batch : List ℕ) (answers : Answers) : Type 0 where
+  pub lists : lists answers.lists.items ≡ lists_asked table asks batch
+  pub settled : answers.settled.items ≡ settled_asked table asks batch
