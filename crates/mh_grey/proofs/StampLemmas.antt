@@ -9,7 +9,7 @@ use Rattle.mh_table_laws.proofs.Lists.{to_some}
 use Rattle.mh_table_laws.proofs.placing.Places.{block_at-with_block_there, block_at-with_block_other, with_block-self}
 use Rattle.mh_grey.specs.Shading.{AreMarked}
 use Rattle.mh_grey.proofs.QueueLemmas.{in-push}
-use Rattle.mh_grey.proofs.ShadeLemmas.{place-cases}
+use Rattle.mh_grey.proofs.ShadeLemmas.{place-cases, place-marked, place-new}
 
 -- One block exchanged ----------------------------------------------------------------------------
 
@@ -80,6 +80,7 @@ pub record IsShaded (m new : Marking) : Type 0 where
   pub references : (place : ℕ) → references_at new.table place ≡ references_at m.table place
   pub cycle : new.cycle ≡ m.cycle
   pub marked : AreMarked m.table m.cycle m.grey → AreMarked new.table m.cycle new.grey
+  pub stamps : (place : ℕ) → stamp_at m.table place ≡ m.cycle → stamp_at new.table place ≡ m.cycle
 
 stamp_here : (table : Table Block) (place stamp : ℕ) → IsSome (block_at table place) → stamp_at (with_stamp_at table place stamp) place ≡ stamp
 stamp_here table place stamp there =
@@ -105,14 +106,22 @@ stamped-shaded m place there = record {
     | inl old ↦ stamp_kept m.table place m.cycle other there (marked other old)
     | inr new ↦ rw new (stamp_here m.table place m.cycle there)
   ];
+  stamps = λ other is. stamp_kept m.table place m.cycle other there is;
 }
 
 pub place-shaded : (m : Marking) (place : ℕ) → IsSome (block_at m.table place) → IsShaded m (shade_place m place)
 place-shaded m place there = elim (place-cases m place there) [
-  | inl same ↦ subst (IsShaded m) (sym same) (record { like = like-refl m.table; references = λ q. refl; cycle = refl; marked = λ marked. marked })
+  | inl same ↦ subst (IsShaded m) (sym same) (record { like = like-refl m.table; references = λ q. refl; cycle = refl; marked = λ marked. marked; stamps = λ q is. is })
   | inr new ↦ subst (IsShaded m) (sym new.is) (stamped-shaded m place new.there)
 ]
 
+-- and a block that is shaded is marked
+pub place-stamped : (m : Marking) (place : ℕ) → IsSome (block_at m.table place) → stamp_at (shade_place m place).table place ≡ m.cycle
+place-stamped m place there = elim (cases_eq (stamp_at m.table place) m.cycle) [
+  | inl same ↦ rw (place-marked m place there same) same
+  | inr apart ↦ rw (place-new m place there apart) (stamp_here m.table place m.cycle there)
+]
+
 pub shaded : (m : Marking) (reference : Option ℕ) → LeadsOn m.table reference → IsShaded m (shade m reference)
-shaded m None leads = record { like = like-refl m.table; references = λ q. refl; cycle = refl; marked = λ marked. marked }
+shaded m None leads = record { like = like-refl m.table; references = λ q. refl; cycle = refl; marked = λ marked. marked; stamps = λ q is. is }
 shaded m (Some reference) leads = place-shaded m (resolve m.table reference) leads.1

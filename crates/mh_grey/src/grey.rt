@@ -130,6 +130,14 @@ impl Grey {
         *self.places.front().unwrap()
     }
 
+    /// The grey place of a number, counted from 0.
+    pub fn get(&self, index: usize) -> Place
+        requires { index < length self.now.places }
+        ensures { slice_get self.now.places index ≡ Some result }
+    {
+        *self.places.get(index).unwrap()
+    }
+
     /// Takes the first grey place.
     pub fn pop_first(&mut self) -> Place
         requires { 0 < length self.old.places }
