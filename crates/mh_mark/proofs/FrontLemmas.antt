@@ -111,7 +111,7 @@ pub record IsFront (table : Table Block) (cycle left : ℕ) (old batch rest : Li
   pub is : batch ≡ longest_front 1024 table left old
   pub parts : old ≡ batch ++ rest
 
-pub front-batch : (table : Table Block) (cycle left : ℕ) (old batch rest : List ℕ) → IsFront table cycle left old batch rest → batch_written (marking table rest cycle) batch (found_in table batch) ≡ front_marked left (marking table old cycle)
+front-batch : (table : Table Block) (cycle left : ℕ) (old batch rest : List ℕ) → IsFront table cycle left old batch rest → batch_written (marking table rest cycle) batch (found_in table batch) ≡ front_marked left (marking table old cycle)
 front-batch table cycle left old batch rest f =
     ap (λ r. batch_written (marking table r cycle) batch (found_in table batch)) (sym (ap (drop (length batch)) f.parts ∙ drop-append_seam batch rest))
     ∙ ap (λ b. batch_marked (marking table old cycle) b (drop (length b) old)) f.is
@@ -132,9 +132,14 @@ front-markable table cycle old batch rest parts walk index below =
     let inside : is_in (get_or batch index 0) old ≡ true = rw parts (in_front batch rest index below) in
     record { there = walk.there (get_or batch index 0) inside; lead = walk.lead (get_or batch index 0) inside }
 
+pub in_at : (grey : List ℕ) (index place : ℕ) → slice_get grey index ≡ Some place → is_in place grey ≡ true
+in_at [] zero place is = cc
+in_at [] (suc index) place is = cc
+in_at (first ∷ grey) zero place is = ap (λ b. b || is_in place grey) (eq-eqb place first (sym (same_Some first place is)))
+in_at (first ∷ grey) (suc index) place is = or_right (place == first) (is_in place grey) (in_at grey index place is)
+
 pub first_in : (grey : List ℕ) (place : ℕ) → slice_get grey 0 ≡ Some place → is_in place grey ≡ true
-first_in [] place is = cc
-first_in (first ∷ grey) place is = ap (λ b. b || is_in place grey) (eq-eqb place first (sym (same_Some first place is)))
+first_in grey place is = in_at grey 0 place is
 
 pub queue-as : (q : Queue) (m other : Marking) (pages more : ℕ) → q ≡ record { places = m.grey; pages = pages } → m ≡ other → pages ≡ more → q ≡ record { places = other.grey; pages = more }
 queue-as q m other pages more is a b = rw (← a, ← b) is

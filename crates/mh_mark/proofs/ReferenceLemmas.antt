@@ -1,6 +1,5 @@
 -- One reference of a block: where it leads, and what writing it back and shading it are.
-use Rattle.std.proofs.Common.{◌≡◌, ℕ, zero, suc, ◌+◌, ◌*◌, Bool, true, false, not, inl, inr, List, [], ◌∷◌, get_or, set, Option, Some, None, option_map, option_and_then, unwrap_or, is_some, IsSome, refl, sym, ap, ◌∙◌, subst}
-use Rattle.std.specs.Option.{option_eq}
+use Rattle.std.proofs.Common.{◌≡◌, ℕ, zero, suc, ◌+◌, ◌*◌, Bool, true, false, inl, inr, List, [], ◌∷◌, get_or, set, Option, Some, None, option_map, option_and_then, unwrap_or, is_some, IsSome, refl, sym, ap, ◌∙◌, subst}
 use Rattle.std.proofs.lemmas.Bool.{false≢true}
 use Rattle.std.proofs.lemmas.List.{set-get_or}
 use Rattle.mh_model.specs.Pages.{Table, page_number, slot_number, page_at, block_in, block_at, class_at, page_with, with_block}
@@ -31,10 +30,6 @@ at_home-leads table (Some place) home =
 pub target-at_home : (table : Table Block) (reference : Option ℕ) → LeadsHome table reference → IsAtHome table (target_of table reference)
 target-at_home table None home = tt
 target-at_home table (Some place) home = home
-
-pub at_home-like : (table new : Table Block) (reference : Option ℕ) → IsLike table new → IsAtHome table reference → IsAtHome new reference
-at_home-like table new None like home = tt
-at_home-like table new (Some place) like home = (like.there place ∙ home.0, like.forwards place ∙ home.1)
 
 -- What is written ------------------------------------------------------------------------------------
 
@@ -157,14 +152,3 @@ marked-apart_at table cycle grey place marked unmarked = go (is_in place grey) r
 pub marked-written : (table : Table Block) (place index : ℕ) (reference : Option ℕ) (cycle : ℕ) (grey : List ℕ) → AreMarked table cycle grey → AreMarked (with_reference_at table place index reference) cycle grey
 marked-written table place index reference cycle grey marked q is =
     change-view (λ (o : Option Block). unwrap_or (option_map (λ b. b.stamp) o) 0) (λ (b : Block). record b { references = set b.references index reference }) (λ b. refl) table place q ∙ marked q is
-
--- what compares as the same reference is it
-pub same_option : (eq : ℕ → ℕ → Bool) → ((a b : ℕ) → eq a b ≡ true → a ≡ b) → (read reference : Option ℕ) → not (option_eq eq read reference) ≡ false → read ≡ reference
-same_option eq tells None None is = refl
-same_option eq tells None (Some b) is = absurd (false≢true (sym is))
-same_option eq tells (Some a) None is = absurd (false≢true (sym is))
-same_option eq tells (Some a) (Some b) is = ap Some (tells a b (go (eq a b) is))
-  where
-    go : (t : Bool) → not t ≡ false → t ≡ true
-    go true e = refl
-    go false e = absurd (false≢true (sym e))

@@ -1,13 +1,22 @@
 -- What marking keeps.
-use Rattle.std.specs.Prelude.{◌≡◌, ◌⊎◌, ℕ, true, None, IsSome, is_some, length}
+use Rattle.std.specs.Prelude.{◌≡◌, ◌⊎◌, ℕ, ◌<◌, true, Option, None, Some, IsSome, is_some, length}
 use Rattle.mh_model.specs.Pages.{block_at, class_at}
-use Rattle.mh_model.specs.Table.{references_at, forward_at}
+use Rattle.mh_model.specs.Table.{references_at, reference_at, stamp_at, forward_at}
 use Rattle.mh_model.specs.Collector.{Marking}
 use Rattle.mh_grey.specs.Queue.{is_in}
 use Rattle.mh_grey.specs.Shading.{AreMarked}
 use Rattle.mh_mark.specs.Walkable.{LeadHome}
 
--- pages have the classes that they had; each block is where it was, leads where it led and has as many references; references that led home do, marked grey places are, and what is newly grey is no forwarder
+-- a reference is null, or leads straight to a block that is marked
+abbrev pub IsReached : Marking → Option ℕ → Type 0
+IsReached marking None = Unit {0}
+IsReached marking (Some place) = (forward_at marking.table place ≡ None) × (stamp_at marking.table place ≡ marking.cycle)
+
+-- each reference of the block at a place is so
+abbrev pub IsSettled : Marking → ℕ → Type 0
+IsSettled marking place = (index : ℕ) → index < length (references_at marking.table place) → IsReached marking (reference_at marking.table place index)
+
+-- pages have the classes that they had; each block is where it was, leads where it led and has as many references; references that led home do, marked grey places are, settled blocks are, and what is newly grey is no forwarder
 pub record KeepsMarking (old new : Marking) : Type 0 where
   pub there : (place : ℕ) → is_some (block_at new.table place) ≡ is_some (block_at old.table place)
   pub forwards : (place : ℕ) → forward_at new.table place ≡ forward_at old.table place
@@ -17,4 +26,5 @@ pub record KeepsMarking (old new : Marking) : Type 0 where
   pub lead : (place : ℕ) → LeadHome old.table place → LeadHome new.table place
   pub cycle : new.cycle ≡ old.cycle
   pub marked : AreMarked old.table old.cycle old.grey → AreMarked new.table new.cycle new.grey
+  pub settled : (place : ℕ) → IsSettled old place → IsSettled new place
   pub grey : (place : ℕ) → is_in place new.grey ≡ true → (is_in place old.grey ≡ true) ⊎ (IsSome (block_at new.table place) × (forward_at new.table place ≡ None))

@@ -1,13 +1,11 @@
-ghost use Rattle.std.specs.Prelude.{◌≡◌, ℕ, ◌<◌, ◌≤◌, ◌++◌, [], ◌∷◌, true, None, IsSome, length, get_or};
-ghost use Rattle.mh_model.specs.Pages.{block_at, Leads};
-ghost use Rattle.mh_model.specs.Table.{references_at, with_reference_at, found_in};
-ghost use Rattle.mh_model.specs.Batches.{written_back, batch_written, batch_cost, longest_front};
-ghost use Rattle.mh_pages.specs.Addresses.{address_in};
+ghost use Rattle.std.specs.Prelude.{◌≡◌, ℕ, ◌≤◌, ◌++◌, [], true, IsSome, length};
+ghost use Rattle.mh_model.specs.Pages.{block_at};
+ghost use Rattle.mh_model.specs.Batches.{batch_cost, longest_front};
 ghost use Rattle.mh_grey.specs.Queue.{is_in};
 ghost use Rattle.mh_grey.specs.Shading.{marking, AreMarked};
-ghost use Rattle.mh_scan.specs.Scanning.{lists};
+ghost use Rattle.mh_scan.specs.Scanning.{settled_in};
 ghost use Rattle.mh_mark.specs.Kept.{KeepsMarking};
-ghost use Rattle.mh_mark.specs.Walkable.{IsAtHome, IsWalkable};
+ghost use Rattle.mh_mark.specs.Walkable.{IsWalkable};
 ghost use Rattle.mh_mark.specs.Batched.{AreMarkable, blocks_marked, front_of, front_marked};
 
 use crate::mark::mark_block;
@@ -15,90 +13,7 @@ use arrayvec::ArrayVec;
 use mh_blocks::blocks::Blocks;
 use mh_grey::grey::Grey;
 use mh_model::place::Place;
-use mh_pages::address::Address;
 use mh_scan::scan::Scanner;
-
-/// Writes a reference of the block at an address, if it isn't what stands there.
-fn store_reference(blocks: &mut Blocks, address: Address, index: usize, reference: Option<Place>)
-    requires at { address ≡ address_in blocks.old address.place }
-    requires there { index < length (references_at blocks.old address.place) }
-    requires leads { Leads blocks.old reference }
-    ensures { blocks.new ≡ with_reference_at blocks.old address.place index reference }
-{
-    if blocks.reference_from(address, index) != reference {
-        blocks.set_reference_from(address, index, reference);
-    }
-}
-
-/// Writes what was found of a reference of the block at an address back, and shades it.
-fn write_reference(
-    blocks: &mut Blocks,
-    grey: &mut Grey,
-    cycle: u64,
-    address: Address,
-    index: usize,
-    found: Option<Place>,
-)
-    requires pages { grey.old.pages ≡ length blocks.old }
-    requires at { address ≡ address_in blocks.old address.place }
-    requires there { index < length (references_at blocks.old address.place) }
-    requires home { IsAtHome blocks.old found }
-    requires marked { AreMarked blocks.old cycle grey.old.places }
-    ensures table { blocks.new ≡ (written_back (marking blocks.old grey.old.places cycle) address.place index (found ∷ [])).table }
-    ensures grey { grey.new ≡ record { places = (written_back (marking blocks.old grey.old.places cycle) address.place index (found ∷ [])).grey; pages = grey.old.pages } }
-{
-    match found {
-        None => store_reference(blocks, address, index, None),
-        Some(place) => {
-            store_reference(blocks, address, index, Some(place));
-            grey.shade_place(blocks, cycle, place);
-        }
-    }
-}
-
-/// Writes what was found of a block back, in order, and shades it.
-fn write_back(
-    blocks: &mut Blocks,
-    grey: &mut Grey,
-    cycle: u64,
-    place: Place,
-    found: &[Option<Place>],
-)
-    requires there { IsSome (block_at blocks.old place) }
-    requires pages { grey.old.pages ≡ length blocks.old }
-    requires few { length found.now ≤ length (references_at blocks.old place) }
-    requires home { (index : ℕ) → IsAtHome blocks.old (get_or found.now index None) }
-    requires marked { AreMarked blocks.old cycle grey.old.places }
-    ensures table { blocks.new ≡ (written_back (marking blocks.old grey.old.places cycle) place 0 found.now).table }
-    ensures grey { grey.new ≡ record { places = (written_back (marking blocks.old grey.old.places cycle) place 0 found.now).grey; pages = grey.old.pages } }
-    ensures kept { KeepsMarking (marking blocks.old grey.old.places cycle) (marking blocks.new grey.new.places cycle) }
-{
-    let address = blocks.address(place);
-    for index in 0..found.len() {
-        write_reference(blocks, grey, cycle, address, index, found[index]);
-    }
-}
-
-/// Writes what was found of a batch back, block by block.
-fn write_batch(
-    blocks: &mut Blocks,
-    grey: &mut Grey,
-    cycle: u64,
-    batch: &[Place],
-    found: &[ArrayVec<Option<Place>, 60>],
-)
-    requires pages { grey.old.pages ≡ length blocks.old }
-    requires markable { AreMarkable blocks.old batch.now }
-    requires marked { AreMarked blocks.old cycle grey.old.places }
-    requires found { lists found.now ≡ found_in blocks.old batch.now }
-    ensures table { blocks.new ≡ (batch_written (marking blocks.old grey.old.places cycle) batch.now (lists found.now)).table }
-    ensures grey { grey.new ≡ record { places = (batch_written (marking blocks.old grey.old.places cycle) batch.now (lists found.now)).grey; pages = grey.old.pages } }
-    ensures kept { KeepsMarking (marking blocks.old grey.old.places cycle) (marking blocks.new grey.new.places cycle) }
-{
-    for index in 0..batch.len() {
-        write_back(blocks, grey, cycle, batch[index], found[index].as_slice());
-    }
-}
 
 /// Marks through the blocks of a batch, one after the other.
 fn mark_blocks(blocks: &mut Blocks, grey: &mut Grey, cycle: u64, batch: &[Place])
@@ -110,6 +25,31 @@ fn mark_blocks(blocks: &mut Blocks, grey: &mut Grey, cycle: u64, batch: &[Place]
     ensures kept { KeepsMarking (marking blocks.old grey.old.places cycle) (marking blocks.new grey.new.places cycle) }
 {
     for index in 0..batch.len() {
+        mark_block(blocks, grey, cycle, batch[index]);
+    }
+}
+
+/// Marks through the blocks of a batch that aren't settled, one after the other. Through those that are it would change
+/// nothing, also after the others.
+fn mark_unsettled(
+    blocks: &mut Blocks,
+    grey: &mut Grey,
+    cycle: u64,
+    batch: &[Place],
+    settled: &[bool],
+)
+    requires pages { grey.old.pages ≡ length blocks.old }
+    requires markable { AreMarkable blocks.old batch.now }
+    requires marked { AreMarked blocks.old cycle grey.old.places }
+    requires settled { settled.now ≡ settled_in blocks.old cycle batch.now }
+    ensures table { blocks.new ≡ (blocks_marked (marking blocks.old grey.old.places cycle) batch.now).table }
+    ensures grey { grey.new ≡ record { places = (blocks_marked (marking blocks.old grey.old.places cycle) batch.now).grey; pages = grey.old.pages } }
+    ensures kept { KeepsMarking (marking blocks.old grey.old.places cycle) (marking blocks.new grey.new.places cycle) }
+{
+    for index in 0..batch.len() {
+        if settled[index] {
+            continue;
+        }
         mark_block(blocks, grey, cycle, batch[index]);
     }
 }
@@ -140,9 +80,28 @@ fn take_front(blocks: &Blocks, grey: &mut Grey, left: u64, batch: &mut ArrayVec<
     cost
 }
 
-/// Marks through the longest front that fits in what is left: the scanner finds its references at once, which are then
-/// written back and shaded, and if it has no memory the same blocks are marked one after the other. Answers what
-/// that costs, nothing if not even the first fits.
+/// By how many of its blocks the cost of a front is guessed.
+const SAMPLES: usize = 8;
+
+/// About what marking through the front of the grey list costs, by a few of its blocks. It is for a choice alone.
+pub fn front_guess(blocks: &Blocks, grey: &Grey) -> u64
+    requires there { (place : ℕ) → is_in place grey.now.places ≡ true → IsSome (block_at blocks.now place) }
+{
+    let count = grey.len().min(1024);
+    if count == 0 {
+        return 0;
+    }
+    let mut cost = 0;
+    for sample in 0..SAMPLES {
+        let place = grey.get(sample * count / SAMPLES);
+        cost += 1 + blocks.reference_count(place);
+    }
+    (cost * count / SAMPLES) as u64
+}
+
+/// Marks through the longest front that fits in what is left: the scanner finds at once which of its blocks are settled,
+/// and the others are marked through one after the other. If it has no memory, all are. Answers what that costs, nothing
+/// if not even the first fits.
 pub fn mark_batch<S: Scanner>(
     blocks: &mut Blocks,
     grey: &mut Grey,
@@ -161,8 +120,8 @@ pub fn mark_batch<S: Scanner>(
     grey.has_each_once();
     let mut batch = ArrayVec::new();
     let cost = take_front(blocks, grey, left, &mut batch);
-    match scanner.scan(blocks, batch.as_slice()) {
-        Ok(found) => write_batch(blocks, grey, cycle, batch.as_slice(), &found),
+    match scanner.settled(blocks, cycle, batch.as_slice()) {
+        Ok(settled) => mark_unsettled(blocks, grey, cycle, batch.as_slice(), &settled),
         Err(_) => mark_blocks(blocks, grey, cycle, batch.as_slice()),
     }
     cost
