@@ -9,7 +9,7 @@ use Rattle.mh_laws.specs.Snapshots.{CollectorsStaySteady}
 use Rattle.mh_laws.proofs.marking.BatchSteps.{with_units-twice}
 use Rattle.mh_laws.proofs.costs.Quanta.{steps-stop, steps-go, steps-enough, step_cost-positive}
 use Rattle.mh_cycle.specs.State.{CycleState, with_collector}
-use Rattle.mh_cycle.specs.Advance.{is_over, order, IsFrom, IsStride, IsRun, IsAdvance, IsRest}
+use Rattle.mh_cycle.specs.Advance.{is_over, order, IsFrom, IsStride, IsRun, IsTurn, IsAdvance, IsRest}
 
 no-units : (s : Spending) → with_units 0 s ≡ s
 no-units s = ap (λ u. record s { units = u }) (omega arith)
@@ -162,6 +162,46 @@ pub advance-stride : CollectorsStaySteady → (left units cost all : ℕ) (moved
     → IsAdvance left old all moved new
 advance-stride law left units cost all moved old mid new before sum fits state stride =
     advance-on left units cost all moved moved old mid new before sum fits (ap (λ s. s.config) state) (stride-steady law cost moved moved mid.collector new.collector stride before.steady) stride
+
+-- Turns --------------------------------------------------------------------------------------------
+
+pub turn-none : (left : ℕ) (state : CycleState) → IsSteady state.collector → IsTurn left state 0 state
+turn-none left state steady = record { config = refl; steady = steady; fits = omega arith; goes = λ moved. stride-none moved state.collector }
+
+-- one step more
+pub turn-step : CollectorsStaySteady → (left units cost all : ℕ) (old mid new : CycleState) → IsTurn left old units mid → all ≡ units + cost → cost ≤ left - units
+    → is_idle mid.collector.phase ≡ false → ((moved : Bool) → cost ≡ step_cost mid.collector moved) → ((moved : Bool) → moved ≡ (moved || is_moving mid.collector)) → new ≡ with_collector mid (collector_step mid.collector) → IsTurn left old all new
+turn-step law left units cost all old mid new before sum fits runs price moving is =
+    let collector : new.collector ≡ collector_step mid.collector = ap (λ s. s.collector) is in
+    record {
+      config = ap (λ s. s.config) is ∙ before.config;
+      steady = subst IsSteady (sym collector) (law.steps mid.collector before.steady);
+      fits = omega (arith, before.fits);
+      goes = λ moved. rw sum (stride-then units cost moved moved moved old.collector mid.collector new.collector (before.goes moved) (stride-one cost moved moved mid.collector new.collector runs (price moved) (moving moved) collector));
+    }
+
+-- some steps
+pub turn-run : CollectorsStaySteady → (left units : ℕ) (old new : CycleState) → IsSteady old.collector → new ≡ with_collector old new.collector → IsRun left old.collector units new.collector → IsTurn left old units new
+turn-run law left units old new steady state run = record {
+  config = ap (λ s. s.config) state;
+  steady = stride-steady law units false false old.collector new.collector (run.goes false) steady;
+  fits = run.fits;
+  goes = run.goes;
+}
+
+-- with more left
+pub turn-wider : (less left units : ℕ) (old new : CycleState) → IsTurn less old units new → less ≤ left → IsTurn left old units new
+turn-wider less left units old new turn fits = record { config = turn.config; steady = turn.steady; fits = omega (arith, turn.fits); goes = turn.goes }
+
+-- a turn begins a quantum, and goes on with one
+pub advance-turn : (left units : ℕ) (old new : CycleState) → IsTurn left old units new → IsAdvance left old units false new
+advance-turn left units old new turn = record { config = turn.config; steady = turn.steady; fits = turn.fits; goes = turn.goes false left turn.fits }
+
+pub advance-by_turn : (left units cost all : ℕ) (old mid new : CycleState) → IsAdvance left old units false mid → all ≡ units + cost → IsTurn (left - units) mid cost new → IsAdvance left old all false new
+advance-by_turn left units cost all old mid new before sum turn = advance-on left units cost all false false old mid new before sum turn.fits turn.config turn.steady (turn.goes false)
+
+pub from-turn : (phase : Phase) (left most units : ℕ) (old new : CycleState) → old.collector.phase ≡ phase → IsTurn most old units new → IsFrom phase left new.collector
+from-turn phase left most units old new is turn = from-stride phase left units false false old.collector new.collector is (turn.goes false)
 
 -- in this phase or past it after a step, and after some steps
 pub later-step : (phase : Phase) (mid new : CycleState) → mid.collector.phase ≡ phase → new ≡ with_collector mid (collector_step mid.collector) → order phase ≤ order new.collector.phase

@@ -32,6 +32,13 @@ pub record IsRun (left : ℕ) (old : Collector) (units : ℕ) (new : Collector) 
   pub goes : (moved : Bool) → IsStride units moved old moved new
   pub dear : units ≡ 0 → is_over left false new ≡ true
 
+-- a turn of marking: steps that fit in what is left, whether or not the quantum has moved a block before them
+pub record IsTurn (left : ℕ) (old : CycleState) (units : ℕ) (new : CycleState) : Type 0 where
+  pub config : new.config ≡ old.config
+  pub steady : IsSteady new.collector
+  pub fits : units ≤ left
+  pub goes : (moved : Bool) → IsStride units moved old.collector moved new.collector
+
 -- what a quantum with so much left begins with: steps that cost so many units, after which it goes on, and may have moved a block
 pub record IsAdvance (left : ℕ) (old : CycleState) (units : ℕ) (moved : Bool) (new : CycleState) : Type 0 where
   pub config : new.config ≡ old.config

@@ -4,7 +4,7 @@ ghost use Rattle.mh_model.specs.declared.cycle.Phase.TheVariants.{Mark, Sweep, D
 ghost use Rattle.mh_model.specs.Invariant.{IsSteady};
 ghost use Rattle.mh_roots.specs.Roots.{SlotsLead};
 ghost use Rattle.mh_cycle.specs.State.{with_forwarded, forwarded_state};
-ghost use Rattle.mh_cycle.specs.Advance.{IsFrom, IsAdvance, IsRest};
+ghost use Rattle.mh_cycle.specs.Advance.{IsFrom, IsTurn, IsAdvance, IsRest};
 
 use crate::cycle::Cycle;
 use mh_laws::snapshots::collectors_stay_steady;
@@ -13,6 +13,9 @@ use mh_scan::scan::Scanner;
 
 /// What the scan of one slot costs.
 const ROOT_COST: u64 = 2;
+
+/// The most units of a turn in which a crew isn't called.
+const TURN: u64 = 4_096;
 
 /// What steps of defragmentation cost, and whether one of them moved a block.
 #[derive(Clone, Copy)]
@@ -40,11 +43,11 @@ impl Cycle {
         spent
     }
 
-    /// Marks blocks one after the other, as a scanner would that is alone.
+    /// Marks blocks one after the other.
     fn mark_alone(&mut self, left: u64) -> u64
         requires steady { IsSteady self.old.collector }
         requires from { IsFrom Mark left self.old.collector }
-        ensures advance { IsAdvance left self.old result false self.new }
+        ensures turn { IsTurn left self.old result self.new }
         ensures from { IsFrom Sweep (left - result) self.new.collector }
     {
         collectors_stay_steady();
@@ -61,17 +64,30 @@ impl Cycle {
         spent
     }
 
-    /// Marks blocks by batches.
-    fn mark_batches<S: Scanner>(&mut self, scanner: &mut S, left: u64) -> u64
+    /// Marks blocks for a turn: by a batch, where that pays, and else one after the other for a while.
+    fn mark_turn<S: Scanner>(&mut self, scanner: &mut S, left: u64) -> u64
+        requires phase { self.old.collector.phase ≡ Mark }
+        requires steady { IsSteady self.old.collector }
+        ensures { IsTurn left self.old result self.new }
+    {
+        collectors_stay_steady();
+        if scanner.pays(self.front_guess()) {
+            self.mark_batch(scanner, left)
+        } else {
+            self.mark_alone(left.min(TURN))
+        }
+    }
+
+    /// Marks blocks by turns, until one of them takes no step.
+    fn mark_by_turns<S: Scanner>(&mut self, scanner: &mut S, left: u64) -> u64
         requires steady { IsSteady self.old.collector }
         requires from { IsFrom Mark left self.old.collector }
         ensures advance { IsAdvance left self.old result false self.new }
-        ensures from { IsFrom Sweep (left - result) self.new.collector }
+        ensures from { IsFrom Mark (left - result) self.new.collector }
     {
-        collectors_stay_steady();
         let mut spent = 0;
         while self.is_in(Phase::Mark) {
-            let cost = self.mark_batch(scanner, left - spent);
+            let cost = self.mark_turn(scanner, left - spent);
             if cost == 0 {
                 break;
             }
@@ -88,10 +104,11 @@ impl Cycle {
         ensures from { IsFrom Sweep (left - result) self.new.collector }
     {
         if scanner.is_alone() {
-            self.mark_alone(left)
-        } else {
-            self.mark_batches(scanner, left)
+            return self.mark_alone(left);
         }
+        let spent = self.mark_by_turns(scanner, left);
+        let rest = self.mark_alone(left - spent);
+        spent + rest
     }
 
     /// Sweeps while steps fit in what is left. Answers what that cost.

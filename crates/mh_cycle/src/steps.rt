@@ -15,7 +15,7 @@ use mh_defrag::defrag::Still;
 use mh_grey::grey::Grey;
 use mh_laws::batches::any_cut_into_batches_is_the_same;
 use mh_laws::fields::references_lead_on;
-use mh_mark::batch::mark_batch;
+use mh_mark::batch::{front_guess, mark_batch};
 use mh_mark::mark::{FirstGrey, first_grey, mark_step};
 use mh_model::cycle::Phase;
 use mh_model::limits::ROOT_SLOTS;
@@ -126,6 +126,14 @@ impl Cycle {
         self.grey.touch(&self.blocks, first.address, first.count);
         self.cursor = 0;
         self.phase = after_mark(&self.grey);
+    }
+
+    /// About what marking through the next front costs.
+    pub(crate) fn front_guess(&self) -> u64
+        requires steady { IsSteady self.now.collector }
+    {
+        references_lead_on();
+        front_guess(&self.blocks, &self.grey)
     }
 
     /// Marks through the longest front that fits in what is left, by the scanner. Answers what that cost, nothing if

@@ -1,8 +1,11 @@
-use Rattle.std.proofs.Common.{◌+◌, refl, ap, ◌∙◌, arith, false}
+use Rattle.std.proofs.Common.{◌≡◌, ◌+◌, ◌-◌, refl, ap, ◌∙◌, arith}
 use Rattle.mh_model.specs.declared.cycle.Phase.TheVariants.{Mark}
 use Rattle.mh_model.specs.Collector.{is_idle}
-use Rattle.mh_cycle.proofs.StrideLemmas.{advance-step, from-step, still}
+use Rattle.mh_cycle.proofs.StrideLemmas.{turn-none, turn-step, from-step, still}
 use Rattle.mh_cycle.proofs.cycle.Cycle.mark_alone.Goals as goal
+
+pub loop-self-init : goal.loop-self-init
+loop-self-init c = let whole : c.args.left - 0 ≡ c.args.left = omega arith in record { turn = turn-none _ _ c.requires.steady; from = rw whole c.requires.from }
 
 pub loop-self-smaller : goal.loop-self-smaller
 loop-self-smaller c = omega (arith, c.if-left-spent.false)
@@ -10,8 +13,7 @@ loop-self-smaller c = omega (arith, c.if-left-spent.false)
 pub loop-self-preserved : goal.loop-self-preserved
 loop-self-preserved c =
     let phase = c.is_in.ensures.yes c.loop-self-test.true in
-    let cost = ap (λ first. 1 + first.count) c.first.view_is ∙ c.first_grey-first.ensures.cost false in
     record {
-      advance = advance-step c.collectors_stay_steady.ensures _ _ _ _ _ _ _ _ _ c.loop-self.invariant.advance refl (omega (arith, c.if-left-spent.false)) (ap is_idle phase) cost (still Mark false _ phase refl) c.mark_step.ensures;
+      turn = turn-step c.collectors_stay_steady.ensures _ _ _ _ _ _ _ c.loop-self.invariant.turn refl (omega (arith, c.if-left-spent.false)) (ap is_idle phase) (λ moved. ap (λ first. 1 + first.count) c.first.view_is ∙ c.first_grey-first.ensures.cost moved) (λ moved. still Mark moved _ phase refl) c.mark_step.ensures;
       from = from-step Mark _ _ _ phase c.mark_step.ensures;
     }

@@ -1,7 +1,7 @@
 use Rattle.std.proofs.Common.{◌-◌, false}
 use Rattle.mh_model.specs.declared.cycle.Phase.TheVariants.{Mark}
 use Rattle.mh_cycle.specs.Advance.{IsFrom, IsAdvance}
-use Rattle.mh_cycle.proofs.cycle.Cycle.mark_batches.Given as goal
+use Rattle.mh_cycle.proofs.cycle.Cycle.mark_by_turns.Given as goal
 
 abbrev pub invariant-loop-self : goal.invariant-loop-self
 invariant-loop-self g l = record { advance : IsAdvance l.left l.initial.self l.spent false l.self; from : IsFrom Mark (l.left - l.spent) l.self.collector }

@@ -1,0 +1,14 @@
+use Rattle.std.proofs.Common.{◌≡◌, ◌+◌, ◌-◌, refl, arith}
+use Rattle.mh_cycle.proofs.StrideLemmas.{advance-turn, advance-by_turn}
+use Rattle.mh_cycle.proofs.cycle.Cycle.mark.Goals as goal
+
+pub returns-then-is_alone-clause-advance : goal.returns-then-is_alone-clause-advance
+returns-then-is_alone-clause-advance g c = advance-turn _ _ _ _ c.mark_alone.ensures.turn
+
+pub returns-clause-advance : goal.returns-clause-advance
+returns-clause-advance g c = advance-by_turn _ _ _ _ _ _ _ c.mark_by_turns-spent.ensures.advance refl c.mark_alone-rest.ensures.turn
+
+pub returns-clause-from : goal.returns-clause-from
+returns-clause-from g c =
+    let left : c.args.left - (c.mark_by_turns-spent.result + c.mark_alone-rest.result) ≡ c.args.left - c.mark_by_turns-spent.result - c.mark_alone-rest.result = omega arith in
+    rw left c.mark_alone-rest.ensures.from
