@@ -1,10 +1,10 @@
 use crate::asked::{Asked, Course, told_by};
 use crate::scripts::{chain, wide};
 use crate::sweep::PLENTY;
-use arrayvec::ArrayVec;
 use mh_blocks::blocks::Blocks;
 use mh_model::memory::NoMemory;
 use mh_model::place::Place;
+use mh_scan::answers::{Answers, Asks};
 use mh_scan::crew;
 use mh_scan::crew_scan::{CrewGate, CrewScan};
 use mh_scan::gate::Gate;
@@ -223,10 +223,15 @@ impl CrewGate for Taking {
         rt: &R,
         alloc: Global,
         workers: usize,
+        asks: Asks,
         blocks: &Blocks,
         batch: &[Place],
-    ) -> Result<Vec<ArrayVec<Option<Place>, 60>>, NoMemory> {
-        crew::scan(rt, alloc, workers, self, blocks, batch)
+    ) -> Result<Answers, NoMemory> {
+        crew::scan(rt, alloc, workers, self, asks, blocks, batch)
+    }
+
+    fn pays(&self, _cost: u64) -> bool {
+        true
     }
 }
 

@@ -1,9 +1,9 @@
 //! Gates that hold workers and sessions, and note which of them came.
 
-use arrayvec::ArrayVec;
 use mh_blocks::blocks::Blocks;
 use mh_model::memory::NoMemory;
 use mh_model::place::Place;
+use mh_scan::answers::{Answers, Asks};
 use mh_scan::crew;
 use mh_scan::crew_scan::CrewGate;
 use mh_scan::gate::Gate;
@@ -106,7 +106,7 @@ impl Arrivals {
         &self.sessions
     }
 
-    /// How many batches were scanned, and how many of them before any session had come.
+    /// How many batches were asked, and how many of them before any session had come.
     pub fn scans(&self) -> (u64, u64) {
         (self.scans.load(SeqCst), self.early.load(SeqCst))
     }
@@ -127,14 +127,19 @@ impl CrewGate for Arrivals {
         rt: &R,
         alloc: Global,
         workers: usize,
+        asks: Asks,
         blocks: &Blocks,
         batch: &[Place],
-    ) -> Result<Vec<ArrayVec<Option<Place>, 60>>, NoMemory> {
+    ) -> Result<Answers, NoMemory> {
         self.scans.fetch_add(1, SeqCst);
         if self.sessions.kinds() == 0 {
             self.early.fetch_add(1, SeqCst);
         }
-        crew::scan(rt, alloc, workers, self, blocks, batch)
+        crew::scan(rt, alloc, workers, self, asks, blocks, batch)
+    }
+
+    fn pays(&self, _cost: u64) -> bool {
+        true
     }
 }
 
@@ -178,10 +183,15 @@ impl CrewGate for Hold {
         rt: &R,
         alloc: Global,
         workers: usize,
+        asks: Asks,
         blocks: &Blocks,
         batch: &[Place],
-    ) -> Result<Vec<ArrayVec<Option<Place>, 60>>, NoMemory> {
-        crew::scan(rt, alloc, workers, self, blocks, batch)
+    ) -> Result<Answers, NoMemory> {
+        crew::scan(rt, alloc, workers, self, asks, blocks, batch)
+    }
+
+    fn pays(&self, _cost: u64) -> bool {
+        true
     }
 }
 
@@ -276,13 +286,18 @@ impl CrewGate for Watch {
         rt: &R,
         alloc: Global,
         workers: usize,
+        asks: Asks,
         blocks: &Blocks,
         batch: &[Place],
-    ) -> Result<Vec<ArrayVec<Option<Place>, 60>>, NoMemory> {
+    ) -> Result<Answers, NoMemory> {
         let count = batch.len().div_ceil(PIECE).min(MOST_PIECES) as u32;
         self.begin(count);
-        let found = crew::scan(rt, alloc, workers, self, blocks, batch);
+        let answers = crew::scan(rt, alloc, workers, self, asks, blocks, batch);
         self.end(workers, count);
-        found
+        answers
+    }
+
+    fn pays(&self, _cost: u64) -> bool {
+        true
     }
 }
