@@ -4,13 +4,13 @@ use crate::asked::{Asked, Course, lines_of, told_by};
 use crate::scripts::{every_kind, wide};
 use crate::sweep::{MOST_STEPS, PLENTY, STEP};
 use mh_model::reply::Reply;
-use mh_scan::gate::Open;
 use mh_state::run::{RunFault, run};
 use mh_text::script::Script;
 use std::alloc::Global;
 use std::test::Fail;
 use std::thread::Threads;
 use test_support::famine::Famine;
+use test_support::gates::Eager;
 
 /// All events, with memory at hand, up to the lines of all replies.
 #[derive(Clone, Copy)]
@@ -32,7 +32,7 @@ fn stopped_replies<R: Threads>(
 ) -> Option<Vec<Reply>>
     requires { (0 < workers) × (workers ≤ 64) }
 {
-    let outcome = run(rt, alloc, script.config(), script.events(), workers, &Open);
+    let outcome = run(rt, alloc, script.config(), script.events(), workers, &Eager);
     let RunFault { stop: _, replies } = outcome.err()?;
     Some(replies)
 }

@@ -82,6 +82,34 @@ impl Tally {
     }
 }
 
+/// The gate that holds nobody, and by which a crew pays for each front.
+#[derive(Clone, Copy, Drop)]
+pub struct Eager;
+
+impl Gate for Eager {
+    fn piece(&self, _worker: usize, _piece: u64) {}
+
+    fn session(&self, _who: u8) {}
+}
+
+impl CrewGate for Eager {
+    fn scan_by_crew<R: Threads>(
+        &self,
+        rt: &R,
+        alloc: Global,
+        workers: usize,
+        asks: Asks,
+        blocks: &Blocks,
+        batch: &[Place],
+    ) -> Result<Answers, NoMemory> {
+        crew::scan(rt, alloc, workers, self, asks, blocks, batch)
+    }
+
+    fn pays(&self, _cost: u64) -> bool {
+        true
+    }
+}
+
 /// A gate that holds each session until as many as are wanted have come. If one thread does the work of two of them it
 /// is held for ever.
 #[derive(Drop)]

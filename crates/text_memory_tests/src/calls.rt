@@ -8,7 +8,6 @@ use mh_program::launch::launch;
 use mh_program::order::line_order;
 use mh_program::program::serve;
 use mh_program::words::words;
-use mh_scan::gate::Open;
 use mh_text::sink::StdSink;
 use mh_text::source::StdSource;
 use std::alloc::{AllocError, Global};
@@ -17,6 +16,7 @@ use std::sync::Wait;
 use std::thread::Threads;
 use test_support::environment::Words;
 use test_support::famine::Famine;
+use test_support::gates::Eager;
 
 /// What is right to write.
 #[derive(Clone, Copy)]
@@ -100,7 +100,15 @@ fn serve_with<R: Threads + Wait + Sync, W: Write + Drop>(
     let mut sink = StdSink::new(output);
     let mut errors = Errors::new(alloc, StdSink::new(errors));
     famine.leave(left)?;
-    Ok(serve(rt, alloc, order, &mut source, &mut sink, &mut errors, &Open))
+    Ok(serve(
+        rt,
+        alloc,
+        order,
+        &mut source,
+        &mut sink,
+        &mut errors,
+        &Eager,
+    ))
 }
 
 /// The number of entries of a legal history.

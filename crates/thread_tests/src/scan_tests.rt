@@ -57,12 +57,12 @@ fn link(blocks: &mut Blocks, place: Place, target: Place) {
     }
 }
 
-/// The places of 61 blocks, each of which refers to the one before it.
+/// The places of 61 blocks, each of which refers to the one before it. A third of them is marked in cycle 1.
 fn linked(alloc: Global, blocks: &mut Blocks, part: Part) -> Result<Vec<Place>, AllocError> {
     let mut places = Vec::new(alloc);
     let mut before = None;
-    for _ in 0..61 {
-        if let Ok(place) = blocks.make(part, 0, Birth(0), 0) {
+    for number in 0..61_u64 {
+        if let Ok(place) = blocks.make(part, 0, Birth(0), number % 3) {
             if let Some(target) = before {
                 link(blocks, place, target);
             }
@@ -82,7 +82,7 @@ fn batch_of(alloc: Global, places: &[Place], length: usize) -> Result<Vec<Place>
     Ok(batch)
 }
 
-/// Whether a crew, which is alone only if it is of one, finds what one thread finds.
+/// Whether a crew, which is alone only if it is of one, finds what one thread finds: lists, and which are settled.
 fn finds_the_same<R: Threads, G: CrewGate>(
     rt: &R,
     alloc: Global,
@@ -95,9 +95,14 @@ fn finds_the_same<R: Threads, G: CrewGate>(
     requires scannable { AreScannable blocks.now batch.now }
 {
     let mut crew = CrewScan::new(rt, alloc, workers, gate);
+    let mut one = OneScan::new(alloc);
     let found = crew.scan(blocks, batch)?;
-    let wanted = OneScan::new(alloc).scan(blocks, batch)?;
-    Ok(crew.is_alone() == (workers == 1) && found == wanted)
+    let wanted = one.scan(blocks, batch)?;
+    let settled = crew.settled(blocks, 1, batch)?;
+    let wanted_settled = one.settled(blocks, 1, batch)?;
+    let is_crew = workers > 1;
+    let is_called = crew.is_alone() != is_crew && crew.pays(0) == is_crew;
+    Ok(is_called && found == wanted && settled == wanted_settled)
 }
 
 /// How many places a batch has, how many pieces, and by how many workers at most it is shared.
@@ -142,8 +147,8 @@ const BATCHES: [Batch; 6] = [
 ];
 
 impl Batch {
-    /// Whether a crew finds what one thread finds, each piece passes the gate once, and as many workers as there can be
-    /// share the batch.
+    /// Whether a crew finds what one thread finds, each piece passes the gate once for either, and as many workers as there
+    /// can be share the batch.
     fn is_shared<R: Threads>(
         &self,
         rt: &R,
@@ -158,8 +163,8 @@ impl Batch {
         let gate = Watch::new(self.most.min(workers as u32));
         let is_same = finds_the_same(rt, alloc, workers, &gate, blocks, batch)?;
         let wanted = Seen {
-            passed: self.pieces,
-            cut: u64::from(self.pieces > 1),
+            passed: self.pieces.saturating_mul(2),
+            cut: u64::from(self.pieces > 1).saturating_mul(2),
             faults: 0,
         };
         Ok(is_same && gate.seen() == wanted)

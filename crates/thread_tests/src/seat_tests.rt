@@ -5,7 +5,6 @@ ghost use Rattle.mh_service.specs.Services.{IsOf};
 use crate::callers::owner_of;
 use mh_model::command::Event;
 use mh_model::history::Entry;
-use mh_scan::gate::Open;
 use mh_service::seat::Seat;
 use mh_service::service::Service;
 use mh_text::script::{Script, parse};
@@ -16,7 +15,7 @@ use std::sync::atomic::Ordering::SeqCst;
 use std::test::Fail;
 use std::thread;
 use std::thread::Threads;
-use test_support::gates::{Tally, wait_for};
+use test_support::gates::{Eager, Tally, wait_for};
 
 const ROUNDS: u64 = 48;
 
@@ -47,7 +46,7 @@ impl Rounds<'_> {
 /// Makes a call if the event is one of the seat's.
 fn call<R: Threads + Wait>(
     rt: &R,
-    service: &Service<'_, Open>,
+    service: &Service<'_, Eager>,
     seat: &mut Seat,
     event: Event,
 ) -> bool
@@ -60,7 +59,7 @@ fn call<R: Threads + Wait>(
 /// Makes a call in each round.
 fn call_each_round<R: Threads + Wait>(
     rt: &R,
-    service: &Service<'_, Open>,
+    service: &Service<'_, Eager>,
     seat: &mut Seat,
     rounds: &Rounds<'_>,
 )
@@ -79,7 +78,7 @@ fn call_each_round<R: Threads + Wait>(
 /// Each seat in a thread of its own.
 fn call_by_threads<R: Threads + Wait + Sync>(
     rt: &R,
-    service: &Service<'_, Open>,
+    service: &Service<'_, Eager>,
     seats: &mut Vec<Seat>,
     rounds: &Rounds<'_>,
 )
@@ -134,7 +133,7 @@ fn left_by_threads<R: Threads + Wait + Sync>(
         arrived: AtomicU64::new(0),
         answered: AtomicU64::new(0),
     };
-    let (service, mut seats) = Service::open(alloc, script.config(), 2, &Open)?;
+    let (service, mut seats) = Service::open(alloc, script.config(), 2, &Eager)?;
     call_by_threads(rt, &service, &mut seats, &rounds);
     let logs = logs_of(alloc, &seats);
     match service.close(seats) {

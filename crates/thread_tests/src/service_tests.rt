@@ -7,14 +7,13 @@ use crate::graph::{cycles_output, cycles_script};
 use mh_model::command::Event;
 use mh_model::reply::Reply;
 use mh_scan::crew_scan::CrewGate;
-use mh_scan::gate::Open;
 use mh_state::machine::Stop;
 use mh_text::script::parse;
 use std::alloc::Global;
 use std::sync::Wait;
 use std::test::Fail;
 use std::thread::Threads;
-use test_support::gates::Watch;
+use test_support::gates::{Eager, Watch};
 
 /// The lines of the answers to the calls of a script.
 fn answers_of<R: Threads + Wait, G: CrewGate>(
@@ -72,7 +71,7 @@ fn desk_output(alloc: Global) -> Result<String, Fail> {
 #[test]
 fn a_desk_makes_a_thousand_calls(rt: HostRuntime) -> Result<(), Fail> {
     let script = desk_script(rt.alloc())?;
-    let answers = answers_of(&rt, rt.alloc(), &script, 2, &Open)?;
+    let answers = answers_of(&rt, rt.alloc(), &script, 2, &Eager)?;
     assert!(rt; answers == desk_output(rt.alloc())?);
     Ok(())
 }
@@ -109,7 +108,7 @@ fn a_full_history_stops_every_seat(rt: HostRuntime) -> Result<(), Fail> {
     let script = parse(rt.alloc(), EACH_SEAT)?;
     let events = script.events();
     let first = *events.first().ok_or("no event")?;
-    let mut callers = Callers::new(&rt, rt.alloc(), script.config(), 2, &Open)?;
+    let mut callers = Callers::new(&rt, rt.alloc(), script.config(), 2, &Eager)?;
     assert!(rt; fills(&mut callers, first));
     assert!(rt; are_stopped(&mut callers, events));
     Ok(())
