@@ -1,0 +1,5 @@
+pub mod LineLemmas
+pub mod NameLemmas
+pub mod PhraseLemmas
+pub mod ReadBack
+pub mod ScriptLength
