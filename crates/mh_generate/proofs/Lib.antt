@@ -3,3 +3,4 @@ pub mod NameLemmas
 pub mod PhraseLemmas
 pub mod ReadBack
 pub mod ScriptLength
+pub mod WritingLemmas

@@ -1,0 +1,37 @@
+//! Random scripts.
+ghost use Rattle.std.specs.Prelude.{◌≡◌, ◌<◌, ◌^◌, OnOk, OnErr, IsErrOf};
+ghost use Rattle.std.specs.Io.KnownBytes.{Appends};
+ghost use Rattle.mh_text.specs.Stream.{AppendsBeginning};
+ghost use Rattle.mh_generate.specs.Generated.{WritesAsked};
+
+use crate::chooser::Chooser;
+use crate::line::{push_config_line, push_event_line};
+use crate::options::Options;
+use mh_script::fault::WriteError;
+use mh_script::texts::{flush, flush_full};
+use mh_text::sink::Sink;
+use std::alloc::Global;
+
+/// Writes the random script that is asked for. It depends on the options alone: the same options give the same bytes.
+pub fn generate<W: Sink>(
+    alloc: Global,
+    options: &Options,
+    sink: &mut W,
+) -> Result<(), WriteError>
+    requires { W.failures sink.old < 2 ^ 62 }
+    ensures done { OnOk result (WritesAsked Appends options.now (W.written sink.old) (W.written sink.new)) }
+    ensures begun { OnErr result (WritesAsked AppendsBeginning options.now (W.written sink.old) (W.written sink.new)) }
+    ensures no_failure { OnOk result (W.failures sink.new ≡ W.failures sink.old) }
+    ensures blamed { IsErrOf result WriteError.Device → W.failures sink.old < W.failures sink.new }
+    ensures not_blamed { IsErrOf result WriteError.NoMemory → W.failures sink.new ≡ W.failures sink.old }
+{
+    let mut chooser = Chooser::new(*options);
+    let mut text = String::new(alloc);
+    push_config_line(&mut text, options.config)?;
+    for _ in 0..options.events {
+        push_event_line(&mut text, chooser.next())?;
+        flush_full(sink, &mut text)?;
+    }
+    flush(sink, &mut text)?;
+    Ok(())
+}

@@ -1,0 +1,120 @@
+//! Objects of many blocks, with sizes at and beside the limits of blocks and spines.
+
+use crate::plan::Plan;
+use crate::random::Random;
+use crate::say::{clear, copy, get, make, put, read, shape, write};
+use crate::session::Session;
+use mh_model::shape::Shape;
+
+/// Fields of one block, of two arraylets and of three.
+const SMALL: [u32; 8] = [1, 58, 59, 60, 61, 62, 120, 121];
+
+/// Fields of several arraylets.
+const MIDDLE: [u32; 6] = [179, 180, 181, 300, 359, 600];
+
+/// Fields of a full spine, and of two that lie between a spine and its arraylets.
+const TALL: [u32; 6] = [3_599, 3_600, 3_601, 3_660, 3_661, 7_201];
+
+/// Fields of the largest object, and one less and one more.
+const TALLEST: [u32; 3] = [215_999, 216_000, 216_001];
+
+/// Numbers of fields that lie at the ends of blocks and of spines.
+const ENDS: [u32; 10] = [0, 1, 59, 60, 61, 119, 120, 3_599, 3_600, 3_601];
+
+/// The slot of the object with most blocks.
+const TALL_SLOT: u32 = 0;
+
+/// A slot of an object with several blocks.
+fn middle_slot(random: &mut Random) -> u32 {
+    random.below(2) + 1
+}
+
+fn small_slot(random: &mut Random) -> u32 {
+    random.below(6) + 3
+}
+
+/// So many fields as references and numbers.
+fn parted(fields: u32, random: &mut Random) -> Shape {
+    let references = match random.below(8) {
+        0 => 0,
+        1 => fields,
+        2 => fields / 2,
+        3..=4 => fields.min(60),
+        _ => random.below(fields.max(1)),
+    };
+    Shape {
+        references,
+        numbers: fields.saturating_sub(references),
+    }
+}
+
+/// One of so many fields, often at an end.
+fn field(count: u32, random: &mut Random) -> u32 {
+    let last = count.saturating_sub(1);
+    match random.below(4) {
+        0 => last,
+        1 => random.below(count.max(1)),
+        _ => random.one_of(&ENDS).min(last),
+    }
+}
+
+/// A new object, and a number and a reference of it.
+fn enlarge(slot: u32, fields: u32, random: &mut Random) -> Plan {
+    let Shape {
+        references,
+        numbers,
+    } = parted(fields, random);
+    Plan::of(&[
+        make(slot, references, numbers),
+        put(slot, field(references, random), random.slot()),
+        write(slot, field(numbers, random), random.wide()),
+        read(slot, field(numbers, random)),
+        get(small_slot(random), slot, field(references, random)),
+        shape(slot),
+    ])
+}
+
+/// An object is looked at and written to, or made if there is none.
+fn touch(session: &Session, random: &mut Random) -> Plan {
+    let slot = random.below(9);
+    let Shape {
+        references,
+        numbers,
+    } = session.shape(slot);
+    let all = references.saturating_add(numbers);
+    if all == 0 {
+        return enlarge(small_slot(random), random.one_of(&SMALL), random);
+    }
+    if random.chance(references, all) {
+        Plan::of(&[
+            put(slot, field(references, random), random.slot()),
+            put(slot, field(references, random), small_slot(random)),
+            get(small_slot(random), slot, field(references, random)),
+        ])
+    } else {
+        Plan::of(&[
+            write(slot, field(numbers, random), random.wide()),
+            read(slot, field(numbers, random)),
+        ])
+    }
+}
+
+/// A new object of some size, the larger the more rarely.
+fn grow(random: &mut Random) -> Plan {
+    match random.below(100) {
+        0..=64 => enlarge(small_slot(random), random.one_of(&SMALL), random),
+        65..=91 => enlarge(middle_slot(random), random.one_of(&MIDDLE), random),
+        92..=97 => enlarge(TALL_SLOT, random.one_of(&TALL), random),
+        _ => enlarge(TALL_SLOT, random.one_of(&TALLEST), random),
+    }
+}
+
+pub(crate) fn plan(session: &Session, random: &mut Random) -> Plan {
+    match random.below(100) {
+        0..=44 => grow(random),
+        45..=79 => touch(session, random),
+        80..=84 => Plan::of(&[copy(small_slot(random), middle_slot(random))]),
+        85..=89 => Plan::of(&[clear(middle_slot(random)), clear(small_slot(random))]),
+        _ => Plan::of(&[clear(TALL_SLOT)]),
+    }
+}
