@@ -40,7 +40,7 @@ impl Chooser {
         ensures named { self.new.names.named ≡ named_after self.old.names.named result }
         ensures most { self.new.names.most ≡ self.old.names.most }
     {
-        if let Some(control) = self.mix.control() {
+        if let Some(control) = self.mix.begin_event() {
             return Event::Control(control);
         }
         let who = self.names.admit(self.mix.speaker());

@@ -13,11 +13,7 @@ use mh_text::sink::Sink;
 use std::alloc::Global;
 
 /// Writes the random script that is asked for. It depends on the options alone: the same options give the same bytes.
-pub fn generate<W: Sink>(
-    alloc: Global,
-    options: &Options,
-    sink: &mut W,
-) -> Result<(), WriteError>
+pub fn generate<W: Sink>(alloc: Global, options: &Options, sink: &mut W) -> Result<(), WriteError>
     requires { W.failures sink.old < 2 ^ 62 }
     ensures done { OnOk result (WritesAsked Appends options.now (W.written sink.old) (W.written sink.new)) }
     ensures begun { OnErr result (WritesAsked AppendsBeginning options.now (W.written sink.old) (W.written sink.new)) }

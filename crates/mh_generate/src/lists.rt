@@ -45,7 +45,13 @@ fn walk(random: &mut Random) -> Plan {
         0 => Plan::of(&[copy(PLACE, FIRST), on, on, on, on, on, read(PLACE, 0)]),
         1 => Plan::of(&[on, on, on, shape(PLACE), same(PLACE, FIRST)]),
         2 => Plan::of(&[on, on, write(PLACE, 0, random.wide())]),
-        _ => Plan::of(&[copy(PLACE, FIRST), on, get(PLACE, PLACE, SIDE), on, read(PLACE, 0)]),
+        _ => Plan::of(&[
+            copy(PLACE, FIRST),
+            on,
+            get(PLACE, PLACE, SIDE),
+            on,
+            read(PLACE, 0),
+        ]),
     }
 }
 

@@ -1,18 +1,18 @@
 //! Which commands and controls come, by the profile.
 ghost use Rattle.std.specs.Prelude.{◌<◌};
 
-use crate::controls;
 use crate::options::{Options, Profile};
 use crate::plan::Plan;
 use crate::random::Random;
 use crate::session::Session;
-use crate::{churn, fragments, large, lists, refusals, trees, wide};
+use crate::{churn, controls, fragments, large, lists, refusals, trees, wide};
 use mh_model::command::{Command, Control};
+use mh_model::limits::{RUN, SESSIONS, SPINE_FIELDS};
 
-/// How many sessions have commands, those among them that there aren't.
-pub(crate) const SPEAKERS: usize = 9;
+/// The most sessions that are named: one more than there are.
+pub(crate) const SPEAKERS: usize = SESSIONS + 1;
 
-/// The last part of a script, in which sessions end: one of so many.
+/// Sessions end in the last of so many parts of a script.
 const PARTS: u32 = 16;
 
 /// The profiles that are mixed, in turn.
@@ -29,10 +29,16 @@ const MIXED: [Profile; 7] = [
 /// The most events of a turn.
 const TURN: u32 = 400;
 
-/// How many events have objects of one size, among those of which few are kept.
+/// For how many events the profile of fragments makes objects of one size as a rule.
 const ROUND: u32 = 250;
 
-/// What is known of a script as it is made.
+/// How many sizes objects of one block have: 0 to 60 fields.
+const SIZES: u32 = RUN + 1;
+
+/// How much larger the next size is. It has no factor in common with their number, so that all come in turn.
+const SIZE_STEP: u32 = 17;
+
+/// The mix of a script, which knows what was said so far.
 #[derive(Drop)]
 pub(crate) struct Mix {
     options: Options,
@@ -52,8 +58,8 @@ impl Mix {
         }
     }
 
-    /// The control that comes next, if one does.
-    pub(crate) fn control(&mut self) -> Option<Control> {
+    /// Begins the next event, and gives the control that it is, if it is one.
+    pub(crate) fn begin_event(&mut self) -> Option<Control> {
         self.done = self.done.saturating_add(1);
         if controls::is_due(&mut self.random, self.options.config) {
             Some(controls::control(&mut self.random, self.options.config))
@@ -67,16 +73,16 @@ impl Mix {
         if self.options.profile != Profile::Mixed {
             return self.options.profile;
         }
-        let turn = (self.options.events / 7).clamp(1, TURN);
-        let place = self.done / turn;
-        MIXED.get(place as usize % 7).copied().unwrap_or(Profile::Churn)
+        let turn = (self.options.events / MIXED.len() as u32).clamp(1, TURN);
+        let turns = self.done / turn;
+        MIXED[turns as usize % MIXED.len()]
     }
 
     /// The session that is to have the next command.
     pub(crate) fn speaker(&mut self) -> u8 {
         let sessions = u32::from(self.options.sessions);
         if self.profile() == Profile::Refusals && self.random.chance(1, 24) {
-            return (sessions + self.random.below(9 - sessions)) as u8;
+            return (sessions + self.random.below(SPEAKERS as u32 - sessions)) as u8;
         }
         self.random.below(sessions) as u8
     }
@@ -95,7 +101,9 @@ impl Mix {
     {
         let profile = self.profile();
         let Options {
-            config, sessions, ..
+            config,
+            sessions,
+            ..
         } = self.options;
         let session = self.sessions[who];
         let session = &session;
@@ -110,8 +118,8 @@ impl Mix {
             Profile::Wide => wide::plan(session, random),
             Profile::Large => large::plan(session, random),
             Profile::Fragments => {
-                let entries = (config.pages / u32::from(sessions)).clamp(4, 3_600);
-                let fields = self.done / ROUND % 61 * 17 % 61;
+                let entries = (config.pages / u32::from(sessions)).clamp(4, SPINE_FIELDS);
+                let fields = self.done / ROUND % SIZES * SIZE_STEP % SIZES;
                 fragments::plan(session, entries, fields, random)
             }
             Profile::Refusals => refusals::plan(session, random),
@@ -119,11 +127,11 @@ impl Mix {
     }
 
     /// The first command of a session's next plan.
-    fn begin(&mut self, who: usize) -> Command
+    fn begin_plan(&mut self, who: usize) -> Command
         requires { who < SPEAKERS }
     {
         let mut plan = self.plan(who);
-        let command = plan.take().unwrap_or(Command::End);
+        let command = plan.take().unwrap_or(Command::Clear { slot: 0 });
         self.sessions[who].plan = plan;
         command
     }
@@ -138,7 +146,7 @@ impl Mix {
         }
         let command = match self.sessions[who].plan.take() {
             Some(command) => command,
-            None => self.begin(who),
+            None => self.begin_plan(who),
         };
         self.sessions[who].note(command);
         command

@@ -41,7 +41,10 @@ impl Random {
     /// One of some numbers.
     pub(crate) fn one_of(&mut self, numbers: &[u32]) -> u32 {
         let place = self.words.next_word() as usize;
-        numbers.get(place % numbers.len().max(1)).copied().unwrap_or(0)
+        numbers
+            .get(place % numbers.len().max(1))
+            .copied()
+            .unwrap_or(0)
     }
 
     pub(crate) fn slot(&mut self) -> u32

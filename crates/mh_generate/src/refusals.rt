@@ -83,7 +83,11 @@ fn too_large(random: &mut Random) -> Command {
         2 => u32::MAX,
         _ => random.below(216_000),
     };
-    make(random.slot(), references, fields.saturating_sub(references).max(1))
+    make(
+        random.slot(),
+        references,
+        fields.saturating_sub(references).max(1),
+    )
 }
 
 /// A command of a session that does no other work, and that it may be the last of.

@@ -64,7 +64,10 @@ pub(crate) fn plan(session: &Session, random: &mut Random) -> Plan {
         0..=11 => widen(random),
         12..=61 => fill(session, random),
         62..=89 => load(session, random),
-        90..=93 => Plan::of(&[post(random.slot(), slot), take(small(random), random.slot())]),
+        90..=93 => Plan::of(&[
+            post(random.slot(), slot),
+            take(small(random), random.slot()),
+        ]),
         94..=96 => Plan::of(&[copy(random.below(WIDE), random.below(WIDE))]),
         _ => Plan::of(&[clear(slot)]),
     }

@@ -1,8 +1,8 @@
-use Rattle.std.proofs.Common.{◌≡◌, ◌∙◌, ◌++◌, [], ap, subst, refl, true, arith}
+use Rattle.std.proofs.Common.{◌∙◌, ◌++◌, ap, refl, arith}
 use Rattle.mh_model.specs.Bytes.{Text, line_text}
 use Rattle.mh_script.proofs.AddedLines.{on_err}
-use Rattle.mh_generate.specs.Scripts.{config_line, is_below}
-use Rattle.mh_generate.proofs.WritingLemmas.{HasWritten, all_written, begun_written, fails_written, more_written, none_written, nothing_asked, written_on}
+use Rattle.mh_generate.specs.Scripts.{config_line}
+use Rattle.mh_generate.proofs.WritingLemmas.{all_written, begun_written, fails_written, more_written, none_written, nothing_asked, written_on}
 use Rattle.mh_generate.proofs.generate.generate.Goals as goal
 
 pub returns-in_err-push_config_line-clause-begun : goal.returns-in_err-push_config_line-clause-begun
