@@ -15,7 +15,7 @@ const KEPT: u32 = 2;
 
 /// A new object with so many fields.
 fn object(fields: u32, random: &mut Random) -> Command {
-    let references = random.below(3).min(fields);
+    let references = random.below(fields.saturating_add(1));
     make(OBJECT, references, fields.saturating_sub(references))
 }
 

@@ -1,0 +1,40 @@
+//! Scripts as the program writes them if little is asked for.
+
+use mh_generate::generate::generate;
+use mh_generate::options::{Options, Profile};
+use mh_model::config::{Config, Rules};
+use mh_text::sink::StdSink;
+use std::alloc::Global;
+use std::test::Fail;
+
+pub const EVENTS: u32 = 10_000;
+
+pub const PROFILES: [Profile; 8] = [
+    Profile::Churn,
+    Profile::Lists,
+    Profile::Trees,
+    Profile::Wide,
+    Profile::Large,
+    Profile::Fragments,
+    Profile::Refusals,
+    Profile::Mixed,
+];
+
+/// A script of a profile, with the program's defaults.
+pub fn script(alloc: Global, profile: Profile, seed: u64) -> Result<Vec<u8>, Fail> {
+    let config = Config::new(64, 250, 32, 25).ok_or("no configuration")?;
+    let options = Options {
+        config: config.with_rules(Rules::Second),
+        seed,
+        events: EVENTS,
+        sessions: 4,
+        profile,
+    };
+    let mut sink = StdSink::new(Vec::new(alloc));
+    generate(alloc, &options, &mut sink)?;
+    let StdSink {
+        writer,
+        failures: _,
+    } = sink;
+    Ok(writer)
+}
