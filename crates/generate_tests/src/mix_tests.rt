@@ -1,7 +1,7 @@
 //! What scripts make the collector do, and how it answers them.
 
 use crate::scripts::{EVENTS, PROFILES, script};
-use mh_generate::options::Profile;
+use mh_generate::profile::Profile;
 use mh_model::cycle::Phase;
 use mh_model::reply::{Refusal, Reply};
 use mh_scan::scan::OneScan;

@@ -19,7 +19,8 @@ use Rattle.mh_script.proofs.AddedLines.{AppendsBeginning-nothing}
 use Rattle.mh_script.proofs.BufferLemmas.{AppendsBeginning-after, AppendsBeginning-buffers, Appends-buffers, Buffers-more, Buffers-trans}
 use Rattle.std.proofs.KnownBytes.{Appends-nil}
 use Rattle.mh_generate.specs.declared.options.Options.{Options}
-use Rattle.mh_generate.specs.Generated.{IsAsked, WritesAsked, named_by}
+use Rattle.mh_generate.specs.Generated.{IsAsked, WritesAsked}
+use Rattle.mh_generate.specs.Profiles.{named_by}
 use Rattle.mh_generate.specs.Scripts.{are_in_order, config_line, event_line, is_below, is_next, named_after, named_after_all, script_text}
 use Rattle.mh_generate.proofs.ReadBack.{reading-script}
 use Rattle.mh_generate.proofs.ScriptLength.{script_length}

@@ -2,12 +2,13 @@
 ghost use Rattle.std.specs.Prelude.{◌≡◌, true};
 ghost use Rattle.mh_model.specs.HistoryTexts.{is_event};
 ghost use Rattle.mh_model.specs.declared.history.Version.TheVariants.{Two};
-ghost use Rattle.mh_generate.specs.Generated.{named_by};
+ghost use Rattle.mh_generate.specs.Profiles.{named_by};
 ghost use Rattle.mh_generate.specs.Scripts.{is_below, is_next, named_after};
 
 use crate::mix::Mix;
 use crate::names::Names;
-use crate::options::{Options, Profile};
+use crate::options::Options;
+use crate::profile::Profile;
 use mh_model::command::Event;
 
 /// Which events come next. What they are is by the mix alone; the names see to it that sessions are first named in order.

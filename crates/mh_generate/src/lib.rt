@@ -13,6 +13,7 @@ mod mix;
 mod names;
 pub mod options;
 mod plan;
+pub mod profile;
 mod random;
 mod refusals;
 mod say;

@@ -1,8 +1,9 @@
 //! Which commands and controls come, by the profile.
 ghost use Rattle.std.specs.Prelude.{◌<◌};
 
-use crate::options::{Options, Profile};
+use crate::options::Options;
 use crate::plan::Plan;
+use crate::profile::Profile;
 use crate::random::Random;
 use crate::session::Session;
 use crate::{churn, controls, fragments, large, lists, refusals, trees, wide};
