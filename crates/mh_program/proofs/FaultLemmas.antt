@@ -4,10 +4,11 @@ use Rattle.clap.specs.Words.{Row, Text}
 use Rattle.mh_program.specs.Line.{WantsConfig}
 use Rattle.mh_program.specs.Orders.{HasOptionFault, IsNumberFault}
 use Rattle.mh_program.specs.declared.options.OptionFault.{OptionFault}
-use Rattle.mh_program.specs.declared.options.OptionFault.TheVariants.{NoNumber, Missing, Unwanted, Outside}
+use Rattle.mh_program.specs.declared.options.OptionFault.TheVariants.{NoNumber, NoProfile, Missing, Unwanted, Outside}
 
 pub number_fault : (name : Text) (rows : List Row) (fault : OptionFault) → WantsConfig name rows → IsNumberFault rows fault → HasOptionFault name rows fault
 number_fault name rows (NoNumber option text) wants is = (wants, is)
+number_fault name rows (NoProfile text) wants is = absurd is
 number_fault name rows (Missing option) wants is = (wants, is)
 number_fault name rows (Unwanted option) wants is = absurd is
 number_fault name rows (Outside option) wants is = (wants, is)

@@ -1,17 +1,21 @@
 -- What `clap` found for a subcommand in whose words it found no fault: each value has passed its parser.
-use Rattle.std.proofs.Common.{◌≡◌, ◌<◌, ℕ, Bool, true, false, if◌then◌else◌, ◌&&◌, ◌++◌, List, [], ◌∷◌, length, length-append, drop, suc, zero, Option, Some, None, is_some, option_map, refl, sym, ap, subst, arith, codes}
+use Rattle.std.proofs.Common.{◌≡◌, ◌<◌, ℕ, Bool, true, false, not, if◌then◌else◌, ◌&&◌, ◌++◌, List, [], ◌∷◌, length, length-append, drop, suc, zero, Option, Some, None, is_some, option_map, refl, sym, ap, subst, arith, codes}
 use Rattle.std.specs.Prelude.{IfSome, IsSomeAnd, encode_utf8, fold, find, option_and_then, slice_get}
 use Rattle.std.specs.Option.{option_map_or}
 use Rattle.std.specs.Str.{bytes_eq, chars}
 use Rattle.clap.specs.Lexer.{long_of, short_of}
 use Rattle.clap.specs.Values.{Accepts, read_as, reading_of, refused_kind}
 use Rattle.clap.specs.ValueTests.{accepts}
-use Rattle.clap.specs.Kinds.{Kinds, or_else, range_kinds, value_kinds, values_kinds}
+use Rattle.std.proofs.lemmas.Bool.{false≢true}
+use Rattle.std.specs.List.{list_any}
+use Rattle.clap.specs.Facts.{explicit_source}
+use Rattle.clap.specs.Takes.{is_given}
+use Rattle.clap.specs.Kinds.{Kinds, check_kinds, or_else, range_kinds, value_kinds, values_kinds}
 use Rattle.clap.specs.Walk.{Held, Names, Outcome, Row, Rule, Step, Text, Waiting, Walk, after_flag, after_step, arg_by_id, arg_by_index, arg_by_long, arg_by_short, at_row, attached_value, bundle_met, bundle_step, finished, flag_met, has_row, is_pending, long_met, long_or_other, more_values, nothing_held, one_of, option_met, option_word, plain_word, positional_held, reacted, row_text, rows_after, rows_of, settled, settled_rows, short_met, short_or_plain, subcommand_met, subcommand_or_other, takes_several, takes_values, to_positional, used, used_by_id, values_or_missing, walk_from, walked, with_default, with_values, without, word_met}
 use Rattle.clap.specs.Walk as walk
 use Rattle.clap.specs.Simple.{Shape, filled, help_rule, new_rule, with_index}
 use Rattle.clap.specs.Walk.{answers_to}
-use Rattle.clap.specs.Faults.{bundle_fault, bundle_step_fault, flag_word_fault, flags_fault, level_fault, long_fault, option_fault, other_fault, positional_fault, react_fault, repeat_fault, settle_fault, short_fault, step_fault, stray_fault, turn_fault, use_fault, walk_fault, word_fault}
+use Rattle.clap.specs.Faults.{bundle_fault, bundle_step_fault, defaults_fault, flag_word_fault, flags_fault, level_fault, long_fault, option_fault, other_fault, positional_fault, react_fault, repeat_fault, settle_fault, short_fault, step_fault, stray_fault, turn_fault, use_fault, walk_fault, word_fault}
 use Rattle.clap.specs.declared.builder.value_parser.ValueParser.{ValueParser}
 use Rattle.clap.specs.declared.builder.value_parser.ValueParser.TheVariants as vp
 use Rattle.std.proofs.lemmas.Slice.Eq.{bytes_eq-Decides}
@@ -123,17 +127,20 @@ module _ (p : Text → ValueParser) (plain : (id : Text) → reading_of (p id) �
   same_either true rows all = all
   same_either false rows all = all
 
-  -- an option with one value, of the parser of its name
-  pub safe-value : (name : Text) (i : ℕ) → IsSafe (with_index i (filled (value_rule (p name) name)))
-  safe-value name i = record {
+  -- an option with one value, of the parser of its name, that has to be given or not
+  pub safe-given : (required : Bool) (name : Text) (i : ℕ) → IsSafe (with_index i (filled (record (value_rule (p name) name) { required = required })))
+  safe-given required name i = record {
     uses = λ again texts rows e all.
-        let option : Rule = with_index i (filled (value_rule (p name) name)) in
+        let option : Rule = with_index i (filled (record (value_rule (p name) name) { required = required })) in
         let one : range_kinds 1 1 (length texts) ≡ [] = none_first (range_kinds 1 1 (length texts)) _ e in
         let passed : PassEach name (values_or_missing option texts) =
         PassEach-taken name (values_or_missing option texts) (none_next (repeat_fault again option.id rows) (values_kinds false (p name) (values_or_missing option texts)) (none_next (range_kinds 1 1 (length texts)) _ e)) in
         AreRead-with_values _ _ _ _ _ (plain name) (some_value option texts one) passed (AreRead-without _ rows all);
     defaults = λ rows all. same_either (has_row name rows) rows all;
   }
+
+  pub safe-value : (name : Text) (i : ℕ) → IsSafe (with_index i (filled (value_rule (p name) name)))
+  safe-value name i = safe-given false name i
 
   -- a flag, which has one value if it is left out too
   pub safe-flag : (name : Text) (i : ℕ) → p name ≡ vp.Bool → IsSafe (with_index i (filled (flag_rule name)))
@@ -324,3 +331,31 @@ module _ (p : Text → ValueParser) (plain : (id : Text) → reading_of (p id) �
   -- a value that is found has passed
   pub value-may : (id : Text) (rows : List Row) → AreRead rows → IfSome (one_of id rows) (Accepts false (p id))
   value-may id rows all = row-may id (find (λ row. bytes_eq row.id id) rows) (IsRead-find (λ row. bytes_eq row.id id) rows all)
+
+  row-given : (id : Text) (row : Option Row) → IfSome row (FoundRead (λ row. bytes_eq row.id id)) → option_map_or (λ row. explicit_source row.source) row false ≡ true → IsSomeAnd (option_and_then row_text row) (Accepts false (p id))
+  row-given id None is given = absurd (false≢true given)
+  row-given id (Some row) is given =
+      let same : row.id ≡ id = (bytes_eq-Decides row.id id).0 is.0 in
+      first-read id row.values row.reading is.1.1 is.1.2 (subst (λ name. PassEach name row.values) same is.1.0)
+
+  -- and an option that is given has one
+  pub value-given : (id : Text) (rows : List Row) → AreRead rows → is_given id rows ≡ true → IsSomeAnd (one_of id rows) (Accepts false (p id))
+  value-given id rows all given = row-given id (find (λ row. bytes_eq row.id id) rows) (IsRead-find (λ row. bytes_eq row.id id) rows all) given
+
+-- Options that have to be given --------------------------------------------------------------------
+
+no_argument : (wants_help wants_subcommand wants_argument : Bool) → check_kinds wants_help wants_subcommand wants_argument ≡ [] → wants_argument ≡ false
+no_argument true wants_subcommand wants_argument e = absurd (never _ _ e)
+no_argument false true wants_argument e = absurd (never _ _ e)
+no_argument false false true e = absurd (never _ _ e)
+no_argument false false false e = refl
+
+-- no option that has to be given is missing in words that a subcommand takes
+pub none-missing : (s : Shape) (words : List Text) → level_fault s [] nothing_held words false [] ≡ []
+    → (not (s.subcommand_negates_reqs && false) && list_any (λ option. option.required && not (is_given option.id (rows_after s.rules [] words))) s.rules) ≡ false
+none-missing s words e =
+    let fault : Kinds = walk_fault s [] (walk_from nothing_held) words in
+    let end : Held = (walk.walk s.rules [] nothing_held words).held in
+    let settles : Kinds = settle_fault s.rules s.args_override_self end in
+    let defaults : Kinds = defaults_fault (settled s.rules end).rows s.rules in
+    no_argument _ _ _ (none_next defaults _ (none_next settles _ (none_next fault _ e)))

@@ -1,6 +1,6 @@
 -- What the options of the matches are read as.
 use Rattle.std.proofs.Common.{◌≡◌, ◌∙◌, ◌⊎◌, ◌<◌, ◌≤◌, ◌^◌, ℕ, Bool, true, false, Option, Some, None, option_map, refl, sym, ap, inl, inr, arith, codes}
-use Rattle.std.specs.Prelude.{IfSome, IsSome, Result, Ok, Err, find, option_and_then, slice_get, unwrap_or}
+use Rattle.std.specs.Prelude.{◌≢◌, IfSome, IsSome, IsSomeAnd, MatchOption, Result, Ok, Err, find, option_and_then, slice_get, unwrap_or}
 use Rattle.std.specs.Str.{bytes_eq}
 use Rattle.clap.proofs.WalkLemmas.{first_value-rows}
 use Rattle.clap.specs.Matches.{first_value}
@@ -10,7 +10,10 @@ use Rattle.std.specs.Str.Parse.{IsNumeral, ParsesUnsigned, without_leading_plus}
 use Rattle.clap.specs.Matches.{ReadsOne}
 use Rattle.clap.specs.Values.{IsUnsignedIn, read_as}
 use Rattle.clap.specs.Walk.{Row, Text, one_of, row_text, rows_of}
-use Rattle.mh_program.specs.Line.{number_in, rules_numbered}
+use Rattle.mh_generate.specs.Profiles.{NamesProfile, profile_name}
+use Rattle.mh_generate.specs.declared.profile.Profile.{Profile}
+use Rattle.mh_generate.specs.declared.profile.Profile.TheVariants.{Mixed}
+use Rattle.mh_program.specs.Line.{IsNumber, number_in, rules_numbered}
 use Rattle.std.specs.Option.{option_map_or}
 
 -- a number that fits is read
@@ -68,3 +71,31 @@ is_given f name text e = some-given (find (λ r. bytes_eq r.id name) (rows_of f)
 pub some_is : {A : Type 0} (o : Option A) (x : A) → o ≡ Some x → IsSome o
 some_is None x e = absurd (some-none (sym e))
 some_is (Some y) x e = refl
+
+-- Options of `generate` ----------------------------------------------------------------------------
+
+pub if_given : (P : Text → Type 0) (found : Option Text) → IsSomeAnd found P → IfSome found P
+if_given P None is = absurd is
+if_given P (Some text) is = is
+
+-- a number within bounds is one of 32 bits
+pub widened : (least most : ℕ) (found : Option Text) → most ≤ 4294967295 → IfSome found (IsUnsignedIn least most) → IfSome found (IsUnsignedIn 0 4294967295)
+widened least most None few given = tt
+widened least most (Some text) few given = (given.0, given.1, omega arith, omega (arith, given.3, few))
+
+-- a number that is given is the one that is read
+pub has-number : (least most other n : ℕ) (found : Option Text) → IsSomeAnd found (IsUnsignedIn least most) → n ≡ option_map_or number_in found other → IsSomeAnd found (λ text. IsNumber text × (number_in text ≡ n))
+has-number least most other n None given is = absurd given
+has-number least most other n (Some text) given is = (given.0, sym is)
+
+pub profile-read : (found : Option Text) (profile : Profile) → (found ≡ None → Some profile ≡ None) → ((t : Text) → found ≡ Some t → ReadsOne NamesProfile t (Some profile)) → MatchOption found (profile ≡ Mixed) (λ text. text ≡ profile_name profile)
+profile-read None profile none reads = absurd (some-none (none refl))
+profile-read (Some text) profile none reads = reads text refl
+
+pub profile-mixed : (found : Option Text) → found ≡ None → MatchOption found (Mixed ≡ Mixed) (λ text. text ≡ profile_name Mixed)
+profile-mixed None none = refl
+profile-mixed (Some text) none = absurd (some-none none)
+
+pub profile-lacking : (found : Option Text) (text : Text) → found ≡ Some text → ((t : Text) → found ≡ Some t → ReadsOne NamesProfile t None) → IsSomeAnd found (λ text. (profile : Profile) → text ≢ profile_name profile)
+profile-lacking None text there reads = absurd (some-none (sym there))
+profile-lacking (Some other) text there reads = (reads other refl).1

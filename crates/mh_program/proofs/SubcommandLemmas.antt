@@ -26,12 +26,12 @@ use Rattle.mh_program.specs.declared.line.Order.{Order}
 use Rattle.mh_program.specs.declared.line.Order.TheVariants.{Version}
 use Rattle.mh_program.specs.declared.line.ConfigOption.{ConfigOption}
 use Rattle.mh_program.specs.declared.options.OptionFault.{OptionFault}
-use Rattle.mh_program.specs.declared.options.OptionFault.TheVariants.{NoNumber, Missing, Unwanted, Outside}
+use Rattle.mh_program.specs.declared.options.OptionFault.TheVariants.{NoNumber, NoProfile, Missing, Unwanted, Outside}
 use Rattle.std.specs.Borrow.{Bor}
 use Rattle.clap.specs.declared.error.kind.ErrorKind.{ErrorKind}
-use Rattle.mh_program.specs.Orders.{AreAmiss, AskAmiss, AsksOutside, AsksVersion, GivesOrder, HasFewWorkers, HasFirstRules, HasOptionFault, IsFault, IsMissing, IsNoNumber, IsOrder, IsOutside, IsUnwanted, Named, NotMet, NotTaken, Refuses, RefusesOptions, kind_of_fault}
-use Rattle.mh_program.specs.Line.{AsksForFew, AsksForRules, Checks, HasFlag, IsAsked, NamesOne, Nothing, Runs, TakesWorkers, Workers, any_text, check_app, flag_rule, metroheap, rules_numbers, run_app, worker_numbers, workers_app}
-use Rattle.mh_program.proofs.OptionLemmas.{AreRead, IsSafe, level-read, never, none_first, none_next, safe-flag, safe-help, safe-value, value-may, value_rule}
+use Rattle.mh_program.specs.Orders.{AreAmiss, AskAmiss, AsksOutside, AsksVersion, GivesOrder, HasFewWorkers, HasFirstRules, HasOptionFault, IsFault, IsMissing, IsNoNumber, IsNoProfile, IsOrder, IsOutside, IsUnwanted, Named, NotMet, NotTaken, Refuses, RefusesOptions, kind_of_fault}
+use Rattle.mh_program.specs.Line.{AsksForFew, AsksForRules, Checks, Generates, HasFlag, IsAsked, NamesOne, Nothing, Runs, TakesWorkers, Workers, any_text, check_app, event_numbers, every_numbers, flag_rule, generate_app, metroheap, page_numbers, quantum_numbers, rules_numbers, run_app, seeds, session_numbers, worker_numbers, workers_app}
+use Rattle.mh_program.proofs.OptionLemmas.{AreRead, IsSafe, level-read, never, none-missing, none_first, none_next, safe-flag, safe-given, safe-help, safe-value, value-given, value-may, value_rule}
 
 -- Options ----------------------------------------------------------------------------------------
 
@@ -118,6 +118,51 @@ sound-check words e =
     (numbers (codes "pages"), (numbers (codes "quantum"), (numbers (codes "trigger"), (numbers (codes "every"), (value-safe (codes "rules") 1, (flag-safe (codes "sessions") 1 refl, (help-safe, tt))))))) e in
     Checks refl (rules-may rows all, sessions-may rows all)
 
+-- the parser of each option of `generate`
+abbrev generate_parser : Text → ValueParser
+generate_parser name =
+    if bytes_eq name (codes "seed") then seeds else (if bytes_eq name (codes "events") then event_numbers else (if bytes_eq name (codes "sessions") then session_numbers
+    else (if bytes_eq name (codes "pages") then page_numbers else (if bytes_eq name (codes "quantum") then quantum_numbers else (if bytes_eq name (codes "every") then every_numbers else any_text)))))
+
+generate_plain : (name : Text) → reading_of (generate_parser name) ≡ AsWritten
+generate_plain name =
+    go (bytes_eq name (codes "seed")) (bytes_eq name (codes "events")) (bytes_eq name (codes "sessions")) (bytes_eq name (codes "pages")) (bytes_eq name (codes "quantum")) (bytes_eq name (codes "every"))
+  where
+    go : (a b c d e f : Bool)
+        → reading_of (if a then seeds else (if b then event_numbers else (if c then session_numbers else (if d then page_numbers else (if e then quantum_numbers else (if f then every_numbers else any_text)))))) ≡ AsWritten
+    go true b c d e f = refl
+    go false true c d e f = refl
+    go false false true d e f = refl
+    go false false false true e f = refl
+    go false false false false true f = refl
+    go false false false false false true = refl
+    go false false false false false false = refl
+
+both_given : (a b rest : Bool) → (not a || (not b || rest)) ≡ false → (a ≡ true) × (b ≡ true)
+both_given true true rest e = (refl, refl)
+both_given true false rest e = absurd (false≢true (sym e))
+both_given false b rest e = absurd (false≢true (sym e))
+
+sound-generate : IsSound (built_leaf generate_app.top)
+sound-generate words e =
+    let s : Shape = built_leaf generate_app.top in
+    let rows : List Row = rows_after s.rules [] words in
+    let needed : (name : Text) → _ = λ name. safe-given generate_parser generate_plain true name 1 in
+    let value : (name : Text) → _ = λ name. safe-value generate_parser generate_plain name 1 in
+    let all : AreRead generate_parser generate_plain rows =
+    level-read generate_parser generate_plain s words
+    (needed (codes "seed"), (needed (codes "events"), (value (codes "sessions"), (value (codes "pages"), (value (codes "quantum"), (value (codes "every"), (value (codes "profile"), (safe-help generate_parser generate_plain 1, tt)))))))) e in
+    let may : (name : Text) → IfSome (one_of name rows) (Accepts false (generate_parser name)) = λ name. value-may generate_parser generate_plain name rows all in
+    let given = both_given (is_given (codes "seed") rows) (is_given (codes "events") rows) false (none-missing s words e) in
+    Generates refl (record {
+      seed = value-given generate_parser generate_plain (codes "seed") rows all given.0;
+      events = value-given generate_parser generate_plain (codes "events") rows all given.1;
+      sessions = may (codes "sessions");
+      pages = may (codes "pages");
+      quantum = may (codes "quantum");
+      every = may (codes "every");
+    })
+
 AreSound-find : (test : Shape → Bool) (shapes : List Shape) → AreSound shapes → IfSome (find test shapes) IsSound
 AreSound-find test [] sound = tt
 AreSound-find test (s ∷ shapes) sound = go (test s) (AreSound-find test shapes sound.1) where
@@ -145,7 +190,7 @@ sound-metroheap = (
     sound-workers (codes "live") (inl refl),
     (
       sound-workers (codes "race") (inr refl),
-      (sound-check, ((λ words e. Nothing (inl refl)), ((λ words e. Nothing (inr refl)), tt))),
+      (sound-check, ((λ words e. Nothing (inl refl)), ((λ words e. Nothing (inr refl)), (sound-generate, tt)))),
     ),
   ),
 )
@@ -192,6 +237,7 @@ none_some e = cc
 -- a fault of options asks for no version
 not_version : (fault : OptionFault) (k : ErrorKind) → kind_of_fault fault ≡ Some k → is_version k ≡ false
 not_version (NoNumber name text) k kinds = sym (ap is_version (same_some kinds))
+not_version (NoProfile text) k kinds = sym (ap is_version (same_some kinds))
 not_version (Missing name) k kinds = sym (ap is_version (same_some kinds))
 not_version (Unwanted name) k kinds = sym (ap is_version (same_some kinds))
 not_version (Outside option) k kinds = absurd (none_some kinds)
@@ -224,6 +270,7 @@ module _ (a : App) (words : List Text) (m : ArgMatches) (is : a ≡ metroheap) (
 
   amiss_by : (name : Text) (rows : List Row) (fault : OptionFault) (k : ErrorKind) → HasOptionFault name rows fault → kind_of_fault fault ≡ Some k → AreAmiss name rows k
   amiss_by name rows (NoNumber option text) k is kinds = subst (AreAmiss name rows) (same_some kinds) (IsNoNumber is.0 option.now is.1.0 is.1.1)
+  amiss_by name rows (NoProfile text) k is kinds = subst (AreAmiss name rows) (same_some kinds) (IsNoProfile is.0 is.1)
   amiss_by name rows (Missing option) k is kinds = subst (AreAmiss name rows) (same_some kinds) (IsMissing is.0 option.now is.1.0 is.1.1)
   amiss_by name rows (Unwanted option) k is kinds = subst (AreAmiss name rows) (same_some kinds) (IsUnwanted is.0 option.now is.1 is.2 is.3)
   amiss_by name rows (Outside option) k is kinds = absurd (none_some kinds)
@@ -239,10 +286,12 @@ module _ (a : App) (words : List Text) (m : ArgMatches) (is : a ≡ metroheap) (
       (other_kind (kind_of error) (not_version fault (kind_of error) told), NotMet (ask_amiss (kind_of error) (has_amiss fault (kind_of error) (subcommand_rows_of m) has told)))
   options_refused fault NoMemory has told = tt
   options_refused (NoNumber name text) NotText has told = absurd told
+  options_refused (NoProfile text) NotText has told = absurd told
   options_refused (Missing name) NotText has told = absurd told
   options_refused (Unwanted name) NotText has told = absurd told
   options_refused (Outside option) NotText has told = absurd told
   options_refused (NoNumber name text) (Configuration option) has told = absurd told
+  options_refused (NoProfile text) (Configuration option) has told = absurd told
   options_refused (Missing name) (Configuration option) has told = absurd told
   options_refused (Unwanted name) (Configuration option) has told = absurd told
   options_refused (Outside option) (Configuration refused) has told =

@@ -22,6 +22,26 @@ worker_numbers = Unsigned 1 64
 abbrev pub rules_numbers : ValueParser
 rules_numbers = Unsigned 1 2
 
+-- the numbers of 64 bits, the numbers of events, and those of sessions that do the work of a random script
+abbrev pub seeds : ValueParser
+seeds = Unsigned 0 18446744073709551615
+
+abbrev pub event_numbers : ValueParser
+event_numbers = Unsigned 1 1000000
+
+abbrev pub session_numbers : ValueParser
+session_numbers = Unsigned 1 8
+
+-- the numbers of a random script's configuration
+abbrev pub page_numbers : ValueParser
+page_numbers = Unsigned 1 4096
+
+abbrev pub quantum_numbers : ValueParser
+quantum_numbers = Unsigned 209 1000000
+
+abbrev pub every_numbers : ValueParser
+every_numbers = Unsigned 0 1000000
+
 -- any text
 abbrev pub any_text : ValueParser
 any_text = String
@@ -34,17 +54,29 @@ named_rule name = record (new_rule name) { long = Some name }
 abbrev pub option_rule : Text → Rule
 option_rule name = record (named_rule name) { value_names = 1 }
 
+-- one whose value passes a parser
+abbrev pub parsed_rule : Text → ValueParser → Rule
+parsed_rule name parser = record (option_rule name) { parser = Some parser }
+
+-- one of these that has to be given
+abbrev pub required_rule : Text → ValueParser → Rule
+required_rule name parser = record (parsed_rule name parser) { required = true }
+
 -- the option `--workers W`, which may be left out
 abbrev pub workers_rule : Rule
-workers_rule = record (option_rule (codes "workers")) { parser = Some worker_numbers }
+workers_rule = parsed_rule (codes "workers") worker_numbers
 
 -- an option with a number of a configuration; whether it is given, and whether its text is a number, `clap` leaves open
 abbrev pub number_rule : Text → Rule
-number_rule name = record (option_rule name) { parser = Some any_text }
+number_rule name = parsed_rule name any_text
 
 -- the option `--rules R`, which may be left out
 abbrev pub rules_rule : Rule
-rules_rule = record (option_rule (codes "rules")) { parser = Some rules_numbers }
+rules_rule = parsed_rule (codes "rules") rules_numbers
+
+-- the option `--profile NAME`; whether its text is a profile, `clap` leaves open
+abbrev pub profile_rule : Rule
+profile_rule = parsed_rule (codes "profile") any_text
 
 -- an option without a value, which is given or not
 abbrev pub flag_rule : Text → Rule
@@ -68,16 +100,25 @@ run_app = with_rule (with_rule (workers_app (codes "run")) rules_rule) (flag_rul
 abbrev pub check_app : App
 check_app = with_rule (with_rule (config_app (codes "check")) rules_rule) (flag_rule (codes "sessions"))
 
--- the six subcommands
+-- `generate`, whose seed and number of events have to be given; with the numbers of a configuration but the trigger
+abbrev pub seeded_app : App
+seeded_app = with_rule (with_rule (with_rule (new_app (codes "generate")) (required_rule (codes "seed") seeds)) (required_rule (codes "events") event_numbers)) (parsed_rule (codes "sessions") session_numbers)
+
+abbrev pub generate_app : App
+generate_app =
+    with_rule (with_rule (with_rule (with_rule seeded_app (parsed_rule (codes "pages") page_numbers)) (parsed_rule (codes "quantum") quantum_numbers)) (parsed_rule (codes "every") every_numbers)) profile_rule
+
+-- the seven subcommands
 abbrev pub optional_app : App
 optional_app =
-    with_subcommand (with_subcommand (with_subcommand (with_subcommand (with_subcommand (with_subcommand (new_app (codes "metroheap"))
+    with_subcommand (with_subcommand (with_subcommand (with_subcommand (with_subcommand (with_subcommand (with_subcommand (new_app (codes "metroheap"))
     run_app.top)
     (workers_app (codes "live")).top)
     (workers_app (codes "race")).top)
     check_app.top)
     (new_app (codes "audit")).top)
-    (config_app (codes "migrate")).top
+    (config_app (codes "migrate")).top)
+    generate_app.top
 
 -- a program that has a version
 abbrev pub versioned : App → App
@@ -104,6 +145,10 @@ rules_numbered number = if number == 1 then First else Second
 -- the rules that the matches ask for, which are these if they don't say
 abbrev pub rules_of : Rules → List Row → Rules
 rules_of other rows = option_map_or (λ text. rules_numbered (number_in text)) (one_of (codes "rules") rows) other
+
+-- the number of an option, which is this other one if the matches don't say
+abbrev pub number_or : ℕ → Text → List Row → ℕ
+number_or other name rows = option_map_or number_in (one_of name rows) other
 
 -- the flag is given
 abbrev pub is_flagged : Text → List Row → Bool
@@ -159,6 +204,15 @@ AsksToRun rows = AsksForFew rows × AsksForRules rows × HasFlag (codes "history
 abbrev pub AsksToCheck : List Row → Type 0
 AsksToCheck rows = AsksForRules rows × HasFlag (codes "sessions") rows
 
+-- what those of `generate` may be, of which two are given
+pub record AsksToGenerate (rows : List Row) : Type 0 where
+  pub seed : IsSomeAnd (one_of (codes "seed") rows) (IsUnsignedIn 0 18446744073709551615)
+  pub events : IsSomeAnd (one_of (codes "events") rows) (IsUnsignedIn 1 1000000)
+  pub sessions : IfSome (one_of (codes "sessions") rows) (IsUnsignedIn 1 8)
+  pub pages : IfSome (one_of (codes "pages") rows) (IsUnsignedIn 1 4096)
+  pub quantum : IfSome (one_of (codes "quantum") rows) (IsUnsignedIn 209 1000000)
+  pub every : IfSome (one_of (codes "every") rows) (IsUnsignedIn 0 1000000)
+
 abbrev pub TakesWorkers : Text → Type 0
 TakesWorkers name = (name ≡ codes "live") ⊎ (name ≡ codes "race")
 
@@ -171,6 +225,7 @@ pub data IsAsked (name : Text) (rows : List Row) : Type 0 where
   Runs : name ≡ codes "run" → AsksToRun rows → IsAsked name rows
   Workers : TakesWorkers name → AsksForFew rows → IsAsked name rows
   Checks : name ≡ codes "check" → AsksToCheck rows → IsAsked name rows
+  Generates : name ≡ codes "generate" → AsksToGenerate rows → IsAsked name rows
   Nothing : (name ≡ codes "audit") ⊎ (name ≡ codes "migrate") → IsAsked name rows
 
 -- the words name one

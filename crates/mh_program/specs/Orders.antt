@@ -1,24 +1,28 @@
 -- The order that the matches of a command line give, and why other words give none.
-use Rattle.std.specs.Prelude.{◌≡◌, ◌≢◌, ◌⊎◌, ◌<◌, ◌≤◌, ℕ, true, false, if◌then◌else◌, List, [], Option, Some, None, Result, Ok, Err, codes, IsSome, IsSomeAnd}
+use Rattle.std.specs.Prelude.{◌≡◌, ◌≢◌, ◌⊎◌, ◌<◌, ◌≤◌, ◌/◌, ℕ, true, false, if◌then◌else◌, List, [], Option, Some, None, Result, Ok, Err, codes, IsSome, IsSomeAnd, MatchOption}
 use Rattle.clap.specs.declared.error.kind.ErrorKind.{ErrorKind}
 use Rattle.clap.specs.declared.error.kind.ErrorKind.TheVariants.{ArgumentConflict, DisplayVersion, MissingRequiredArgument, OutOfMemory, ValueValidation}
 use Rattle.clap.specs.Words.{Row, Text, one_of, subcommand_of, fault_of, kind_of, IsAmong}
-use Rattle.mh_model.specs.Configs.{configured_under}
+use Rattle.mh_generate.specs.declared.options.Options.{Options}
+use Rattle.mh_generate.specs.declared.profile.Profile.{Profile}
+use Rattle.mh_generate.specs.declared.profile.Profile.TheVariants.{Mixed}
+use Rattle.mh_generate.specs.Profiles.{profile_name}
+use Rattle.mh_model.specs.Configs.{configured, configured_under}
 use Rattle.mh_model.specs.declared.config.Config.{Config}
 use Rattle.mh_model.specs.declared.config.Rules.{Rules}
 use Rattle.mh_model.specs.declared.config.Rules.TheVariants.{First, Second}
 use Rattle.mh_program.specs.declared.fault.LineFault.{LineFault}
 use Rattle.mh_program.specs.declared.fault.LineFault.TheVariants.{Words, NotText, Configuration, NoMemory}
 use Rattle.mh_program.specs.declared.line.Order.{Order}
-use Rattle.mh_program.specs.declared.line.Order.TheVariants.{Run, Live, Race, Check, CheckSessions, Audit, Migrate, Version}
+use Rattle.mh_program.specs.declared.line.Order.TheVariants.{Run, Live, Race, Check, CheckSessions, Audit, Migrate, Generate, Version}
 use Rattle.mh_program.specs.declared.line.Form.{Form}
 use Rattle.mh_program.specs.declared.line.Form.TheVariants.{Replies, History}
 use Rattle.mh_program.specs.declared.line.RunOptions.{RunOptions}
 use Rattle.mh_program.specs.declared.line.ConfigOption.{ConfigOption}
 use Rattle.mh_program.specs.declared.line.ConfigOption.TheVariants.{Pages, Quantum, Trigger, Every}
 use Rattle.mh_program.specs.declared.options.OptionFault.{OptionFault}
-use Rattle.mh_program.specs.declared.options.OptionFault.TheVariants.{NoNumber, Missing, Unwanted, Outside}
-use Rattle.mh_program.specs.Line.{HasNumber, IsConfigOption, LacksNumber, WantsConfig, is_flagged, metroheap, rules_of, workers_of}
+use Rattle.mh_program.specs.declared.options.OptionFault.TheVariants.{NoNumber, NoProfile, Missing, Unwanted, Outside}
+use Rattle.mh_program.specs.Line.{HasNumber, IsConfigOption, LacksNumber, WantsConfig, is_flagged, metroheap, number_or, rules_of, workers_of}
 
 -- Orders -----------------------------------------------------------------------------------------
 
@@ -63,6 +67,22 @@ pub record AreRunOptions (rows : List Row) (options : RunOptions) : Type 0 where
   pub rules : options.rules ≡ rules_of Second rows
   pub form : options.form ≡ form_of rows
 
+-- the configuration of a random script: what the matches don't say is by default, and cycles start once half of the pages are free at most
+abbrev pub generated_config : List Row → Option Config
+generated_config rows = let pages : ℕ = number_or 64 (codes "pages") rows in configured pages (number_or 250 (codes "quantum") rows) (pages / 2) (number_or 25 (codes "every") rows)
+
+-- the profile that the matches ask for by its name, which is mixed if they don't say
+abbrev pub AsksProfile : List Row → Profile → Type 0
+AsksProfile rows profile = MatchOption (one_of (codes "profile") rows) (profile ≡ Mixed) (λ text. text ≡ profile_name profile)
+
+-- the options of a random script
+pub record AreGenerateOptions (rows : List Row) (options : Options) : Type 0 where
+  pub seed : HasNumber rows (codes "seed") options.seed
+  pub events : HasNumber rows (codes "events") options.events
+  pub sessions : options.sessions ≡ number_or 4 (codes "sessions") rows
+  pub config : generated_config rows ≡ Some options.config
+  pub profile : AsksProfile rows options.profile
+
 -- the order of a subcommand with its matches
 abbrev pub IsOrder : Text → List Row → Order → Type 0
 IsOrder name rows (Run options) = (name ≡ codes "run") × AreRunOptions rows options
@@ -72,6 +92,7 @@ IsOrder name rows (Check config) = (name ≡ codes "check") × (is_flagged (code
 IsOrder name rows (CheckSessions rules) = (name ≡ codes "check") × (is_flagged (codes "sessions") rows ≡ true) × HasNoConfig rows × (rules ≡ rules_of Second rows)
 IsOrder name rows Audit = name ≡ codes "audit"
 IsOrder name rows (Migrate config) = (name ≡ codes "migrate") × MakesConfig First rows config
+IsOrder name rows (Generate options) = (name ≡ codes "generate") × AreGenerateOptions rows options
 IsOrder name rows Version = ⊥
 
 -- an option of a configuration is outside its limits: that of the trigger if it is above that of the pages
@@ -111,22 +132,29 @@ abbrev pub IsBlamed : (pages quantum every : ℕ) → ConfigOption → Type 0
 IsBlamed pages quantum every Trigger = (1 ≤ pages) × (pages ≤ 4096) × (209 ≤ quantum) × (quantum ≤ 1000000) × (every ≤ 1000000)
 IsBlamed pages quantum every option = IsOutsideBy option (record { pages = pages; quantum = quantum; trigger = 0; every = every })
 
+-- the text of the profile that is asked for names none
+abbrev pub LacksProfile : List Row → Type 0
+LacksProfile rows = IsSomeAnd (one_of (codes "profile") rows) (λ text. (profile : Profile) → text ≢ profile_name profile)
+
 -- what is wrong with the options of a configuration: one is no number, or is missing, or is outside its limits
 abbrev pub IsNumberFault : List Row → OptionFault → Type 0
 IsNumberFault rows (NoNumber name text) = IsConfigOption name.now × LacksNumber rows name.now
+IsNumberFault rows (NoProfile text) = ⊥
 IsNumberFault rows (Missing name) = IsConfigOption name.now × (one_of name.now rows ≡ None)
 IsNumberFault rows (Unwanted name) = ⊥
 IsNumberFault rows (Outside option) = AreOutside rows option
 
--- what is wrong with those of a subcommand: these are, if it wants a configuration; or one is given beside `--sessions`
+-- what is wrong with those of a subcommand: these are, if it wants a configuration; or one is given beside `--sessions`; or a profile is none
 abbrev pub HasOptionFault : Text → List Row → OptionFault → Type 0
 HasOptionFault subcommand rows (Unwanted name) = (subcommand ≡ codes "check") × IsConfigOption name.now × (is_flagged (codes "sessions") rows ≡ true) × IsSome (one_of name.now rows)
+HasOptionFault subcommand rows (NoProfile text) = (subcommand ≡ codes "generate") × LacksProfile rows
 HasOptionFault subcommand rows fault = WantsConfig subcommand rows × IsNumberFault rows fault
 
--- `clap` takes the options of a subcommand, and one of a configuration is amiss: the kind of fault that this is
+-- `clap` takes the options of a subcommand, and one of a configuration or a profile is amiss: the kind of fault that this is
 pub data AreAmiss (name : Text) (rows : List Row) : ErrorKind → Type 0 where
   IsNoNumber : WantsConfig name rows → (option : Text) → IsConfigOption option → LacksNumber rows option → AreAmiss name rows ValueValidation
   IsMissing : WantsConfig name rows → (option : Text) → IsConfigOption option → one_of option rows ≡ None → AreAmiss name rows MissingRequiredArgument
+  IsNoProfile : name ≡ codes "generate" → LacksProfile rows → AreAmiss name rows ValueValidation
   IsUnwanted : name ≡ codes "check" → (option : Text) → IsConfigOption option → is_flagged (codes "sessions") rows ≡ true → IsSome (one_of option rows) → AreAmiss name rows ArgumentConflict
 
 -- Words ------------------------------------------------------------------------------------------
@@ -181,6 +209,7 @@ OrdersBy words (Err fault) = IsFault words fault
 -- the kind by which `clap` refuses options with a fault, which is none of its own if a number is outside its limits
 abbrev pub kind_of_fault : OptionFault → Option ErrorKind
 kind_of_fault (NoNumber name text) = Some ValueValidation
+kind_of_fault (NoProfile text) = Some ValueValidation
 kind_of_fault (Missing name) = Some MissingRequiredArgument
 kind_of_fault (Unwanted name) = Some ArgumentConflict
 kind_of_fault (Outside option) = None

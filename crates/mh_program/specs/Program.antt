@@ -5,13 +5,15 @@ use Rattle.mh_model.specs.Bytes.{Text, line_text}
 use Rattle.mh_script.specs.declared.fault.ScriptFault.{ScriptFault}
 use Rattle.mh_program.specs.declared.fault.LineFault.{LineFault}
 use Rattle.mh_program.specs.declared.line.Order.{Order}
-use Rattle.mh_program.specs.declared.line.Order.TheVariants.{Run, Live, Race, Check, CheckSessions, Audit, Migrate, Version}
+use Rattle.mh_program.specs.declared.line.Order.TheVariants.{Run, Live, Race, Check, CheckSessions, Audit, Migrate, Generate, Version}
 use Rattle.mh_program.specs.declared.line.Form.{Form}
 use Rattle.mh_program.specs.declared.line.Form.TheVariants.{Replies, History}
-use Rattle.mh_script.specs.declared.fault.ScriptFault.TheVariants.{Write}
+use Rattle.mh_script.specs.declared.fault.ScriptFault.TheVariants.{Write, NoMemory}
 use Rattle.mh_text.specs.Stream.{AppendsBeginning}
 use Rattle.mh_script.specs.declared.end.End.{End}
 use Rattle.mh_script.specs.declared.end.End.TheVariants.{Done, Refused}
+use Rattle.mh_generate.specs.declared.options.Options.{Options}
+use Rattle.mh_generate.specs.Generated.{WritesAsked}
 use Rattle.mh_judging.specs.Judged.{IsAuditing, IsChecking, IsMigrating}
 use Rattle.mh_racing.specs.Raced.{IsRaceRun}
 use Rattle.mh_judging.specs.RunHistory.{IsHistoryRun}
@@ -48,6 +50,13 @@ WritesVersion old new (Ok Done) = Appends old.bytes new.bytes version_text × (n
 WritesVersion old new (Err Write) = AppendsBeginning old.bytes new.bytes version_text × (old.failures < new.failures)
 WritesVersion old new ended = ⊥
 
+-- the random script that was asked for was written, or a prefix of one if the device failed or memory was refused
+abbrev pub WritesScript : Options → Device → Device → Result End ScriptFault → Type 0
+WritesScript options old new (Ok Done) = WritesAsked Appends options old.bytes new.bytes × (new.failures ≡ old.failures)
+WritesScript options old new (Err Write) = WritesAsked AppendsBeginning options old.bytes new.bytes × (old.failures < new.failures)
+WritesScript options old new (Err NoMemory) = WritesAsked AppendsBeginning options old.bytes new.bytes × (new.failures ≡ old.failures)
+WritesScript options old new ended = ⊥
+
 -- there was no order: nothing was read or written, and the reason was reported
 pub record Declines (source source' sink sink' : Device) (errors errors' : ErrorStream) (fault : LineFault) (status : ℕ) : Type 0 where
   pub unread : source' ≡ source
@@ -69,5 +78,6 @@ Serves (Ok (Check config)) source source' sink sink' errors errors' status = Obe
 Serves (Ok (CheckSessions rules)) source source' sink sink' errors errors' status = Obeys (IsSessionsJudging rules source source' sink sink') (TellsRun TellsJudgement) judgement_status_of errors errors' status
 Serves (Ok Audit) source source' sink sink' errors errors' status = Obeys (IsAuditing source source' sink sink') (TellsRun TellsJudgement) judgement_status_of errors errors' status
 Serves (Ok (Migrate config)) source source' sink sink' errors errors' status = Obeys (IsMigrating config source source' sink sink') (TellsRun TellsJudgement) judgement_status_of errors errors' status
+Serves (Ok (Generate options)) source source' sink sink' errors errors' status = (source' ≡ source) × Obeys (WritesScript options sink sink') TellsFault status_of errors errors' status
 Serves (Ok Version) source source' sink sink' errors errors' status = (source' ≡ source) × Obeys (WritesVersion sink sink') TellsFault status_of errors errors' status
 Serves (Err fault) source source' sink sink' errors errors' status = Declines source source' sink sink' errors errors' fault status

@@ -1,15 +1,18 @@
 ghost use Rattle.std.specs.Prelude.{◌≡◌, IfOk, IsOkAnd, false, codes};
 ghost use Rattle.clap.specs.Words.{app_of, new_app, rule_of, with_rule, with_subcommand};
 ghost use Rattle.clap.specs.declared.builder.command.Command.TheViews.{out-Command};
-ghost use Rattle.mh_program.specs.Line.{check_app, config_app, flag_rule, metroheap, named_rule, number_rule, option_rule, optional_app, rules_rule, run_app, versioned, workers_app, workers_rule};
+ghost use Rattle.clap.specs.declared.builder.value_parser.ValueParser.TheVariants.{Unsigned};
+ghost use Rattle.mh_program.specs.Line.{check_app, config_app, flag_rule, generate_app, metroheap, named_rule, number_rule, option_rule, optional_app, parsed_rule, profile_rule, required_rule, rules_rule, run_app, seeded_app, versioned, workers_app, workers_rule};
 
 use clap::builder::ValueParser;
 use clap::{Arg, ArgAction, Command};
-use mh_model::limits::MOST_WORKERS;
+use mh_model::limits::{
+    LEAST_QUANTUM, MOST_EVENTS, MOST_EVERY, MOST_PAGES, MOST_QUANTUM, MOST_WORKERS, SESSIONS,
+};
 use std::alloc::{AllocError, Global};
 
 const ABOUT: &str =
-    "An executable reference of the Metronome collector: runs scripts of mutator commands and collector quanta, and judges histories";
+    "An executable reference of the Metronome collector: runs scripts of mutator commands and collector quanta, writes random ones, and judges histories";
 
 const MANUAL: &str =
     "Scripts and histories are read from standard input. Their grammar, each command's cost and all exit statuses are in `man metroheap` and in docs/MANUAL.md.";
@@ -32,6 +35,11 @@ const ABOUT_AUDIT: &str =
 const ABOUT_MIGRATE: &str =
     "Print a legal history of version 1 as one of version 2; of any other, print what check prints";
 
+const ABOUT_GENERATE: &str = "Print a random script. The same options print the same bytes";
+
+const PROFILES: &str =
+    "The mix of events: churn, lists, trees, wide, large, frag, refusals or mixed, which is all others in turn; mixed if it is not given";
+
 const RULES_OF_A_RUN: &str =
     "The rules of large objects and of units, 1 or 2; 2 if it is not given";
 
@@ -43,6 +51,9 @@ const SCRIPT_STATUSES: &str =
 
 const LIVE_STATUSES: &str =
     "Exit status: 0 at the end of input, 2 if the command line was refused, 3 if a device failed or memory was refused for a line's text";
+
+const GENERATE_STATUSES: &str =
+    "Exit status: 0 if the script was written, 2 if the command line was refused, 3 if memory was refused or a device failed";
 
 const HISTORY_STATUSES: &str =
     "Exit status: 0 if the history is legal, 1 if the text was refused, 2 if the command line was, 3 if memory was refused or a device failed, 4 if the history is not legal";
@@ -131,6 +142,21 @@ fn number<'a>(alloc: Global, name: &'a str, value: &'a str, help: &'a str) -> Ar
     ensures local { result.global ≡ false }
 {
     option(alloc, name, value, help).value_parser(ValueParser::string())
+}
+
+/// An option with a number within bounds.
+fn bounded<'a>(
+    alloc: Global,
+    name: &'a str,
+    value: &'a str,
+    least: u64,
+    most: u64,
+    help: &'a str,
+) -> Arg<'a>
+    ensures rule { rule_of result ≡ parsed_rule name.entry.now (Unsigned least most) }
+    ensures local { result.global ≡ false }
+{
+    option(alloc, name, value, help).value_parser(ValueParser::unsigned(least, most))
 }
 
 /// The command with one number of a configuration more.
@@ -276,6 +302,76 @@ fn audit<'a>(alloc: Global) -> Command<'a>
     )
 }
 
+/// `generate` with its seed, its number of events and its number of sessions.
+fn seeded<'a>(alloc: Global) -> Result<Command<'a>, AllocError>
+    ensures app { IfOk result (λ command. app_of command ≡ seeded_app) }
+    ensures local { IfOk result (λ command. (out-Command command).has_globals ≡ false) }
+{
+    let command = subcommand(
+        alloc,
+        "generate",
+        ABOUT_GENERATE,
+        "metroheap generate --seed <N> --events <M> [--sessions <S>] [--pages <P>] [--quantum <K>] [--every <E>] [--profile <NAME>]",
+        GENERATE_STATUSES,
+    );
+    let seed = bounded(
+        alloc,
+        "seed",
+        "N",
+        0,
+        u64::MAX,
+        "What the random numbers begin with, from 0 to 18446744073709551615",
+    );
+    let command = command.arg(seed.required(true))?;
+    let events = bounded(
+        alloc,
+        "events",
+        "M",
+        1,
+        MOST_EVENTS,
+        "How many events the script has, from 1 to 1000000",
+    );
+    let command = command.arg(events.required(true))?;
+    let help = "How many sessions do the work, from 1 to 8; 4 if it is not given";
+    command.arg(bounded(alloc, "sessions", "S", 1, SESSIONS as u64, help))
+}
+
+/// The option `--profile`, of which `clap` takes each text.
+fn profile<'a>(alloc: Global) -> Arg<'a>
+    ensures rule { rule_of result ≡ profile_rule }
+    ensures local { result.global ≡ false }
+{
+    option(alloc, "profile", "NAME", PROFILES).value_parser(ValueParser::string())
+}
+
+/// The command with one option more.
+fn with_option<'a>(command: Command<'a>, option: Arg<'a>) -> Result<Command<'a>, AllocError>
+    requires command { (out-Command command).has_globals ≡ false }
+    requires option { option.global ≡ false }
+    ensures app { IfOk result (λ more. app_of more ≡ with_rule (app_of command.entry) (rule_of option.entry)) }
+    ensures local { IfOk result (λ more. (out-Command more).has_globals ≡ false) }
+{
+    command.arg(option)
+}
+
+fn generate<'a>(alloc: Global) -> Result<Command<'a>, AllocError>
+    ensures app { IfOk result (λ command. app_of command ≡ generate_app) }
+    ensures local { IfOk result (λ command. (out-Command command).has_globals ≡ false) }
+{
+    let help = "How many pages the heap has, from 1 to 4096; 64 if it is not given";
+    let pages = bounded(alloc, "pages", "P", 1, MOST_PAGES.into(), help);
+    let command = with_option(seeded(alloc)?, pages)?;
+    let help = "The most units that a quantum spends, from 209 to 1000000; 250 if it is not given";
+    let least = LEAST_QUANTUM.into();
+    let quantum = bounded(alloc, "quantum", "K", least, MOST_QUANTUM.into(), help);
+    let command = with_option(command, quantum)?;
+    let help =
+        "After how many units a quantum is run, from 0, for none, to 1000000; 25 if it is not given";
+    let every = bounded(alloc, "every", "E", 0, MOST_EVERY.into(), help);
+    let command = with_option(command, every)?;
+    with_option(command, profile(alloc))
+}
+
 /// The command with a subcommand more, if that one was made.
 fn with_subcommand<'a>(
     command: Command<'a>,
@@ -297,7 +393,8 @@ fn optional<'a>(alloc: Global) -> Result<Command<'a>, AllocError>
     let app = with_subcommand(app, race(alloc))?;
     let app = with_subcommand(app, check(alloc))?;
     let app = with_subcommand(app, Ok(audit(alloc)))?;
-    with_subcommand(app, migrate(alloc))
+    let app = with_subcommand(app, migrate(alloc))?;
+    with_subcommand(app, generate(alloc))
 }
 
 /// The command with what help says of the program, and with its version.

@@ -1,3 +1,4 @@
+use mh_generate::options::Options;
 use mh_model::config::{Config, Rules};
 use thiserror::Error;
 
@@ -36,6 +37,8 @@ pub enum Order {
     Audit,
     /// Write the history on standard input, of version 1, as version 2.
     Migrate(Config),
+    /// Write the random script that is asked for.
+    Generate(Options),
     /// Write the version of the program.
     Version,
 }

@@ -1,13 +1,17 @@
-ghost use Rattle.std.specs.Prelude.{◌≡◌, ◌<◌, ◌≤◌, ◌↔◌, None, true, codes, IfOk, IfErr, OnOk, IsTrue};
+ghost use Rattle.std.specs.Prelude.{◌≡◌, ◌<◌, ◌≤◌, ◌/◌, ◌↔◌, None, Some, true, codes, IfOk, IfErr, IfSome, IsSomeAnd, OnOk, IsTrue};
 ghost use Rattle.std.specs.Char.{is_digit};
 ghost use Rattle.std.specs.List.{list_all};
 ghost use Rattle.std.specs.Str.Parse.{without_leading_plus};
-ghost use Rattle.clap.specs.Words.{found_of, one_of, rows_of};
-ghost use Rattle.mh_program.specs.Line.{AsksForFew, AsksForRules, AsksToCheck, AsksToRun, HasFlag, HoldsNumber, IsConfigOption, IsNumber, ReadsNumber, is_flagged, rules_numbered, rules_of, workers_of};
-ghost use Rattle.mh_program.specs.Orders.{AreRunOptions, HasFewWorkers, HasFirstRules, HasOptionFault, IsBlamed, IsNumberFault, IsOrder, MakesConfig};
+ghost use Rattle.clap.specs.Words.{IsUnsignedIn, found_of, one_of, rows_of};
+ghost use Rattle.mh_model.specs.Configs.{configured};
+ghost use Rattle.mh_model.specs.declared.config.Rules.TheVariants.{Second};
+ghost use Rattle.mh_program.specs.Line.{AsksForFew, AsksForRules, AsksToCheck, AsksToGenerate, AsksToRun, HasFlag, HasNumber, HoldsNumber, IsConfigOption, IsNumber, ReadsNumber, is_flagged, number_or, rules_numbered, rules_of, workers_of};
+ghost use Rattle.mh_program.specs.Orders.{AreGenerateOptions, AreRunOptions, AsksProfile, HasFewWorkers, HasFirstRules, HasOptionFault, IsBlamed, IsNumberFault, IsOrder, MakesConfig, generated_config};
 
 use crate::line::{ConfigOption, Form, Order, RunOptions};
 use clap::ArgMatches;
+use mh_generate::options::Options;
+use mh_generate::profile::Profile;
 use mh_model::config::{Config, Rules};
 use mh_model::limits::{LEAST_QUANTUM, MOST_EVERY, MOST_PAGES, MOST_QUANTUM};
 use std::str::FromStr;
@@ -17,6 +21,8 @@ use std::str::FromStr;
 pub(crate) enum OptionFault<'a> {
     /// The option with this name has a text that is no number.
     NoNumber(&'static str, &'a str),
+    /// The profile that is asked for is none.
+    NoProfile(&'a str),
     /// The option with this name is not given.
     Missing(&'static str),
     /// The option with this name is given beside `--sessions`.
@@ -204,4 +210,90 @@ pub(crate) fn check_asked<'a>(matches: &ArgMatches<'a>) -> Result<Order, OptionF
     unwanted(matches, "trigger")?;
     unwanted(matches, "every")?;
     Ok(Order::CheckSessions(rules_asked(matches, Rules::Second)))
+}
+
+/// The number of an option that may be left out, of 32 bits at most.
+fn number_or(matches: &ArgMatches<'_>, name: &str, other: u32) -> u32
+    requires { IfSome (one_of name.now (rows_of (found_of matches.now))) (IsUnsignedIn 0 4294967295) }
+    ensures { result ≡ number_or other name.now (rows_of (found_of matches.now)) }
+{
+    matches.get_one::<u32>(name).unwrap_or(other)
+}
+
+fn seed_asked(matches: &ArgMatches<'_>) -> u64
+    requires { IsSomeAnd (one_of (codes "seed") (rows_of (found_of matches.now))) (IsUnsignedIn 0 18446744073709551615) }
+    ensures { HasNumber (rows_of (found_of matches.now)) (codes "seed") result }
+{
+    matches.get_one::<u64>("seed").unwrap_or(0)
+}
+
+fn events_asked(matches: &ArgMatches<'_>) -> u32
+    requires { IsSomeAnd (one_of (codes "events") (rows_of (found_of matches.now))) (IsUnsignedIn 1 1000000) }
+    ensures number { HasNumber (rows_of (found_of matches.now)) (codes "events") result }
+    ensures few { result ≤ 1000000 }
+{
+    number_or(matches, "events", 1)
+}
+
+/// How many sessions are to do the work of a random script.
+fn sessions_asked(matches: &ArgMatches<'_>) -> u8
+    requires { IfSome (one_of (codes "sessions") (rows_of (found_of matches.now))) (IsUnsignedIn 1 8) }
+    ensures number { result ≡ number_or 4 (codes "sessions") (rows_of (found_of matches.now)) }
+    ensures few { (0 < result) × (result ≤ 8) }
+{
+    number_or(matches, "sessions", 4) as u8
+}
+
+/// The configuration of a random script, in which cycles start once half of the pages are free at most.
+fn script_config(pages: u32, quantum: u32, every: u32) -> Config
+    requires pages { (1 ≤ pages) × (pages ≤ 4096) }
+    requires quantum { (209 ≤ quantum) × (quantum ≤ 1000000) }
+    requires every { every ≤ 1000000 }
+    ensures config { configured pages quantum (pages / 2) every ≡ Some result }
+    ensures second { result.rules ≡ Second }
+{
+    match Config::new(pages, quantum, pages / 2, every) {
+        Some(config) => config,
+        None => unreachable!(),
+    }
+}
+
+fn generated_config(matches: &ArgMatches<'_>) -> Config
+    requires { AsksToGenerate (rows_of (found_of matches.now)) }
+    ensures config { generated_config (rows_of (found_of matches.now)) ≡ Some result }
+    ensures second { result.rules ≡ Second }
+{
+    let pages = number_or(matches, "pages", 64);
+    let quantum = number_or(matches, "quantum", 250);
+    let every = number_or(matches, "every", 25);
+    script_config(pages, quantum, every)
+}
+
+fn profile_asked<'a>(matches: &ArgMatches<'a>) -> Result<Profile, OptionFault<'a>>
+    ensures profile { IfOk result (AsksProfile (rows_of (found_of matches.now))) }
+    ensures fault { IfErr result (HasOptionFault (codes "generate") (rows_of (found_of matches.now))) }
+{
+    if let Some(profile) = matches.get_one::<Profile>("profile") {
+        return Ok(profile);
+    }
+    match matches.get_str("profile") {
+        Some(text) => Err(OptionFault::NoProfile(text)),
+        None => Ok(Profile::Mixed),
+    }
+}
+
+/// Which random script is to be written.
+pub(crate) fn generate_asked<'a>(matches: &ArgMatches<'a>) -> Result<Options, OptionFault<'a>>
+    requires { AsksToGenerate (rows_of (found_of matches.now)) }
+    ensures options { IfOk result (AreGenerateOptions (rows_of (found_of matches.now))) }
+    ensures fault { IfErr result (HasOptionFault (codes "generate") (rows_of (found_of matches.now))) }
+{
+    let profile = profile_asked(matches)?;
+    Ok(Options {
+        config: generated_config(matches),
+        seed: seed_asked(matches),
+        events: events_asked(matches),
+        sessions: sessions_asked(matches),
+        profile,
+    })
 }

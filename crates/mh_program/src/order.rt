@@ -8,10 +8,13 @@ ghost use Rattle.mh_program.specs.Orders.{GivesOrder, HasFewWorkers, HasFirstRul
 use crate::command::command;
 use crate::fault::LineFault;
 use crate::line::Order;
-use crate::options::{OptionFault, check_asked, config_given, run_asked, workers_asked};
+use crate::options::{
+    OptionFault, check_asked, config_given, generate_asked, run_asked, workers_asked,
+};
 use crate::quoted::{are_plain, quoted, quoted_words};
 use clap::ArgMatches;
 use clap::error::ErrorKind;
+use mh_generate::profile::UnknownProfile;
 use mh_model::config::Rules;
 use std::alloc::{AllocError, Global};
 use std::convert::AsStr;
@@ -30,6 +33,7 @@ fn order_named<'a>(name: &str, matches: &ArgMatches<'a>) -> Result<Order, Option
         "check" => check_asked(matches),
         "audit" => Ok(Order::Audit),
         "migrate" => Ok(Order::Migrate(config_given(matches, Rules::First)?)),
+        "generate" => Ok(Order::Generate(generate_asked(matches)?)),
         _ => unreachable!(),
     }
 }
@@ -65,6 +69,15 @@ fn no_number(alloc: Global, name: &str, text: &str) -> Result<clap::Error, Alloc
     refused(alloc, ErrorKind::ValueValidation, message.as_str())
 }
 
+/// `clap`'s refusal of a profile that is none.
+fn no_profile(alloc: Global, text: &str) -> Result<clap::Error, AllocError>
+    ensures { IfOk result (λ error. kind_of error ≡ ValueValidation) }
+{
+    let text = quoted(alloc, text)?;
+    let message = format!(in alloc; "invalid value '{text}' for '--profile': {UnknownProfile}")?;
+    refused(alloc, ErrorKind::ValueValidation, message.as_str())
+}
+
 /// `clap`'s refusal of options without this one.
 fn missing(alloc: Global, name: &str) -> Result<clap::Error, AllocError>
     ensures { IfOk result (λ error. kind_of error ≡ MissingRequiredArgument) }
@@ -87,6 +100,7 @@ fn refused_options(alloc: Global, fault: OptionFault<'_>) -> LineFault
     let refusal = match fault {
         OptionFault::Outside(option) => return LineFault::Configuration(option),
         OptionFault::NoNumber(name, text) => no_number(alloc, name, text),
+        OptionFault::NoProfile(text) => no_profile(alloc, text),
         OptionFault::Missing(name) => missing(alloc, name),
         OptionFault::Unwanted(name) => unwanted(alloc, name),
     };

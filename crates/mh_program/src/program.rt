@@ -3,7 +3,7 @@ ghost use Rattle.std.specs.String.{string_bytes};
 ghost use Rattle.mh_program.specs.declared.fault.LineFault.{LineFault};
 ghost use Rattle.mh_program.specs.declared.line.Order.{Order};
 ghost use Rattle.mh_program.specs.Orders.{HasFewWorkers, HasFirstRules, OrdersBy};
-ghost use Rattle.mh_program.specs.Program.{AnswersLines, IsRunBy, Obeys, Serves, WritesVersion};
+ghost use Rattle.mh_program.specs.Program.{AnswersLines, IsRunBy, Obeys, Serves, WritesScript, WritesVersion};
 ghost use Rattle.mh_program.specs.Telling.{TellsEnd, TellsFault, TellsJudgement, TellsRun};
 ghost use Rattle.mh_program.specs.Status.{judgement_status_of, status_of};
 ghost use Rattle.mh_model.specs.declared.config.Rules.TheVariants.{First};
@@ -18,6 +18,8 @@ use crate::line::{Form, Order, RunOptions};
 use crate::order::line_order;
 use crate::status::{judgement_status, line_status, live_status, status};
 use crate::version::VERSION_LINE;
+use mh_generate::generate::generate;
+use mh_generate::options::Options;
 use mh_judging::judge::{audit_script, check_script};
 use mh_judging::migrate::migrate_script;
 use mh_judging::run_history::run_history;
@@ -26,7 +28,7 @@ use mh_model::config::{Config, Rules};
 use mh_racing::race::race_script;
 use mh_scan::crew_scan::CrewGate;
 use mh_script::end::End;
-use mh_script::fault::ScriptFault;
+use mh_script::fault::{ScriptFault, WriteError};
 use mh_script::run::run_script;
 use mh_sessions::texts::check_sessions;
 use mh_text::sink::Sink;
@@ -212,6 +214,37 @@ fn migrate<S: Source, W: Sink, E: Sink>(
     judgement_status(&ended)
 }
 
+fn written_script<W: Sink>(
+    alloc: Global,
+    options: Options,
+    sink: &mut W,
+) -> Result<End, ScriptFault>
+    requires { W.failures sink.old < 2 ^ 62 }
+    ensures { WritesScript options (device (W.written sink.old) (W.failures sink.old)) (device (W.written sink.new) (W.failures sink.new)) result }
+{
+    match generate(alloc, &options, sink) {
+        Ok(()) => Ok(End::Done),
+        Err(WriteError::Device) => Err(ScriptFault::Write),
+        Err(WriteError::NoMemory) => Err(ScriptFault::NoMemory),
+    }
+}
+
+/// Writes a random script, and reports a fault of that.
+fn write_script<W: Sink, E: Sink>(
+    alloc: Global,
+    options: Options,
+    sink: &mut W,
+    errors: &mut Errors<E>,
+) -> u8
+    requires sink_count { W.failures sink.old < 2 ^ 62 }
+    ensures { Obeys (WritesScript options (device (W.written sink.old) (W.failures sink.old)) (device (W.written sink.new) (W.failures sink.new))) TellsFault status_of
+        errors.old errors.new result }
+{
+    let ended = written_script(alloc, options, sink);
+    errors.tell_fault(&ended);
+    status(&ended)
+}
+
 fn written_version<W: Sink>(sink: &mut W) -> Result<End, ScriptFault>
     requires { W.failures sink.old < 2 ^ 62 }
     ensures { WritesVersion (device (W.written sink.old) (W.failures sink.old)) (device (W.written sink.new) (W.failures sink.new)) result }
@@ -260,6 +293,7 @@ pub fn serve<R: Threads + Wait + Sync, S: Source, W: Sink, E: Sink, G: CrewGate 
         Ok(Order::CheckSessions(rules)) => check_seen(alloc, rules, source, sink, errors),
         Ok(Order::Audit) => audit(alloc, source, sink, errors),
         Ok(Order::Migrate(config)) => migrate(alloc, config, source, sink, errors),
+        Ok(Order::Generate(options)) => write_script(alloc, options, sink, errors),
         Ok(Order::Version) => version(sink, errors),
         Err(fault) => {
             errors.tell_line(&fault);

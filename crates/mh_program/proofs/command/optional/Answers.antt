@@ -9,4 +9,5 @@ returns c =
     let third = grown c.race.result _ _ _ _ second c.race.ensures.app c.in_ok-app-3.ensures in
     let fourth = grown c.check.result _ _ _ _ third c.check.ensures.app c.in_ok-app-4.ensures in
     let fifth = c.in_ok-app-5.ensures ∙ same-with _ _ _ _ fourth c.audit.ensures.app in
-    IfOk-grown c.with_subcommand-6.result c.migrate.result _ _ _ fifth c.migrate.ensures.app c.with_subcommand-6.ensures
+    let sixth = grown c.migrate.result _ _ _ _ fifth c.migrate.ensures.app c.in_ok-app-6.ensures in
+    IfOk-grown c.with_subcommand-7.result c.generate.result _ _ _ sixth c.generate.ensures.app c.with_subcommand-7.ensures
