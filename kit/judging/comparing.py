@@ -1,0 +1,186 @@
+"""What the reference answers, what the author's program answers, and the first thing that is wrong with the latter."""
+from __future__ import annotations
+
+import enum
+import signal
+import subprocess
+import threading
+from collections.abc import Sequence
+from dataclasses import dataclass, field
+
+from judging.programs import WELL, Answer, End, Ending, Limits, Protocol, ask
+from judging.scripts import CONTROL, HEAP_FULL, BadScript, Case, Event, Script, read_script
+
+# A program may write twice the bytes of the right replies, and so many more.
+SPARE_BYTES = 1 << 20
+# The reference answers the longest script in less.
+REFERENCE_SECONDS = 300
+
+
+class ReferenceFailure(Exception):
+    """The reference program didn't answer as it has to."""
+
+
+class Kind(enum.Enum):
+    DIFFERENCE = "a difference"
+    FULL = "a full heap"
+    FLOOD = "too much output"
+    HANG = "a hang"
+    DEATH = "a crash"
+    SILENCE = "too few replies"
+
+
+@dataclass(frozen=True)
+class Finding:
+    """What is wrong at an event; with the count of events as its index, after the last one."""
+    kind: Kind
+    index: int
+    # The author's reply, or what happened in place of one.
+    yours: str
+    end: End
+    # The end of what the program wrote to standard error.
+    errors: str = ""
+    # Whether the program ended well and left events unanswered, so that a reply may be that to another event.
+    is_short: bool = False
+
+    def is_like(self, other: Finding) -> bool:
+        """Whether both may be one fault. A program that can't do with a smaller heap, say, ends in another way."""
+        return self.kind is other.kind and self.end in (other.end, WELL)
+
+
+@dataclass(frozen=True)
+class Judgement:
+    """A script as it was sent, the right reply to each of its events, and what was found."""
+    script: Script
+    right: tuple[str, ...]
+    finding: Finding | None
+
+
+class Reference:
+    """The program whose replies are right."""
+
+    def __init__(self, words: Sequence[str]) -> None:
+        self.words = tuple(words)
+
+    def output(self, words: Sequence[str], text: str) -> list[str]:
+        command = [*self.words, *words]
+        try:
+            done = subprocess.run(command, input=text.encode(), capture_output=True, timeout=REFERENCE_SECONDS,
+                                  check=False)
+        except OSError as error:
+            raise ReferenceFailure(f"{command[0]}: {error.strerror}") from None
+        except subprocess.TimeoutExpired:
+            raise ReferenceFailure(f"`{' '.join(command)}` took more than {REFERENCE_SECONDS} s") from None
+        if done.returncode != 0:
+            said = (done.stderr or done.stdout).decode("utf-8", "backslashreplace").strip()
+            raise ReferenceFailure(f"`{' '.join(command)}` ended with status {done.returncode}: {said[-500:]}")
+        return done.stdout.decode("utf-8", "backslashreplace").split("\n")[:-1]
+
+    def replies(self, script: Script) -> tuple[str, ...]:
+        replies = self.output(["run"], script.text())
+        if len(replies) != len(script.events):
+            raise ReferenceFailure(f"{len(script.events)} events had {len(replies)} replies: {replies[:1]}")
+        return tuple(replies)
+
+    def dump_before(self, script: Script, index: int) -> str:
+        """The dump just before an event."""
+        asked = script.prefix(index)
+        return self.replies(asked.with_events([*asked.events, Event(CONTROL, "dump", ())]))[-1]
+
+    def generated(self, options: Sequence[str]) -> Script:
+        try:
+            return read_script("".join(line + "\n" for line in self.output(["generate", *options], "")))
+        except BadScript as bad:
+            raise ReferenceFailure(f"generate {' '.join(options)}: {bad}") from None
+
+
+@dataclass(frozen=True)
+class Judge:
+    """Asks both programs, and compares: all replies, or only those to commands of sessions."""
+    reference: Reference
+    program: tuple[str, ...]
+    protocol: Protocol
+    is_exact: bool
+    seconds: float
+    # Set when the answers to the scripts under way aren't wanted any more.
+    stop: threading.Event = field(default_factory=threading.Event)
+
+    def examine(self, case: Case, seconds: float | None = None) -> Judgement:
+        """Judges a script by a run of each program, the author's of so many seconds at most."""
+        script, right = self.prepared(case)
+        size = 2 * sum(len(reply) + 1 for reply in right) + SPARE_BYTES
+        limits = Limits(self.seconds if seconds is None else seconds, len(right), size)
+        answer = ask(self.program, self.protocol, script.lines(), limits, self.stop)
+        found = self.difference(script, right, answer)
+        if len(answer.lines) > len(right):
+            # Some event has several lines, and which line is whose is not known.
+            return Judgement(script, right, more_lines(answer, found.index if found else len(right)))
+        return Judgement(script, right, found or stop(right, answer, limits))
+
+    def prepared(self, case: Case) -> tuple[Script, tuple[str, ...]]:
+        """The script as it is sent, with its right replies.
+
+        If sessions alone are compared, each event has to have one line whatever the collector, so the other controls
+        are left out. And where the reference is full the script ends, since a collector may have more room.
+        """
+        asked = case if self.is_exact else case.plain()
+        right = self.reference.replies(asked.script)
+        if asked.stated:
+            require_stated(asked, right)
+        if not self.is_exact and HEAP_FULL in right:
+            count = right.index(HEAP_FULL)
+            return asked.script.prefix(count), right[:count]
+        return asked.script, right
+
+    def difference(self, script: Script, right: Sequence[str], answer: Answer) -> Finding | None:
+        """The first reply that is not the right one."""
+        for index, (event, reply, yours) in enumerate(zip(script.events, right, answer.lines)):
+            if yours == reply or not (self.is_exact or event.is_command):
+                continue
+            is_full = not self.is_exact and event.word == "new" and yours == HEAP_FULL
+            is_short = answer.end == WELL and len(answer.lines) < len(right)
+            kind = Kind.FULL if is_full else Kind.DIFFERENCE
+            return Finding(kind, index, yours, answer.end, answer.errors, is_short)
+        return None
+
+
+def require_stated(case: Case, right: Sequence[str]) -> None:
+    """The replies that a script of the folder `conformance` states are those of the reference."""
+    for index, (event, stated, reply) in enumerate(zip(case.script.events, case.stated, right), 1):
+        if stated != reply:
+            raise ReferenceFailure(f"event {index}, `{event.text()}`: the script states `{stated}`, "
+                                   f"and the reference answers `{reply}`")
+
+
+def more_lines(answer: Answer, index: int) -> Finding:
+    said = f"more lines than events; line {index + 1} is no right one, `{answer.lines[index]}`"
+    return Finding(Kind.FLOOD, index, said, answer.end, answer.errors)
+
+
+def stop(right: Sequence[str], answer: Answer, limits: Limits) -> Finding | None:
+    """How a run ended, if it didn't end well."""
+    index = min(len(right), len(answer.lines))
+    is_complete = index == len(right)
+    if answer.end.ending is Ending.FLOODED:
+        kind, said = Kind.FLOOD, f"more than {limits.bytes} bytes"
+    elif answer.end.ending is Ending.HUNG:
+        kind, said = Kind.HANG, f"no {'end' if is_complete else 'reply'} within {limits.seconds:g} s"
+    elif answer.end != WELL:
+        kind, said = Kind.DEATH, death(answer.end.status)
+    elif not is_complete:
+        said = f"`{answer.rest}` without a newline" if answer.rest else "no reply"
+        kind, said = Kind.SILENCE, f"{said}, and the program ended with status 0"
+    elif answer.rest:
+        kind, said = Kind.FLOOD, f"after the last reply `{answer.rest}`"
+    else:
+        return None
+    return Finding(kind, index, said, answer.end, answer.errors)
+
+
+def death(status: int) -> str:
+    if status > 0:
+        return f"the program ended with status {status}"
+    names = {number.value: f" ({number.name})" for number in signal.Signals}
+    return f"the program was ended by signal {-status}{names.get(-status, '')}"
+
+

@@ -1,0 +1,127 @@
+"""The report of a finding: a script with answers, so that it can be run again, and kept among others of its form."""
+from __future__ import annotations
+
+import enum
+from collections.abc import Iterator
+from dataclasses import dataclass
+from itertools import zip_longest
+
+from judging.comparing import Judge, Judgement, Kind
+from judging.manual import Manual, rules_of
+from judging.programs import Protocol
+from judging.scripts import Mark
+from judging.shrinking import Shrunk
+
+# A dump that is shown beside a script is cut behind so many letters.
+MOST_LETTERS = 4000
+
+
+HERE = "here"
+
+
+class Note(enum.Enum):
+    """What a finding doesn't say by itself."""
+    FULL = ("your heap is full and the reference's isn't; it may have less room, or keep what nothing reaches any "
+            "more: give it more room, or ask for fewer events")
+    SHORT = "yours gave fewer lines than there are events, so this may be its reply to a later one"
+    FLUSH = "line by line, each reply has to be flushed"
+    UNSTEADY = "one more run of this script had no such finding: the program doesn't answer the same each time"
+    UNFINISHED = "shrinking came to its limit (--shrink-runs, --shrink-seconds), so a smaller script may do"
+
+
+def shown(text: str) -> str:
+    """A text on one line, with what can't be printed escaped."""
+    return "".join(letter if letter.isprintable() else repr(letter)[1:-1] for letter in text)
+
+
+def shortened(text: str) -> str:
+    left = len(text) - MOST_LETTERS
+    return text if left <= 0 else f"{text[:MOST_LETTERS]} ... and {left} letters more"
+
+
+def place_of(judged: Judgement, protocol: Protocol) -> int:
+    """The event at which to look. A program that gets the whole script may keep replies back as it stops. Then it is
+    the last event, without which nothing is found."""
+    index, last = judged.finding.index, len(judged.script.events) - 1
+    if protocol is Protocol.RUN and judged.finding.kind in (Kind.HANG, Kind.DEATH):
+        return max(index, last)
+    return index
+
+
+def notes_of(shrunk: Shrunk, protocol: Protocol) -> Iterator[Note]:
+    finding = shrunk.judgement.finding
+    if finding.kind is Kind.FULL:
+        yield Note.FULL
+    if finding.kind is Kind.HANG and protocol is Protocol.LIVE and finding.index == 0:
+        yield Note.FLUSH
+    if finding.is_short:
+        yield Note.SHORT
+    if not shrunk.is_steady:
+        yield Note.UNSTEADY
+    elif not shrunk.is_smallest:
+        yield Note.UNFINISHED
+
+
+def other_word(right: str, yours: str) -> str | None:
+    """Where two long replies differ first."""
+    pairs = enumerate(zip_longest(right.split(" "), yours.split(" "), fillvalue="none"), 1)
+    number, (one, other) = next((number, pair) for number, pair in pairs if pair[0] != pair[1])
+    return f"word {number} is `{other}`, and right is `{one}`" if number > 2 else None
+
+
+@dataclass(frozen=True)
+class Report:
+    """A finding with what it takes to tell of it."""
+    judge: Judge
+    shrunk: Shrunk
+    origin: str
+    manual: Manual
+
+    @property
+    def judged(self) -> Judgement:
+        return self.shrunk.judgement
+
+    @property
+    def index(self) -> int:
+        return place_of(self.judged, self.judge.protocol)
+
+    def summary(self) -> str:
+        """What was found, and where."""
+        events, finding = self.judged.script.events, self.judged.finding
+        if self.index == len(events):
+            return f"{finding.kind.value} after the last of {len(events)} events"
+        return f"{finding.kind.value} at event {self.index + 1} of {len(events)}, `{events[self.index].text()}`"
+
+    def rules(self) -> Iterator[str]:
+        events, finding = self.judged.script.events, self.judged.finding
+        event, right = None, ""
+        if self.index < len(events):
+            event, right = events[self.index], self.judged.right[self.index]
+        for rule in rules_of(finding, event, right, self.judge):
+            yield f"{rule.heading}: {self.manual.quote(rule) or 'see docs/MANUAL.md'}"
+
+    def head(self) -> Iterator[str]:
+        finding, right = self.judged.finding, self.judged.right
+        yield from (f"rule: {rule}" for rule in self.rules())
+        yield f"catches: {self.summary()}"
+        yield f"mark: {(Mark.EXACT if self.judge.is_exact else Mark.ANY).value}"
+        yield f"from: {self.origin}, by {self.shrunk.runs} runs"
+        if self.index < len(right):
+            is_compared = self.judge.is_exact or self.judged.script.events[self.index].is_command
+            yield f"right: {shortened(right[self.index]) if is_compared else 'any line'}"
+        yield f"yours: {shortened(finding.yours)}"
+        if finding.kind is Kind.DIFFERENCE and (other := other_word(right[self.index], finding.yours)):
+            yield f"other: {other}"
+        yield f"before: {shortened(self.judge.reference.dump_before(self.judged.script, self.index))}"
+        yield from (f"note: {note.value}" for note in notes_of(self.shrunk, self.judge.protocol))
+        yield from (f"standard error: {line}" for line in finding.errors.splitlines())
+
+    def text(self) -> str:
+        lines = [*(f"# {shown(line)}" for line in self.head()), "", self.judged.script.config.text()]
+        for index, (event, reply) in enumerate(zip(self.judged.script.events, self.judged.right)):
+            if index == self.index:
+                lines += ["", f"# {HERE}"]
+            lines += [event.text(), f"# {reply}"]
+        if self.index == len(self.judged.right):
+            lines += ["", f"# {HERE}: after the last event"]
+        return "".join(line + "\n" for line in lines)

@@ -1,0 +1,209 @@
+"""Scripts as the judge cuts, renames and sends them, and the scripts with answers of the folder `conformance`."""
+from __future__ import annotations
+
+import enum
+import pathlib
+import re
+from collections.abc import Callable, Iterable
+from dataclasses import dataclass, replace
+from typing import TypeVar
+
+Read = TypeVar("Read")
+CONTROL = "*"
+HEAP_FULL = "refused 5 heap full"
+CONTROLS = ("start", "quantum", "stat", "dump", "left", "report")
+# The controls that a collector is asked without --exact. It may answer any line.
+PLAIN_CONTROLS = ("start", "quantum")
+
+
+class BadScript(Exception):
+    """A text is no script, or no script with answers."""
+
+
+class Role(enum.Enum):
+    """What a number of an event is."""
+    SLOT = "slot"
+    BOARD = "board"
+    REFERENCE = "reference"
+    NUMBER = "number"
+    COUNT = "count"
+    VALUE = "value"
+
+
+ROLES: dict[str, tuple[Role, ...]] = {
+    "new": (Role.SLOT, Role.COUNT, Role.COUNT),
+    "get": (Role.SLOT, Role.SLOT, Role.REFERENCE),
+    "put": (Role.SLOT, Role.REFERENCE, Role.SLOT),
+    "read": (Role.SLOT, Role.NUMBER),
+    "write": (Role.SLOT, Role.NUMBER, Role.VALUE),
+    "copy": (Role.SLOT, Role.SLOT),
+    "clear": (Role.SLOT,),
+    "same": (Role.SLOT, Role.SLOT),
+    "shape": (Role.SLOT,),
+    "post": (Role.BOARD, Role.SLOT),
+    "take": (Role.SLOT, Role.BOARD),
+    "end": (),
+    "quantum": (),
+    "start": (),
+    "stat": (),
+    "dump": (),
+    "left": (),
+    "report": (Role.VALUE,),
+}
+
+
+@dataclass(frozen=True)
+class Event:
+    """A command of a session, or a control."""
+    who: str
+    word: str
+    numbers: tuple[int, ...]
+
+    @property
+    def is_command(self) -> bool:
+        return self.who != CONTROL
+
+    @property
+    def is_plain(self) -> bool:
+        """Whether any collector can be asked it."""
+        return self.is_command or self.word in PLAIN_CONTROLS
+
+    def roles(self) -> tuple[Role, ...]:
+        return ROLES[self.word]
+
+    def text(self) -> str:
+        return " ".join((self.who, self.word, *map(str, self.numbers)))
+
+
+@dataclass(frozen=True)
+class Config:
+    pages: int
+    quantum: int
+    trigger: int
+    every: int
+
+    def text(self) -> str:
+        return f"config {self.pages} {self.quantum} {self.trigger} {self.every}"
+
+
+@dataclass(frozen=True)
+class Script:
+    config: Config
+    events: tuple[Event, ...]
+
+    def text(self) -> str:
+        return "".join(line + "\n" for line in self.lines())
+
+    def lines(self) -> list[str]:
+        return [self.config.text(), *(event.text() for event in self.events)]
+
+    def with_events(self, events: Iterable[Event]) -> Script:
+        return replace(self, events=tuple(events))
+
+    def prefix(self, count: int) -> Script:
+        return self.with_events(self.events[:count])
+
+    def plain(self) -> Script:
+        """Without the controls that change nothing and ask for more than a session sees."""
+        return self.with_events(event for event in self.events if event.is_plain)
+
+    def sessions(self) -> list[str]:
+        """The names of sessions, in the order in which they are first seen."""
+        return list(dict.fromkeys(event.who for event in self.events if event.is_command))
+
+
+class Mark(enum.Enum):
+    """Whose replies a script of the folder `conformance` has."""
+    EXACT = "exact"
+    ANY = "any"
+
+
+@dataclass(frozen=True)
+class Case:
+    """A script with its answers. `stated` has a reply for each event, or is empty if the script states none."""
+    script: Script
+    stated: tuple[str, ...] = ()
+    mark: Mark = Mark.ANY
+
+    def plain(self) -> Case:
+        kept = tuple(reply for event, reply in zip(self.script.events, self.stated) if event.is_plain)
+        return replace(self, script=self.script.plain(), stated=kept)
+
+
+def read_number(word: str) -> int:
+    if not re.fullmatch(r"0|[1-9][0-9]{0,19}", word):
+        raise BadScript(f'"{word}" is no number')
+    return int(word)
+
+
+def read_event(line: str) -> Event:
+    words = line.split(" ")
+    if len(words) < 2 or words[1] not in ROLES or (words[0] == CONTROL) != (words[1] in CONTROLS):
+        raise BadScript(f'"{line}" is no event')
+    event = Event(words[0], words[1], tuple(read_number(word) for word in words[2:]))
+    if len(event.numbers) != len(event.roles()):
+        raise BadScript(f'"{line}" has another count of numbers')
+    return event
+
+
+def read_config(line: str) -> Config:
+    word, *numbers = line.split(" ")
+    if word != "config" or len(numbers) != 4:
+        raise BadScript(f'"{line}": config PAGES QUANTUM TRIGGER EVERY comes first')
+    return Config(*(read_number(number) for number in numbers))
+
+
+@dataclass(frozen=True)
+class Text:
+    """A script as it is written: its comments above the configuration, and those directly below each event."""
+    script: Script
+    head: tuple[str, ...]
+    below: tuple[tuple[str, ...], ...]
+
+
+def read_text(text: str) -> Text:
+    config, events, head, below, is_below = None, [], [], [], False
+    for number, line in enumerate(text.split("\n")[:-1], 1):
+        try:
+            if line.startswith("#"):
+                if config is None:
+                    head.append(line[1:].strip())
+                elif is_below:
+                    below[-1].append(line[1:].strip())
+            elif not line:
+                is_below = False
+            elif config is None:
+                config = read_config(line)
+            else:
+                events.append(read_event(line))
+                below.append([])
+                is_below = True
+        except BadScript as bad:
+            raise BadScript(f"line {number}: {bad}") from None
+    if config is None or not text.endswith("\n"):
+        raise BadScript("there is no config, or the last line has no newline")
+    return Text(Script(config, tuple(events)), tuple(head), tuple(map(tuple, below)))
+
+
+def read_script(text: str) -> Script:
+    return read_text(text).script
+
+
+def read_case(text: str) -> Case:
+    """A script of the folder `conformance`: it has one mark, and directly below each event one line with its reply."""
+    read = read_text(text)
+    marks = [line.removeprefix("mark:").strip() for line in read.head if line.startswith("mark:")]
+    if marks not in [[mark.value] for mark in Mark]:
+        raise BadScript("it has no line `# mark: exact` or `# mark: any`, or several")
+    for event, replies in zip(read.script.events, read.below):
+        if len(replies) != 1:
+            raise BadScript(f"`{event.text()}` has {len(replies)} lines of reply directly below it, and right is one")
+    return Case(read.script, tuple(reply for (reply,) in read.below), Mark(marks[0]))
+
+
+def read_file(path: pathlib.Path, read: Callable[[str], Read]) -> Read:
+    """What a file is read as. Comments may hold any bytes."""
+    try:
+        return read(path.read_bytes().decode("utf-8", "surrogateescape"))
+    except BadScript as bad:
+        raise BadScript(f"{path}: {bad}") from None
