@@ -1,4 +1,4 @@
-//! Worked texts of the six subcommands.
+//! Worked texts of the seven subcommands.
 
 /// The words of a command line and a text, what the program writes of them, and its exit status.
 #[derive(Clone, Copy)]
@@ -270,6 +270,17 @@ pub const CASES: &[Case<'static>] = &[
         status: 1,
     },
 ];
+
+/// A random script, for which nothing is read.
+pub const GENERATED: Case<'static> = Case {
+    words: &[b"metroheap", b"generate", b"--seed=1", b"--events=12"],
+    input: b"config 4 209 0 0\n",
+    outputs: &[
+        b"config 64 250 32 25\ns0 new 0 16 0\ns0 new 1 2 4\ns0 put 1 0 0\ns0 put 1 1 4\ns0 copy 0 1\ns1 put 3 0 9\ns0 write 13 0 12816369009886135965\ns1 new 0 16 0\ns0 new 1 2 3\ns0 put 1 0 0\ns2 new 1 2 2\ns0 put 1 1 4\n",
+    ],
+    told: NONE,
+    status: 0,
+};
 
 /// Lines that are answered as they come, so that answers are written before all is read.
 pub const LIVE_CASES: &[Case<'static>] = &[

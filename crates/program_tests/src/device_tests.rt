@@ -1,4 +1,4 @@
-use crate::cases::{CASES, Case, LIVE_CASES};
+use crate::cases::{CASES, Case, GENERATED, LIVE_CASES};
 use crate::trial::{Device, Devices, Outcome, SOUND_DEVICES};
 use crate::trouble::{Way, trouble_each_read, trouble_each_write};
 use std::alloc::Global;
@@ -109,6 +109,14 @@ fn each_write_has_trouble_in_turn(rt: HostRuntime) {
     for case in LIVE_CASES {
         trouble_writes(&rt, rt.alloc(), case);
     }
+    trouble_writes(&rt, rt.alloc(), &GENERATED);
+}
+
+#[test]
+fn nothing_is_read_for_a_random_script(rt: HostRuntime) {
+    let trial = SOUND_DEVICES.run(&rt, rt.alloc(), &GENERATED);
+    assert_eq!(rt; trial.outcome, Outcome::Right);
+    assert_eq!(rt; trial.reads, 0);
 }
 
 const FAILURE: Trouble = Trouble::Error(ErrorKind::BrokenPipe);

@@ -62,6 +62,13 @@ const REFUSED: &[Case<'static>] = &[
         told: b"Print a legal history of version 1 as one of version 2",
         status: 2,
     },
+    Case {
+        words: &[b"metroheap", b"generate", b"--help"],
+        input: SCRIPT,
+        outputs: &[],
+        told: b"Print a random script. The same options print the same bytes",
+        status: 2,
+    },
 ];
 
 #[test]

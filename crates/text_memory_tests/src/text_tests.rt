@@ -3,8 +3,8 @@ use crate::calls::{Call, Reading, Told, Wanted};
 use crate::sweep::check;
 use crate::texts::{
     AUDIT, BAD_HISTORY, BAD_NUMBER, BAD_RECORD, CHECK, CHECK_SESSIONS, COLLECTED, COLLECTED_OUTPUT,
-    FIRST_BAD, HISTORY, LEGAL, LIVE, MIGRATE, MIGRATE_CYCLES, RACE, RECORD, REFUSED,
-    REFUSED_OUTPUT, REFUSED_REASON, RUN, RUN_BY_TWO, RUN_HISTORY, crowded, crowded_output,
+    FIRST_BAD, GENERATE, GENERATED, HISTORY, LEGAL, LIVE, MIGRATE, MIGRATE_CYCLES, RACE, RECORD,
+    REFUSED, REFUSED_OUTPUT, REFUSED_REASON, RUN, RUN_BY_TWO, RUN_HISTORY, crowded, crowded_output,
     repeated, wide, wide_output,
 };
 use std::alloc::{AllocError, Global};
@@ -158,6 +158,21 @@ const RECORDED: &[Call<'static>] = &[Call {
 #[test]
 fn histories_of_runs(rt: HostRuntime) -> Result<(), Fail> {
     check_each(&rt, rt.alloc(), RECORDED)?;
+    Ok(())
+}
+
+const WRITTEN: &[Call<'static>] = &[Call {
+    words: GENERATE,
+    text: COLLECTED,
+    wanted: Wanted::Output(GENERATED),
+    told: Told::Nothing,
+    status: 0,
+    reading: Reading::Before,
+}];
+
+#[test]
+fn random_scripts(rt: HostRuntime) -> Result<(), Fail> {
+    check_each(&rt, rt.alloc(), WRITTEN)?;
     Ok(())
 }
 

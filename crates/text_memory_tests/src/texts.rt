@@ -36,6 +36,24 @@ pub const MIGRATE: &[&[u8]] = &[
     b"--every=0",
 ];
 
+pub const GENERATE: &[&[u8]] = &[b"metroheap", b"generate", b"--seed=1", b"--events=12"];
+
+/// The random script that these words ask for.
+pub const GENERATED: &[u8] = b"config 64 250 32 25
+s0 new 0 16 0
+s0 new 1 2 4
+s0 put 1 0 0
+s0 put 1 1 4
+s0 copy 0 1
+s1 put 3 0 9
+s0 write 13 0 12816369009886135965
+s1 new 0 16 0
+s0 new 1 2 3
+s0 put 1 0 0
+s2 new 1 2 2
+s0 put 1 1 4
+";
+
 /// Under this configuration each command is followed by a whole cycle.
 pub const MIGRATE_CYCLES: &[&[u8]] = &[
     b"metroheap",
