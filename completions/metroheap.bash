@@ -3,9 +3,13 @@ _metroheap() {
     local word=${COMP_WORDS[COMP_CWORD]} options=
     case ${COMP_WORDS[COMP_CWORD - 1]} in
         # A number follows.
-        --workers | --pages | --quantum | --trigger | --every) return ;;
+        --workers | --pages | --quantum | --trigger | --every | --seed | --events) return ;;
         --rules)
             mapfile -t COMPREPLY < <(compgen -W '1 2' -- "$word")
+            return
+            ;;
+        --profile)
+            mapfile -t COMPREPLY < <(compgen -W 'churn lists trees wide large frag refusals mixed' -- "$word")
             return
             ;;
     esac
@@ -15,7 +19,12 @@ _metroheap() {
         check) options='--pages --quantum --trigger --every --rules --sessions --help' ;;
         migrate) options='--pages --quantum --trigger --every --help' ;;
         audit) options='--help' ;;
-        *) options='run live race check audit migrate --help --version' ;;
+        generate)
+            # Here a number follows, as it doesn't after the `--sessions` of `check`.
+            [[ ${COMP_WORDS[COMP_CWORD - 1]} == --sessions ]] && return
+            options='--seed --events --sessions --pages --quantum --every --profile --help'
+            ;;
+        *) options='run live race check audit migrate generate --help --version' ;;
     esac
     mapfile -t COMPREPLY < <(compgen -W "$options" -- "$word")
 }
