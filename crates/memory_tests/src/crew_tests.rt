@@ -276,6 +276,8 @@ impl<R: Threads> Course for WhereMemoryEnds<'_, R> {
 fn quanta_are_the_same_where_memory_ends_within_a_batch(rt: HostRuntime) -> Result<(), Fail> {
     let script = wide(rt.alloc())?;
     let wanted = told_by(rt.alloc(), &script, &mut OF_WIDE)?;
+    // The thread beside this one may take all memory, and then the stack of this one can't grow.
+    drop(Famine::begin(rt.alloc())?);
     let mut course = WhereMemoryEnds {
         rt: &rt,
         alloc: rt.alloc(),
