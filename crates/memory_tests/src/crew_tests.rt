@@ -235,8 +235,11 @@ impl CrewGate for Taking {
     }
 }
 
-/// Takes all memory, if it isn't taken yet.
+/// Takes all memory, if it isn't taken yet: once it is, the stack can't grow as far as another taking of it needs.
 fn take_all(alloc: Global, taken: &OnceLock<Famine>) {
+    if taken.get().is_some() {
+        return;
+    }
     if let Ok(famine) = Famine::begin(alloc) {
         let _ = taken.try_set(famine);
     }
@@ -276,8 +279,6 @@ impl<R: Threads> Course for WhereMemoryEnds<'_, R> {
 fn quanta_are_the_same_where_memory_ends_within_a_batch(rt: HostRuntime) -> Result<(), Fail> {
     let script = wide(rt.alloc())?;
     let wanted = told_by(rt.alloc(), &script, &mut OF_WIDE)?;
-    // The thread beside this one may take all memory, and then the stack of this one can't grow.
-    drop(Famine::begin(rt.alloc())?);
     let mut course = WhereMemoryEnds {
         rt: &rt,
         alloc: rt.alloc(),
