@@ -3,7 +3,7 @@ _metroheap() {
     local word=${COMP_WORDS[COMP_CWORD]} options=
     case ${COMP_WORDS[COMP_CWORD - 1]} in
         # A number follows.
-        --workers | --pages | --quantum | --trigger | --every | --seed | --events) return ;;
+        --workers | --pages | --quantum | --trigger | --every | --seed | --events | --from | --to) return ;;
         --rules)
             mapfile -t COMPREPLY < <(compgen -W '1 2' -- "$word")
             return
@@ -15,16 +15,18 @@ _metroheap() {
     esac
     case ${COMP_WORDS[1]} in
         run) options='--workers --rules --history --help' ;;
+        steps) options='--from --to --json --rules --help' ;;
         live | race) options='--workers --help' ;;
         check) options='--pages --quantum --trigger --every --rules --sessions --help' ;;
         migrate) options='--pages --quantum --trigger --every --help' ;;
         audit) options='--help' ;;
+        curve) options='--history --svg --rules --help' ;;
         generate)
             # Here a number follows, as it doesn't after the `--sessions` of `check`.
             [[ ${COMP_WORDS[COMP_CWORD - 1]} == --sessions ]] && return
             options='--seed --events --sessions --pages --quantum --every --profile --help'
             ;;
-        *) options='run live race check audit migrate generate --help --version' ;;
+        *) options='run steps live race check audit migrate generate curve --help --version' ;;
     esac
     mapfile -t COMPREPLY < <(compgen -W "$options" -- "$word")
 }

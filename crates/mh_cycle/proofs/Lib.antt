@@ -8,3 +8,5 @@ pub mod ReadyLemmas
 pub mod SnapshotLemmas
 pub mod HopLemmas
 pub mod DefragLemmas
+pub mod DeedLemmas
+pub mod ToldLemmas

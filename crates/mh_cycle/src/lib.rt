@@ -8,5 +8,7 @@
 #![tactic(auto)]
 
 pub mod cycle;
+mod grey_list;
 mod phases;
 mod steps;
+mod told;

@@ -1,3 +1,5 @@
+pub mod AddLemmas
+mod TellLemmas
 mod MadeLemmas
 mod LinkLemmas
 mod ChildLemmas

@@ -1,6 +1,6 @@
 -- Parts made one after the other: what is left to be made, and how those that are made are taken back.
 use Rattle.std.proofs.Common.{unwrap_or, replicate, ◌≡◌, ◌≢◌, ℕ, zero, suc, ◌<◌, ◌≤◌, Bool, true, false, inl, inr, List, [], ◌∷◌, ◌++◌, length, get_or, set, take, drop, slice_get, Option, Some, None, is_none, option_map, option_and_then, refl, sym, ap, ◌∙◌, arith}
-use Rattle.std.proofs.Math.Seq.{take-suc-set, drop-length}
+use Rattle.std.proofs.Math.Seq.{take-suc-set, take-length, drop-length}
 use Rattle.std.proofs.lemmas.Bool.{cases_eq, false≢true}
 use Rattle.std.proofs.lemmas.Option.{none-some, same_Some, slice_get_within}
 use Rattle.std.proofs.lemmas.List.{get_or-set_same, get_or-set_other, append_assoc, append-nil, length-replicate}
@@ -8,7 +8,11 @@ use Rattle.mh_table_laws.proofs.objects.RefusedObjects.{none-part}
 use Rattle.mh_model.specs.Classes.{Part, class_of, part_words, slots_in}
 use Rattle.mh_model.specs.Pages.{Page, Table, page_number, page_at, block_at, class_at, least_place, with_taken, with_released, IsFreeFor, slot_number, block_count, live_in, count_at, page_with, page_for}
 use Rattle.mh_model.specs.Table.{Block, Made, MadeParts, new_block, made_in_class, made_part, made_parts}
+use Rattle.mh_model.specs.declared.deed.Deed.{Deed}
+use Rattle.mh_model.specs.Deeds.{made_deed, make_deeds}
 use Rattle.mh_groups.specs.Making.{without_parts, CanBeUnmade, AllCanBeUnmade, AreUnlinked}
+use Rattle.mh_groups.specs.Placed.{placed_deeds}
+use Rattle.mh_groups.proofs.TellLemmas.{deeds-more, make_deeds-more}
 use Rattle.mh_table_laws.proofs.Lists.{to_some}
 use Rattle.mh_table_laws.proofs.placing.Places.{taken_page, block_at-with_taken_same, block_at-with_taken_there, with_released-with_taken}
 
@@ -119,6 +123,7 @@ made_part-at table birth stamp index size place part class least =
 
 -- So many parts of an object are made: what is left of the model's making, and how to take them back
 pub record AreMadeSoFar (old : Table Block) (birth stamp : ℕ) (list : List Part) (table : Table Block) (places : List ℕ) (fresh : List Bool) (count : ℕ) : Type 0 where
+  pub told : make_deeds old birth stamp 0 list ≡ placed_deeds table birth places fresh 0 (take count list) ++ make_deeds table birth stamp count (drop count list)
   pub left : made_parts old birth stamp 0 list ≡ option_map (made_after (take count places)) (made_parts table birth stamp count (drop count list))
   pub back : without_parts table places fresh count ≡ old
   pub can : AllCanBeUnmade table places fresh count
@@ -128,6 +133,12 @@ pub one_so_far : (old : Table Block) (birth stamp : ℕ) (list : List Part) (tab
     → count < length places → count < length fresh → slice_get list count ≡ Some part → class_of (part_words part) ≡ Some size → least_place table size ≡ Some place → IsFreeFor table size place → is_fresh ≡ is_none (class_at table (page_number place))
     → AreMadeSoFar old birth stamp list (with_taken table size place (new_block birth stamp count part)) (set places count place) (set fresh count is_fresh) (suc count)
 one_so_far old birth stamp list table places fresh count part size place is_fresh so_far room room' at class least free fresh_is = record {
+  told =
+      so_far.told
+      ∙ ap (λ parts. told ++ make_deeds table birth stamp count parts) (drop-slice list count part at)
+      ∙ ap (λ deeds. told ++ deeds) (make_deeds-more table birth stamp count part (drop (suc count) list) made (made_part-at table birth stamp count size place part class least))
+      ∙ sym (append_assoc told (here ∷ []) (make_deeds made.table birth stamp (suc count) (drop (suc count) list)))
+      ∙ ap (λ deeds. deeds ++ make_deeds made.table birth stamp (suc count) (drop (suc count) list)) (sym (deeds-more table birth size place block places fresh list count part is_fresh free fresh_is room room' at));
   left =
       so_far.left
       ∙ ap (λ parts. option_map (made_after (take count places)) (made_parts table birth stamp count parts)) (drop-slice list count part at)
@@ -144,6 +155,12 @@ one_so_far old birth stamp list table places fresh count part size place is_fres
 
     made : Made
     made = record { place = place; table = with_taken table size place block }
+
+    told : List Deed
+    told = placed_deeds table birth places fresh 0 (take count list)
+
+    here : Deed
+    here = made_deed table birth count part place
 
     born : (number : ℕ) (p : Part) → number < suc count → slice_get list number ≡ Some p → block_at (with_taken table size place block) (get_or (set places count place) number 0) ≡ Some (new_block birth stamp number p)
     born number p below is = elim (cases_eq number count) [
@@ -169,6 +186,15 @@ all_so_far old birth stamp list table places fresh so_far =
     so_far.left
     ∙ ap (λ parts. option_map (made_after (take (length list) places)) (made_parts table birth stamp (length list) parts)) (drop-length list)
     ∙ ap (λ all. Some (record { places = all; table = table })) (append-nil (take (length list) places))
+
+-- and told of
+pub told_so_far : (old : Table Block) (birth stamp : ℕ) (list : List Part) (table : Table Block) (places : List ℕ) (fresh : List Bool) → AreMadeSoFar old birth stamp list table places fresh (length list)
+    → make_deeds old birth stamp 0 list ≡ placed_deeds table birth places fresh 0 list
+told_so_far old birth stamp list table places fresh so_far =
+    so_far.told
+    ∙ ap (λ parts. placed_deeds table birth places fresh 0 (take (length list) list) ++ make_deeds table birth stamp (length list) parts) (drop-length list)
+    ∙ append-nil (placed_deeds table birth places fresh 0 (take (length list) list))
+    ∙ ap (placed_deeds table birth places fresh 0) (take-length list)
 
 pub unlinked_so_far : (old : Table Block) (birth stamp : ℕ) (list : List Part) (table : Table Block) (places : List ℕ) (fresh : List Bool) → AreMadeSoFar old birth stamp list table places fresh (length list) → AreUnlinked table places list 0
 unlinked_so_far old birth stamp list table places fresh so_far number part least at =

@@ -1,2 +1,3 @@
 pub mod Making
+pub mod Placed
 pub mod Room

@@ -1,19 +1,24 @@
 //! Objects made with all their parts or not at all.
-ghost use Rattle.std.specs.Prelude.{◌≡◌, ◌<◌, ◌≤◌, ◌^◌, ◌&&◌, ℕ, nat_lt, true, IsSome, IfOk, OnOk, OnErr, Some, None, length, get_or, map, take};
-ghost use Rattle.mh_model.specs.Pages.{block_at};
+ghost use Rattle.std.specs.Prelude.{◌≡◌, ◌<◌, ◌≤◌, ◌^◌, ◌&&◌, ℕ, nat_lt, true, IsSome, IfOk, OnOk, OnErr, Some, None, length, get_or, map, take, [], ◌∷◌};
+ghost use Rattle.mh_model.specs.Deeds.{make_deeds, Adds};
+ghost use Rattle.mh_model.specs.Pages.{page_number, block_at};
 ghost use Rattle.mh_model.specs.Table.{references_at, with_block_change, made_parts, linked_parts, made_group};
 ghost use Rattle.mh_classes.specs.Fits.{AreParts};
 ghost use Rattle.mh_pages.specs.FreePlaces.{free_places};
 ghost use Rattle.mh_groups.specs.Making.{HaveTheirChildren, without_parts, AllCanBeUnmade, AreUnlinked};
+ghost use Rattle.mh_groups.specs.Placed.{tier_at, part_deed, placed_deeds};
 ghost use Rattle.mh_groups.specs.Room.{full_count};
 
 use mh_blocks::blocks::{Blocks, Full};
 use mh_classes::class::Class;
-use mh_classes::parts::Parts;
+use mh_classes::parts::{Part, Parts};
+use mh_deeds::log::Deeds;
 use mh_model::birth::Birth;
+use mh_model::deed::{Deed, PartName, Tier};
 use mh_model::limits::{MOST_PARTS, RUN};
 use mh_model::memory::NoMemory;
 use mh_model::place::Place;
+use mh_model::shape::Shape;
 use std::alloc::Global;
 use std::marker::Model;
 
@@ -98,6 +103,7 @@ fn make_parts(
     requires fresh { length fresh.old ≡ 3661 }
     ensures made { OnOk result (made_parts blocks.old birth stamp 0 parts.now ≡ Some (record { places = take (length parts.now) places.new; table = blocks.new })) }
     ensures unlinked { OnOk result (AreUnlinked blocks.new places.new parts.now 0) }
+    ensures told { OnOk result (make_deeds blocks.old birth stamp 0 parts.now ≡ placed_deeds blocks.new birth places.new fresh.new 0 parts.now) }
     ensures full { OnErr result (made_parts blocks.old birth stamp 0 parts.now ≡ None) }
     ensures unchanged { OnErr result (blocks.new ≡ blocks.old) }
 {
@@ -178,4 +184,93 @@ pub fn make_group(
     )?;
     link_parts(blocks, &room.places[..count], parts);
     Ok(room.places[0])
+}
+
+/// The tier that found a place.
+fn tier_at(blocks: &Blocks, place: Place, is_fresh: bool) -> Tier
+    requires { page_number place < length blocks.now }
+    ensures { result ≡ tier_at blocks.now place is_fresh }
+{
+    if is_fresh {
+        Tier::Fresh
+    } else if blocks.is_flagged(place.page()) {
+        Tier::Sparse
+    } else {
+        Tier::Dense
+    }
+}
+
+/// Tells that a part was placed.
+fn tell_part(deeds: &mut Deeds, name: PartName, part: Part, place: Place, tier: Tier)
+    ensures { Adds deeds.old (part_deed name.birth name.part part place tier ∷ []) deeds.new }
+{
+    let class_size = part.class().size();
+    let fields = Shape {
+        references: part.references() as u32,
+        numbers: part.numbers() as u32,
+    };
+    deeds.push(Deed::Make {
+        place,
+        name,
+        class_size,
+        fields,
+        tier,
+    });
+}
+
+/// Tells where all parts were placed, in order.
+fn tell_parts(
+    blocks: &Blocks,
+    places: &[Place],
+    fresh: &[bool],
+    parts: &Parts,
+    birth: Birth,
+    deeds: &mut Deeds,
+)
+    requires places { length parts.now ≤ length places.now }
+    requires fresh { length parts.now ≤ length fresh.now }
+    requires there { (number : ℕ) → number < length parts.now → IsSome (block_at blocks.now (get_or places.now number 0)) }
+    ensures { Adds deeds.old (placed_deeds blocks.now birth places.now fresh.now 0 parts.now) deeds.new }
+{
+    let count = parts.count();
+    for index in 0..count {
+        let name = PartName { birth, part: index };
+        let place = places[index];
+        let tier = tier_at(blocks, place, fresh[index]);
+        tell_part(deeds, name, parts.get(index), place, tier);
+    }
+}
+
+/// Makes an object as `make_group` does, and tells where each part was placed. It tells nothing of one that is refused.
+pub fn make_group_told(
+    blocks: &mut Blocks,
+    room: &mut PartPlaces,
+    parts: &Parts,
+    birth: Birth,
+    stamp: u64,
+    deeds: &mut Deeds,
+) -> Result<Place, Full>
+    requires birth { birth < 2 ^ 62 }
+    ensures made { IfOk result (λ place. made_group blocks.old birth stamp parts.now ≡ Some (record { place = place; table = blocks.new })) }
+    ensures full { OnErr result (made_group blocks.old birth stamp parts.now ≡ None) }
+    ensures unchanged { OnErr result (blocks.new ≡ blocks.old) }
+    ensures told { OnOk result (Adds deeds.old (make_deeds blocks.old birth stamp 0 parts.now) deeds.new) }
+    ensures quiet { OnErr result (deeds.new ≡ deeds.old) }
+{
+    if lacks_room(blocks, parts) {
+        return Err(Full);
+    }
+    let count = parts.count();
+    make_parts(
+        blocks,
+        &mut room.places,
+        &mut room.fresh,
+        parts,
+        birth,
+        stamp,
+    )?;
+    tell_parts(blocks, &room.places, &room.fresh, parts, birth, deeds);
+    let places = &room.places[..count];
+    link_parts(blocks, places, parts);
+    Ok(places[0])
 }

@@ -10,7 +10,7 @@ ghost use Rattle.mh_judging.specs.RunHistory.{IsLegalEnd, WritesLegal, history_r
 use crate::record::write_run;
 use mh_model::command::Event;
 use mh_model::config::{Config, Rules};
-use mh_scan::crew_scan::CrewGate;
+use mh_scan::crew_scan::{CrewGate, CrewScan};
 use mh_scan::scan::Scanner;
 use mh_script::end::End;
 use mh_script::fault::{ScriptFault, WriteError};
@@ -26,9 +26,10 @@ use std::thread::Threads;
 struct History;
 
 impl Transcript for History {
-    ghost text_of = { history_run };
+    ghost text_of = { λ history. history_run };
 
     fn write<C: Scanner, W: Sink>(
+        &self,
         alloc: Global,
         config: Config,
         events: &[Event],
@@ -66,5 +67,6 @@ pub fn run_history<R: Threads, S: Source, W: Sink, G: CrewGate>(
     ensures blames { Blames (S.failures source.old) (S.failures source.new) (W.failures sink.old) (W.failures sink.new) result }
 {
     run_histories_are_legal();
-    transcribe::<History, R, S, W, G>(rt, alloc, source, sink, workers, rules, gate)
+    let mut scanner = CrewScan::new(rt, alloc, workers, gate);
+    transcribe(alloc, &History, source, sink, rules, &mut scanner)
 }

@@ -7,3 +7,4 @@
 
 pub mod batch;
 pub mod mark;
+pub mod told;

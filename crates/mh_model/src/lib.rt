@@ -6,6 +6,7 @@ pub mod birth;
 pub mod command;
 pub mod config;
 pub mod cycle;
+pub mod deed;
 pub mod dump;
 pub mod history;
 pub mod limits;

@@ -2,3 +2,4 @@ pub mod FieldLemmas
 pub mod KeptLemmas
 pub mod MadeLemmas
 pub mod StepLemmas
+pub mod ShadeLemmas

@@ -9,3 +9,4 @@ pub mod kept;
 mod lent;
 pub mod paged;
 mod table;
+pub mod told;

@@ -30,7 +30,7 @@ use Rattle.mh_program.specs.declared.options.OptionFault.TheVariants.{NoNumber, 
 use Rattle.std.specs.Borrow.{Bor}
 use Rattle.clap.specs.declared.error.kind.ErrorKind.{ErrorKind}
 use Rattle.mh_program.specs.Orders.{AreAmiss, AskAmiss, AsksOutside, AsksVersion, GivesOrder, HasFewWorkers, HasFirstRules, HasOptionFault, IsFault, IsMissing, IsNoNumber, IsNoProfile, IsOrder, IsOutside, IsUnwanted, Named, NotMet, NotTaken, Refuses, RefusesOptions, kind_of_fault}
-use Rattle.mh_program.specs.Line.{AsksForFew, AsksForRules, Checks, Generates, HasFlag, IsAsked, NamesOne, Nothing, Runs, TakesWorkers, Workers, any_text, check_app, event_numbers, every_numbers, flag_rule, generate_app, metroheap, page_numbers, quantum_numbers, rules_numbers, run_app, seeds, session_numbers, worker_numbers, workers_app}
+use Rattle.mh_program.specs.Line.{AsksForFew, AsksForRules, Checks, Generates, HasFlag, IsAsked, NamesOne, Nothing, Runs, TakesWorkers, Tells, Workers, any_text, check_app, event_numbers, every_numbers, flag_rule, generate_app, metroheap, page_numbers, quantum_numbers, rules_numbers, run_app, seeds, session_numbers, steps_app, step_numbers, worker_numbers, workers_app, Curves, curve_app}
 use Rattle.mh_program.proofs.OptionLemmas.{AreRead, IsSafe, level-read, never, none-missing, none_first, none_next, safe-flag, safe-given, safe-help, safe-value, value-given, value-may, value_rule}
 
 -- Options ----------------------------------------------------------------------------------------
@@ -39,17 +39,18 @@ use Rattle.mh_program.proofs.OptionLemmas.{AreRead, IsSafe, level-read, never, n
 abbrev option_parser : Text → ValueParser
 option_parser name =
     if bytes_eq name (codes "workers") then worker_numbers else (if bytes_eq name (codes "rules") then rules_numbers
-    else (if bytes_eq name (codes "history") then vp.Bool else (if bytes_eq name (codes "sessions") then vp.Bool else any_text)))
+    else (if bytes_eq name (codes "history") then vp.Bool else (if bytes_eq name (codes "sessions") then vp.Bool else (if bytes_eq name (codes "svg") then vp.Bool else any_text))))
 
 -- each is read as it was written
 read_plain : (name : Text) → reading_of (option_parser name) ≡ AsWritten
-read_plain name = go (bytes_eq name (codes "workers")) (bytes_eq name (codes "rules")) (bytes_eq name (codes "history")) (bytes_eq name (codes "sessions")) where
-  go : (a b c d : Bool) → reading_of (if a then worker_numbers else (if b then rules_numbers else (if c then vp.Bool else (if d then vp.Bool else any_text)))) ≡ AsWritten
-  go true b c d = refl
-  go false true c d = refl
-  go false false true d = refl
-  go false false false true = refl
-  go false false false false = refl
+read_plain name = go (bytes_eq name (codes "workers")) (bytes_eq name (codes "rules")) (bytes_eq name (codes "history")) (bytes_eq name (codes "sessions")) (bytes_eq name (codes "svg")) where
+  go : (a b c d e : Bool) → reading_of (if a then worker_numbers else (if b then rules_numbers else (if c then vp.Bool else (if d then vp.Bool else (if e then vp.Bool else any_text))))) ≡ AsWritten
+  go true b c d e = refl
+  go false true c d e = refl
+  go false false true d e = refl
+  go false false false true e = refl
+  go false false false false true = refl
+  go false false false false false = refl
 
 abbrev AllRead : List Row → Type 0
 AllRead rows = AreRead option_parser read_plain rows
@@ -73,6 +74,9 @@ history-may rows all = flag-may (one_of (codes "history") rows) (value-may optio
 
 sessions-may : (rows : List Row) → AllRead rows → HasFlag (codes "sessions") rows
 sessions-may rows all = flag-may (one_of (codes "sessions") rows) (value-may option_parser read_plain (codes "sessions") rows all)
+
+svg-may : (rows : List Row) → AllRead rows → HasFlag (codes "svg") rows
+svg-may rows all = flag-may (one_of (codes "svg") rows) (value-may option_parser read_plain (codes "svg") rows all)
 
 -- Subcommands ------------------------------------------------------------------------------------
 
@@ -118,6 +122,14 @@ sound-check words e =
     (numbers (codes "pages"), (numbers (codes "quantum"), (numbers (codes "trigger"), (numbers (codes "every"), (value-safe (codes "rules") 1, (flag-safe (codes "sessions") 1 refl, (help-safe, tt))))))) e in
     Checks refl (rules-may rows all, sessions-may rows all)
 
+sound-curve : IsSound (built_leaf curve_app.top)
+sound-curve words e =
+    let s : Shape = built_leaf curve_app.top in
+    let rows : List Row = rows_after s.rules [] words in
+    let all : AllRead rows =
+    level-read option_parser read_plain s words (value-safe (codes "rules") 1, (flag-safe (codes "history") 1 refl, (flag-safe (codes "svg") 1 refl, (help-safe, tt)))) e in
+    Curves refl (rules-may rows all, history-may rows all, svg-may rows all)
+
 -- the parser of each option of `generate`
 abbrev generate_parser : Text → ValueParser
 generate_parser name =
@@ -137,6 +149,32 @@ generate_plain name =
     go false false false false true f = refl
     go false false false false false true = refl
     go false false false false false false = refl
+
+-- and that of each option of `steps`
+abbrev steps_parser : Text → ValueParser
+steps_parser name =
+    if bytes_eq name (codes "from") then step_numbers else (if bytes_eq name (codes "to") then step_numbers
+    else (if bytes_eq name (codes "json") then vp.Bool else (if bytes_eq name (codes "rules") then rules_numbers else any_text)))
+
+steps_plain : (name : Text) → reading_of (steps_parser name) ≡ AsWritten
+steps_plain name = go (bytes_eq name (codes "from")) (bytes_eq name (codes "to")) (bytes_eq name (codes "json")) (bytes_eq name (codes "rules")) where
+  go : (a b c d : Bool) → reading_of (if a then step_numbers else (if b then step_numbers else (if c then vp.Bool else (if d then rules_numbers else any_text)))) ≡ AsWritten
+  go true b c d = refl
+  go false true c d = refl
+  go false false true d = refl
+  go false false false true = refl
+  go false false false false = refl
+
+sound-steps : IsSound (built_leaf steps_app.top)
+sound-steps words e =
+    let s : Shape = built_leaf steps_app.top in
+    let rows : List Row = rows_after s.rules [] words in
+    let value : (name : Text) → _ = λ name. safe-value steps_parser steps_plain name 1 in
+    let all : AreRead steps_parser steps_plain rows =
+    level-read steps_parser steps_plain s words
+    (value (codes "from"), (value (codes "to"), (safe-flag steps_parser steps_plain (codes "json") 1 refl, (value (codes "rules"), (safe-help steps_parser steps_plain 1, tt))))) e in
+    let may : (name : Text) → IfSome (one_of name rows) (Accepts false (steps_parser name)) = λ name. value-may steps_parser steps_plain name rows all in
+    Tells refl (record { from = may (codes "from"); to = may (codes "to"); json = flag-may (one_of (codes "json") rows) (may (codes "json")); rules = may (codes "rules") })
 
 both_given : (a b rest : Bool) → (not a || (not b || rest)) ≡ false → (a ≡ true) × (b ≡ true)
 both_given true true rest e = (refl, refl)
@@ -187,10 +225,13 @@ sound-metroheap : AreSound (built metroheap).subs
 sound-metroheap = (
   sound-run,
   (
-    sound-workers (codes "live") (inl refl),
+    sound-steps,
     (
-      sound-workers (codes "race") (inr refl),
-      (sound-check, ((λ words e. Nothing (inl refl)), ((λ words e. Nothing (inr refl)), (sound-generate, tt)))),
+      sound-workers (codes "live") (inl refl),
+      (
+        sound-workers (codes "race") (inr refl),
+        (sound-check, ((λ words e. Nothing (inl refl)), ((λ words e. Nothing (inr refl)), (sound-generate, (sound-curve, tt))))),
+      ),
     ),
   ),
 )

@@ -32,6 +32,10 @@ event_numbers = Unsigned 1 1000000
 abbrev pub session_numbers : ValueParser
 session_numbers = Unsigned 1 8
 
+-- the numbers of 32 bits, by which an event is named
+abbrev pub step_numbers : ValueParser
+step_numbers = Unsigned 0 4294967295
+
 -- the numbers of a random script's configuration
 abbrev pub page_numbers : ValueParser
 page_numbers = Unsigned 1 4096
@@ -96,6 +100,10 @@ config_app name = with_rule (with_rule (with_rule (with_rule (new_app name) (num
 abbrev pub run_app : App
 run_app = with_rule (with_rule (workers_app (codes "run")) rules_rule) (flag_rule (codes "history"))
 
+-- `steps`, of the events between two numbers, in words or as JSON, with rules
+abbrev pub steps_app : App
+steps_app = with_rule (with_rule (with_rule (with_rule (new_app (codes "steps")) (parsed_rule (codes "from") step_numbers)) (parsed_rule (codes "to") step_numbers)) (flag_rule (codes "json"))) rules_rule
+
 -- `check`, with rules, under a configuration or by what sessions see
 abbrev pub check_app : App
 check_app = with_rule (with_rule (config_app (codes "check")) rules_rule) (flag_rule (codes "sessions"))
@@ -108,17 +116,23 @@ abbrev pub generate_app : App
 generate_app =
     with_rule (with_rule (with_rule (with_rule seeded_app (parsed_rule (codes "pages") page_numbers)) (parsed_rule (codes "quantum") quantum_numbers)) (parsed_rule (codes "every") every_numbers)) profile_rule
 
--- the seven subcommands
+-- `curve`, of a script with rules or of a history, as a table or as a picture
+abbrev pub curve_app : App
+curve_app = with_rule (with_rule (with_rule (new_app (codes "curve")) rules_rule) (flag_rule (codes "history"))) (flag_rule (codes "svg"))
+
+-- the nine subcommands
 abbrev pub optional_app : App
 optional_app =
-    with_subcommand (with_subcommand (with_subcommand (with_subcommand (with_subcommand (with_subcommand (with_subcommand (new_app (codes "metroheap"))
+    with_subcommand (with_subcommand (with_subcommand (with_subcommand (with_subcommand (with_subcommand (with_subcommand (with_subcommand (with_subcommand (new_app (codes "metroheap"))
     run_app.top)
+    steps_app.top)
     (workers_app (codes "live")).top)
     (workers_app (codes "race")).top)
     check_app.top)
     (new_app (codes "audit")).top)
     (config_app (codes "migrate")).top)
-    generate_app.top
+    generate_app.top)
+    curve_app.top
 
 -- a program that has a version
 abbrev pub versioned : App → App
@@ -197,12 +211,24 @@ AsksForRules rows = IfSome (one_of (codes "rules") rows) (IsUnsignedIn 1 2)
 abbrev pub HasFlag : Text → List Row → Type 0
 HasFlag name rows = IfSome (one_of name rows) (λ text. (text ≡ codes "true") ⊎ (text ≡ codes "false"))
 
--- what the options of `run` may be, and those of `check`
+-- what the options of `run` may be
 abbrev pub AsksToRun : List Row → Type 0
 AsksToRun rows = AsksForFew rows × AsksForRules rows × HasFlag (codes "history") rows
 
+-- those of `steps`
+pub record AsksToTell (rows : List Row) : Type 0 where
+  pub from : IfSome (one_of (codes "from") rows) (IsUnsignedIn 0 4294967295)
+  pub to : IfSome (one_of (codes "to") rows) (IsUnsignedIn 0 4294967295)
+  pub json : HasFlag (codes "json") rows
+  pub rules : AsksForRules rows
+
+-- those of `check`
 abbrev pub AsksToCheck : List Row → Type 0
 AsksToCheck rows = AsksForRules rows × HasFlag (codes "sessions") rows
+
+-- those of `curve`
+abbrev pub AsksToCurve : List Row → Type 0
+AsksToCurve rows = AsksForRules rows × HasFlag (codes "history") rows × HasFlag (codes "svg") rows
 
 -- what those of `generate` may be, of which two are given
 pub record AsksToGenerate (rows : List Row) : Type 0 where
@@ -223,9 +249,11 @@ WantsConfig name rows = ((name ≡ codes "check") × (is_flagged (codes "session
 -- a subcommand of the program, with what its options may be
 pub data IsAsked (name : Text) (rows : List Row) : Type 0 where
   Runs : name ≡ codes "run" → AsksToRun rows → IsAsked name rows
+  Tells : name ≡ codes "steps" → AsksToTell rows → IsAsked name rows
   Workers : TakesWorkers name → AsksForFew rows → IsAsked name rows
   Checks : name ≡ codes "check" → AsksToCheck rows → IsAsked name rows
   Generates : name ≡ codes "generate" → AsksToGenerate rows → IsAsked name rows
+  Curves : name ≡ codes "curve" → AsksToCurve rows → IsAsked name rows
   Nothing : (name ≡ codes "audit") ⊎ (name ≡ codes "migrate") → IsAsked name rows
 
 -- the words name one

@@ -3,6 +3,8 @@ use Rattle.std.specs.Prelude.{◌≡◌, ◌≢◌, ◌⊎◌, ◌<◌, ◌≤�
 use Rattle.clap.specs.declared.error.kind.ErrorKind.{ErrorKind}
 use Rattle.clap.specs.declared.error.kind.ErrorKind.TheVariants.{ArgumentConflict, DisplayVersion, MissingRequiredArgument, OutOfMemory, ValueValidation}
 use Rattle.clap.specs.Words.{Row, Text, one_of, subcommand_of, fault_of, kind_of, IsAmong}
+use Rattle.mh_curve.specs.declared.form.CurveForm.{CurveForm}
+use Rattle.mh_curve.specs.declared.form.CurveForm.TheVariants.{Table, Picture}
 use Rattle.mh_generate.specs.declared.options.Options.{Options}
 use Rattle.mh_generate.specs.declared.profile.Profile.{Profile}
 use Rattle.mh_generate.specs.declared.profile.Profile.TheVariants.{Mixed}
@@ -14,10 +16,14 @@ use Rattle.mh_model.specs.declared.config.Rules.TheVariants.{First, Second}
 use Rattle.mh_program.specs.declared.fault.LineFault.{LineFault}
 use Rattle.mh_program.specs.declared.fault.LineFault.TheVariants.{Words, NotText, Configuration, NoMemory}
 use Rattle.mh_program.specs.declared.line.Order.{Order}
-use Rattle.mh_program.specs.declared.line.Order.TheVariants.{Run, Live, Race, Check, CheckSessions, Audit, Migrate, Generate, Version}
+use Rattle.mh_program.specs.declared.line.Order.TheVariants.{Run, Steps, Live, Race, Check, CheckSessions, Audit, Migrate, Generate, Version, Curve, CurveHistory}
+use Rattle.mh_program.specs.declared.curve.CurveOptions.{CurveOptions}
 use Rattle.mh_program.specs.declared.line.Form.{Form}
 use Rattle.mh_program.specs.declared.line.Form.TheVariants.{Replies, History}
 use Rattle.mh_program.specs.declared.line.RunOptions.{RunOptions}
+use Rattle.mh_program.specs.declared.line.StepsOptions.{StepsOptions}
+use Rattle.mh_telling.specs.declared.form.Form as steps
+use Rattle.mh_telling.specs.declared.form.Form.TheVariants as form
 use Rattle.mh_program.specs.declared.line.ConfigOption.{ConfigOption}
 use Rattle.mh_program.specs.declared.line.ConfigOption.TheVariants.{Pages, Quantum, Trigger, Every}
 use Rattle.mh_program.specs.declared.options.OptionFault.{OptionFault}
@@ -67,6 +73,26 @@ pub record AreRunOptions (rows : List Row) (options : RunOptions) : Type 0 where
   pub rules : options.rules ≡ rules_of Second rows
   pub form : options.form ≡ form_of rows
 
+-- how steps are written: in words, or as JSON if the flag is given
+abbrev pub steps_form_of : List Row → steps.Form
+steps_form_of rows = if is_flagged (codes "json") rows then form.Json else form.Text
+
+-- the options of steps: those of all events if the matches don't say, under the second rules
+pub record AreStepsOptions (rows : List Row) (options : StepsOptions) : Type 0 where
+  pub form : options.steps.form ≡ steps_form_of rows
+  pub from : options.steps.from ≡ number_or 1 (codes "from") rows
+  pub to : options.steps.to ≡ number_or 4294967295 (codes "to") rows
+  pub rules : options.rules ≡ rules_of Second rows
+
+-- what a curve is written as: a table, or a picture if the flag is given
+abbrev pub curve_form_of : List Row → CurveForm
+curve_form_of rows = if is_flagged (codes "svg") rows then Picture else Table
+
+-- the options of the curve of a script
+pub record AreCurveOptions (rows : List Row) (options : CurveOptions) : Type 0 where
+  pub rules : options.rules ≡ rules_of Second rows
+  pub form : options.form ≡ curve_form_of rows
+
 -- the configuration of a random script: what the matches don't say is by default, and cycles start once half of the pages are free at most
 abbrev pub generated_config : List Row → Option Config
 generated_config rows = let pages : ℕ = number_or 64 (codes "pages") rows in configured pages (number_or 250 (codes "quantum") rows) (pages / 2) (number_or 25 (codes "every") rows)
@@ -86,12 +112,15 @@ pub record AreGenerateOptions (rows : List Row) (options : Options) : Type 0 whe
 -- the order of a subcommand with its matches
 abbrev pub IsOrder : Text → List Row → Order → Type 0
 IsOrder name rows (Run options) = (name ≡ codes "run") × AreRunOptions rows options
+IsOrder name rows (Steps options) = (name ≡ codes "steps") × AreStepsOptions rows options
 IsOrder name rows (Live workers) = (name ≡ codes "live") × (workers ≡ workers_of rows)
 IsOrder name rows (Race workers) = (name ≡ codes "race") × (workers ≡ workers_of rows)
 IsOrder name rows (Check config) = (name ≡ codes "check") × (is_flagged (codes "sessions") rows ≡ false) × MakesConfig (rules_of First rows) rows config
 IsOrder name rows (CheckSessions rules) = (name ≡ codes "check") × (is_flagged (codes "sessions") rows ≡ true) × HasNoConfig rows × (rules ≡ rules_of Second rows)
 IsOrder name rows Audit = name ≡ codes "audit"
 IsOrder name rows (Migrate config) = (name ≡ codes "migrate") × MakesConfig First rows config
+IsOrder name rows (Curve options) = (name ≡ codes "curve") × (is_flagged (codes "history") rows ≡ false) × AreCurveOptions rows options
+IsOrder name rows (CurveHistory form) = (name ≡ codes "curve") × (is_flagged (codes "history") rows ≡ true) × (form ≡ curve_form_of rows)
 IsOrder name rows (Generate options) = (name ≡ codes "generate") × AreGenerateOptions rows options
 IsOrder name rows Version = ⊥
 

@@ -5,13 +5,14 @@ use Rattle.mh_model.specs.Bytes.{Text, line_text}
 use Rattle.mh_script.specs.declared.fault.ScriptFault.{ScriptFault}
 use Rattle.mh_program.specs.declared.fault.LineFault.{LineFault}
 use Rattle.mh_program.specs.declared.line.Order.{Order}
-use Rattle.mh_program.specs.declared.line.Order.TheVariants.{Run, Live, Race, Check, CheckSessions, Audit, Migrate, Generate, Version}
+use Rattle.mh_program.specs.declared.line.Order.TheVariants.{Run, Steps, Live, Race, Check, CheckSessions, Audit, Migrate, Generate, Version, Curve, CurveHistory}
 use Rattle.mh_program.specs.declared.line.Form.{Form}
 use Rattle.mh_program.specs.declared.line.Form.TheVariants.{Replies, History}
 use Rattle.mh_script.specs.declared.fault.ScriptFault.TheVariants.{Write, NoMemory}
 use Rattle.mh_text.specs.Stream.{AppendsBeginning}
 use Rattle.mh_script.specs.declared.end.End.{End}
 use Rattle.mh_script.specs.declared.end.End.TheVariants.{Done, Refused}
+use Rattle.mh_curve.specs.Runs.{IsDrawing, curve_output}
 use Rattle.mh_generate.specs.declared.options.Options.{Options}
 use Rattle.mh_generate.specs.Generated.{WritesAsked}
 use Rattle.mh_judging.specs.Judged.{IsAuditing, IsChecking, IsMigrating}
@@ -21,9 +22,10 @@ use Rattle.mh_live.specs.Feeding.{IsLiveRun}
 use Rattle.mh_model.specs.RunHistories.{output_under}
 use Rattle.mh_model.specs.declared.config.Rules.{Rules}
 use Rattle.mh_sessions.specs.Texts.{IsSessionsJudging}
-use Rattle.mh_script.specs.Run.{Device, IsRun}
-use Rattle.mh_program.specs.Status.{judgement_status_of, line_status_of, live_status_of, status_of}
-use Rattle.mh_program.specs.Telling.{ErrorStream, TellsEnd, TellsFault, TellsJudgement, TellsLine, TellsRefusals, TellsRun}
+use Rattle.mh_script.specs.Run.{Device, IsRun, transcript}
+use Rattle.mh_telling.specs.Steps.{steps_text}
+use Rattle.mh_program.specs.Status.{judgement_status_of, line_status_of, live_status_of, status_of, curve_status_of}
+use Rattle.mh_program.specs.Telling.{ErrorStream, TellsEnd, TellsFault, TellsJudgement, TellsLine, TellsRefusals, TellsRun, TellsCurve}
 
 -- the line that names the version, the rules and the versions of histories, and what proved them
 abbrev pub version_text : Text
@@ -72,12 +74,15 @@ IsRunBy History rules = IsHistoryRun rules
 -- What the program does on an order, or on words that give none
 abbrev pub Serves : Result Order LineFault → (source source' sink sink' : Device) (errors errors' : ErrorStream) → ℕ → Type 0
 Serves (Ok (Run options)) source source' sink sink' errors errors' status = Obeys (IsRunBy options.form options.rules source source' sink sink') (TellsRun TellsEnd) status_of errors errors' status
+Serves (Ok (Steps options)) source source' sink sink' errors errors' status = Obeys (IsRun (transcript (steps_text options.steps) options.rules) source source' sink sink') (TellsRun TellsEnd) status_of errors errors' status
 Serves (Ok (Live workers)) source source' sink sink' errors errors' status = AnswersLines source source' sink sink' errors errors' status
 Serves (Ok (Race workers)) source source' sink sink' errors errors' status = Obeys (IsRaceRun source source' sink sink') (TellsRun TellsEnd) status_of errors errors' status
 Serves (Ok (Check config)) source source' sink sink' errors errors' status = Obeys (IsChecking config source source' sink sink') (TellsRun TellsJudgement) judgement_status_of errors errors' status
 Serves (Ok (CheckSessions rules)) source source' sink sink' errors errors' status = Obeys (IsSessionsJudging rules source source' sink sink') (TellsRun TellsJudgement) judgement_status_of errors errors' status
 Serves (Ok Audit) source source' sink sink' errors errors' status = Obeys (IsAuditing source source' sink sink') (TellsRun TellsJudgement) judgement_status_of errors errors' status
 Serves (Ok (Migrate config)) source source' sink sink' errors errors' status = Obeys (IsMigrating config source source' sink sink') (TellsRun TellsJudgement) judgement_status_of errors errors' status
+Serves (Ok (Curve options)) source source' sink sink' errors errors' status = Obeys (IsRun (curve_output options.form options.rules) source source' sink sink') (TellsRun TellsEnd) status_of errors errors' status
+Serves (Ok (CurveHistory form)) source source' sink sink' errors errors' status = Obeys (IsDrawing form source source' sink sink') (TellsRun TellsCurve) curve_status_of errors errors' status
 Serves (Ok (Generate options)) source source' sink sink' errors errors' status = (source' ≡ source) × Obeys (WritesScript options sink sink') TellsFault status_of errors errors' status
 Serves (Ok Version) source source' sink sink' errors errors' status = (source' ≡ source) × Obeys (WritesVersion sink sink') TellsFault status_of errors errors' status
 Serves (Err fault) source source' sink sink' errors errors' status = Declines source source' sink sink' errors errors' fault status

@@ -1,5 +1,7 @@
 -- Exit statuses.
 use Rattle.std.specs.Prelude.{ℕ, Result, Ok, Err}
+use Rattle.mh_curve.specs.declared.end.CurveEnd.{CurveEnd}
+use Rattle.mh_curve.specs.declared.end.CurveEnd.TheVariants as curve
 use Rattle.mh_findings.specs.declared.judgement.Judgement.{Judgement}
 use Rattle.mh_findings.specs.declared.judgement.Judgement.TheVariants as judgement
 use Rattle.mh_script.specs.declared.end.End.{End}
@@ -25,6 +27,13 @@ judgement_status_of (Ok (judgement.Legal entries)) = 0
 judgement_status_of (Ok (judgement.Refused line reason)) = 1
 judgement_status_of (Ok (judgement.FirstBad entry fault)) = 4
 judgement_status_of (Err fault) = 3
+
+-- 0 for a curve of a history, 1 for a text that was refused as one, 3 for a fault
+abbrev pub curve_status_of : Result CurveEnd ScriptFault → ℕ
+curve_status_of (Ok curve.Done) = 0
+curve_status_of (Ok (curve.Refused line reason)) = 1
+curve_status_of (Ok curve.TooLong) = 1
+curve_status_of (Err fault) = 3
 
 -- 2 for words that are refused, 3 if memory was refused
 abbrev pub line_status_of : LineFault → ℕ

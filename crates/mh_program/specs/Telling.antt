@@ -2,6 +2,8 @@
 use Rattle.std.specs.Prelude.{◌≡◌, ℕ, ◌+◌, ◌<◌, Bool, true, false, List, [], ◌∷◌, ◌++◌, Result, Ok, Err, codes, decimal}
 use Rattle.std.specs.Io.KnownBytes.{Appends}
 use Rattle.std.specs.List.{All}
+use Rattle.mh_curve.specs.declared.end.CurveEnd.{CurveEnd}
+use Rattle.mh_curve.specs.declared.end.CurveEnd.TheVariants as curve
 use Rattle.mh_findings.specs.declared.judgement.Judgement.{Judgement}
 use Rattle.mh_findings.specs.declared.judgement.Judgement.TheVariants as judgement
 use Rattle.mh_model.specs.Bytes.{Text, line_text}
@@ -97,6 +99,12 @@ abbrev pub TellsJudgement : ErrorStream → ErrorStream → Judgement → Type 0
 TellsJudgement old new (judgement.Legal count) = TellsNothing old new
 TellsJudgement old new (judgement.Refused line reason) = TellsQuoted old new (IsComplaint (line_place line)) (line_text (codes "metroheap: the history is outside the grammar"))
 TellsJudgement old new (judgement.FirstBad number fault) = TellsQuoted old new (IsComplaint (entry_place number)) (line_text (codes "metroheap: an entry is bad"))
+
+-- of the curve of a history: nothing if it was drawn, and else where and why it wasn't
+abbrev pub TellsCurve : ErrorStream → ErrorStream → CurveEnd → Type 0
+TellsCurve old new curve.Done = TellsNothing old new
+TellsCurve old new (curve.Refused line reason) = TellsQuoted old new (IsComplaint (line_place line)) (line_text (codes "metroheap: the history is outside the grammar"))
+TellsCurve old new curve.TooLong = Tells old new (line_text (codes "metroheap: line 0: a history has fewer than 4611686018427387904 units"))
 
 -- of what ends with more to tell, or with a fault
 abbrev pub TellsRun : {T : Type 0} → (ErrorStream → ErrorStream → T → Type 0) → ErrorStream → ErrorStream → Result T ScriptFault → Type 0

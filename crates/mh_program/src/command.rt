@@ -2,8 +2,9 @@ ghost use Rattle.std.specs.Prelude.{◌≡◌, IfOk, IsOkAnd, false, codes};
 ghost use Rattle.clap.specs.Words.{app_of, new_app, rule_of, with_rule, with_subcommand};
 ghost use Rattle.clap.specs.declared.builder.command.Command.TheViews.{out-Command};
 ghost use Rattle.clap.specs.declared.builder.value_parser.ValueParser.TheVariants.{Unsigned};
-ghost use Rattle.mh_program.specs.Line.{check_app, config_app, flag_rule, generate_app, metroheap, named_rule, number_rule, option_rule, optional_app, parsed_rule, profile_rule, required_rule, rules_rule, run_app, seeded_app, versioned, workers_app, workers_rule};
+ghost use Rattle.mh_program.specs.Line.{check_app, config_app, flag_rule, generate_app, metroheap, named_rule, number_rule, option_rule, optional_app, parsed_rule, profile_rule, required_rule, rules_rule, run_app, seeded_app, steps_app, versioned, workers_app, workers_rule};
 
+use crate::curve::curve;
 use clap::builder::ValueParser;
 use clap::{Arg, ArgAction, Command};
 use mh_model::limits::{
@@ -19,6 +20,9 @@ const MANUAL: &str =
 
 const ABOUT_RUN: &str =
     "Run a script: print the reply to each of its events, or the line that refuses the script";
+
+const ABOUT_STEPS: &str =
+    "Run a script and print each event with its reply, and below it what the collector, the barrier and the placing of new parts did";
 
 const ABOUT_LIVE: &str =
     "Answer each line of a script as it comes: the reply to its event, or the refusal of the line";
@@ -40,7 +44,7 @@ const ABOUT_GENERATE: &str = "Print a random script. The same options print the 
 const PROFILES: &str =
     "The mix of events: churn, lists, trees, wide, large, frag, refusals or mixed, which is all others in turn; mixed if it is not given";
 
-const RULES_OF_A_RUN: &str =
+pub(crate) const RULES_OF_A_RUN: &str =
     "The rules of large objects and of units, 1 or 2; 2 if it is not given";
 
 const RULES_OF_A_CHECK: &str =
@@ -91,7 +95,7 @@ fn workers<'a>(alloc: Global) -> Arg<'a>
 }
 
 /// A subcommand with what help says of it.
-fn subcommand<'a>(
+pub(crate) fn subcommand<'a>(
     alloc: Global,
     name: &'a str,
     about: &'a str,
@@ -121,7 +125,7 @@ fn with_workers<'a>(
     command.arg(workers(alloc))
 }
 
-fn rules<'a>(alloc: Global, help: &'a str) -> Arg<'a>
+pub(crate) fn rules<'a>(alloc: Global, help: &'a str) -> Arg<'a>
     ensures rule { rule_of result ≡ rules_rule }
     ensures local { result.global ≡ false }
 {
@@ -129,7 +133,7 @@ fn rules<'a>(alloc: Global, help: &'a str) -> Arg<'a>
 }
 
 /// An option without a value.
-fn flag<'a>(alloc: Global, name: &'a str, help: &'a str) -> Arg<'a>
+pub(crate) fn flag<'a>(alloc: Global, name: &'a str, help: &'a str) -> Arg<'a>
     ensures rule { rule_of result ≡ flag_rule name.entry.now }
     ensures local { result.global ≡ false }
 {
@@ -231,6 +235,28 @@ fn run<'a>(alloc: Global) -> Result<Command<'a>, AllocError>
         "history",
         "Print the history of the run, of version 2, in place of its replies",
     ))
+}
+
+fn steps<'a>(alloc: Global) -> Result<Command<'a>, AllocError>
+    ensures app { IfOk result (λ command. app_of command ≡ steps_app) }
+    ensures local { IfOk result (λ command. (out-Command command).has_globals ≡ false) }
+{
+    let command = subcommand(
+        alloc,
+        "steps",
+        ABOUT_STEPS,
+        "metroheap steps [--from <N>] [--to <M>] [--json] [--rules <R>] < SCRIPT",
+        SCRIPT_STATUSES,
+    );
+    let help = "The first event whose deeds are printed, counted from 1; 1 if it is not given";
+    let from = bounded(alloc, "from", "N", 0, u32::MAX.into(), help);
+    let command = with_option(command, from)?;
+    let help = "The last event whose deeds are printed; the last of all if it is not given";
+    let to = bounded(alloc, "to", "M", 0, u32::MAX.into(), help);
+    let command = with_option(command, to)?;
+    let json = flag(alloc, "json", "Print one object of JSON a line");
+    let command = with_option(command, json)?;
+    with_option(command, rules(alloc, RULES_OF_A_RUN))
 }
 
 fn live<'a>(alloc: Global) -> Result<Command<'a>, AllocError>
@@ -389,12 +415,14 @@ fn optional<'a>(alloc: Global) -> Result<Command<'a>, AllocError>
 {
     let app = Command::new(alloc, "metroheap");
     let app = with_subcommand(app, run(alloc))?;
+    let app = with_subcommand(app, steps(alloc))?;
     let app = with_subcommand(app, live(alloc))?;
     let app = with_subcommand(app, race(alloc))?;
     let app = with_subcommand(app, check(alloc))?;
     let app = with_subcommand(app, Ok(audit(alloc)))?;
     let app = with_subcommand(app, migrate(alloc))?;
-    with_subcommand(app, generate(alloc))
+    let app = with_subcommand(app, generate(alloc))?;
+    with_subcommand(app, curve(alloc))
 }
 
 /// The command with what help says of the program, and with its version.

@@ -2,6 +2,8 @@
 #![tactic(auto)]
 
 mod command;
+pub mod curve;
+mod drawn;
 pub mod errors;
 pub mod fault;
 pub mod launch;

@@ -1,5 +1,8 @@
+use crate::curve::CurveOptions;
+use mh_curve::form::CurveForm;
 use mh_generate::options::Options;
 use mh_model::config::{Config, Rules};
+use mh_telling::steps::Steps;
 use thiserror::Error;
 
 /// What a run of a script writes.
@@ -20,11 +23,20 @@ pub struct RunOptions {
     pub form: Form,
 }
 
+/// How the steps of a script are written.
+#[derive(Clone, Copy, Debug, PartialEq, Eq)]
+pub struct StepsOptions {
+    pub steps: Steps,
+    pub rules: Rules,
+}
+
 /// What the program is to do.
 #[derive(Clone, Copy, Debug, PartialEq, Eq)]
 pub enum Order {
     /// Run the script on standard input.
     Run(RunOptions),
+    /// Run the script on standard input, and tell what each event did.
+    Steps(StepsOptions),
     /// Answer each line of standard input as it comes, with so many workers at most.
     Live(usize),
     /// Let the sessions of the script on standard input race, with so many workers at most.
@@ -37,6 +49,10 @@ pub enum Order {
     Audit,
     /// Write the history on standard input, of version 1, as version 2.
     Migrate(Config),
+    /// Write the curve of a run of the script on standard input.
+    Curve(CurveOptions),
+    /// Write the curve of the history on standard input, of version 2.
+    CurveHistory(CurveForm),
     /// Write the random script that is asked for.
     Generate(Options),
     /// Write the version of the program.

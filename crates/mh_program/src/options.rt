@@ -5,15 +5,17 @@ ghost use Rattle.std.specs.Str.Parse.{without_leading_plus};
 ghost use Rattle.clap.specs.Words.{IsUnsignedIn, found_of, one_of, rows_of};
 ghost use Rattle.mh_model.specs.Configs.{configured};
 ghost use Rattle.mh_model.specs.declared.config.Rules.TheVariants.{Second};
-ghost use Rattle.mh_program.specs.Line.{AsksForFew, AsksForRules, AsksToCheck, AsksToGenerate, AsksToRun, HasFlag, HasNumber, HoldsNumber, IsConfigOption, IsNumber, ReadsNumber, is_flagged, number_or, rules_numbered, rules_of, workers_of};
-ghost use Rattle.mh_program.specs.Orders.{AreGenerateOptions, AreRunOptions, AsksProfile, HasFewWorkers, HasFirstRules, HasOptionFault, IsBlamed, IsNumberFault, IsOrder, MakesConfig, generated_config};
+ghost use Rattle.mh_program.specs.Line.{AsksForFew, AsksForRules, AsksToCheck, AsksToGenerate, AsksToRun, AsksToTell, HasFlag, HasNumber, HoldsNumber, IsConfigOption, IsNumber, ReadsNumber, is_flagged, number_or, rules_numbered, rules_of, workers_of};
+ghost use Rattle.mh_program.specs.Orders.{AreGenerateOptions, AreRunOptions, AreStepsOptions, AsksProfile, HasFewWorkers, HasFirstRules, HasOptionFault, IsBlamed, IsNumberFault, IsOrder, MakesConfig, generated_config};
 
-use crate::line::{ConfigOption, Form, Order, RunOptions};
+use crate::line::{ConfigOption, Form, Order, RunOptions, StepsOptions};
 use clap::ArgMatches;
 use mh_generate::options::Options;
 use mh_generate::profile::Profile;
 use mh_model::config::{Config, Rules};
 use mh_model::limits::{LEAST_QUANTUM, MOST_EVERY, MOST_PAGES, MOST_QUANTUM};
+use mh_telling::form::Form as StepsForm;
+use mh_telling::steps::Steps;
 use std::str::FromStr;
 
 /// Why the options of a configuration give none.
@@ -97,7 +99,7 @@ fn rules_numbered(number: u8) -> Rules
 }
 
 /// The rules that are asked for, and these others if none are.
-fn rules_asked(matches: &ArgMatches<'_>, other: Rules) -> Rules
+pub(crate) fn rules_asked(matches: &ArgMatches<'_>, other: Rules) -> Rules
     requires { AsksForRules (rows_of (found_of matches.now)) }
     ensures { result ≡ rules_of other (rows_of (found_of matches.now)) }
 {
@@ -108,7 +110,7 @@ fn rules_asked(matches: &ArgMatches<'_>, other: Rules) -> Rules
 }
 
 /// Whether a flag is given.
-fn is_flagged(matches: &ArgMatches<'_>, name: &str) -> bool
+pub(crate) fn is_flagged(matches: &ArgMatches<'_>, name: &str) -> bool
     requires { HasFlag name.now (rows_of (found_of matches.now)) }
     ensures { result ≡ is_flagged name.now (rows_of (found_of matches.now)) }
 {
@@ -280,6 +282,25 @@ fn profile_asked<'a>(matches: &ArgMatches<'a>) -> Result<Profile, OptionFault<'a
         Some(text) => Err(OptionFault::NoProfile(text)),
         None => Ok(Profile::Mixed),
     }
+}
+
+/// How the steps of a script are to be written.
+pub(crate) fn steps_asked(matches: &ArgMatches<'_>) -> StepsOptions
+    requires { AsksToTell (rows_of (found_of matches.now)) }
+    ensures { AreStepsOptions (rows_of (found_of matches.now)) result }
+{
+    let form = if is_flagged(matches, "json") {
+        StepsForm::Json
+    } else {
+        StepsForm::Text
+    };
+    let steps = Steps {
+        form,
+        from: number_or(matches, "from", 1),
+        to: number_or(matches, "to", u32::MAX),
+    };
+    let rules = rules_asked(matches, Rules::Second);
+    StepsOptions { steps, rules }
 }
 
 /// Which random script is to be written.

@@ -6,10 +6,11 @@ ghost use Rattle.mh_program.specs.Line.{IsAsked, NamesOne};
 ghost use Rattle.mh_program.specs.Orders.{GivesOrder, HasFewWorkers, HasFirstRules, HasOptionFault, IsFault, IsOrder, Refuses, RefusesOptions};
 
 use crate::command::command;
+use crate::curve::curve_asked;
 use crate::fault::LineFault;
 use crate::line::Order;
 use crate::options::{
-    OptionFault, check_asked, config_given, generate_asked, run_asked, workers_asked,
+    OptionFault, check_asked, config_given, generate_asked, run_asked, steps_asked, workers_asked,
 };
 use crate::quoted::{are_plain, quoted, quoted_words};
 use clap::ArgMatches;
@@ -28,10 +29,12 @@ fn order_named<'a>(name: &str, matches: &ArgMatches<'a>) -> Result<Order, Option
 {
     match name {
         "run" => Ok(Order::Run(run_asked(matches))),
+        "steps" => Ok(Order::Steps(steps_asked(matches))),
         "live" => Ok(Order::Live(workers_asked(matches))),
         "race" => Ok(Order::Race(workers_asked(matches))),
         "check" => check_asked(matches),
         "audit" => Ok(Order::Audit),
+        "curve" => Ok(curve_asked(matches)),
         "migrate" => Ok(Order::Migrate(config_given(matches, Rules::First)?)),
         "generate" => Ok(Order::Generate(generate_asked(matches)?)),
         _ => unreachable!(),

@@ -10,11 +10,13 @@ ghost use Rattle.mh_model.specs.declared.config.Rules.TheVariants.{First};
 ghost use Rattle.mh_judging.specs.Judged.{IsAuditing, IsChecking, IsMigrating};
 ghost use Rattle.mh_racing.specs.Raced.{IsRaceRun};
 ghost use Rattle.mh_sessions.specs.Texts.{IsSessionsJudging};
-ghost use Rattle.mh_script.specs.Run.{device};
+ghost use Rattle.mh_script.specs.Run.{IsRun, device, transcript};
+ghost use Rattle.mh_telling.specs.Steps.{steps_text};
 
+use crate::drawn::{draw_history, draw_script};
 use crate::errors::Errors;
 use crate::fault::LineFault;
-use crate::line::{Form, Order, RunOptions};
+use crate::line::{Form, Order, RunOptions, StepsOptions};
 use crate::order::line_order;
 use crate::status::{judgement_status, line_status, live_status, status};
 use crate::version::VERSION_LINE;
@@ -31,6 +33,7 @@ use mh_script::end::End;
 use mh_script::fault::{ScriptFault, WriteError};
 use mh_script::run::run_script;
 use mh_sessions::texts::check_sessions;
+use mh_telling::run::tell_script;
 use mh_text::sink::Sink;
 use mh_text::source::Source;
 use mh_text::stream::write_text;
@@ -84,6 +87,42 @@ fn run<R: Threads, S: Source, W: Sink, E: Sink, G: CrewGate>(
         errors.old errors.new result }
 {
     let ended = ran(rt, alloc, options, source, sink, gate);
+    errors.tell_end(&ended);
+    status(&ended)
+}
+
+/// The run of a script with its steps.
+fn stepped<S: Source, W: Sink>(
+    alloc: Global,
+    options: StepsOptions,
+    source: &mut S,
+    sink: &mut W,
+) -> Result<End, ScriptFault>
+    requires source_count { S.failures source.old < 2 ^ 62 }
+    requires sink_count { W.failures sink.old < 2 ^ 62 }
+    ensures { IsRun (transcript (steps_text options.steps) options.rules)
+        (device (S.rest source.old) (S.failures source.old)) (device (S.rest source.new) (S.failures source.new))
+        (device (W.written sink.old) (W.failures sink.old)) (device (W.written sink.new) (W.failures sink.new)) result }
+{
+    tell_script(alloc, source, sink, options.steps, options.rules)
+}
+
+/// Writes the steps of a script, and reports how its run ended if not well.
+fn steps<S: Source, W: Sink, E: Sink>(
+    alloc: Global,
+    options: StepsOptions,
+    source: &mut S,
+    sink: &mut W,
+    errors: &mut Errors<E>,
+) -> u8
+    requires source_count { S.failures source.old < 2 ^ 62 }
+    requires sink_count { W.failures sink.old < 2 ^ 62 }
+    ensures { Obeys (IsRun (transcript (steps_text options.steps) options.rules)
+        (device (S.rest source.old) (S.failures source.old)) (device (S.rest source.new) (S.failures source.new))
+        (device (W.written sink.old) (W.failures sink.old)) (device (W.written sink.new) (W.failures sink.new))) (TellsRun TellsEnd) status_of
+        errors.old errors.new result }
+{
+    let ended = stepped(alloc, options, source, sink);
     errors.tell_end(&ended);
     status(&ended)
 }
@@ -287,12 +326,15 @@ pub fn serve<R: Threads + Wait + Sync, S: Source, W: Sink, E: Sink, G: CrewGate 
 {
     match order {
         Ok(Order::Run(options)) => run(rt, alloc, options, source, sink, errors, gate),
+        Ok(Order::Steps(options)) => steps(alloc, options, source, sink, errors),
         Ok(Order::Live(workers)) => live(rt, alloc, workers, source, sink, errors, gate),
         Ok(Order::Race(workers)) => race(rt, alloc, workers, source, sink, errors, gate),
         Ok(Order::Check(config)) => check(alloc, config, source, sink, errors),
         Ok(Order::CheckSessions(rules)) => check_seen(alloc, rules, source, sink, errors),
         Ok(Order::Audit) => audit(alloc, source, sink, errors),
         Ok(Order::Migrate(config)) => migrate(alloc, config, source, sink, errors),
+        Ok(Order::Curve(options)) => { draw_script(rt, alloc, options, source, sink, errors, gate) }
+        Ok(Order::CurveHistory(form)) => draw_history(alloc, form, source, sink, errors),
         Ok(Order::Generate(options)) => write_script(alloc, options, sink, errors),
         Ok(Order::Version) => version(sink, errors),
         Err(fault) => {

@@ -1,7 +1,8 @@
 ghost use Rattle.std.specs.Prelude.{◌≡◌};
-ghost use Rattle.mh_program.specs.Status.{judgement_status_of, line_status_of, live_status_of, status_of};
+ghost use Rattle.mh_program.specs.Status.{curve_status_of, judgement_status_of, line_status_of, live_status_of, status_of};
 
 use crate::fault::LineFault;
+use mh_curve::end::CurveEnd;
 use mh_findings::judgement::Judgement;
 use mh_script::end::End;
 use mh_script::fault::ScriptFault;
@@ -35,6 +36,17 @@ pub fn judgement_status(ended: &Result<Judgement, ScriptFault>) -> u8
         Ok(Judgement::Legal(_)) => 0,
         Ok(Judgement::Refused { .. }) => 1,
         Ok(Judgement::FirstBad { .. }) => 4,
+        Err(_) => 3,
+    }
+}
+
+/// The exit status that the curve of a history gives the program.
+pub fn curve_status(ended: &Result<CurveEnd, ScriptFault>) -> u8
+    ensures { result ≡ curve_status_of ended.now }
+{
+    match ended {
+        Ok(CurveEnd::Done) => 0,
+        Ok(CurveEnd::Refused { .. } | CurveEnd::TooLong) => 1,
         Err(_) => 3,
     }
 }

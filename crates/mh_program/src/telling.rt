@@ -3,12 +3,13 @@ ghost use Rattle.std.specs.Prelude.{◌≡◌, ◌+◌, IfOk, MatchResult};
 ghost use Rattle.std.specs.String.{string_bytes};
 ghost use Rattle.mh_model.specs.Bytes.{line_text};
 ghost use Rattle.mh_program.specs.Printable.{IsPrintable};
-ghost use Rattle.mh_program.specs.Telling.{IsComplaint, More, None, Tells, TellsEnd, TellsFault, TellsJudgement, TellsLine, TellsRefusal, TellsRefusals, TellsRun, TellsWords, entry_place, fault_text, line_place, outside_text};
+ghost use Rattle.mh_program.specs.Telling.{IsComplaint, More, None, Tells, TellsCurve, TellsEnd, TellsFault, TellsJudgement, TellsLine, TellsRefusal, TellsRefusals, TellsRun, TellsWords, entry_place, fault_text, line_place, outside_text};
 
 use crate::errors::Errors;
 use crate::fault::LineFault;
 use crate::line::ConfigOption;
 use crate::quoted::{printable, signs};
+use mh_curve::end::CurveEnd;
 use mh_findings::judgement::Judgement;
 use mh_live::listener::Listener;
 use mh_script::end::{End, Refusal};
@@ -186,6 +187,33 @@ impl<E: Sink> Errors<E> {
     {
         match ended {
             Ok(judgement) => self.tell_found(judgement),
+            Err(fault) => self.tell(fault_line(*fault)),
+        }
+    }
+
+    fn tell_drawn(&mut self, end: &CurveEnd)
+        ensures { TellsCurve self.old self.new end.now }
+    {
+        match end {
+            CurveEnd::Done => {}
+            CurveEnd::Refused { line, reason } => {
+                let text = line_complaint(self.alloc(), *line, reason);
+                self.tell_quoted(text, b"metroheap: the history is outside the grammar\n");
+            }
+            CurveEnd::TooLong => {
+                self.tell(
+                    b"metroheap: line 0: a history has fewer than 4611686018427387904 units\n",
+                );
+            }
+        }
+    }
+
+    /// Tells why the curve of a history wasn't drawn, or the fault at which that ended.
+    pub(crate) fn tell_curve(&mut self, ended: &Result<CurveEnd, ScriptFault>)
+        ensures { TellsRun TellsCurve self.old self.new ended.now }
+    {
+        match ended {
+            Ok(end) => self.tell_drawn(end),
             Err(fault) => self.tell(fault_line(*fault)),
         }
     }

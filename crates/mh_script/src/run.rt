@@ -12,7 +12,7 @@ use crate::replies::write_replies;
 use crate::transcript::{Transcript, transcribe};
 use mh_model::command::Event;
 use mh_model::config::{Config, Rules};
-use mh_scan::crew_scan::CrewGate;
+use mh_scan::crew_scan::{CrewGate, CrewScan};
 use mh_scan::scan::Scanner;
 use mh_state::machine::Machine;
 use mh_text::script::SCRIPT_BYTES;
@@ -25,9 +25,10 @@ use std::thread::Threads;
 struct Replies;
 
 impl Transcript for Replies {
-    ghost text_of = { replies_run };
+    ghost text_of = { λ replies. replies_run };
 
     fn write<C: Scanner, W: Sink>(
+        &self,
         alloc: Global,
         config: Config,
         events: &[Event],
@@ -63,5 +64,6 @@ pub fn run_script<R: Threads, S: Source, W: Sink, G: CrewGate>(
     ensures taken { LeavesSource SCRIPT_BYTES (S.rest source.old) (S.rest source.new) result }
     ensures blames { Blames (S.failures source.old) (S.failures source.new) (W.failures sink.old) (W.failures sink.new) result }
 {
-    transcribe::<Replies, R, S, W, G>(rt, alloc, source, sink, workers, rules, gate)
+    let mut scanner = CrewScan::new(rt, alloc, workers, gate);
+    transcribe(alloc, &Replies, source, sink, rules, &mut scanner)
 }

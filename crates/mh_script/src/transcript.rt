@@ -18,7 +18,6 @@ use mh_model::command::Event;
 use mh_model::config::{Config, Rules};
 use mh_model::history::Verdict;
 use mh_model::limits;
-use mh_scan::crew_scan::{CrewGate, CrewScan};
 use mh_scan::scan::Scanner;
 use mh_text::device::DeviceFailed;
 use mh_text::script::{SCRIPT_BYTES, Script, parse};
@@ -26,17 +25,17 @@ use mh_text::sink::Sink;
 use mh_text::source::Source;
 use mh_text::text_error::TextError;
 use std::alloc::Global;
-use std::thread::Threads;
 
 const MOST_ENTRIES: usize = limits::MOST_EVENTS as usize;
 
-/// What a run is written as: its replies, or its history.
+/// What a run is written as: its replies, its history, or its steps.
 pub trait Transcript {
     // the text of a run of these events
-    ghost text_of: { Config → List Event → Text };
+    ghost text_of: { Self → Config → List Event → Text };
 
     /// Does events from the first machine on, and writes the text of that run.
     fn write<C: Scanner, W: Sink>(
+        &self,
         alloc: Global,
         config: Config,
         events: &[Event],
@@ -45,8 +44,8 @@ pub trait Transcript {
     ) -> Result<(), WriteError>
         requires few { length events.now ≤ most_entries }
         requires count { W.failures sink.old < 2 ^ 62 }
-        ensures done { OnOk result (Appends (W.written sink.old) (W.written sink.new) (text_of config events.now)) }
-        ensures begun { OnErr result (AppendsBeginning (W.written sink.old) (W.written sink.new) (text_of config events.now)) }
+        ensures done { OnOk result (Appends (W.written sink.old) (W.written sink.new) (text_of self.now config events.now)) }
+        ensures begun { OnErr result (AppendsBeginning (W.written sink.old) (W.written sink.new) (text_of self.now config events.now)) }
         ensures no_failure { OnOk result (W.failures sink.new ≡ W.failures sink.old) }
         ensures blamed { IsErrOf result WriteError.Device → W.failures sink.old < W.failures sink.new }
         ensures not_blamed { IsErrOf result WriteError.NoMemory → W.failures sink.new ≡ W.failures sink.old };
@@ -64,42 +63,40 @@ fn answered(events: &[Event]) -> &[Event]
 /// Answers the events of a script under these rules, as far as a history has room.
 fn write_answers<T: Transcript, C: Scanner, W: Sink>(
     alloc: Global,
+    form: &T,
     script: &Script,
     rules: Rules,
     scanner: &mut C,
     sink: &mut W,
 ) -> Result<(), WriteError>
     requires { W.failures sink.old < 2 ^ 62 }
-    ensures done { OnOk result (Appends (W.written sink.old) (W.written sink.new) (transcript_of T.text_of rules (Means script.now))) }
-    ensures begun { OnErr result (AppendsBeginning (W.written sink.old) (W.written sink.new) (transcript_of T.text_of rules (Means script.now))) }
+    ensures done { OnOk result (Appends (W.written sink.old) (W.written sink.new) (transcript_of (T.text_of form.now) rules (Means script.now))) }
+    ensures begun { OnErr result (AppendsBeginning (W.written sink.old) (W.written sink.new) (transcript_of (T.text_of form.now) rules (Means script.now))) }
     ensures no_failure { OnOk result (W.failures sink.new ≡ W.failures sink.old) }
     ensures blamed { IsErrOf result WriteError.Device → W.failures sink.old < W.failures sink.new }
     ensures not_blamed { IsErrOf result WriteError.NoMemory → W.failures sink.new ≡ W.failures sink.old }
 {
     let config = script.config().with_rules(rules);
     let events = answered(script.events());
-    T::write(alloc, config, events, scanner, sink)
+    form.write(alloc, config, events, scanner, sink)
 }
 
 /// Reads a whole script, and then writes the transcript of its run under these rules. Of a script that is outside the grammar
-/// it writes the one line that names the first bad line. At most `workers` threads scan at a time, the calling one among
-/// them. Neither their number nor the gate changes what is written.
-pub fn transcribe<T: Transcript, R: Threads, S: Source, W: Sink, G: CrewGate>(
-    rt: &R,
+/// it writes the one line that names the first bad line. The scanner doesn't change what is written.
+pub fn transcribe<T: Transcript, C: Scanner, S: Source, W: Sink>(
     alloc: Global,
+    form: &T,
     source: &mut S,
     sink: &mut W,
-    workers: usize,
     rules: Rules,
-    gate: &G,
+    scanner: &mut C,
 ) -> Result<End, ScriptFault>
-    requires workers { (0 < workers) × (workers ≤ 64) }
     requires source_count { S.failures source.old < 2 ^ 62 }
     requires sink_count { W.failures sink.old < 2 ^ 62 }
-    ensures ends { IfOk result (EndsAs (transcript T.text_of rules) (S.rest source.old) (W.written sink.old) (W.written sink.new)) }
+    ensures ends { IfOk result (EndsAs (transcript (T.text_of form.now) rules) (S.rest source.old) (W.written sink.old) (W.written sink.new)) }
     ensures reason { IfOk result (HasReason (S.rest source.old)) }
-    ensures begun { OnErr result (WritesBeginning (transcript T.text_of rules) (S.rest source.old) (W.written sink.old) (W.written sink.new)) }
-    ensures full { IsErrOf result ScriptFault.HistoryFull → Outputs (transcript T.text_of rules) (S.rest source.old) (W.written sink.old) (W.written sink.new) model.HistoryFull }
+    ensures begun { OnErr result (WritesBeginning (transcript (T.text_of form.now) rules) (S.rest source.old) (W.written sink.old) (W.written sink.new)) }
+    ensures full { IsErrOf result ScriptFault.HistoryFull → Outputs (transcript (T.text_of form.now) rules) (S.rest source.old) (W.written sink.old) (W.written sink.new) model.HistoryFull }
     ensures unread { IsErrOf result ScriptFault.Read → Keeps (W.written sink.old) (W.written sink.new) }
     ensures memory { IsErrOf result ScriptFault.NoMemory → WantsMemory TakesToRun (S.rest source.old) (S.rest source.new) }
     ensures taken { LeavesSource SCRIPT_BYTES (S.rest source.old) (S.rest source.new) result }
@@ -107,9 +104,8 @@ pub fn transcribe<T: Transcript, R: Threads, S: Source, W: Sink, G: CrewGate>(
 {
     let text = read_whole(alloc, source, SCRIPT_BYTES)?;
     let bytes = text.as_slice();
-    let mut scanner = CrewScan::new(rt, alloc, workers, gate);
     match parse(alloc, bytes) {
-        Ok(script) => match write_answers::<T, _, _>(alloc, &script, rules, &mut scanner, sink) {
+        Ok(script) => match write_answers(alloc, form, &script, rules, scanner, sink) {
             Ok(()) if script.events().len() > MOST_ENTRIES => Err(ScriptFault::HistoryFull),
             Ok(()) => Ok(End::Done),
             Err(WriteError::Device) => Err(ScriptFault::Write),

@@ -1,3 +1,4 @@
+pub mod AccountLemmas
 pub mod JudgeLemmas
 pub mod PlainReplies
 pub mod RunLemmas

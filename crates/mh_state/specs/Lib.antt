@@ -3,4 +3,5 @@ pub mod Engines
 pub mod Judging
 pub mod Running
 pub mod Storing
+pub mod Telling
 pub mod Whole

@@ -11,6 +11,8 @@ ghost use Rattle.mh_model.specs.Machine.{first_machine, new_units, command_units
 ghost use Rattle.mh_state.specs.Engines.{machine_of, IsShort};
 ghost use Rattle.mh_state.specs.Running.{MayAskForMemory};
 
+mod told;
+
 use mh_classes::parts::parts;
 use mh_heap::heap::Heap;
 use mh_heap::perform::perform;

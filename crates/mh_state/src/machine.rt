@@ -4,6 +4,8 @@ ghost use Rattle.mh_model.specs.Limits.{most_entries};
 ghost use Rattle.mh_state.specs.Running.{first_running, Does, MayAskForMemory};
 ghost use Rattle.mh_state.specs.declared.machine.Stop.{Stop};
 
+mod told;
+
 use crate::engine::Engine;
 use mh_model::command::Event;
 use mh_model::config::Config;

@@ -1,4 +1,4 @@
-//! Worked texts of the seven subcommands.
+//! Worked texts of the eight subcommands.
 
 /// The words of a command line and a text, what the program writes of them, and its exit status.
 #[derive(Clone, Copy)]
@@ -53,6 +53,8 @@ pub const RUN: &[&[u8]] = &[b"metroheap", b"run"];
 
 const RUN_HISTORY: &[&[u8]] = &[b"metroheap", b"run", b"--history", b"--rules=1"];
 
+const STEPS: &[&[u8]] = &[b"metroheap", b"steps", b"--json", b"--to=1"];
+
 const LIVE: &[&[u8]] = &[b"metroheap", b"live"];
 
 const CHECK_SESSIONS: &[&[u8]] = &[b"metroheap", b"check", b"--sessions"];
@@ -69,6 +71,10 @@ const CHECK: &[&[u8]] = &[
 ];
 
 const AUDIT: &[&[u8]] = &[b"metroheap", b"audit"];
+
+const CURVE: &[&[u8]] = &[b"metroheap", b"curve"];
+
+const CURVE_HISTORY: &[&[u8]] = &[b"metroheap", b"curve", b"--history"];
 
 pub const MIGRATE: &[&[u8]] = &[
     b"metroheap",
@@ -110,6 +116,16 @@ pub const CASES: &[Case<'static>] = &[
         input: b"config 4 353 0 0\na new 0 0 0\n* start\n* quantum\n* quantum\n* report 361\n",
         outputs: &[
             b"ok\nok\nspent 353 phase sweep\nspent 7 phase idle\nmutator 1 collector 360 quanta 2 greatest 353 window 361 least 1 floor none\n",
+        ],
+        told: NONE,
+        status: 0,
+    },
+    // The steps of an event.
+    Case {
+        words: STEPS,
+        input: b"config 4 353 0 0\na new 0 0 0\na new 1 0 0\n",
+        outputs: &[
+            b"{\"event\":1,\"text\":\"s0 new 0 0 0\",\"reply\":\"ok\"}\n{\"event\":1,\"deed\":\"make\",\"place\":\"0.0\",\"birth\":0,\"part\":0,\"class\":4,\"references\":0,\"numbers\":0,\"tier\":\"free\"}\n{\"event\":2,\"text\":\"s0 new 1 0 0\",\"reply\":\"ok\"}\n",
         ],
         told: NONE,
         status: 0,
@@ -253,6 +269,47 @@ pub const CASES: &[Case<'static>] = &[
         outputs: &[b"first bad 3\n"],
         told: b"metroheap: line 4, entry 3: number 1, and right is number 0\n",
         status: 4,
+    },
+    // One unit of the mutator.
+    Case {
+        words: CURVE,
+        input: b"config 4 209 0 0\na clear 0\n",
+        outputs: &[
+            b"mutator 1 collector 0 quanta 0 greatest 0\nwindow 1 least 1 share 100.00 floor none\n",
+        ],
+        told: NONE,
+        status: 0,
+    },
+    Case {
+        words: CURVE,
+        input: b"config 4 209 0 0\na walk\n",
+        outputs: &[b"refused 10 line 2\n"],
+        told: b"metroheap: line 2: \"walk\" is no command\n",
+        status: 1,
+    },
+    // A unit of the mutator and then one of the collector, whatever is replied.
+    Case {
+        words: CURVE_HISTORY,
+        input: b"history 2 rules 2 4 209 0 0\ns0 clear 0 = number 7 units 1 1\n",
+        outputs: &[
+            b"mutator 1 collector 1 greatest 1\nwindow 1 least 0 share 0.00 floor none\nwindow 2 least 1 share 50.00 floor none\n",
+        ],
+        told: NONE,
+        status: 0,
+    },
+    Case {
+        words: CURVE_HISTORY,
+        input: HISTORY,
+        outputs: &[OTHER_VERSION],
+        told: b"metroheap: line 1: a history of version 1: check reads it\n",
+        status: 1,
+    },
+    Case {
+        words: CURVE_HISTORY,
+        input: b"history 2 rules 2 4 209 0 0\ns0 clear 0 = ok units 4611686018427387904 0\n",
+        outputs: &[b"refused 10 line 0\n"],
+        told: b"metroheap: line 0: a history has fewer than 4611686018427387904 units\n",
+        status: 1,
     },
     // The program's name may be any bytes.
     Case {

@@ -28,6 +28,13 @@ const REFUSED: &[Case<'static>] = &[
         status: 2,
     },
     Case {
+        words: &[b"metroheap", b"steps", b"--help"],
+        input: SCRIPT,
+        outputs: &[],
+        told: b"Run a script and print each event with its reply, and below it what",
+        status: 2,
+    },
+    Case {
         words: &[b"metroheap", b"live", b"--help"],
         input: SCRIPT,
         outputs: &[],

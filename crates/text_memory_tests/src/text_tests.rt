@@ -3,9 +3,9 @@ use crate::calls::{Call, Reading, Told, Wanted};
 use crate::sweep::check;
 use crate::texts::{
     AUDIT, BAD_HISTORY, BAD_NUMBER, BAD_RECORD, CHECK, CHECK_SESSIONS, COLLECTED, COLLECTED_OUTPUT,
-    FIRST_BAD, GENERATE, GENERATED, HISTORY, LEGAL, LIVE, MIGRATE, MIGRATE_CYCLES, RACE, RECORD,
-    REFUSED, REFUSED_OUTPUT, REFUSED_REASON, RUN, RUN_BY_TWO, RUN_HISTORY, crowded, crowded_output,
-    repeated, wide, wide_output,
+    COLLECTED_STEPS, FIRST_BAD, GENERATE, GENERATED, HISTORY, LEGAL, LIVE, MIGRATE, MIGRATE_CYCLES,
+    RACE, RECORD, REFUSED, REFUSED_OUTPUT, REFUSED_REASON, RUN, RUN_BY_TWO, RUN_HISTORY, STEPS,
+    crowded, crowded_output, repeated, wide, wide_output,
 };
 use std::alloc::{AllocError, Global};
 use std::process::Abort;
@@ -158,6 +158,21 @@ const RECORDED: &[Call<'static>] = &[Call {
 #[test]
 fn histories_of_runs(rt: HostRuntime) -> Result<(), Fail> {
     check_each(&rt, rt.alloc(), RECORDED)?;
+    Ok(())
+}
+
+const STEPPED: &[Call<'static>] = &[Call {
+    words: STEPS,
+    text: COLLECTED,
+    wanted: Wanted::Output(COLLECTED_STEPS),
+    told: Told::Nothing,
+    status: 0,
+    reading: Reading::Before,
+}];
+
+#[test]
+fn steps_of_runs(rt: HostRuntime) -> Result<(), Fail> {
+    check_each(&rt, rt.alloc(), STEPPED)?;
     Ok(())
 }
 

@@ -1,7 +1,7 @@
 use Rattle.std.proofs.Common.{◌≡◌, length, is_some, is_none, not, sym, ap, ◌∙◌, subst, add-one, arith}
 use Rattle.std.proofs.Math.Bool.{not-not}
 use Rattle.mh_model.specs.Pages.{page_number, class_at}
-use Rattle.mh_groups.proofs.MadeLemmas.{AreMadeSoFar, one_so_far, all_so_far, full_so_far, unlinked_so_far}
+use Rattle.mh_groups.proofs.MadeLemmas.{AreMadeSoFar, one_so_far, all_so_far, told_so_far, full_so_far, unlinked_so_far}
 use Rattle.mh_groups.proofs.group.make_parts.Goals as goal
 
 pub returns-in_default-clause-full : goal.returns-in_default-clause-full
@@ -26,4 +26,10 @@ pub returns-clause-made : goal.returns-clause-made
 returns-clause-made c =
     let end : c.loop-index.index ≡ length c.args.parts.now = omega arith in
     all_so_far c.args.blocks.now c.args.birth c.args.stamp c.args.parts.now c.loop-index.blocks c.loop-index.places c.loop-index.fresh
+    (subst (AreMadeSoFar c.args.blocks.now c.args.birth c.args.stamp c.args.parts.now c.loop-index.blocks c.loop-index.places c.loop-index.fresh) end c.loop-index.invariant)
+
+pub returns-clause-told : goal.returns-clause-told
+returns-clause-told c =
+    let end : c.loop-index.index ≡ length c.args.parts.now = omega arith in
+    told_so_far c.args.blocks.now c.args.birth c.args.stamp c.args.parts.now c.loop-index.blocks c.loop-index.places c.loop-index.fresh
     (subst (AreMadeSoFar c.args.blocks.now c.args.birth c.args.stamp c.args.parts.now c.loop-index.blocks c.loop-index.places c.loop-index.fresh) end c.loop-index.invariant)

@@ -14,33 +14,33 @@ returns-in_err-text-clause-begun g c = on_err _ (WritesBeginning-nothing _ _ _)
 pub returns-in-Ok-write_answers-clause-begun : goal.returns-in-Ok-write_answers-clause-begun
 returns-in-Ok-write_answers-clause-begun g c =
     let reads = reads_slice _ _ script_bounded _ _ _ _ c.as_slice-bytes.ensures.value c.in_ok-text.ensures.read c.in_ok-text.ensures.whole in
-    WritesBeginning-reads g.T.Transcript.text_of c.args.rules reads _ _ _ c.in-Ok.ensures.script (beginning_of _ _ _ c.in-Ok-write_answers.ensures.done)
+    WritesBeginning-reads (g.T.Transcript.text_of c.args.form.now) c.args.rules reads _ _ _ c.in-Ok.ensures.script (beginning_of _ _ _ c.in-Ok-write_answers.ensures.done)
 
 pub returns-in-Ok-write_answers-clause-full : goal.returns-in-Ok-write_answers-clause-full
 returns-in-Ok-write_answers-clause-full g c = λ is.
     let reads = reads_slice _ _ script_bounded _ _ _ _ c.as_slice-bytes.ensures.value c.in_ok-text.ensures.read c.in_ok-text.ensures.whole in
-    HistoryFull-reads g.T.Transcript.text_of c.args.rules reads _ _ _ c.in-Ok.ensures.script c.in-Ok-write_answers.ensures.done (many_entries _ c.events.result.now c.events.ensures c.if-events-gt-MOST_ENTRIES.true)
+    HistoryFull-reads (g.T.Transcript.text_of c.args.form.now) c.args.rules reads _ _ _ c.in-Ok.ensures.script c.in-Ok-write_answers.ensures.done (many_entries _ c.events.result.now c.events.ensures c.if-events-gt-MOST_ENTRIES.true)
 
 pub returns-in-Ok-2-clause-ends : goal.returns-in-Ok-2-clause-ends
 returns-in-Ok-2-clause-ends g c =
     let reads = reads_slice _ _ script_bounded _ _ _ _ c.as_slice-bytes.ensures.value c.in_ok-text.ensures.read c.in_ok-text.ensures.whole in
-    Done-reads g.T.Transcript.text_of c.args.rules reads _ _ _ c.in-Ok.ensures.script c.in-Ok-2.ensures.done (few_entries _ c.events.result.now c.events.ensures c.if-events-gt-MOST_ENTRIES.false)
+    Done-reads (g.T.Transcript.text_of c.args.form.now) c.args.rules reads _ _ _ c.in-Ok.ensures.script c.in-Ok-2.ensures.done (few_entries _ c.events.result.now c.events.ensures c.if-events-gt-MOST_ENTRIES.false)
 
 pub returns-in-Err-Device-clause-begun : goal.returns-in-Err-Device-clause-begun
 returns-in-Err-Device-clause-begun g c =
     let reads = reads_slice _ _ script_bounded _ _ _ _ c.as_slice-bytes.ensures.value c.in_ok-text.ensures.read c.in_ok-text.ensures.whole in
-    WritesBeginning-reads g.T.Transcript.text_of c.args.rules reads _ _ _ c.in-Ok.ensures.script c.in-Err-Device.ensures.begun
+    WritesBeginning-reads (g.T.Transcript.text_of c.args.form.now) c.args.rules reads _ _ _ c.in-Ok.ensures.script c.in-Err-Device.ensures.begun
 
 pub returns-in-Ok-clause-begun : goal.returns-in-Ok-clause-begun
 returns-in-Ok-clause-begun g c =
     let reads = reads_slice _ _ script_bounded _ _ _ _ c.as_slice-bytes.ensures.value c.in_ok-text.ensures.read c.in_ok-text.ensures.whole in
-    WritesBeginning-reads g.T.Transcript.text_of c.args.rules reads _ _ _ c.in-Ok.ensures.script c.in-Err-NoMemory-write_answers.ensures.begun
+    WritesBeginning-reads (g.T.Transcript.text_of c.args.form.now) c.args.rules reads _ _ _ c.in-Ok.ensures.script c.in-Err-NoMemory-write_answers.ensures.begun
 
 pub returns-in-Ok-write_verdict-clause-ends : goal.returns-in-Ok-write_verdict-clause-ends
 returns-in-Ok-write_verdict-clause-ends g c =
     let reads = reads_slice _ _ script_bounded _ _ _ _ c.as_slice-bytes.ensures.value c.in_ok-text.ensures.read c.in_ok-text.ensures.whole in
     let bad = rw c.in-Err-Line.field-0-is at c.in-Err-Line.ensures.line in
-    rw c.of.ensures.line (Refused-reads g.T.Transcript.text_of c.args.rules reads _ _ _ (bad ∙ ap BadLine (sym c.in-Err-Line.line-is)) c.in-Ok-write_verdict.ensures.done)
+    rw c.of.ensures.line (Refused-reads (g.T.Transcript.text_of c.args.form.now) c.args.rules reads _ _ _ (bad ∙ ap BadLine (sym c.in-Err-Line.line-is)) c.in-Ok-write_verdict.ensures.done)
 
 pub returns-in-Ok-write_verdict-clause-reason : goal.returns-in-Ok-write_verdict-clause-reason
 returns-in-Ok-write_verdict-clause-reason g c =
@@ -51,7 +51,7 @@ pub returns-in-Err-Line-clause-begun : goal.returns-in-Err-Line-clause-begun
 returns-in-Err-Line-clause-begun g c =
     let reads = reads_slice _ _ script_bounded _ _ _ _ c.as_slice-bytes.ensures.value c.in_ok-text.ensures.read c.in_ok-text.ensures.whole in
     let bad = rw c.in-Err-Line.field-0-is at c.in-Err-Line.ensures.line in
-    WritesBeginning-reads g.T.Transcript.text_of c.args.rules reads _ _ _ (bad ∙ ap BadLine (sym c.in-Err-Line.line-is)) c.in-Err.ensures.begun
+    WritesBeginning-reads (g.T.Transcript.text_of c.args.form.now) c.args.rules reads _ _ _ (bad ∙ ap BadLine (sym c.in-Err-Line.line-is)) c.in-Err.ensures.begun
 
 pub returns-clause-begun : goal.returns-clause-begun
 returns-clause-begun g c = WritesBeginning-nothing _ _ _

@@ -1,0 +1,5 @@
+pub mod PartLemmas
+pub mod WindowLemmas
+pub mod TallyLemmas
+pub mod ReasonLemmas
+pub mod RunLemmas

@@ -1,0 +1,19 @@
+use Rattle.std.proofs.Common.{◌∙◌, ap, arith}
+use Rattle.mh_state.specs.Running.{Running}
+use Rattle.mh_curve.proofs.RunLemmas.{after_all, after_none, after_one}
+use Rattle.mh_curve.proofs.script.machine_after.Goals as goal
+
+pub loop-event-init : goal.loop-event-init
+loop-event-init g c = record {
+  machine = ap (λ (r : Running). r.machine) c.in_ok-machine.ensures ∙ after_none _;
+  count = ap (λ (r : Running). r.done) c.in_ok-machine.ensures;
+}
+
+pub loop-event-preserved : goal.loop-event-preserved
+loop-event-preserved g c = record {
+  machine = after_one _ _ _ _ _ _ c.loop-event-test.true c.loop-event.invariant.machine c.in_ok-pass.ensures.machine;
+  count = omega (arith, c.in_ok-pass.ensures.done, c.loop-event.invariant.count);
+}
+
+pub returns : goal.returns
+returns g c = after_all _ _ _ _ c.loop-event-test.false c.loop-event.invariant.machine

@@ -1,0 +1,11 @@
+use Rattle.std.proofs.Common.{◌∙◌, ◌<◌, length, ap, subst, sym}
+use Rattle.mh_model.specs.declared.birth.TheConstants.{LIFE}
+use Rattle.mh_model.specs.Machine.{Machine}
+use Rattle.mh_model.specs.Trace.{TraceState}
+use Rattle.mh_curve.proofs.RunLemmas.{short_run}
+use Rattle.mh_curve.proofs.script.run_text.Goals as goal
+
+pub curve_points-requires : goal.curve_points-requires
+curve_points-requires g c =
+    let P : TraceState → Type 0 = λ trace. length trace.letters < LIFE in
+    subst P (sym (c.into_parts-trace.ensures.trace ∙ ap (λ (m : Machine). m.trace) c.in_ok-machine.ensures)) (short_run c.runs_stay_within_their_events.ensures c.args.config c.args.events.now c.requires)

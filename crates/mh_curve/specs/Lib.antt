@@ -1,0 +1,4 @@
+pub mod Points
+pub mod Texts
+pub mod Histories
+pub mod Runs

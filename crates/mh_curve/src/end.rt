@@ -1,0 +1,11 @@
+use mh_reasons::history_reason::HistoryReason;
+
+/// How the curve of a history ended.
+#[derive(Debug, Drop)]
+pub enum CurveEnd {
+    Done,
+    /// The first bad line, counted from 1; 0 if the text is too long.
+    Refused { line: u64, reason: HistoryReason },
+    /// The history has 2 ^ 62 units or more. This is line 0.
+    TooLong,
+}

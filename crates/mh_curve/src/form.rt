@@ -1,0 +1,35 @@
+ghost use Rattle.std.specs.Prelude.{◌≡◌, IfOk};
+ghost use Rattle.std.specs.String.{string_bytes};
+ghost use Rattle.mh_curve.specs.Texts.{curve_text};
+
+use crate::picture::push_picture;
+use crate::point::{Counts, Point};
+use crate::table::push_table;
+use mh_model::memory::NoMemory;
+use std::alloc::Global;
+
+/// What a curve is written as.
+#[derive(Clone, Copy, Debug, PartialEq, Eq)]
+pub enum CurveForm {
+    /// A line for each window.
+    Table,
+    /// A picture in SVG.
+    Picture,
+}
+
+/// The text of a curve.
+pub fn curve_text(
+    alloc: Global,
+    form: CurveForm,
+    counts: Counts,
+    points: &[Point],
+) -> Result<String, NoMemory>
+    ensures { IfOk result (λ text. string_bytes text ≡ curve_text form counts points.now) }
+{
+    let mut text = String::new(alloc);
+    match form {
+        CurveForm::Table => push_table(&mut text, counts, points)?,
+        CurveForm::Picture => push_picture(&mut text, counts, points)?,
+    }
+    Ok(text)
+}

@@ -1,0 +1,15 @@
+//! The minimum mutator utilisation of runs: the least share of the mutator in windows of each length, as a table and as a picture.
+#![tactic(auto)]
+
+mod drawing;
+pub mod end;
+pub mod form;
+pub mod history;
+mod parts;
+mod picture;
+pub mod point;
+pub mod points;
+pub mod script;
+mod skeleton;
+mod table;
+mod tally;

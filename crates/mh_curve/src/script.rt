@@ -1,0 +1,160 @@
+//! The curves of runs of scripts.
+ghost use Rattle.std.specs.Prelude.{◌≡◌, ◌<◌, ◌≤◌, ◌^◌, suc, length, IfOk, OnOk, OnErr, IsErrOf};
+ghost use Rattle.std.specs.Io.KnownBytes.{Appends, Keeps};
+ghost use Rattle.std.specs.String.{string_bytes};
+ghost use Rattle.mh_curve.specs.Points.{counts_of};
+ghost use Rattle.mh_curve.specs.Runs.{curve_output, curve_run};
+ghost use Rattle.mh_model.specs.Limits.{most_entries};
+ghost use Rattle.mh_model.specs.Machine.{event_step, first_machine, machine_after};
+ghost use Rattle.mh_model.specs.Output as model;
+ghost use Rattle.mh_text.specs.Stream.{AppendsBeginning};
+ghost use Rattle.mh_script.specs.Run.{EndsAs, HasReason, Outputs, TakesToRun, WritesBeginning};
+ghost use Rattle.mh_script.specs.Texts.{LeavesSource, Blames, WantsMemory};
+
+use crate::form::{CurveForm, curve_text};
+use crate::point::Counts;
+use crate::points::curve_points;
+use mh_model::command::Event;
+use mh_model::config::{Config, Rules};
+use mh_model::memory::NoMemory;
+use mh_report::trace::Trace;
+use mh_run_laws::bounds::runs_stay_within_their_events;
+use mh_scan::crew_scan::{CrewGate, CrewScan};
+use mh_scan::scan::Scanner;
+use mh_script::end::End;
+use mh_script::fault::{ScriptFault, WriteError};
+use mh_script::texts::flush;
+use mh_script::transcript::{Transcript, transcribe};
+use mh_state::machine::{Machine, Stop};
+use mh_text::script::SCRIPT_BYTES;
+use mh_text::sink::Sink;
+use mh_text::source::Source;
+use std::alloc::Global;
+use std::thread::Threads;
+
+fn counts_of(trace: &Trace) -> Counts
+    ensures { result ≡ counts_of trace.now.trace }
+{
+    Counts {
+        mutator: trace.mutator_count(),
+        collector: trace.collector_count(),
+        quanta: Some(trace.quanta()),
+        greatest: trace.greatest(),
+    }
+}
+
+/// Does an event, and lets its reply go.
+fn pass<C: Scanner>(machine: &mut Machine, event: Event, scanner: &mut C) -> Result<(), NoMemory>
+    requires { machine.old.done < most_entries }
+    ensures machine { OnOk result (machine.new.machine ≡ (event_step machine.old.machine event).state) }
+    ensures done { OnOk result (machine.new.done ≡ suc machine.old.done) }
+{
+    match machine.step(event, scanner) {
+        Ok(_) => Ok(()),
+        Err(Stop::NoMemory) => Err(NoMemory),
+        Err(Stop::HistoryFull) => unreachable!(),
+    }
+}
+
+/// The machine after events.
+fn machine_after<C: Scanner>(
+    alloc: Global,
+    config: Config,
+    events: &[Event],
+    scanner: &mut C,
+) -> Result<Machine, NoMemory>
+    requires { length events.now ≤ most_entries }
+    ensures { IfOk result (λ machine. machine.machine ≡ machine_after (first_machine config) events.now) }
+{
+    let mut machine = Machine::open(alloc, config)?;
+    for event in events {
+        pass(&mut machine, *event, scanner)?;
+    }
+    Ok(machine)
+}
+
+/// The curve of the trace of a run of events.
+fn run_text<C: Scanner>(
+    alloc: Global,
+    form: CurveForm,
+    config: Config,
+    events: &[Event],
+    scanner: &mut C,
+) -> Result<String, NoMemory>
+    requires { length events.now ≤ most_entries }
+    ensures { IfOk result (λ text. string_bytes text ≡ curve_run form config events.now) }
+{
+    runs_stay_within_their_events();
+    let machine = machine_after(alloc, config, events, scanner)?;
+    let (_, mut trace) = machine.into_parts();
+    let counts = counts_of(&trace);
+    let points = curve_points(alloc, &config, &mut trace)?;
+    curve_text(alloc, form, counts, points.as_slice())
+}
+
+/// Does events from the first machine on, and writes the curve of that run.
+fn write_curve<C: Scanner, W: Sink>(
+    alloc: Global,
+    form: CurveForm,
+    config: Config,
+    events: &[Event],
+    scanner: &mut C,
+    sink: &mut W,
+) -> Result<(), WriteError>
+    requires few { length events.now ≤ most_entries }
+    requires count { W.failures sink.old < 2 ^ 62 }
+    ensures done { OnOk result (Appends (W.written sink.old) (W.written sink.new) (curve_run form config events.now)) }
+    ensures begun { OnErr result (AppendsBeginning (W.written sink.old) (W.written sink.new) (curve_run form config events.now)) }
+    ensures no_failure { OnOk result (W.failures sink.new ≡ W.failures sink.old) }
+    ensures blamed { IsErrOf result WriteError.Device → W.failures sink.old < W.failures sink.new }
+    ensures not_blamed { IsErrOf result WriteError.NoMemory → W.failures sink.new ≡ W.failures sink.old }
+{
+    let mut text = run_text(alloc, form, config, events, scanner)?;
+    flush(sink, &mut text)?;
+    Ok(())
+}
+
+/// A run that is written as its curve.
+impl Transcript for CurveForm {
+    ghost text_of = { curve_run };
+
+    fn write<C: Scanner, W: Sink>(
+        &self,
+        alloc: Global,
+        config: Config,
+        events: &[Event],
+        scanner: &mut C,
+        sink: &mut W,
+    ) -> Result<(), WriteError> {
+        write_curve(alloc, *self, config, events, scanner, sink)
+    }
+}
+
+/// Reads a whole script, and then writes the curve of its run under these rules. Of a script that is outside the grammar it
+/// writes the one line that names the first bad line. At most `workers` threads scan at a time, the calling one among them.
+/// Neither their number nor the gate changes what is written.
+pub fn curve_script<R: Threads, S: Source, W: Sink, G: CrewGate>(
+    rt: &R,
+    alloc: Global,
+    form: CurveForm,
+    source: &mut S,
+    sink: &mut W,
+    workers: usize,
+    rules: Rules,
+    gate: &G,
+) -> Result<End, ScriptFault>
+    requires workers { (0 < workers) × (workers ≤ 64) }
+    requires source_count { S.failures source.old < 2 ^ 62 }
+    requires sink_count { W.failures sink.old < 2 ^ 62 }
+    ensures ends { IfOk result (EndsAs (curve_output form rules) (S.rest source.old) (W.written sink.old) (W.written sink.new)) }
+    ensures reason { IfOk result (HasReason (S.rest source.old)) }
+    ensures begun { OnErr result (WritesBeginning (curve_output form rules) (S.rest source.old) (W.written sink.old) (W.written sink.new)) }
+    ensures full { IsErrOf result ScriptFault.HistoryFull → Outputs (curve_output form rules) (S.rest source.old) (W.written sink.old) (W.written sink.new) model.HistoryFull }
+    ensures unread { IsErrOf result ScriptFault.Read → Keeps (W.written sink.old) (W.written sink.new) }
+    ensures memory { IsErrOf result ScriptFault.NoMemory → WantsMemory TakesToRun (S.rest source.old) (S.rest source.new) }
+    ensures taken { LeavesSource SCRIPT_BYTES (S.rest source.old) (S.rest source.new) result }
+    ensures blames { Blames (S.failures source.old) (S.failures source.new) (W.failures sink.old) (W.failures sink.new) result }
+{
+    let mut scanner = CrewScan::new(rt, alloc, workers, gate);
+    transcribe(alloc, &form, source, sink, rules, &mut scanner)
+}

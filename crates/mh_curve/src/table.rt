@@ -1,0 +1,103 @@
+ghost use Rattle.std.specs.Prelude.{◌≡◌, ◌++◌, Some, OnOk};
+ghost use Rattle.std.specs.String.{string_bytes};
+ghost use Rattle.mh_model.specs.Bytes.{joined};
+ghost use Rattle.mh_model.specs.Replies.{optional_word};
+ghost use Rattle.mh_curve.specs.Texts.{counts_words, percent_text, point_words, table_text};
+
+use crate::parts::{Part, push_parts};
+use crate::point::{Counts, Point, share};
+use mh_model::memory::NoMemory;
+use std::fmt;
+use std::fmt::Write;
+
+/// What a trace counts, without the end of its line.
+#[derive(Clone, Copy)]
+pub(crate) struct CountsText(pub(crate) Counts);
+
+impl fmt::Display for CountsText {
+    ghost output = { λ text. Some (joined (counts_words text.0)) };
+
+    fn fmt<W: fmt::Write>(&self, f: &mut fmt::Formatter<W>) -> fmt::Result {
+        let Counts {
+            mutator,
+            collector,
+            quanta,
+            greatest,
+        } = self.0;
+        match quanta {
+            None => write!(
+                f,
+                "mutator {mutator} collector {collector} greatest {greatest}"
+            ),
+            Some(quanta) => write!(
+                f,
+                "mutator {mutator} collector {collector} quanta {quanta} greatest {greatest}"
+            ),
+        }
+    }
+}
+
+/// A point, without the end of its line.
+#[derive(Clone, Copy)]
+pub(crate) struct PointText(pub(crate) Point);
+
+impl fmt::Display for PointText {
+    ghost output = { λ text. Some (joined (point_words text.0)) };
+
+    fn fmt<W: fmt::Write>(&self, f: &mut fmt::Formatter<W>) -> fmt::Result {
+        let Point {
+            window,
+            least,
+            floor,
+        } = self.0;
+        let share = PercentText(share(least, window));
+        let floor = OptionalText(floor);
+        write!(
+            f,
+            "window {window} least {least} share {share} floor {floor}"
+        )
+    }
+}
+
+/// Parts of ten thousand in per cent.
+#[derive(Clone, Copy)]
+struct PercentText(u128);
+
+impl fmt::Display for PercentText {
+    ghost output = { λ text. Some (percent_text text.0) };
+
+    fn fmt<W: fmt::Write>(&self, f: &mut fmt::Formatter<W>) -> fmt::Result {
+        let whole = self.0 / 100;
+        let tenths = self.0 / 10 % 10;
+        let hundredths = self.0 % 10;
+        write!(f, "{whole}.{tenths}{hundredths}")
+    }
+}
+
+/// A number, or `none`.
+#[derive(Clone, Copy)]
+struct OptionalText(Option<u64>);
+
+impl fmt::Display for OptionalText {
+    ghost output = { λ text. Some (optional_word text.0) };
+
+    fn fmt<W: fmt::Write>(&self, f: &mut fmt::Formatter<W>) -> fmt::Result {
+        match self.0 {
+            None => write!(f, "none"),
+            Some(number) => write!(f, "{number}"),
+        }
+    }
+}
+
+/// Adds the table of a curve to a text. After an error the text may end with a part of it.
+pub(crate) fn push_table(
+    text: &mut String,
+    counts: Counts,
+    points: &[Point],
+) -> Result<(), NoMemory>
+    ensures { OnOk result (string_bytes text.new ≡ string_bytes text.old ++ table_text counts points.now) }
+{
+    let counts = CountsText(counts);
+    writeln!(text, "{counts}")?;
+    push_parts(text, Part::Row, points)
+}

@@ -1,0 +1,117 @@
+-- Deeds as rows of numbers, of which the first is the kind of the deed.
+use Rattle.std.specs.Prelude.{ℕ, Bool, true, false, Option, Some, None, List, [], ◌∷◌, ◌++◌, filter, flat_map, codes, decimal}
+use Rattle.mh_model.specs.declared.cycle.Phase.{Phase}
+use Rattle.mh_model.specs.declared.cycle.Phase.TheVariants.{Idle, Roots, Mark, Sweep, Defrag}
+use Rattle.mh_model.specs.declared.deed.Deed.{Deed}
+use Rattle.mh_model.specs.declared.deed.Deed.TheVariants as deed
+use Rattle.mh_model.specs.declared.deed.Edge.{Edge}
+use Rattle.mh_model.specs.declared.deed.Fate.{Fate}
+use Rattle.mh_model.specs.declared.deed.Fate.TheVariants as fate
+use Rattle.mh_model.specs.declared.deed.PartName.{PartName}
+use Rattle.mh_model.specs.declared.deed.Tier.{Tier}
+use Rattle.mh_model.specs.declared.deed.Tier.TheVariants as tier
+use Rattle.mh_model.specs.declared.shape.Shape.{Shape}
+use Rattle.mh_model.specs.Bytes.{Text}
+
+-- A row: the kind of what it has, and its numbers, of which some may be missing
+pub record Row : Type 0 where
+  pub kind : ℕ
+  pub numbers : List (Option ℕ)
+
+abbrev pub row : ℕ → List (Option ℕ) → Row
+row kind numbers = record { kind = kind; numbers = numbers }
+
+abbrev pub phase_number : Phase → ℕ
+phase_number Idle = 0
+phase_number Roots = 1
+phase_number Mark = 2
+phase_number Sweep = 3
+phase_number Defrag = 4
+
+abbrev pub tier_number : Tier → ℕ
+tier_number tier.Dense = 0
+tier_number tier.Fresh = 1
+tier_number tier.Sparse = 2
+
+abbrev pub flag_number : Bool → ℕ
+flag_number false = 0
+flag_number true = 1
+
+-- which part of which object
+abbrev pub name_numbers : PartName → List (Option ℕ)
+name_numbers name = Some name.birth ∷ Some name.part ∷ []
+
+-- where a reference led from and to, and whether the block there became grey
+abbrev pub edge_numbers : Edge → List (Option ℕ)
+edge_numbers edge = edge.reference ∷ edge.target ∷ Some (flag_number edge.is_shaded) ∷ []
+
+-- what became of a slot
+abbrev pub fate_numbers : Fate → List (Option ℕ)
+fate_numbers fate.Empty = Some 0 ∷ []
+fate_numbers (fate.Kept name) = Some 1 ∷ name_numbers name
+fate_numbers (fate.Freed name) = Some 2 ∷ name_numbers name
+fate_numbers (fate.FreedForwarder target) = Some 3 ∷ Some target ∷ []
+
+-- the class of a new part, its counts, and its tier
+abbrev pub made_numbers : ℕ → Shape → Tier → List (Option ℕ)
+made_numbers class_size fields tier = Some class_size ∷ Some fields.references ∷ Some fields.numbers ∷ Some (tier_number tier) ∷ []
+
+-- The row of a deed
+abbrev pub deed_row : Deed → Row
+deed_row (deed.Start cycle) = row 0 (Some cycle ∷ [])
+deed_row (deed.Enter phase) = row 1 (Some (phase_number phase) ∷ [])
+deed_row deed.End = row 2 []
+deed_row (deed.Root slot edge) = row 3 (Some slot ∷ edge_numbers edge)
+deed_row (deed.Mark place name) = row 4 (Some place ∷ name_numbers name)
+deed_row (deed.Reference index edge) = row 5 (Some index ∷ edge_numbers edge)
+deed_row (deed.Pass page) = row 6 (Some page ∷ [])
+deed_row (deed.Sweep place fate) = row 7 (Some place ∷ fate_numbers fate)
+deed_row (deed.FreePage page) = row 8 (Some page ∷ [])
+deed_row (deed.FlagPage page) = row 9 (Some page ∷ [])
+deed_row (deed.UnflagPage page) = row 10 (Some page ∷ [])
+deed_row (deed.Stay place) = row 11 (Some place ∷ [])
+deed_row (deed.Move place to name class_size) = row 12 (Some place ∷ Some to ∷ (name_numbers name ++ Some class_size ∷ []))
+deed_row deed.ForwardRoots = row 13 []
+deed_row (deed.Shade place) = row 14 (Some place ∷ [])
+deed_row (deed.Make place name class_size fields tier) = row 15 (Some place ∷ (name_numbers name ++ made_numbers class_size fields tier))
+
+-- Deeds that are left out of long runs ------------------------------------------------------------
+
+abbrev pub frees : Fate → Bool
+frees fate.Empty = false
+frees (fate.Kept name) = false
+frees (fate.Freed name) = true
+frees (fate.FreedForwarder target) = true
+
+-- a deed changes what is drawn of pages, slots, the grey list or the phase
+abbrev pub is_drawn : Deed → Bool
+is_drawn (deed.Root slot edge) = edge.is_shaded
+is_drawn (deed.Reference index edge) = edge.is_shaded
+is_drawn (deed.Pass page) = false
+is_drawn (deed.Sweep place fate) = frees fate
+is_drawn (deed.Stay place) = false
+is_drawn deed.ForwardRoots = false
+is_drawn _ = true
+
+-- all deeds, or those alone that change what is drawn
+abbrev pub shown_deeds : Bool → List Deed → List Deed
+shown_deeds true deeds = deeds
+shown_deeds false deeds = filter is_drawn deeds
+
+-- Texts ------------------------------------------------------------------------------------------
+
+-- a number, or -1 where there is none
+abbrev pub number_text : Option ℕ → Text
+number_text None = codes "-1"
+number_text (Some n) = decimal n
+
+-- `[KIND,NUMBER,..]`
+abbrev pub row_text : Row → Text
+row_text row = 91 ∷ (decimal row.kind ++ (flat_map (λ n. 44 ∷ number_text n) row.numbers ++ codes "]"))
+
+-- texts in order, each with a comma after it, and a 0 that ends them
+abbrev pub listed : {X : Type 0} → (X → Text) → List X → Text
+listed text_of items = 91 ∷ (flat_map (λ item. text_of item ++ codes ",") items ++ codes "0]")
+
+abbrev pub deeds_text : Bool → List Deed → Text
+deeds_text is_whole deeds = listed (λ deed. row_text (deed_row deed)) (shown_deeds is_whole deeds)

@@ -1,0 +1,2 @@
+pub mod EventLemmas
+pub mod LineLemmas

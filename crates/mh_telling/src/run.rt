@@ -1,0 +1,205 @@
+//! Runs of scripts that are written as their steps.
+ghost use Rattle.std.specs.Prelude.{◌≡◌, ◌+◌, ◌<◌, ◌≤◌, ◌^◌, ◌++◌, suc, length, if◌then◌else◌, true, [], IfOk, OnOk, OnErr, IsErrOf};
+ghost use Rattle.std.specs.Io.KnownBytes.{Appends, Keeps};
+ghost use Rattle.std.specs.String.{string_bytes};
+ghost use Rattle.mh_deeds.specs.Accounts.{account_in};
+ghost use Rattle.mh_model.specs.Deeds.{account_of};
+ghost use Rattle.mh_model.specs.Limits.{most_entries};
+ghost use Rattle.mh_model.specs.Machine.{event_step};
+ghost use Rattle.mh_model.specs.Output as model;
+ghost use Rattle.mh_script.specs.Run.{EndsAs, HasReason, Outputs, TakesToRun, WritesBeginning, transcript};
+ghost use Rattle.mh_script.specs.Texts.{LeavesSource, Blames, WantsMemory};
+ghost use Rattle.mh_state.specs.Running.{Does};
+ghost use Rattle.mh_telling.specs.Lines.{account_text, entry_line};
+ghost use Rattle.mh_telling.specs.Steps.{event_text, events_text, is_asked, steps_text};
+ghost use Rattle.mh_text.specs.Stream.{AppendsBeginning};
+
+use crate::entry::push_entry_line;
+use crate::lines::push_account;
+use crate::steps::Steps;
+use mh_deeds::account::Account;
+use mh_model::command::Event;
+use mh_model::config::{Config, Rules};
+use mh_model::history::Entry;
+use mh_model::memory::NoMemory;
+use mh_model::reply::Reply;
+use mh_scan::scan::{OneScan, Scanner};
+use mh_script::end::End;
+use mh_script::fault::{ScriptFault, WriteError};
+use mh_script::texts::{flush, flush_full};
+use mh_script::transcript::{Transcript, transcribe};
+use mh_state::machine::{Machine, Stop};
+use mh_text::script::SCRIPT_BYTES;
+use mh_text::sink::Sink;
+use mh_text::source::Source;
+use std::alloc::Global;
+
+/// Does an event without telling what it does.
+fn answer<C: Scanner>(
+    machine: &mut Machine,
+    event: Event,
+    scanner: &mut C,
+) -> Result<Reply, NoMemory>
+    requires { machine.old.done < most_entries }
+    ensures { IfOk result (λ reply. Does machine.old event reply machine.new) }
+{
+    match machine.step(event, scanner) {
+        Ok(reply) => Ok(reply),
+        Err(Stop::NoMemory) => Err(NoMemory),
+        Err(Stop::HistoryFull) => unreachable!(),
+    }
+}
+
+/// Does an event, and tells what it does.
+fn answer_told(
+    machine: &mut Machine,
+    event: Event,
+    account: &mut Account,
+) -> Result<Reply, NoMemory>
+    requires { machine.old.done < most_entries }
+    ensures does { IfOk result (λ reply. Does machine.old event reply machine.new) }
+    ensures told { OnOk result (account_in account.new ≡ account_of machine.old.machine event) }
+{
+    let reply = match machine.step_told(event, account) {
+        Ok(reply) => reply,
+        Err(Stop::NoMemory) => return Err(NoMemory),
+        Err(Stop::HistoryFull) => unreachable!(),
+    };
+    if account.is_whole() {
+        Ok(reply)
+    } else {
+        Err(NoMemory)
+    }
+}
+
+/// Does an event, and tells what it does if that is asked for.
+fn advance<C: Scanner>(
+    machine: &mut Machine,
+    event: Event,
+    is_asked: bool,
+    scanner: &mut C,
+    account: &mut Account,
+) -> Result<Reply, NoMemory>
+    requires { machine.old.done < most_entries }
+    ensures does { IfOk result (λ reply. Does machine.old event reply machine.new) }
+    ensures told { OnOk result (is_asked ≡ true → account_in account.new ≡ account_of machine.old.machine event) }
+{
+    if is_asked {
+        answer_told(machine, event, account)
+    } else {
+        answer(machine, event, scanner)
+    }
+}
+
+/// Adds the lines of an event.
+fn push_event_lines(
+    text: &mut String,
+    steps: Steps,
+    number: u64,
+    quantum: u32,
+    entry: &Entry,
+    account: &Account,
+) -> Result<(), NoMemory>
+    ensures { OnOk result (string_bytes text.new ≡ string_bytes text.old
+        ++ (entry_line steps.form number entry.now ++ (if is_asked steps number then account_text steps.form number quantum (account_in account.now) else []))) }
+{
+    push_entry_line(text, steps.form, number, entry)?;
+    if steps.tells(number) {
+        push_account(text, steps.form, number, quantum, account)?;
+    }
+    Ok(())
+}
+
+/// Does an event, and adds its lines to the text.
+#[tactic(auto, unfolding(mh_model::specs::Limits::most_entries))]
+fn tell<C: Scanner>(
+    steps: Steps,
+    machine: &mut Machine,
+    event: Event,
+    scanner: &mut C,
+    account: &mut Account,
+    text: &mut String,
+) -> Result<(), NoMemory>
+    requires { machine.old.done < most_entries }
+    ensures machine { OnOk result (machine.new.machine ≡ (event_step machine.old.machine event).state) }
+    ensures count { OnOk result (machine.new.done ≡ suc machine.old.done) }
+    ensures text { OnOk result (string_bytes text.new ≡ string_bytes text.old ++ event_text steps (suc machine.old.done) machine.old.machine event) }
+{
+    let number = machine.done() + 1;
+    let quantum = machine.config().quantum;
+    let reply = advance(machine, event, steps.tells(number), scanner, account)?;
+    push_event_lines(
+        text,
+        steps,
+        number,
+        quantum,
+        &Entry { event, reply },
+        account,
+    )
+}
+
+/// Does the events in turn, and writes their lines.
+fn write_steps<C: Scanner, W: Sink>(
+    alloc: Global,
+    steps: Steps,
+    machine: &mut Machine,
+    events: &[Event],
+    scanner: &mut C,
+    sink: &mut W,
+) -> Result<(), WriteError>
+    requires room { machine.old.done + length events.now ≤ most_entries }
+    requires count { W.failures sink.old < 2 ^ 62 }
+    ensures done { OnOk result (Appends (W.written sink.old) (W.written sink.new) (events_text steps (suc machine.old.done) machine.old.machine events.now)) }
+    ensures begun { OnErr result (AppendsBeginning (W.written sink.old) (W.written sink.new) (events_text steps (suc machine.old.done) machine.old.machine events.now)) }
+    ensures no_failure { OnOk result (W.failures sink.new ≡ W.failures sink.old) }
+    ensures blamed { IsErrOf result WriteError.Device → W.failures sink.old < W.failures sink.new }
+    ensures not_blamed { IsErrOf result WriteError.NoMemory → W.failures sink.new ≡ W.failures sink.old }
+{
+    let mut account = Account::new(alloc);
+    let mut text = String::new(alloc);
+    for event in events {
+        tell(steps, machine, *event, scanner, &mut account, &mut text)?;
+        flush_full(sink, &mut text)?;
+    }
+    flush(sink, &mut text)?;
+    Ok(())
+}
+
+impl Transcript for Steps {
+    ghost text_of = { steps_text };
+
+    fn write<C: Scanner, W: Sink>(
+        &self,
+        alloc: Global,
+        config: Config,
+        events: &[Event],
+        scanner: &mut C,
+        sink: &mut W,
+    ) -> Result<(), WriteError> {
+        let mut machine = Machine::open(alloc, config)?;
+        write_steps(alloc, *self, &mut machine, events, scanner, sink)
+    }
+}
+
+/// Reads a whole script, and then writes the steps of its run under these rules: each event with its reply, and below it
+/// what it did. Of a script that is outside the grammar it writes the one line that names the first bad line.
+pub fn tell_script<S: Source, W: Sink>(
+    alloc: Global,
+    source: &mut S,
+    sink: &mut W,
+    steps: Steps,
+    rules: Rules,
+) -> Result<End, ScriptFault>
+    requires source_count { S.failures source.old < 2 ^ 62 }
+    requires sink_count { W.failures sink.old < 2 ^ 62 }
+    ensures ends { IfOk result (EndsAs (transcript (steps_text steps) rules) (S.rest source.old) (W.written sink.old) (W.written sink.new)) }
+    ensures reason { IfOk result (HasReason (S.rest source.old)) }
+    ensures begun { OnErr result (WritesBeginning (transcript (steps_text steps) rules) (S.rest source.old) (W.written sink.old) (W.written sink.new)) }
+    ensures full { IsErrOf result ScriptFault.HistoryFull → Outputs (transcript (steps_text steps) rules) (S.rest source.old) (W.written sink.old) (W.written sink.new) model.HistoryFull }
+    ensures unread { IsErrOf result ScriptFault.Read → Keeps (W.written sink.old) (W.written sink.new) }
+    ensures memory { IsErrOf result ScriptFault.NoMemory → WantsMemory TakesToRun (S.rest source.old) (S.rest source.new) }
+    ensures taken { LeavesSource SCRIPT_BYTES (S.rest source.old) (S.rest source.new) result }
+    ensures blames { Blames (S.failures source.old) (S.failures source.new) (W.failures sink.old) (W.failures sink.new) result }
+{
+    transcribe(alloc, &steps, source, sink, rules, &mut OneScan::new(alloc))
+}

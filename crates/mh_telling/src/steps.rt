@@ -1,0 +1,23 @@
+ghost use Rattle.std.specs.Prelude.{◌≡◌};
+ghost use Rattle.mh_telling.specs.Steps.{is_asked};
+
+use crate::form::Form;
+
+/// What the steps of a run show: their form, and the events, counted from 1, whose deeds stand below them.
+#[derive(Clone, Copy, Debug, PartialEq, Eq)]
+pub struct Steps {
+    pub form: Form,
+    /// The first event whose deeds are written.
+    pub from: u32,
+    /// The last one.
+    pub to: u32,
+}
+
+impl Steps {
+    /// Whether the deeds of the event of this number are asked for.
+    pub(crate) fn tells(self, number: u64) -> bool
+        ensures { result ≡ is_asked self number }
+    {
+        u64::from(self.from) <= number && number <= u64::from(self.to)
+    }
+}
