@@ -13,7 +13,7 @@ use Rattle.mh_curve.specs.Points.{points_of}
 use Rattle.mh_show.specs.declared.page.TheConstants.{HEAD}
 use Rattle.mh_show.specs.declared.drawing.TheConstants.{DRAWING}
 use Rattle.mh_show.specs.declared.hands.TheConstants.{HANDS}
-use Rattle.mh_show.specs.Rows.{Row, row, phase_number, row_text, listed, deeds_text}
+use Rattle.mh_show.specs.Rows.{Row, row_of, phase_number, row_text, listed, deeds_text}
 
 -- Past so many deeds only those are written that change what is drawn
 abbrev pub most_deeds : ℕ
@@ -37,7 +37,7 @@ same_reference _ _ = false
 
 -- each root slot, from this one on, that an event left with another reference, and that reference
 abbrev pub root_rows : ℕ → List (Option ℕ) → List (Option ℕ) → List Row
-root_rows slot (was ∷ before) (is ∷ after) = if same_reference was is then root_rows (suc slot) before after else row slot (is ∷ []) ∷ root_rows (suc slot) before after
+root_rows slot (was ∷ before) (is ∷ after) = if same_reference was is then root_rows (suc slot) before after else row_of slot (is ∷ []) ∷ root_rows (suc slot) before after
 root_rows slot _ _ = []
 
 -- `[SPENT,PHASE,DEEDS]`, or 0 if no quantum was run
@@ -77,10 +77,10 @@ events_text count machine (event ∷ events) =
 -- Runs -------------------------------------------------------------------------------------------
 
 abbrev pub config_row : Config → Row
-config_row config = row (rules_number config.rules) (Some config.pages ∷ Some config.quantum ∷ Some config.trigger ∷ Some config.every ∷ [])
+config_row config = row_of (rules_number config.rules) (Some config.pages ∷ Some config.quantum ∷ Some config.trigger ∷ Some config.every ∷ [])
 
 abbrev pub point_row : Point → Row
-point_row point = row point.window (Some point.least ∷ point.floor ∷ [])
+point_row point = row_of point.window (Some point.least ∷ point.floor ∷ [])
 
 -- The numbers of a run, as an object of JSON
 abbrev pub run_text : Config → List Event → Text

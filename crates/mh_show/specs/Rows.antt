@@ -18,8 +18,8 @@ pub record Row : Type 0 where
   pub kind : ℕ
   pub numbers : List (Option ℕ)
 
-abbrev pub row : ℕ → List (Option ℕ) → Row
-row kind numbers = record { kind = kind; numbers = numbers }
+abbrev pub row_of : ℕ → List (Option ℕ) → Row
+row_of kind numbers = record { kind = kind; numbers = numbers }
 
 abbrev pub phase_number : Phase → ℕ
 phase_number Idle = 0
@@ -58,22 +58,22 @@ made_numbers class_size fields tier = Some class_size ∷ Some fields.references
 
 -- The row of a deed
 abbrev pub deed_row : Deed → Row
-deed_row (deed.Start cycle) = row 0 (Some cycle ∷ [])
-deed_row (deed.Enter phase) = row 1 (Some (phase_number phase) ∷ [])
-deed_row deed.End = row 2 []
-deed_row (deed.Root slot edge) = row 3 (Some slot ∷ edge_numbers edge)
-deed_row (deed.Mark place name) = row 4 (Some place ∷ name_numbers name)
-deed_row (deed.Reference index edge) = row 5 (Some index ∷ edge_numbers edge)
-deed_row (deed.Pass page) = row 6 (Some page ∷ [])
-deed_row (deed.Sweep place fate) = row 7 (Some place ∷ fate_numbers fate)
-deed_row (deed.FreePage page) = row 8 (Some page ∷ [])
-deed_row (deed.FlagPage page) = row 9 (Some page ∷ [])
-deed_row (deed.UnflagPage page) = row 10 (Some page ∷ [])
-deed_row (deed.Stay place) = row 11 (Some place ∷ [])
-deed_row (deed.Move place to name class_size) = row 12 (Some place ∷ Some to ∷ (name_numbers name ++ Some class_size ∷ []))
-deed_row deed.ForwardRoots = row 13 []
-deed_row (deed.Shade place) = row 14 (Some place ∷ [])
-deed_row (deed.Make place name class_size fields tier) = row 15 (Some place ∷ (name_numbers name ++ made_numbers class_size fields tier))
+deed_row (deed.Start cycle) = row_of 0 (Some cycle ∷ [])
+deed_row (deed.Enter phase) = row_of 1 (Some (phase_number phase) ∷ [])
+deed_row deed.End = row_of 2 []
+deed_row (deed.Root slot edge) = row_of 3 (Some slot ∷ edge_numbers edge)
+deed_row (deed.Mark place name) = row_of 4 (Some place ∷ name_numbers name)
+deed_row (deed.Reference index edge) = row_of 5 (Some index ∷ edge_numbers edge)
+deed_row (deed.Pass page) = row_of 6 (Some page ∷ [])
+deed_row (deed.Sweep place fate) = row_of 7 (Some place ∷ fate_numbers fate)
+deed_row (deed.FreePage page) = row_of 8 (Some page ∷ [])
+deed_row (deed.FlagPage page) = row_of 9 (Some page ∷ [])
+deed_row (deed.UnflagPage page) = row_of 10 (Some page ∷ [])
+deed_row (deed.Stay place) = row_of 11 (Some place ∷ [])
+deed_row (deed.Move place to name class_size) = row_of 12 (Some place ∷ Some to ∷ (name_numbers name ++ Some class_size ∷ []))
+deed_row deed.ForwardRoots = row_of 13 []
+deed_row (deed.Shade place) = row_of 14 (Some place ∷ [])
+deed_row (deed.Make place name class_size fields tier) = row_of 15 (Some place ∷ (name_numbers name ++ made_numbers class_size fields tier))
 
 -- Deeds that are left out of long runs ------------------------------------------------------------
 

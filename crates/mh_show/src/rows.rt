@@ -1,7 +1,7 @@
 //! Deeds as rows of numbers.
 ghost use Rattle.std.specs.Prelude.{◌≡◌, ◌++◌, ◌∷◌, [], Some, OnOk};
 ghost use Rattle.std.specs.String.{string_bytes};
-ghost use Rattle.mh_show.specs.Rows.{deed_row, deeds_text, edge_numbers, is_drawn, name_numbers, number_text, phase_number, row, row_text, tier_number};
+ghost use Rattle.mh_show.specs.Rows.{deed_row, deeds_text, edge_numbers, is_drawn, name_numbers, number_text, phase_number, row_of, row_text, tier_number};
 
 use itoa::Buffer;
 use mh_model::cycle::Phase;
@@ -62,7 +62,7 @@ fn push_number(text: &mut String, number: Option<u64>) -> Result<(), NoMemory>
 
 /// Adds the row of a kind with these numbers. After an error the text may end with a part of it, as it may after those below.
 pub fn push_row(text: &mut String, kind: u64, numbers: &[Option<u64>]) -> Result<(), NoMemory>
-    ensures { OnOk result (string_bytes text.new ≡ string_bytes text.old ++ row_text (row kind numbers.now)) }
+    ensures { OnOk result (string_bytes text.new ≡ string_bytes text.old ++ row_text (row_of kind numbers.now)) }
 {
     text.push_str("[")?;
     text.push_str(Buffer::new().format(kind))?;
@@ -75,13 +75,13 @@ pub fn push_row(text: &mut String, kind: u64, numbers: &[Option<u64>]) -> Result
 }
 
 fn push_at(text: &mut String, kind: u64, number: usize) -> Result<(), NoMemory>
-    ensures { OnOk result (string_bytes text.new ≡ string_bytes text.old ++ row_text (row kind (Some number ∷ []))) }
+    ensures { OnOk result (string_bytes text.new ≡ string_bytes text.old ++ row_text (row_of kind (Some number ∷ []))) }
 {
     push_row(text, kind, &[Some(number as u64)])
 }
 
 fn push_named(text: &mut String, kind: u64, number: usize, name: PartName) -> Result<(), NoMemory>
-    ensures { OnOk result (string_bytes text.new ≡ string_bytes text.old ++ row_text (row kind (Some number ∷ name_numbers name))) }
+    ensures { OnOk result (string_bytes text.new ≡ string_bytes text.old ++ row_text (row_of kind (Some number ∷ name_numbers name))) }
 {
     let number = Some(number as u64);
     push_row(
@@ -92,7 +92,7 @@ fn push_named(text: &mut String, kind: u64, number: usize, name: PartName) -> Re
 }
 
 fn push_edge(text: &mut String, kind: u64, number: usize, edge: Edge) -> Result<(), NoMemory>
-    ensures { OnOk result (string_bytes text.new ≡ string_bytes text.old ++ row_text (row kind (Some number ∷ edge_numbers edge))) }
+    ensures { OnOk result (string_bytes text.new ≡ string_bytes text.old ++ row_text (row_of kind (Some number ∷ edge_numbers edge))) }
 {
     let number = Some(number as u64);
     let from = place_number(edge.reference);
@@ -105,7 +105,7 @@ fn push_edge(text: &mut String, kind: u64, number: usize, edge: Edge) -> Result<
 }
 
 fn push_slot(text: &mut String, place: Place, fate: u64, name: PartName) -> Result<(), NoMemory>
-    ensures { OnOk result (string_bytes text.new ≡ string_bytes text.old ++ row_text (row 7 (Some place ∷ Some fate ∷ name_numbers name))) }
+    ensures { OnOk result (string_bytes text.new ≡ string_bytes text.old ++ row_text (row_of 7 (Some place ∷ Some fate ∷ name_numbers name))) }
 {
     let place = Some(place.0 as u64);
     let birth = Some(name.birth.0);
