@@ -11,7 +11,7 @@ use Rattle.mh_model.specs.Collector.{Collector, Spending, after_mark, next_place
 use Rattle.mh_model.specs.Deeds.{DeedLog, Adds, root_deed, deeds_in, enter_deeds, step_deeds, deed_units, units_of, deeds_of_steps, start_deeds, quantum_deeds}
 use Rattle.mh_model.specs.Invariant.{IsSteady}
 use Rattle.mh_defrag.specs.Moves.{IsTarget}
-use Rattle.mh_mark.proofs.LogLemmas.{IsTelling, telling-starts, telling-goes, telling-ends, adds-then}
+use Rattle.mh_deeds.proofs.LogLemmas.{IsTelling, telling-starts, telling-goes, telling-ends, adds-then}
 use Rattle.mh_cycle.specs.State.{CycleState, with_collector, with_forwarded, step_beside_slots, forwarded_state}
 use Rattle.mh_cycle.specs.Advance.{is_over, IsRest}
 use Rattle.mh_cycle.proofs.DeedLemmas.{deeds-over, deeds-next}

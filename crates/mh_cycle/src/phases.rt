@@ -12,7 +12,7 @@ use mh_model::cycle::Phase;
 use mh_scan::scan::Scanner;
 
 /// What the scan of one slot costs.
-const ROOT_COST: u64 = 2;
+pub(crate) const ROOT_COST: u64 = 2;
 
 /// The most units of a turn in which a crew isn't called.
 const TURN: u64 = 4_096;

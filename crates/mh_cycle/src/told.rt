@@ -13,6 +13,7 @@ ghost use Rattle.mh_cycle.specs.Advance.{IsRest};
 ghost use Rattle.mh_cycle.specs.Snapshots.{ContinuesEach, StartsFromTheView};
 
 use crate::cycle::Cycle;
+use crate::phases::ROOT_COST;
 use mh_blocks::blocks::Blocks;
 use mh_deeds::log::Deeds;
 use mh_laws::fields::references_lead_on;
@@ -25,9 +26,6 @@ use mh_model::cycle::{Phase, Spent};
 use mh_model::deed::{Deed, Edge, Fate};
 use mh_model::place::Place;
 use mh_sweep::sweep::sweep_step;
-
-/// What the scan of one slot costs.
-const ROOT_COST: u64 = 2;
 
 /// Where a reference leads.
 fn target_of(blocks: &Blocks, reference: Option<Place>) -> Option<Place>

@@ -1,7 +1,7 @@
 -- A machine that replays the entries of a history, as they are read.
 use Rattle.std.proofs.Common.{◌≡◌, ◌≢◌, ◌∙◌, ℕ, suc, ◌+◌, ◌-◌, ◌<◌, ◌≤◌, List, [], ◌∷◌, ◌++◌, length, map, take, Option, ap, sym, refl, subst, append_assoc, arith}
-use Rattle.std.proofs.lemmas.List.{append-nil, length-append, length_push, map-append, take_all, take_at, take-append-le}
-use Rattle.mh_history.proofs.LineLemmas.{Walked, entry_taken, walked_end, walked_more, walked_start, walked_whole, with_entries}
+use Rattle.std.proofs.lemmas.List.{length_push, map-append, take_at}
+use Rattle.mh_history.proofs.LineLemmas.{Walked, entry_taken, walked_more, walked_start, walked_whole, with_entries}
 use Rattle.mh_history.specs.Beginnings.{TakesEntry, entries_left, entry_before}
 use Rattle.mh_model.specs.declared.command.Event.{Event}
 use Rattle.mh_model.specs.declared.config.Config.{Config}

@@ -1,5 +1,5 @@
 -- Judgements: verdicts, and what makes them true.
-use Rattle.std.specs.Prelude.{◌≡◌, ℕ, List, Option}
+use Rattle.std.specs.Prelude.{◌≡◌, ℕ, List}
 use Rattle.mh_model.specs.declared.config.Config.{Config}
 use Rattle.mh_model.specs.declared.history.Entry.{Entry}
 use Rattle.mh_model.specs.declared.history.Verdict.{Verdict}
@@ -8,7 +8,7 @@ use Rattle.mh_model.specs.declared.history.Version.{Version}
 use Rattle.mh_model.specs.declared.history.Version.TheVariants.{One, Two}
 use Rattle.mh_model.specs.Bytes.{Text}
 use Rattle.mh_model.specs.HistoryTexts.{Recorded, history_reading, recorded_reading}
-use Rattle.mh_model.specs.Script.{Reading, Means}
+use Rattle.mh_model.specs.Script.{Means}
 use Rattle.mh_reasons.specs.declared.history_reason.HistoryReason.{HistoryReason}
 use Rattle.mh_reasons.specs.HistoryReasons.{IsHistoryReason}
 use Rattle.mh_findings.specs.declared.entry_fault.EntryFault.{EntryFault}

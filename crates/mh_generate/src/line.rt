@@ -2,11 +2,11 @@
 ghost use Rattle.std.specs.Prelude.{◌≡◌, ◌++◌, ◌∷◌, OnOk, decimal, map};
 ghost use Rattle.std.specs.String.{string_bytes};
 ghost use Rattle.mh_model.specs.Bytes.{joined, line_text};
-ghost use Rattle.mh_model.specs.Forms.{command_phrase, control_phrase, phrase_words};
 ghost use Rattle.mh_generate.specs.Scripts.{config_line, event_line};
 
 use itoa::Buffer;
-use mh_model::command::{Command, Control, Event};
+use mh_history::measured_line::push_event;
+use mh_model::command::Event;
 use mh_model::config::Config;
 use mh_model::memory::NoMemory;
 
@@ -23,72 +23,11 @@ fn push_words(text: &mut String, verb: &str, numbers: &[u64]) -> Result<(), NoMe
     Ok(())
 }
 
-fn push_command(text: &mut String, command: Command) -> Result<(), NoMemory>
-    ensures { OnOk result (string_bytes text.new ≡ string_bytes text.old ++ joined (phrase_words (command_phrase command))) }
-{
-    match command {
-        Command::New {
-            slot,
-            references,
-            numbers,
-        } => push_words(
-            text,
-            "new",
-            &[slot.into(), references.into(), numbers.into()],
-        ),
-        Command::Get {
-            slot,
-            source,
-            field,
-        } => push_words(text, "get", &[slot.into(), source.into(), field.into()]),
-        Command::Put { slot, field, value } => {
-            push_words(text, "put", &[slot.into(), field.into(), value.into()])
-        }
-        Command::Copy { slot, source } => push_words(text, "copy", &[slot.into(), source.into()]),
-        Command::Clear { slot } => push_words(text, "clear", &[slot.into()]),
-        Command::Read { slot, index } => push_words(text, "read", &[slot.into(), index.into()]),
-        Command::Write {
-            slot,
-            index,
-            number,
-        } => push_words(text, "write", &[slot.into(), index.into(), number]),
-        Command::Same { left, right } => push_words(text, "same", &[left.into(), right.into()]),
-        Command::Shape { slot } => push_words(text, "shape", &[slot.into()]),
-        Command::Post { board, slot } => push_words(text, "post", &[board.into(), slot.into()]),
-        Command::Take { slot, board } => push_words(text, "take", &[slot.into(), board.into()]),
-        Command::End => push_words(text, "end", &[]),
-    }
-}
-
-fn push_control(text: &mut String, control: Control) -> Result<(), NoMemory>
-    ensures { OnOk result (string_bytes text.new ≡ string_bytes text.old ++ joined (phrase_words (control_phrase control))) }
-{
-    match control {
-        Control::Quantum => push_words(text, "quantum", &[]),
-        Control::Start => push_words(text, "start", &[]),
-        Control::Stat => push_words(text, "stat", &[]),
-        Control::Dump => push_words(text, "dump", &[]),
-        Control::Left => push_words(text, "left", &[]),
-        Control::Report { window } => push_words(text, "report", &[window]),
-    }
-}
-
 /// Adds the line of an event. After an error the text may end with a part of the line.
 pub(crate) fn push_event_line(text: &mut String, event: Event) -> Result<(), NoMemory>
     ensures { OnOk result (string_bytes text.new ≡ string_bytes text.old ++ line_text (event_line event)) }
 {
-    match event {
-        Event::Session(who, command) => {
-            text.push_str("s")?;
-            text.push_str(Buffer::new().format(who))?;
-            text.push_str(" ")?;
-            push_command(text, command)?;
-        }
-        Event::Control(control) => {
-            text.push_str("* ")?;
-            push_control(text, control)?;
-        }
-    }
+    push_event(text, event)?;
     text.push_str("\n")?;
     Ok(())
 }

@@ -1,4 +1,3 @@
-pub mod AddLemmas
 mod TellLemmas
 mod MadeLemmas
 mod LinkLemmas

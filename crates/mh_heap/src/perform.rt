@@ -38,6 +38,8 @@ fn shape(outcome: Result<Shape, Refusal>) -> Reply
 }
 
 /// Performs a command of the session `who`, and answers it. Only a new object that nothing refuses asks for memory.
+// It has a second caller, which tells what commands do; the first runs every command of a script.
+#[inline(always)]
 pub fn perform<H: Heap>(heap: &mut H, who: u8, command: &Command) -> Result<Reply, NoMemory>
     requires { births (H.shown heap.old).view < LIFE }
     ensures exactly { IfOk result (λ reply. H.performs heap.old who command.now reply heap.new) }

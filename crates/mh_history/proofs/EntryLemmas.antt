@@ -6,7 +6,7 @@ use Rattle.mh_model.specs.declared.history.Version.TheVariants.{Two}
 use Rattle.mh_model.specs.Bytes.{Text, numbers}
 use Rattle.mh_model.specs.HistoryTexts.{halves_at, entry_of, measured_with, measured_of}
 use Rattle.mh_text.specs.Words.{few_numbers}
-use Rattle.mh_text.proofs.WordLemmas.{none_of, few_same}
+use Rattle.mh_text.proofs.WordLemmas.{none_of}
 
 measured_other : (entry : Entry) (found : List ℕ) → (length found ≡ 2 → ⊥) → measured_with entry found ≡ None
 measured_other entry [] other = refl

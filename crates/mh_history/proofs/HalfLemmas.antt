@@ -5,7 +5,6 @@ use Rattle.std.proofs.lemmas.List.{append-nil, take_rest}
 use Rattle.std.proofs.Common.{take-append-drop}
 use Rattle.std.proofs.lemmas.Bool.{and_parts, and_from, eq-eqb}
 use Rattle.mh_model.specs.declared.history.Entry.{Entry}
-use Rattle.mh_model.specs.declared.history.Measured.{Measured}
 use Rattle.mh_model.specs.declared.history.Version.{Version}
 use Rattle.mh_model.specs.declared.history.Version.TheVariants.{Two}
 use Rattle.mh_model.specs.Bytes.{Text, Cut, cut_after, with_byte, words, numbers, is_text}

@@ -1,6 +1,6 @@
 -- Entries cut at the word `=`.
 use Rattle.std.specs.Prelude.{◌≡◌, ℕ, ◌==◌, Bool, true, not, ◌&&◌, List, [], ◌∷◌, ◌++◌}
-use Rattle.mh_model.specs.Bytes.{Text, cut_after}
+use Rattle.mh_model.specs.Bytes.{Text}
 
 -- no byte of a text is this one
 abbrev pub lacks : ℕ → Text → Bool

@@ -28,7 +28,9 @@ pub fn push_measured_line(text: &mut String, measured: &Measured) -> Result<(), 
     Ok(())
 }
 
-fn push_event(text: &mut String, event: Event) -> Result<(), NoMemory>
+/// Adds an event as it stands in a history. After an error the text may end with a part of it.
+#[inline(always)]
+pub fn push_event(text: &mut String, event: Event) -> Result<(), NoMemory>
     ensures { OnOk result (string_bytes text.new ≡ string_bytes text.old ++ joined (event_words event)) }
 {
     match event {
@@ -113,7 +115,9 @@ fn push_number(text: &mut String, before: &str, number: u64) -> Result<(), NoMem
     Ok(())
 }
 
-fn push_reply(text: &mut String, reply: &Reply) -> Result<(), NoMemory>
+/// Adds the text of a reply. After an error the text may end with a part of it.
+#[inline(always)]
+pub fn push_reply(text: &mut String, reply: &Reply) -> Result<(), NoMemory>
     ensures { OnOk result (string_bytes text.new ≡ string_bytes text.old ++ reply_text reply.now) }
 {
     match reply {

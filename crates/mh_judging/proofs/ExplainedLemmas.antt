@@ -1,31 +1,28 @@
 -- What is wrong with a text that isn't legal: found of what was read of a source, and true of its whole text.
-use Rattle.std.proofs.Common.{◌≡◌, ◌≢◌, ◌∙◌, ℕ, suc, ◌<◌, ◌≤◌, Bool, true, false, nat_lt, List, [], ◌∷◌, ◌++◌, length, take, Option, Some, None, inl, inr, refl, ap, sym, subst, append-nil, length-append, arith}
+use Rattle.std.proofs.Common.{◌≡◌, ◌≢◌, ◌∙◌, ℕ, suc, ◌<◌, ◌≤◌, Bool, true, false, nat_lt, List, [], ◌∷◌, ◌++◌, length, Option, Some, None, inl, inr, refl, ap, sym, subst, append-nil, length-append, arith}
 use Rattle.std.proofs.lemmas.Bool.Decides.{nat_tests}
 use Rattle.std.proofs.Math.Seq.{take-length}
 use Rattle.std.specs.Prelude.{Result, Ok, Err, IfOk}
 use Rattle.std.specs.Io.KnownBytes.{Consumes, IsAtEnd}
-use Rattle.mh_findings.specs.declared.entry_fault.EntryFault.{EntryFault}
 use Rattle.mh_findings.specs.declared.judgement.Judgement.{Judgement}
 use Rattle.mh_findings.specs.declared.judgement.Judgement.TheVariants as judgement
-use Rattle.mh_findings.specs.Judgements.{IsAuditExplained, IsAuditedFault, IsCheckExplained, IsCheckedFault, IsExplained, verdict_of}
-use Rattle.mh_history.specs.Beginnings.{HasEntry, entries_left, measured_line, with_header}
+use Rattle.mh_findings.specs.Judgements.{IsAuditExplained, IsAuditedFault, IsCheckExplained, IsCheckedFault, verdict_of}
+use Rattle.mh_history.specs.Beginnings.{HasEntry, entries_left, with_header}
 use Rattle.mh_history.proofs.HistoryLemmas.{history_long, record_long}
 use Rattle.mh_model.specs.declared.config.Config.{Config}
 use Rattle.mh_model.specs.declared.history.Entry.{Entry}
 use Rattle.mh_model.specs.declared.history.Measured.{Measured}
-use Rattle.mh_model.specs.declared.history.Verdict.{Verdict}
 use Rattle.mh_model.specs.declared.history.Verdict.TheVariants.{FirstBad, Legal, Refused}
 use Rattle.mh_model.specs.declared.history.Version.{Version}
 use Rattle.mh_model.specs.declared.history.Version.TheVariants.{One, Two}
 use Rattle.mh_model.specs.Bytes.{Text}
 use Rattle.mh_model.specs.History.{IsFirstBadOf, IsLegal}
-use Rattle.mh_model.specs.HistoryTexts.{IsAudited, IsChecked, IsJudged, IsLegalRecord, Recorded, entries_from, history_reading, recorded_reading}
-use Rattle.mh_model.specs.Script.{Reading, BadLine, Means, at_end, reading_map}
+use Rattle.mh_model.specs.HistoryTexts.{IsAudited, IsChecked, IsLegalRecord, Recorded, entries_from, history_reading, recorded_reading}
+use Rattle.mh_model.specs.Script.{Reading, BadLine, Means, reading_map}
 use Rattle.mh_reasons.specs.declared.history_reason.HistoryReason.{HistoryReason}
 use Rattle.mh_reasons.specs.declared.history_reason.HistoryReason.TheVariants as history
-use Rattle.mh_reasons.specs.HistoryReasons.{IsHistoryReason, IsRefusedAt, most_bytes}
+use Rattle.mh_reasons.specs.HistoryReasons.{IsHistoryReason, most_bytes}
 use Rattle.mh_reasons.proofs.HistoryLemmas.{long_bad}
-use Rattle.mh_script.specs.Texts.{IsTextOf}
 use Rattle.mh_judging.specs.Judged.{Explains}
 use Rattle.mh_text.specs.Pieces.{Lines}
 

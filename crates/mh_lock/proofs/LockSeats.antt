@@ -1,5 +1,5 @@
 -- What a seat knows over a call, and what a closed lock says of its seats.
-use Rattle.std.proofs.Common.{arith, ◌≡◌, List, [], ◌∷◌, ◌++◌, ℕ, suc, ◌+◌, ◌<◌, length, get_or, take, drop, None, sym, refl, ap, ◌∙◌, subst}
+use Rattle.std.proofs.Common.{arith, ◌≡◌, List, [], ◌∷◌, ◌++◌, ℕ, suc, ◌+◌, ◌<◌, length, get_or, drop, None, sym, refl, ap, ◌∙◌, subst}
 use mathlib.Core.Logic.{dite}
 use native.Mathlib.Decide.{ℕ_discrete}
 use Rattle.std.proofs.lemmas.List.{get_or_push}
@@ -7,7 +7,7 @@ use Rattle.std.proofs.Math.ListN.{get_or-append}
 use Rattle.atomic_table.specs.Table.{Me}
 use Rattle.mh_seat_laws.specs.declared.seat_view.Found.{Found}
 use Rattle.mh_seat_laws.specs.declared.seat_view.SeatView.{SeatView}
-use Rattle.mh_lock.specs.Steps.{seat_view, empty_logs, alone, holding, Grows, CanGive}
+use Rattle.mh_lock.specs.Steps.{seat_view, empty_logs, holding, Grows, CanGive}
 
 -- New seats --------------------------------------------------------------------------------------
 

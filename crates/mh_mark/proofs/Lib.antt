@@ -2,5 +2,4 @@ pub mod ReferenceLemmas
 pub mod MarkLemmas
 pub mod KeptLemmas
 pub mod FrontLemmas
-pub mod LogLemmas
 pub mod ToldLemmas

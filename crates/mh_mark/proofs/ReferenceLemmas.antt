@@ -11,7 +11,7 @@ use Rattle.mh_table_laws.proofs.placing.Places.{block_at-with_block_there}
 use Rattle.mh_grey.specs.Queue.{is_in}
 use Rattle.mh_grey.specs.Shading.{IsApartAt, AreMarked}
 use Rattle.mh_grey.proofs.ShadeLemmas.{shade-cases}
-use Rattle.mh_grey.proofs.StampLemmas.{change-view, IsLike, like-reference}
+use Rattle.mh_grey.proofs.StampLemmas.{change-view, like-reference}
 use Rattle.mh_mark.specs.Walkable.{IsAtHome}
 
 -- Where references lead ------------------------------------------------------------------------------

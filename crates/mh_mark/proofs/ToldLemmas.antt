@@ -11,7 +11,7 @@ use Rattle.mh_model.specs.Deeds.{DeedLog, Adds, edge_of, reference_deeds}
 use Rattle.mh_grey.proofs.StampLemmas.{like-reference, home-like}
 use Rattle.mh_grey.specs.Shading.{marking}
 use Rattle.mh_mark.proofs.KeptLemmas.{marked-as}
-use Rattle.mh_mark.proofs.LogLemmas.{IsTelling, telling-goes}
+use Rattle.mh_deeds.proofs.LogLemmas.{IsTelling, telling-goes}
 use Rattle.mh_mark.proofs.MarkLemmas.{IsMarkingOn, marking-goes}
 use Rattle.mh_mark.proofs.ReferenceLemmas.{home-leads, at_home-leads, target-at_home}
 

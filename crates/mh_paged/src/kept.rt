@@ -24,7 +24,7 @@ use mh_laws::snapshots::{collectors_stay_steady, heaps_stay_kept};
 use mh_model::config::Config;
 use mh_model::cycle::{Phase, Spent};
 use mh_model::dump::Dump;
-use mh_model::limits::SESSIONS;
+use mh_model::limits::{ROOT_SLOTS, SESSIONS};
 use mh_model::memory::NoMemory;
 use mh_model::place::Place;
 use mh_model::reply::Refusal;
@@ -139,6 +139,13 @@ impl KeptHeap {
         ensures { result ≡ self.now.collector.phase }
     {
         self.cycle.phase()
+    }
+
+    /// What the root slots hold, in order.
+    pub fn roots(&self) -> &[Option<Place>; ROOT_SLOTS]
+        ensures { result.now ≡ self.now.collector.slots }
+    {
+        self.cycle.roots.slots()
     }
 
     /// How many cycles have started.

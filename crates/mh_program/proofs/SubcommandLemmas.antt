@@ -27,7 +27,6 @@ use Rattle.mh_program.specs.declared.line.Order.TheVariants.{Version}
 use Rattle.mh_program.specs.declared.line.ConfigOption.{ConfigOption}
 use Rattle.mh_program.specs.declared.options.OptionFault.{OptionFault}
 use Rattle.mh_program.specs.declared.options.OptionFault.TheVariants.{NoNumber, NoProfile, Missing, Unwanted, Outside}
-use Rattle.std.specs.Borrow.{Bor}
 use Rattle.clap.specs.declared.error.kind.ErrorKind.{ErrorKind}
 use Rattle.mh_program.specs.Orders.{AreAmiss, AskAmiss, AsksOutside, AsksVersion, GivesOrder, HasFewWorkers, HasFirstRules, HasOptionFault, IsFault, IsMissing, IsNoNumber, IsNoProfile, IsOrder, IsOutside, IsUnwanted, Named, NotMet, NotTaken, Refuses, RefusesOptions, kind_of_fault}
 use Rattle.mh_program.specs.Line.{AsksForFew, AsksForRules, Checks, Generates, HasFlag, IsAsked, NamesOne, Nothing, Runs, TakesWorkers, Tells, Workers, any_text, check_app, event_numbers, every_numbers, flag_rule, generate_app, metroheap, page_numbers, quantum_numbers, rules_numbers, run_app, seeds, session_numbers, steps_app, step_numbers, worker_numbers, workers_app, Curves, curve_app}

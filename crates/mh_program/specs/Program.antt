@@ -11,7 +11,7 @@ use Rattle.mh_program.specs.declared.line.Form.TheVariants.{Replies, History}
 use Rattle.mh_script.specs.declared.fault.ScriptFault.TheVariants.{Write, NoMemory}
 use Rattle.mh_text.specs.Stream.{AppendsBeginning}
 use Rattle.mh_script.specs.declared.end.End.{End}
-use Rattle.mh_script.specs.declared.end.End.TheVariants.{Done, Refused}
+use Rattle.mh_script.specs.declared.end.End.TheVariants.{Done}
 use Rattle.mh_curve.specs.Runs.{IsDrawing, curve_output}
 use Rattle.mh_generate.specs.declared.options.Options.{Options}
 use Rattle.mh_generate.specs.Generated.{WritesAsked}

@@ -1,5 +1,5 @@
 -- What a race leaves, and the whole text of a source of which its script was read.
-use Rattle.std.proofs.Common.{◌≡◌, ◌∙◌, ℕ, suc, List, [], ◌∷◌, ◌++◌, length, map, ap, refl, subst, sym, arith}
+use Rattle.std.proofs.Common.{◌≡◌, ◌∙◌, ℕ, List, [], ◌∷◌, ◌++◌, length, ap, refl, subst, sym, arith}
 use Rattle.std.specs.Prelude.{Option}
 use Rattle.std.proofs.KnownBytes.{Appends-nil}
 use Rattle.std.proofs.lemmas.List.{length-map}
@@ -7,12 +7,11 @@ use Rattle.std.specs.Io.KnownBytes.{Appends}
 use Rattle.mh_model.specs.declared.command.Event.{Event}
 use Rattle.mh_model.specs.declared.config.Config.{Config}
 use Rattle.mh_model.specs.declared.history.Entry.{Entry}
-use Rattle.mh_model.specs.declared.history.Measured.{Measured}
 use Rattle.mh_model.specs.Bytes.{Text, line_text}
 use Rattle.mh_model.specs.History.{IsLegal, owner_of, owned_by, events_of}
 use Rattle.mh_model.specs.HistoryTexts.{IsLegalRecord, machine_record, measured_events, migrated, recorded_text}
 use Rattle.mh_model.specs.Limits.{most_entries}
-use Rattle.mh_model.specs.Machine.{Machine, first_machine, event_step}
+use Rattle.mh_model.specs.Machine.{first_machine}
 use Rattle.mh_model.specs.Races.{IsRaced, IsRacedFull, IsRaceBegun}
 use Rattle.mh_model.specs.Replies.{bad_line_text}
 use Rattle.mh_model.specs.Script.{Meaning, Reading, BadLine, Means, reading}

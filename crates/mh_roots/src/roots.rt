@@ -52,6 +52,13 @@ impl Roots {
         self.slots[slot]
     }
 
+    /// What all slots hold, in order.
+    pub fn slots(&self) -> &[Option<Place>; ROOT_SLOTS]
+        ensures { result.now ≡ self.now }
+    {
+        &self.slots
+    }
+
     /// Lets a slot hold a reference.
     pub fn set(&mut self, slot: usize, reference: Option<Place>)
         requires { slot < 144 }

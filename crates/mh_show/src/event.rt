@@ -11,10 +11,10 @@ ghost use Rattle.mh_show.specs.Rows.{listed, row_text};
 use crate::rows::{phase_number, place_number, push_deeds, push_row};
 use itoa::Buffer;
 use mh_deeds::account::Account;
+use mh_history::measured_line::{push_event, push_reply};
 use mh_model::history::Measured;
 use mh_model::memory::NoMemory;
 use mh_model::place::Place;
-use mh_telling::entry::{push_event, push_reply};
 
 /// Adds a row for each root slot that isn't the same before and after.
 fn push_roots(

@@ -1,6 +1,5 @@
 -- Lines that are added to a text piece by piece.
-use Rattle.std.proofs.Common.{◌≡◌, ◌∙◌, ℕ, ◌+◌, ◌<◌, List, [], ◌∷◌, ◌++◌, length, map, take, get_or, refl, ap, sym, codes, decimal, append_assoc}
-use Rattle.std.proofs.lemmas.List.{map-append, take_more}
+use Rattle.std.proofs.Common.{◌≡◌, ◌∙◌, ◌+◌, List, ◌∷◌, ◌++◌, refl, ap, codes, decimal, append_assoc}
 use Rattle.mh_model.specs.declared.command.Event.{Event}
 use Rattle.mh_model.specs.declared.command.Event.TheVariants as event
 use Rattle.mh_model.specs.declared.history.Entry.{Entry}
@@ -11,16 +10,6 @@ use Rattle.mh_model.specs.Forms.{command_phrase, control_phrase, phrase_words}
 use Rattle.mh_model.specs.HistoryTexts.{entry_words, event_words}
 use Rattle.mh_model.specs.Replies.{reply_text, reply_words}
 use Rattle.mh_model.proofs.TextLemmas.{joined-append}
-
--- a number more
-pub words_more : (old verb : Text) (numbers : List ℕ) (i : ℕ) → i < length numbers
-    → ((old ++ joined (verb ∷ map decimal (take i numbers))) ++ codes " ") ++ decimal (get_or numbers i 0) ≡ old ++ joined (verb ∷ map decimal (take (i + 1) numbers))
-words_more old verb numbers i below =
-    let first : List Text = map decimal (take i numbers) in
-    let next : Text = decimal (get_or numbers i 0) in
-    let cut : map decimal (take (i + 1) numbers) ≡ first ++ next ∷ [] = ap (map decimal) (take_more numbers i 0 below) ∙ map-append decimal (take i numbers) (get_or numbers i 0 ∷ []) in
-    append_assoc (old ++ joined (verb ∷ first)) (codes " ") next ∙ append_assoc old (joined (verb ∷ first)) (32 ∷ next)
-    ∙ ap (λ (text : Text). old ++ text) (sym (joined-append verb first next []) ∙ ap (λ (words : List Text). joined (verb ∷ words)) (sym cut))
 
 -- Entries ----------------------------------------------------------------------------------------
 

@@ -4,7 +4,7 @@ use Rattle.std.proofs.lemmas.Bool.{false≢true, leb-true}
 use Rattle.std.proofs.lemmas.Option.{none-some, same_Some}
 use Rattle.mh_model.specs.declared.cycle.Phase.TheVariants.{Mark, Sweep, Defrag}
 use Rattle.mh_model.specs.World.{World}
-use Rattle.mh_model.specs.Pages.{Page, Table, page_number, page_at, block_at}
+use Rattle.mh_model.specs.Pages.{Page, page_number, page_at, block_at}
 use Rattle.mh_model.specs.Table.{Block, resolve}
 use Rattle.mh_model.specs.Collector.{Collector, with_phase, after_mark, sweep_step, is_past, is_idle}
 use Rattle.mh_model.specs.Mutator.{in_roots_or_mark}

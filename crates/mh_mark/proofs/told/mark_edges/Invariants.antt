@@ -2,7 +2,7 @@ use Rattle.std.proofs.Common.{◌≡◌, drop}
 use Rattle.mh_model.specs.Table.{references_at}
 use Rattle.mh_model.specs.Deeds.{reference_deeds}
 use Rattle.mh_grey.specs.Shading.{marking}
-use Rattle.mh_mark.proofs.LogLemmas.{IsTelling}
+use Rattle.mh_deeds.proofs.LogLemmas.{IsTelling}
 use Rattle.mh_mark.proofs.MarkLemmas.{IsMarkingOn}
 use Rattle.mh_mark.proofs.told.mark_edges.Given as goal
 

@@ -1,4 +1,4 @@
-use Rattle.std.proofs.Common.{◌∙◌, lit<, codes, sym}
+use Rattle.std.proofs.Common.{◌∙◌, lit<, codes}
 use Rattle.std.specs.Prelude.{Some, None}
 use Rattle.std.specs.Str.Parse.{ParsesUnsigned, ExplainsUnsignedError, HasUnsignedDigitsIfOk}
 use Rattle.clap.proofs.WalkLemmas.{one_text-rows}

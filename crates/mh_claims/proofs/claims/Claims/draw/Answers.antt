@@ -1,4 +1,4 @@
-use Rattle.std.proofs.Common.{arith, ◌≡◌, ◌+◌, ℕ, ap}
+use Rattle.std.proofs.Common.{arith, ◌≡◌, ◌+◌, ap}
 use Rattle.atomic_table.specs.Table.{Me}
 use Rattle.mh_seat_laws.specs.ClaimWord.{Lists}
 use Rattle.mh_claims.specs.Seats.{next_of}

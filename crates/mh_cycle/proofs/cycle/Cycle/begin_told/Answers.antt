@@ -1,6 +1,6 @@
 use Rattle.std.proofs.Common.{◌∙◌, sym, ap, subst}
 use Rattle.mh_model.specs.Deeds.{Adds, start_deeds}
-use Rattle.mh_mark.proofs.LogLemmas.{adds-none, adds-then}
+use Rattle.mh_deeds.proofs.LogLemmas.{adds-none, adds-then}
 use Rattle.mh_cycle.specs.State.{CycleState}
 use Rattle.mh_cycle.proofs.ToldLemmas.{start-told, start-quiet}
 use Rattle.mh_cycle.proofs.cycle.Cycle.begin_told.Goals.{then-self-before, else-self-before}

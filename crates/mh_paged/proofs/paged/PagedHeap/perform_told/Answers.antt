@@ -1,5 +1,5 @@
 use Rattle.mh_model.specs.Deeds.{new_deeds, command_deeds}
-use Rattle.mh_groups.proofs.AddLemmas.{adds-more}
+use Rattle.mh_deeds.proofs.LogLemmas.{adds-then}
 use Rattle.mh_paged.proofs.paged.PagedHeap.perform_told.Goals as goal
 
 pub returns-clause-told : goal.returns-clause-told
@@ -7,4 +7,4 @@ unfolding command_deeds
 returns-clause-told c =
     let shaded = rw c.grey_count-grey.ensures at c.tell_shaded.ensures in
     rw c.answer_told-reply.ensures.step
-    (adds-more c.args.deeds.now c.answer_told-reply.new.deeds c.tell_shaded.new.deeds (new_deeds c.args.self.now.kept c.args.command.now c.answer_told-reply.result) _ c.answer_told-reply.ensures.told shaded)
+    (adds-then c.args.deeds.now c.answer_told-reply.new.deeds c.tell_shaded.new.deeds (new_deeds c.args.self.now.kept c.args.command.now c.answer_told-reply.result) _ c.answer_told-reply.ensures.told shaded)
