@@ -1,0 +1,10 @@
+pub mod TableMapLemmas
+pub mod ShadingLemmas
+pub mod MarkLemmas
+pub mod SweepLemmas
+pub mod StepLemmas
+pub mod QuantumLemmas
+pub mod CommandLemmas
+pub mod RunLemmas
+pub mod DumpLemmas
+pub mod rows

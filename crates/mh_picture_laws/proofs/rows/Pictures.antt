@@ -1,0 +1,124 @@
+-- What deeds change of a picture, the pictures of runs, and their dumps.
+use Rattle.std.proofs.Common.{[], Bool, false, List, None, option_map, Option, refl, Some, true, ℕ, ◌∷◌, ◌≡◌}
+use Rattle.mh_model.specs.declared.command.Command.TheVariants.{Clear, New, Put}
+use Rattle.mh_model.specs.declared.command.Control.TheVariants as control
+use Rattle.mh_model.specs.declared.command.Event.{Event}
+use Rattle.mh_model.specs.declared.command.Event.TheVariants as event
+use Rattle.mh_model.specs.declared.config.Config.{Config}
+use Rattle.mh_model.specs.declared.cycle.Phase.TheVariants.{Idle, Roots, Mark}
+use Rattle.mh_model.specs.declared.deed.Deed.TheVariants as deed
+use Rattle.mh_model.specs.declared.deed.Edge.{Edge}
+use Rattle.mh_model.specs.declared.deed.Fate.TheVariants as fate
+use Rattle.mh_model.specs.declared.deed.PartName.{PartName}
+use Rattle.mh_model.specs.declared.deed.Tier.TheVariants as tier
+use Rattle.mh_model.specs.declared.dump.DumpItem.TheVariants as item
+use Rattle.mh_model.specs.Configs.{configured}
+use Rattle.mh_model.specs.Pages.{Page}
+use Rattle.mh_model.specs.Collector.{step_cost, collector_step, steps, quantum}
+use Rattle.mh_model.specs.Mutator.{heap_effect, mutator_step}
+use Rattle.mh_model.specs.Machine.{first_machine, quantum_run, command_step, control_step, event_step}
+use Rattle.mh_model.specs.Deeds.{step_deeds, deeds_of_steps, quantum_deeds, command_deeds, account_of}
+use Rattle.mh_picture_laws.specs.TableMaps.{table_map}
+use Rattle.mh_picture_laws.specs.Picture.{Drawn, Picture, drawn_of, empty_picture, drawn, drawn_all, accounts_of, drawn_run, dump_of}
+
+-- a row that unfolds this name computes
+unfoldable worked : ℕ
+unfolding step_cost collector_step steps quantum heap_effect mutator_step quantum_run command_step control_step event_step step_deeds deeds_of_steps quantum_deeds command_deeds account_of accounts_of table_map
+worked = 0
+
+abbrev name : ℕ → PartName
+name birth = record { birth = birth; part = 0 }
+
+-- a block of 60 numbers with this birth, stamp and forward
+abbrev block : ℕ → ℕ → Option ℕ → Option Drawn
+block birth stamp forward = Some (record { name = name birth; fields = record { references = 0; numbers = 60 }; stamp = stamp; forward = forward })
+
+-- a page of the greatest class
+abbrev page : Bool → Option Drawn → Option Drawn → Option (Page Drawn)
+page is_flagged first second = Some (record { class_size = 64; is_flagged = is_flagged; slots = first ∷ second ∷ None ∷ None ∷ [] })
+
+-- three pages in cycle 3
+abbrev picture : Option (Page Drawn) → Option (Page Drawn) → Option (Page Drawn) → List ℕ → Picture
+picture first second third grey = record { table = first ∷ second ∷ third ∷ []; grey = grey; cycle = 3; phase = Mark }
+
+-- what is drawn of a block: the counts of its own fields, and not those of its header
+pub drawn_block : drawn_of (record { birth = 4; part = 2; header = record { references = 9; numbers = 8 }; stamp = 5; forward = Some 65; references = None ∷ Some 3 ∷ []; numbers = 7 ∷ [] })
+    ≡ record { name = record { birth = 4; part = 2 }; fields = record { references = 2; numbers = 1 }; stamp = 5; forward = Some 65 }
+drawn_block = refl
+
+-- Deeds ------------------------------------------------------------------------------------------
+
+abbrev edge : ℕ → Bool → Edge
+edge target is_shaded = record { reference = Some 128; target = Some target; is_shaded = is_shaded }
+
+-- the block to which a reference leads is marked, and its place is the last of the grey list
+pub shaded_last : drawn (picture (page false (block 0 3 None) (block 1 2 None)) None None (0 ∷ [])) (deed.Reference 0 (edge 1 true)) ≡ picture (page false (block 0 3 None) (block 1 3 None)) None None (0 ∷ 1 ∷ [])
+shaded_last = refl
+
+-- nothing changes if the block was marked before
+pub not_shaded : drawn (picture (page false (block 0 3 None) (block 1 3 None)) None None (0 ∷ [])) (deed.Root 5 (edge 1 false)) ≡ picture (page false (block 0 3 None) (block 1 3 None)) None None (0 ∷ [])
+not_shaded = refl
+
+-- the first grey place is taken off the list
+pub first_grey_taken : drawn (picture None None None (1 ∷ 2 ∷ 65 ∷ [])) (deed.Mark 1 (name 1)) ≡ picture None None None (2 ∷ 65 ∷ [])
+first_grey_taken = refl
+
+-- what a sweep frees is no more there, a block or a forwarder, and what it keeps is as it was
+pub swept_slots : drawn_all (picture (page false (block 0 2 None) (block 1 2 (Some 3))) (page false (block 4 3 None) None) None []) (deed.Sweep 0 (fate.Freed (name 0)) ∷ deed.Sweep 1 (fate.FreedForwarder 3) ∷ deed.Sweep 2 fate.Empty ∷ deed.Sweep 64 (fate.Kept (name 4)) ∷ [])
+    ≡ picture (page false None None) (page false (block 4 3 None) None) None []
+swept_slots = refl
+
+-- a page without blocks is freed, and the flags of two others are set
+pub judged_pages : drawn_all (picture (page false None None) (page false (block 4 3 None) None) (page true (block 5 3 None) (block 6 3 None)) []) (deed.FreePage 0 ∷ deed.FlagPage 1 ∷ deed.UnflagPage 2 ∷ [])
+    ≡ picture None (page true (block 4 3 None) None) (page false (block 5 3 None) (block 6 3 None)) []
+judged_pages = refl
+
+-- a moved block is at its new place, and a forwarder with all else that it had where it was
+pub moved_forwarder : drawn (picture (page false (block 0 3 None) None) (page true None (block 7 3 None)) None []) (deed.Move 65 1 (name 7) 64) ≡ picture (page false (block 0 3 None) (block 7 3 None)) (page true None (block 7 3 (Some 1))) None []
+moved_forwarder = refl
+
+-- a new part is marked, and on a free page that is then of its class and unflagged
+pub made_marked : drawn (picture None None None (0 ∷ [])) (deed.Make 65 (name 9) 64 (record { references = 0; numbers = 60 }) tier.Fresh) ≡ picture None (page false None (block 9 3 None)) None (0 ∷ [])
+made_marked = refl
+
+-- a page in use keeps its flag under a new part
+pub made_sparse : drawn (picture (page true (block 0 3 None) None) None None []) (deed.Make 1 (name 9) 64 (record { references = 0; numbers = 60 }) tier.Sparse) ≡ picture (page true (block 0 3 None) (block 9 3 None)) None None []
+made_sparse = refl
+
+-- a cycle that ends leaves pages and stamps as they were
+pub ended_cycle : drawn (picture (page true (block 0 3 None) None) None None []) deed.End ≡ record (picture (page true (block 0 3 None) None) None None []) { phase = Idle }
+ended_cycle = refl
+
+-- Runs -------------------------------------------------------------------------------------------
+
+-- what the accounts of a run draw, under the configuration with these numbers
+abbrev drawn_under : ℕ → ℕ → ℕ → ℕ → List Event → Option Picture
+drawn_under pages units trigger every events = option_map (λ (config : Config). drawn_run (empty_picture config) (accounts_of (first_machine config) events)) (configured pages units trigger every)
+
+-- a quantum that ends after the first grey block: what that led to is grey
+pub grey_in_a_run : drawn_under 2 290 0 0 (event.Session 0 (New 0 1 59) ∷ event.Session 0 (New 1 0 60) ∷ event.Session 0 (Put 0 0 1) ∷ event.Session 0 (Clear 1) ∷ event.Control control.Start ∷ event.Control control.Quantum ∷ [])
+    ≡ Some (record {
+      table = page false (Some (record { name = name 0; fields = record { references = 1; numbers = 59 }; stamp = 1; forward = None })) (block 1 1 None) ∷ None ∷ [];
+      grey = 1 ∷ [];
+      cycle = 1;
+      phase = Mark;
+    })
+unfolding worked
+grey_in_a_run = refl
+
+-- a new object in the slot of an older one, which its barrier shades before the slot is scanned
+pub shaded_by_a_barrier : drawn_under 1 209 0 0 (event.Session 7 (New 0 0 60) ∷ event.Control control.Start ∷ event.Control control.Quantum ∷ event.Session 7 (New 0 0 60) ∷ [])
+    ≡ Some (record { table = page false (block 0 1 None) (block 1 1 None) ∷ []; grey = 0 ∷ []; cycle = 1; phase = Roots })
+unfolding worked
+shaded_by_a_barrier = refl
+
+-- a command that makes a quantum due: its object is born before the cycle starts
+pub command_before_its_quantum : drawn_under 1 209 0 1 (event.Session 7 (New 0 0 60) ∷ []) ≡ Some (record { table = page false (block 0 0 None) None ∷ []; grey = []; cycle = 1; phase = Roots })
+unfolding worked
+command_before_its_quantum = refl
+
+-- the dump of a picture with a moved block
+pub dumped_from_a_run : option_map dump_of (drawn_under 4 1000 0 0 (event.Session 0 (New 0 0 60) ∷ event.Session 0 (New 1 0 60) ∷ event.Session 0 (New 2 0 60) ∷ event.Session 0 (New 3 0 60) ∷ event.Session 0 (New 4 0 60) ∷ event.Session 0 (Clear 1) ∷ event.Control control.Start ∷ event.Control control.Quantum ∷ []))
+    ≡ Some (item.Page 0 64 false ∷ item.Block 0 0 0 ∷ item.Block 1 4 0 ∷ item.Block 2 2 0 ∷ item.Block 3 3 0 ∷ item.Page 1 64 true ∷ item.Forwarder 0 0 1 ∷ [])
+unfolding worked
+dumped_from_a_run = refl

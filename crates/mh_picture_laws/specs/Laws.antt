@@ -1,0 +1,44 @@
+-- The laws of pictures: deeds are enough to draw the heap, and what is drawn is enough for its dump.
+use Rattle.std.specs.Prelude.{◌≡◌, ℕ, Bool, List}
+use Rattle.mh_model.specs.declared.command.Command.{Command}
+use Rattle.mh_model.specs.declared.command.Control.TheVariants as control
+use Rattle.mh_model.specs.declared.command.Event.{Event}
+use Rattle.mh_model.specs.declared.command.Event.TheVariants as event
+use Rattle.mh_model.specs.declared.config.Config.{Config}
+use Rattle.mh_model.specs.declared.reply.Reply.TheVariants as reply
+use Rattle.mh_model.specs.Collector.{Collector, collector_step, quantum}
+use Rattle.mh_model.specs.Mutator.{HeapState, mutator_step}
+use Rattle.mh_model.specs.Machine.{Machine, first_machine, half_step, event_step, machine_after, dump_pages, stat_on}
+use Rattle.mh_model.specs.Deeds.{step_deeds, quantum_deeds, command_deeds, account_of}
+use Rattle.mh_model.specs.Invariant.{IsKeeping, IsSteady}
+use Rattle.mh_picture_laws.specs.Picture.{picture_of, empty_picture, drawn_all, drawn_account, accounts_of, drawn_run, dump_of, stat_of}
+
+-- The deeds of a step draw the picture after it, whether the quantum has moved a block or not
+abbrev pub StepsTellThePicture : Type 0
+StepsTellThePicture = (collector : Collector) (has_moved : Bool) → IsSteady collector → picture_of (collector_step collector) ≡ drawn_all (picture_of collector) (step_deeds collector has_moved)
+
+-- The deeds of a quantum draw the picture after it, in whatever phase it is entered
+abbrev pub QuantaTellThePicture : Type 0
+QuantaTellThePicture = (config : Config) (collector : Collector) → IsSteady collector → picture_of (quantum config collector).collector ≡ drawn_all (picture_of collector) (quantum_deeds config collector)
+
+-- The deeds of a command draw the picture after it, also if it is refused
+abbrev pub CommandsTellThePicture : Type 0
+CommandsTellThePicture = (heap : HeapState) (who : ℕ) (command : Command) → IsKeeping heap → picture_of (mutator_step heap who command).state.collector ≡ drawn_all (picture_of heap.collector) (command_deeds heap who command)
+
+-- The account of an event draws the picture after it, and the deeds of its command draw that of its half step
+pub record EventsTellThePicture : Type 0 where
+  pub half : (machine : Machine) (event : Event) → IsKeeping machine.heap → picture_of (half_step machine event).heap.collector ≡ drawn_all (picture_of machine.heap.collector) (account_of machine event).command
+  pub whole : (machine : Machine) (event : Event) → IsKeeping machine.heap → picture_of (event_step machine event).state.heap.collector ≡ drawn_account (picture_of machine.heap.collector) (account_of machine event)
+
+-- From the empty picture the accounts of a run draw the picture after it, that after the command of one event more, and so its dump and its counts
+pub record RunsTellThePicture : Type 0 where
+  pub picture : (config : Config) (events : List Event) → picture_of (machine_after (first_machine config) events).heap.collector ≡ drawn_run (empty_picture config) (accounts_of (first_machine config) events)
+  pub half : (config : Config) (events : List Event) (event : Event)
+      → picture_of (half_step (machine_after (first_machine config) events) event).heap.collector ≡ drawn_all (drawn_run (empty_picture config) (accounts_of (first_machine config) events)) (account_of (machine_after (first_machine config) events) event).command
+  pub dump : (config : Config) (events : List Event) → (event_step (machine_after (first_machine config) events) (event.Control control.Dump)).reply ≡ reply.Dump (dump_of (drawn_run (empty_picture config) (accounts_of (first_machine config) events)))
+  pub stat : (config : Config) (events : List Event) → (event_step (machine_after (first_machine config) events) (event.Control control.Stat)).reply ≡ reply.Stat (stat_of (drawn_run (empty_picture config) (accounts_of (first_machine config) events)))
+
+-- The dump and the counts of a heap are those of its picture
+pub record PictureGivesTheDump : Type 0 where
+  pub dump : (collector : Collector) → dump_pages 0 collector.table ≡ dump_of (picture_of collector)
+  pub stat : (collector : Collector) → stat_on collector ≡ stat_of (picture_of collector)

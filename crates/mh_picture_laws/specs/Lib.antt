@@ -1,0 +1,3 @@
+pub mod TableMaps
+pub mod Picture
+pub mod Laws
