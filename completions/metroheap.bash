@@ -16,6 +16,7 @@ _metroheap() {
     case ${COMP_WORDS[1]} in
         run) options='--workers --rules --history --help' ;;
         steps) options='--from --to --json --rules --help' ;;
+        show) options='--rules --help' ;;
         live | race) options='--workers --help' ;;
         check) options='--pages --quantum --trigger --every --rules --sessions --help' ;;
         migrate) options='--pages --quantum --trigger --every --help' ;;
@@ -26,7 +27,7 @@ _metroheap() {
             [[ ${COMP_WORDS[COMP_CWORD - 1]} == --sessions ]] && return
             options='--seed --events --sessions --pages --quantum --every --profile --help'
             ;;
-        *) options='run steps live race check audit migrate generate curve --help --version' ;;
+        *) options='run steps show live race check audit migrate generate curve --help --version' ;;
     esac
     mapfile -t COMPREPLY < <(compgen -W "$options" -- "$word")
 }

@@ -29,7 +29,7 @@ use Rattle.mh_program.specs.declared.options.OptionFault.{OptionFault}
 use Rattle.mh_program.specs.declared.options.OptionFault.TheVariants.{NoNumber, NoProfile, Missing, Unwanted, Outside}
 use Rattle.clap.specs.declared.error.kind.ErrorKind.{ErrorKind}
 use Rattle.mh_program.specs.Orders.{AreAmiss, AskAmiss, AsksOutside, AsksVersion, GivesOrder, HasFewWorkers, HasFirstRules, HasOptionFault, IsFault, IsMissing, IsNoNumber, IsNoProfile, IsOrder, IsOutside, IsUnwanted, Named, NotMet, NotTaken, Refuses, RefusesOptions, kind_of_fault}
-use Rattle.mh_program.specs.Line.{AsksForFew, AsksForRules, Checks, Generates, HasFlag, IsAsked, NamesOne, Nothing, Runs, TakesWorkers, Tells, Workers, any_text, check_app, event_numbers, every_numbers, flag_rule, generate_app, metroheap, page_numbers, quantum_numbers, rules_numbers, run_app, seeds, session_numbers, steps_app, step_numbers, worker_numbers, workers_app, Curves, curve_app}
+use Rattle.mh_program.specs.Line.{AsksForFew, AsksForRules, Checks, Generates, HasFlag, IsAsked, NamesOne, Nothing, Runs, Shows, TakesWorkers, Tells, Workers, any_text, check_app, event_numbers, every_numbers, flag_rule, generate_app, metroheap, page_numbers, quantum_numbers, rules_numbers, run_app, seeds, session_numbers, show_app, steps_app, step_numbers, worker_numbers, workers_app, Curves, curve_app}
 use Rattle.mh_program.proofs.OptionLemmas.{AreRead, IsSafe, level-read, never, none-missing, none_first, none_next, safe-flag, safe-given, safe-help, safe-value, value-given, value-may, value_rule}
 
 -- Options ----------------------------------------------------------------------------------------
@@ -110,6 +110,13 @@ sound-run words e =
     let all : AllRead rows =
     level-read option_parser read_plain s words (value-safe (codes "workers") 1, (value-safe (codes "rules") 1, (flag-safe (codes "history") 1 refl, (help-safe, tt)))) e in
     Runs refl (few-may rows all, rules-may rows all, history-may rows all)
+
+sound-show : IsSound (built_leaf show_app.top)
+sound-show words e =
+    let s : Shape = built_leaf show_app.top in
+    let rows : List Row = rows_after s.rules [] words in
+    let all : AllRead rows = level-read option_parser read_plain s words (value-safe (codes "rules") 1, (help-safe, tt)) e in
+    Shows refl (rules-may rows all)
 
 sound-check : IsSound (built_leaf check_app.top)
 sound-check words e =
@@ -226,10 +233,13 @@ sound-metroheap = (
   (
     sound-steps,
     (
-      sound-workers (codes "live") (inl refl),
+      sound-show,
       (
-        sound-workers (codes "race") (inr refl),
-        (sound-check, ((λ words e. Nothing (inl refl)), ((λ words e. Nothing (inr refl)), (sound-generate, (sound-curve, tt))))),
+        sound-workers (codes "live") (inl refl),
+        (
+          sound-workers (codes "race") (inr refl),
+          (sound-check, ((λ words e. Nothing (inl refl)), ((λ words e. Nothing (inr refl)), (sound-generate, (sound-curve, tt))))),
+        ),
       ),
     ),
   ),

@@ -104,6 +104,10 @@ run_app = with_rule (with_rule (workers_app (codes "run")) rules_rule) (flag_rul
 abbrev pub steps_app : App
 steps_app = with_rule (with_rule (with_rule (with_rule (new_app (codes "steps")) (parsed_rule (codes "from") step_numbers)) (parsed_rule (codes "to") step_numbers)) (flag_rule (codes "json"))) rules_rule
 
+-- `show`, with rules
+abbrev pub show_app : App
+show_app = with_rule (new_app (codes "show")) rules_rule
+
 -- `check`, with rules, under a configuration or by what sessions see
 abbrev pub check_app : App
 check_app = with_rule (with_rule (config_app (codes "check")) rules_rule) (flag_rule (codes "sessions"))
@@ -120,12 +124,13 @@ generate_app =
 abbrev pub curve_app : App
 curve_app = with_rule (with_rule (with_rule (new_app (codes "curve")) rules_rule) (flag_rule (codes "history"))) (flag_rule (codes "svg"))
 
--- the nine subcommands
+-- the ten subcommands
 abbrev pub optional_app : App
 optional_app =
-    with_subcommand (with_subcommand (with_subcommand (with_subcommand (with_subcommand (with_subcommand (with_subcommand (with_subcommand (with_subcommand (new_app (codes "metroheap"))
+    with_subcommand (with_subcommand (with_subcommand (with_subcommand (with_subcommand (with_subcommand (with_subcommand (with_subcommand (with_subcommand (with_subcommand (new_app (codes "metroheap"))
     run_app.top)
     steps_app.top)
+    show_app.top)
     (workers_app (codes "live")).top)
     (workers_app (codes "race")).top)
     check_app.top)
@@ -250,6 +255,7 @@ WantsConfig name rows = ((name ≡ codes "check") × (is_flagged (codes "session
 pub data IsAsked (name : Text) (rows : List Row) : Type 0 where
   Runs : name ≡ codes "run" → AsksToRun rows → IsAsked name rows
   Tells : name ≡ codes "steps" → AsksToTell rows → IsAsked name rows
+  Shows : name ≡ codes "show" → AsksForRules rows → IsAsked name rows
   Workers : TakesWorkers name → AsksForFew rows → IsAsked name rows
   Checks : name ≡ codes "check" → AsksToCheck rows → IsAsked name rows
   Generates : name ≡ codes "generate" → AsksToGenerate rows → IsAsked name rows

@@ -16,7 +16,7 @@ use Rattle.mh_model.specs.declared.config.Rules.TheVariants.{First, Second}
 use Rattle.mh_program.specs.declared.fault.LineFault.{LineFault}
 use Rattle.mh_program.specs.declared.fault.LineFault.TheVariants.{Words, NotText, Configuration, NoMemory}
 use Rattle.mh_program.specs.declared.line.Order.{Order}
-use Rattle.mh_program.specs.declared.line.Order.TheVariants.{Run, Steps, Live, Race, Check, CheckSessions, Audit, Migrate, Generate, Version, Curve, CurveHistory}
+use Rattle.mh_program.specs.declared.line.Order.TheVariants.{Run, Steps, Show, Live, Race, Check, CheckSessions, Audit, Migrate, Generate, Version, Curve, CurveHistory}
 use Rattle.mh_program.specs.declared.curve.CurveOptions.{CurveOptions}
 use Rattle.mh_program.specs.declared.line.Form.{Form}
 use Rattle.mh_program.specs.declared.line.Form.TheVariants.{Replies, History}
@@ -113,6 +113,7 @@ pub record AreGenerateOptions (rows : List Row) (options : Options) : Type 0 whe
 abbrev pub IsOrder : Text → List Row → Order → Type 0
 IsOrder name rows (Run options) = (name ≡ codes "run") × AreRunOptions rows options
 IsOrder name rows (Steps options) = (name ≡ codes "steps") × AreStepsOptions rows options
+IsOrder name rows (Show rules) = (name ≡ codes "show") × (rules ≡ rules_of Second rows)
 IsOrder name rows (Live workers) = (name ≡ codes "live") × (workers ≡ workers_of rows)
 IsOrder name rows (Race workers) = (name ≡ codes "race") × (workers ≡ workers_of rows)
 IsOrder name rows (Check config) = (name ≡ codes "check") × (is_flagged (codes "sessions") rows ≡ false) × MakesConfig (rules_of First rows) rows config

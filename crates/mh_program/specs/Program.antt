@@ -5,7 +5,7 @@ use Rattle.mh_model.specs.Bytes.{Text, line_text}
 use Rattle.mh_script.specs.declared.fault.ScriptFault.{ScriptFault}
 use Rattle.mh_program.specs.declared.fault.LineFault.{LineFault}
 use Rattle.mh_program.specs.declared.line.Order.{Order}
-use Rattle.mh_program.specs.declared.line.Order.TheVariants.{Run, Steps, Live, Race, Check, CheckSessions, Audit, Migrate, Generate, Version, Curve, CurveHistory}
+use Rattle.mh_program.specs.declared.line.Order.TheVariants.{Run, Steps, Show, Live, Race, Check, CheckSessions, Audit, Migrate, Generate, Version, Curve, CurveHistory}
 use Rattle.mh_program.specs.declared.line.Form.{Form}
 use Rattle.mh_program.specs.declared.line.Form.TheVariants.{Replies, History}
 use Rattle.mh_script.specs.declared.fault.ScriptFault.TheVariants.{Write, NoMemory}
@@ -23,6 +23,7 @@ use Rattle.mh_model.specs.RunHistories.{output_under}
 use Rattle.mh_model.specs.declared.config.Rules.{Rules}
 use Rattle.mh_sessions.specs.Texts.{IsSessionsJudging}
 use Rattle.mh_script.specs.Run.{Device, IsRun, transcript}
+use Rattle.mh_show.specs.Page.{page_text}
 use Rattle.mh_telling.specs.Steps.{steps_text}
 use Rattle.mh_program.specs.Status.{judgement_status_of, line_status_of, live_status_of, status_of, curve_status_of}
 use Rattle.mh_program.specs.Telling.{ErrorStream, TellsEnd, TellsFault, TellsJudgement, TellsLine, TellsRefusals, TellsRun, TellsCurve}
@@ -75,6 +76,7 @@ IsRunBy History rules = IsHistoryRun rules
 abbrev pub Serves : Result Order LineFault → (source source' sink sink' : Device) (errors errors' : ErrorStream) → ℕ → Type 0
 Serves (Ok (Run options)) source source' sink sink' errors errors' status = Obeys (IsRunBy options.form options.rules source source' sink sink') (TellsRun TellsEnd) status_of errors errors' status
 Serves (Ok (Steps options)) source source' sink sink' errors errors' status = Obeys (IsRun (transcript (steps_text options.steps) options.rules) source source' sink sink') (TellsRun TellsEnd) status_of errors errors' status
+Serves (Ok (Show rules)) source source' sink sink' errors errors' status = Obeys (IsRun (transcript page_text rules) source source' sink sink') (TellsRun TellsEnd) status_of errors errors' status
 Serves (Ok (Live workers)) source source' sink sink' errors errors' status = AnswersLines source source' sink sink' errors errors' status
 Serves (Ok (Race workers)) source source' sink sink' errors errors' status = Obeys (IsRaceRun source source' sink sink') (TellsRun TellsEnd) status_of errors errors' status
 Serves (Ok (Check config)) source source' sink sink' errors errors' status = Obeys (IsChecking config source source' sink sink') (TellsRun TellsJudgement) judgement_status_of errors errors' status

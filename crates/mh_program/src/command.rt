@@ -2,7 +2,7 @@ ghost use Rattle.std.specs.Prelude.{◌≡◌, IfOk, IsOkAnd, false, codes};
 ghost use Rattle.clap.specs.Words.{app_of, new_app, rule_of, with_rule, with_subcommand};
 ghost use Rattle.clap.specs.declared.builder.command.Command.TheViews.{out-Command};
 ghost use Rattle.clap.specs.declared.builder.value_parser.ValueParser.TheVariants.{Unsigned};
-ghost use Rattle.mh_program.specs.Line.{check_app, config_app, flag_rule, generate_app, metroheap, named_rule, number_rule, option_rule, optional_app, parsed_rule, profile_rule, required_rule, rules_rule, run_app, seeded_app, steps_app, versioned, workers_app, workers_rule};
+ghost use Rattle.mh_program.specs.Line.{check_app, config_app, flag_rule, generate_app, metroheap, named_rule, number_rule, option_rule, optional_app, parsed_rule, profile_rule, required_rule, rules_rule, run_app, seeded_app, show_app, steps_app, versioned, workers_app, workers_rule};
 
 use crate::curve::curve;
 use clap::builder::ValueParser;
@@ -23,6 +23,9 @@ const ABOUT_RUN: &str =
 
 const ABOUT_STEPS: &str =
     "Run a script and print each event with its reply, and below it what the collector, the barrier and the placing of new parts did";
+
+const ABOUT_SHOW: &str =
+    "Run a script and print a page in HTML that shows the run in a browser: the pages, their slots and the grey list before and after each step";
 
 const ABOUT_LIVE: &str =
     "Answer each line of a script as it comes: the reply to its event, or the refusal of the line";
@@ -259,6 +262,20 @@ fn steps<'a>(alloc: Global) -> Result<Command<'a>, AllocError>
     with_option(command, rules(alloc, RULES_OF_A_RUN))
 }
 
+fn show<'a>(alloc: Global) -> Result<Command<'a>, AllocError>
+    ensures app { IfOk result (λ command. app_of command ≡ show_app) }
+    ensures local { IfOk result (λ command. (out-Command command).has_globals ≡ false) }
+{
+    let command = subcommand(
+        alloc,
+        "show",
+        ABOUT_SHOW,
+        "metroheap show [--rules <R>] < SCRIPT > PAGE",
+        SCRIPT_STATUSES,
+    );
+    with_option(command, rules(alloc, RULES_OF_A_RUN))
+}
+
 fn live<'a>(alloc: Global) -> Result<Command<'a>, AllocError>
     ensures app { IfOk result (λ command. app_of command ≡ workers_app (codes "live")) }
     ensures local { IfOk result (λ command. (out-Command command).has_globals ≡ false) }
@@ -416,6 +433,7 @@ fn optional<'a>(alloc: Global) -> Result<Command<'a>, AllocError>
     let app = Command::new(alloc, "metroheap");
     let app = with_subcommand(app, run(alloc))?;
     let app = with_subcommand(app, steps(alloc))?;
+    let app = with_subcommand(app, show(alloc))?;
     let app = with_subcommand(app, live(alloc))?;
     let app = with_subcommand(app, race(alloc))?;
     let app = with_subcommand(app, check(alloc))?;

@@ -37,6 +37,8 @@ pub enum Order {
     Run(RunOptions),
     /// Run the script on standard input, and tell what each event did.
     Steps(StepsOptions),
+    /// Run the script on standard input under these rules, and write a page that shows the run.
+    Show(Rules),
     /// Answer each line of standard input as it comes, with so many workers at most.
     Live(usize),
     /// Let the sessions of the script on standard input race, with so many workers at most.

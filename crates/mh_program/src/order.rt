@@ -10,7 +10,8 @@ use crate::curve::curve_asked;
 use crate::fault::LineFault;
 use crate::line::Order;
 use crate::options::{
-    OptionFault, check_asked, config_given, generate_asked, run_asked, steps_asked, workers_asked,
+    OptionFault, check_asked, config_given, generate_asked, rules_asked, run_asked, steps_asked,
+    workers_asked,
 };
 use crate::quoted::{are_plain, quoted, quoted_words};
 use clap::ArgMatches;
@@ -30,6 +31,7 @@ fn order_named<'a>(name: &str, matches: &ArgMatches<'a>) -> Result<Order, Option
     match name {
         "run" => Ok(Order::Run(run_asked(matches))),
         "steps" => Ok(Order::Steps(steps_asked(matches))),
+        "show" => Ok(Order::Show(rules_asked(matches, Rules::Second))),
         "live" => Ok(Order::Live(workers_asked(matches))),
         "race" => Ok(Order::Race(workers_asked(matches))),
         "check" => check_asked(matches),

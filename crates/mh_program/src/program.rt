@@ -11,6 +11,7 @@ ghost use Rattle.mh_judging.specs.Judged.{IsAuditing, IsChecking, IsMigrating};
 ghost use Rattle.mh_racing.specs.Raced.{IsRaceRun};
 ghost use Rattle.mh_sessions.specs.Texts.{IsSessionsJudging};
 ghost use Rattle.mh_script.specs.Run.{IsRun, device, transcript};
+ghost use Rattle.mh_show.specs.Page.{page_text};
 ghost use Rattle.mh_telling.specs.Steps.{steps_text};
 
 use crate::drawn::{draw_history, draw_script};
@@ -33,6 +34,7 @@ use mh_script::end::End;
 use mh_script::fault::{ScriptFault, WriteError};
 use mh_script::run::run_script;
 use mh_sessions::texts::check_sessions;
+use mh_show::run::show_script;
 use mh_telling::run::tell_script;
 use mh_text::sink::Sink;
 use mh_text::source::Source;
@@ -123,6 +125,26 @@ fn steps<S: Source, W: Sink, E: Sink>(
         errors.old errors.new result }
 {
     let ended = stepped(alloc, options, source, sink);
+    errors.tell_end(&ended);
+    status(&ended)
+}
+
+/// Writes the page of a script, and reports how its run ended if not well.
+fn show<S: Source, W: Sink, E: Sink>(
+    alloc: Global,
+    rules: Rules,
+    source: &mut S,
+    sink: &mut W,
+    errors: &mut Errors<E>,
+) -> u8
+    requires source_count { S.failures source.old < 2 ^ 62 }
+    requires sink_count { W.failures sink.old < 2 ^ 62 }
+    ensures { Obeys (IsRun (transcript page_text rules)
+        (device (S.rest source.old) (S.failures source.old)) (device (S.rest source.new) (S.failures source.new))
+        (device (W.written sink.old) (W.failures sink.old)) (device (W.written sink.new) (W.failures sink.new))) (TellsRun TellsEnd) status_of
+        errors.old errors.new result }
+{
+    let ended = show_script(alloc, source, sink, rules);
     errors.tell_end(&ended);
     status(&ended)
 }
@@ -327,6 +349,7 @@ pub fn serve<R: Threads + Wait + Sync, S: Source, W: Sink, E: Sink, G: CrewGate 
     match order {
         Ok(Order::Run(options)) => run(rt, alloc, options, source, sink, errors, gate),
         Ok(Order::Steps(options)) => steps(alloc, options, source, sink, errors),
+        Ok(Order::Show(rules)) => show(alloc, rules, source, sink, errors),
         Ok(Order::Live(workers)) => live(rt, alloc, workers, source, sink, errors, gate),
         Ok(Order::Race(workers)) => race(rt, alloc, workers, source, sink, errors, gate),
         Ok(Order::Check(config)) => check(alloc, config, source, sink, errors),

@@ -1,1 +1,5 @@
+pub mod EventLemmas
+pub mod PieceLemmas
+pub mod RunLemmas
 pub mod ShownLemmas
+pub mod LeftOutLemmas

@@ -3,6 +3,10 @@
 
 pub mod drawing;
 pub mod event;
+mod events;
 pub mod hands;
+pub mod laws;
+mod numbers;
 pub mod page;
 pub mod rows;
+pub mod run;

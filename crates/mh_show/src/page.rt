@@ -8,82 +8,96 @@ pub const HEAD: &[u8] = br##"<!DOCTYPE html>
 <meta name="viewport" content="width=device-width, initial-scale=1">
 <title>metroheap: a run</title>
 <style>
+/* The colours of states are those of Okabe and Ito; each state has a sign too. */
 :root {
-  color-scheme: light dark;
-  --back: #ffffff; --panel: #f3f4f6; --ink: #16181d; --dim: #5c6370; --line: #c4c9d1; --hot: #fff3bf;
-  --free: #ffffff; --live: #56b4e9; --white: #e7e9ed; --grey: #e69f00; --marked: #3b4252; --condemned: #d55e00; --moved: #cc79a7;
-  --least: #0072b2; --floor: #d55e00; --onmarked: #ffffff;
-}
-@media (prefers-color-scheme: dark) {
-  :root:not([data-theme="light"]) {
-    --back: #15171c; --panel: #1f232b; --ink: #e8eaee; --dim: #9aa2b1; --line: #434a57; --hot: #4d4420;
-    --free: #15171c; --live: #56b4e9; --white: #59606d; --grey: #e69f00; --marked: #dfe3ea; --condemned: #d55e00; --moved: #cc79a7;
-    --least: #56b4e9; --floor: #e69f00; --onmarked: #15171c;
-  }
+  color-scheme: light;
+  --back: #ffffff; --panel: #f3f4f6; --ink: #16181d; --dim: #565d69; --line: #c4c9d1; --edge: #7b8391; --hot: #fff0b3; --bad: #a33c00;
+  --free: #ffffff; --live: #56b4e9; --white: #dfe2e7; --grey: #e69f00; --marked: #2f3542; --condemned: #d55e00; --moved: #cc79a7;
+  --flag: #007a59; --mutator: #0072b2; --collector: #d55e00; --floor: #d55e00; --onmarked: #ffffff;
 }
 :root[data-theme="dark"] {
-  --back: #15171c; --panel: #1f232b; --ink: #e8eaee; --dim: #9aa2b1; --line: #434a57; --hot: #4d4420;
-  --free: #15171c; --live: #56b4e9; --white: #59606d; --grey: #e69f00; --marked: #dfe3ea; --condemned: #d55e00; --moved: #cc79a7;
-  --least: #56b4e9; --floor: #e69f00; --onmarked: #15171c;
+  color-scheme: dark;
+  --back: #15171c; --panel: #1f232b; --ink: #e8eaee; --dim: #a3abb9; --line: #434a57; --edge: #808a9b; --hot: #453c14; --bad: #ff9d66;
+  --free: #15171c; --live: #56b4e9; --white: #565d6b; --grey: #e69f00; --marked: #e3e7ee; --condemned: #d55e00; --moved: #cc79a7;
+  --flag: #2fc297; --mutator: #56b4e9; --collector: #e69f00; --floor: #ff8c42; --onmarked: #15171c;
 }
 * { box-sizing: border-box; }
 body { margin: 0; background: var(--back); color: var(--ink); font: 14px/1.45 system-ui, "DejaVu Sans", sans-serif; }
 header, nav, main, footer { padding: 8px 16px; }
 header { display: flex; flex-wrap: wrap; gap: 4px 20px; align-items: baseline; }
+header button { margin-left: auto; }
 h1 { font-size: 18px; margin: 0; }
-h2 { font-size: 13px; margin: 0 0 6px; color: var(--dim); font-weight: 600; }
-nav { display: grid; grid-template-columns: auto 1fr auto; gap: 6px 12px; align-items: center; background: var(--panel); border-block: 1px solid var(--line); position: sticky; top: 0; z-index: 2; }
-nav input { width: 100%; accent-color: var(--least); }
-button { font: inherit; color: inherit; background: var(--back); border: 1px solid var(--line); border-radius: 4px; padding: 2px 9px; cursor: pointer; }
-button:hover, button:focus-visible { border-color: var(--least); }
-main { display: grid; grid-template-columns: minmax(420px, 1fr) minmax(360px, 460px); gap: 16px; }
+h2 { font-size: 13px; margin: 0 0 6px; font-weight: 600; }
+nav { display: grid; grid-template-columns: auto auto minmax(0, 1fr) auto; gap: 4px 8px; align-items: center; background: var(--panel); border: solid var(--line); border-width: 1px 0; position: sticky; top: 0; z-index: 2; }
+nav input { width: 100%; accent-color: var(--mutator); }
+nav p { grid-column: 1 / -1; margin: 0; }
+nav code { display: block; height: 17px; white-space: pre; overflow: hidden; text-overflow: ellipsis; }
+output, code, .rows, .facts dd, pre { font: 12px/17px ui-monospace, "DejaVu Sans Mono", monospace; }
+button { font: inherit; color: inherit; background: var(--back); border: 1px solid var(--edge); border-radius: 4px; padding: 1px 9px; cursor: pointer; }
+:focus-visible { outline: 2px solid var(--mutator); outline-offset: 2px; }
+main { display: grid; grid-template: "map side" auto "lines side" 1fr / minmax(0, 1fr) minmax(340px, 440px); gap: 0 20px; }
+#maps { grid-area: map; } #lines { grid-area: lines; } #side { grid-area: side; }
 section { min-width: 0; margin-bottom: 14px; }
-canvas { width: 100%; display: block; border: 1px solid var(--line); border-radius: 4px; background: var(--back); }
-.rows { height: 190px; overflow: auto; border: 1px solid var(--line); border-radius: 4px; background: var(--panel); font: 12px/18px ui-monospace, "DejaVu Sans Mono", monospace; position: relative; }
-.rows div { position: absolute; left: 0; right: 0; height: 18px; padding: 0 8px; white-space: nowrap; overflow: hidden; text-overflow: ellipsis; cursor: pointer; }
+canvas { display: block; }
+.box, .rows, #frame { border: 1px solid var(--line); border-radius: 4px; overflow: hidden; }
+#frame { overflow-y: auto; scrollbar-gutter: stable; }
+#map { position: sticky; top: 0; }
+.bar { display: flex; flex-wrap: wrap; gap: 4px 8px; align-items: baseline; margin-bottom: 6px; }
+.bar h2 { margin: 0 auto 0 0; }
+.rows { height: 190px; overflow: auto; background: var(--panel); position: relative; }
+.rows div { position: absolute; left: 0; min-width: 100%; height: 17px; padding: 0 8px; white-space: pre; cursor: pointer; }
 .rows .now { background: var(--hot); }
-.rows .no { color: var(--condemned); }
-.key { display: flex; flex-wrap: wrap; gap: 4px 14px; font-size: 12px; color: var(--dim); margin: 6px 0; }
-.key i { display: inline-block; width: 14px; height: 14px; border: 1px solid var(--line); border-radius: 2px; vertical-align: -2px; margin-right: 4px; text-align: center; font: 700 10px/13px sans-serif; color: var(--onmarked); }
-.facts { display: grid; grid-template-columns: auto 1fr; gap: 0 10px; font-size: 13px; margin: 0; }
+.rows .no { color: var(--bad); }
+.key { display: flex; flex-wrap: wrap; gap: 2px 14px; margin: 6px 0 0; padding: 0; list-style: none; font-size: 12px; }
+.key i { display: inline-block; width: 15px; height: 15px; border: 1px solid var(--edge); border-radius: 2px; vertical-align: -3px; margin-right: 5px; text-align: center; font: 700 11px/14px "DejaVu Sans", sans-serif; color: #16181d; }
+.phases { display: flex; flex-wrap: wrap; gap: 2px; list-style: none; margin: 0 0 6px; padding: 0; font-size: 12px; }
+.phases li { border: 1px solid var(--line); border-radius: 4px; padding: 0 8px; color: var(--dim); }
+.phases [aria-current] { background: var(--ink); border-color: var(--ink); color: var(--back); font-weight: 600; }
+.facts { display: grid; grid-template-columns: auto 1fr; gap: 0 10px; margin: 0; }
 .facts dt { color: var(--dim); }
-.facts dd { margin: 0; font-family: ui-monospace, "DejaVu Sans Mono", monospace; overflow-wrap: anywhere; }
-pre { margin: 0; white-space: pre-wrap; overflow-wrap: anywhere; font: 12px/1.4 ui-monospace, "DejaVu Sans Mono", monospace; max-height: 160px; overflow: auto; }
-#tip { position: fixed; pointer-events: none; background: var(--ink); color: var(--back); padding: 3px 8px; border-radius: 4px; font-size: 12px; white-space: pre; z-index: 3; display: none; }
-table { border-collapse: collapse; font: 12px/1.3 ui-monospace, "DejaVu Sans Mono", monospace; }
-td, th { border: 1px solid var(--line); padding: 0 5px; text-align: right; font-weight: 400; }
-th { color: var(--dim); }
-.note { color: var(--dim); font-size: 12px; }
-@media (max-width: 900px) { main { grid-template-columns: 1fr; } }
+.facts dd { margin: 0; overflow-wrap: anywhere; line-height: 20px; max-height: 82px; overflow: auto; }
+.facts span { display: inline-block; min-width: 5.5em; padding: 0 3px; margin-right: 2px; border-radius: 3px; }
+.facts .now { outline: 2px solid var(--ink); outline-offset: -2px; }
+pre { margin: 0; white-space: pre-wrap; overflow-wrap: anywhere; max-height: 200px; overflow: auto; }
+#tip { position: fixed; left: 0; top: 0; pointer-events: none; background: var(--ink); color: var(--back); padding: 3px 8px; border-radius: 4px; font-size: 12px; white-space: pre; z-index: 3; visibility: hidden; }
+.note { color: var(--dim); font-size: 12px; margin: 4px 0 0; }
+@media (max-width: 860px) { main { grid-template: "map" "side" "lines" / minmax(0, 1fr); } }
 </style>
 </head>
 <body>
-<header><h1>metroheap</h1><span id="config"></span><span class="note" id="left-out"></span>
-<button id="theme" title="t">light / dark</button></header>
-<nav aria-label="moments">
-<label for="event">event</label><input id="event" type="range" min="0" value="0"><output id="event-out"></output>
-<label for="step">step</label><input id="step" type="range" min="0" value="0"><output id="step-out"></output>
+<header><h1>metroheap</h1><span id="config"></span><button id="theme" type="button">light or dark</button></header>
+<nav aria-label="moments of the run">
+<label for="event">event <output id="event-out"></output></label><button id="event-back" type="button" aria-label="the event before">&lt;</button>
+<input id="event" type="range" min="0" value="0"><button id="event-on" type="button" aria-label="the next event">&gt;</button>
+<label for="step">step <output id="step-out"></output></label><button id="step-back" type="button" aria-label="the step before">&lt;</button>
+<input id="step" type="range" min="0" value="0"><button id="step-on" type="button" aria-label="the next step">&gt;</button>
+<p aria-live="polite"><code id="event-now"></code><code id="step-now"></code></p>
 </nav>
 <main>
-<div>
-<section><h2>pages</h2><canvas id="map" tabindex="0" role="img" aria-label="map of the pages; the text below has the same"></canvas>
-<div class="key" id="key"></div></section>
-<section><h2 id="page-head">page</h2><canvas id="page" role="img" aria-label="the page in hand"></canvas></section>
-<section><h2>utilisation: the least share of the mutator in windows of each length</h2><canvas id="curve" role="img" aria-label="utilisation curve; the table below has the same"></canvas></section>
+<div id="maps">
+<section><div class="bar"><h2>pages</h2><label><input id="follow" type="checkbox" checked> follow the step</label>
+<button id="smaller" type="button" aria-label="smaller pages">-</button><button id="larger" type="button" aria-label="larger pages">+</button></div>
+<div id="frame" tabindex="0" role="region" aria-label="the pages"><canvas id="map" role="img" aria-label="map of the pages; the map as text, below, has the same"></canvas><div id="beyond"></div></div>
+<ul class="key" id="key" aria-label="legend, with the number of slots in each state"></ul>
+<p class="note" id="map-note"></p></section>
+<section><h2 id="page-head">page</h2><div class="box"><canvas id="page" role="img" aria-label="the page that was chosen, slot by slot"></canvas></div></section>
 </div>
-<div>
-<section><h2>replies</h2><div class="rows" id="replies" tabindex="0"></div></section>
-<section><h2 id="deeds-head">deeds of this event</h2><div class="rows" id="deeds" tabindex="0"></div></section>
-<section><h2>collector</h2><dl class="facts" id="facts"></dl></section>
-<section><h2>roots, as the event leaves them</h2><table id="roots"></table></section>
+<div id="side">
+<section><h2 id="replies-head">replies</h2><div class="rows" id="replies" tabindex="0" role="region" aria-labelledby="replies-head"></div></section>
+<section><h2 id="deeds-head">steps</h2><div class="rows" id="deeds" tabindex="0" role="region" aria-labelledby="deeds-head"></div></section>
+<section><h2>collector</h2><ol class="phases" id="phases"></ol><dl class="facts" id="facts"></dl></section>
+<section><h2>roots, as the event leaves them</h2><dl class="facts" id="roots"></dl></section>
+</div>
+<div id="lines">
+<section><h2 id="trace-head">trace</h2><div class="box"><canvas id="trace" role="img" aria-labelledby="trace-head"></canvas></div></section>
+<section><h2>utilisation: the least share of the mutator in windows of each length</h2><div class="box"><canvas id="curve" role="img" aria-label="utilisation curve; the curve as numbers, below, has the same"></canvas></div></section>
 </div>
 </main>
 <footer>
-<section><h2>trace: the mutator's units and the collector's</h2><canvas id="trace" role="img" aria-label="trace"></canvas></section>
-<details><summary>the map as text</summary><pre id="text"></pre></details>
-<details><summary>the curve as a table</summary><pre id="points"></pre></details>
-<p class="note">Keys: left and right go by steps, up and down by events, page up and page down by a hundred events, home and end to the first and the last; t changes the theme. A click on the map takes a page in hand.</p>
+<details id="as-text"><summary>the map as text, as <code>* dump</code> writes it</summary><pre id="text"></pre></details>
+<details><summary>the curve as numbers, as <code>metroheap curve</code> writes them</summary><pre id="points"></pre></details>
+<p class="note">Keys: left and right go by steps, up and down by events, page up and page down by a hundred events, home and end to the first moment and the last. + and - change the size of the pages, [ and ] choose a page, t changes light and dark. A click on a page chooses it, a click on a row or on the trace goes there.</p>
 </footer>
-<div id="tip"></div>
+<div id="tip" role="tooltip"></div>
 <script id="run" type="application/json">
 "##;

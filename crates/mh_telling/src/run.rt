@@ -50,8 +50,8 @@ fn answer<C: Scanner>(
     }
 }
 
-/// Does an event, and tells what it does.
-fn answer_told(
+/// Does an event, and tells what it does. Memory that is refused for a deed is an error, though the event was done.
+pub fn answer_told(
     machine: &mut Machine,
     event: Event,
     account: &mut Account,

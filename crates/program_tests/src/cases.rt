@@ -1,4 +1,4 @@
-//! Worked texts of the eight subcommands.
+//! Worked texts of the subcommands.
 
 /// The words of a command line and a text, what the program writes of them, and its exit status.
 #[derive(Clone, Copy)]
@@ -54,6 +54,8 @@ pub const RUN: &[&[u8]] = &[b"metroheap", b"run"];
 const RUN_HISTORY: &[&[u8]] = &[b"metroheap", b"run", b"--history", b"--rules=1"];
 
 const STEPS: &[&[u8]] = &[b"metroheap", b"steps", b"--json", b"--to=1"];
+
+const SHOW: &[&[u8]] = &[b"metroheap", b"show"];
 
 const LIVE: &[&[u8]] = &[b"metroheap", b"live"];
 
@@ -129,6 +131,14 @@ pub const CASES: &[Case<'static>] = &[
         ],
         told: NONE,
         status: 0,
+    },
+    // No page of a script that is refused.
+    Case {
+        words: SHOW,
+        input: b"config 4 209 0 0\na walk\n",
+        outputs: &[b"refused 10 line 2\n"],
+        told: b"metroheap: line 2: \"walk\" is no command\n",
+        status: 1,
     },
     // A cycle over one object, run by the scheduler in a race of one session.
     Case {

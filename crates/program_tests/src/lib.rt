@@ -10,6 +10,8 @@ mod long_tests;
 #[cfg(test)]
 mod order_tests;
 #[cfg(test)]
+mod page_tests;
+#[cfg(test)]
 mod prompt_tests;
 #[cfg(test)]
 mod trial;

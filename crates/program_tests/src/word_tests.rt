@@ -35,6 +35,13 @@ const REFUSED: &[Case<'static>] = &[
         status: 2,
     },
     Case {
+        words: &[b"metroheap", b"show", b"--help"],
+        input: SCRIPT,
+        outputs: &[],
+        told: b"Run a script and print a page in HTML that shows the run in a browser",
+        status: 2,
+    },
+    Case {
         words: &[b"metroheap", b"live", b"--help"],
         input: SCRIPT,
         outputs: &[],
