@@ -1,5 +1,5 @@
-//! Tests of the calls of tables that no script comes to: words of pages, blocks, roots, the grey list and single steps of
-//! the sweep.
+//! Tests of calls that no script comes to: words of pages, blocks, roots, the grey list, single steps of the sweep, and
+//! numbers that size a heap.
 #![tactic(auto)]
 
 #[cfg(test)]
@@ -12,5 +12,7 @@ mod page_tests;
 mod reply_tests;
 #[cfg(test)]
 mod root_tests;
+#[cfg(test)]
+mod sizing_tests;
 #[cfg(test)]
 mod table;

@@ -1,0 +1,4 @@
+pub mod OpeningLemmas
+pub mod QuantumLemmas
+pub mod FloorLemmas
+pub mod SizedLemmas

@@ -1,0 +1,72 @@
+//! Quanta that leave the mutator a share of each stretch of a length.
+ghost use Rattle.std.specs.Prelude.{◌≡◌, ◌≤◌, ◌↔◌, IsTrue, MatchOption};
+ghost use Rattle.mh_sizing.specs.Choices.{HasNone, IsGreatestQuantum, IsLeastEvery};
+ghost use Rattle.mh_sizing.specs.Targets.{IsMetBy, MeetsAfter, MeetsWith};
+
+use mh_model::limits::{LEAST_QUANTUM, MOST_EVERY, MOST_QUANTUM};
+use mh_report::floor::floor;
+
+/// A share of the mutator in each stretch of a length.
+#[derive(Clone, Copy, Debug)]
+pub struct Target {
+    /// The share in parts of a hundred.
+    pub percent: u32,
+    /// The length, in units of the mutator and the collector together.
+    pub window: u64,
+}
+
+/// A quantum of at most so many units after so many of the mutator leaves it the share.
+fn is_met(target: &Target, every: u32, quantum: u32) -> bool
+    requires every { every ≤ 1000000 }
+    requires least { 209 ≤ quantum }
+    requires most { quantum ≤ 1000000 }
+    ensures { IsTrue result ↔ IsMetBy target.now every quantum }
+{
+    let wanted = u128::from(target.percent) * u128::from(target.window);
+    let floor = floor(u64::from(every), u64::from(quantum), target.window);
+    wanted <= 100 * u128::from(floor)
+}
+
+/// The greatest quantum that leaves the mutator the share, if one is run after each so many of its units.
+pub fn greatest_quantum_for(target: &Target, every: u32) -> Option<u32>
+    requires some { 1 ≤ every }
+    requires few { every ≤ 1000000 }
+    ensures { MatchOption result (HasNone (MeetsAfter target.now every)) (IsGreatestQuantum (MeetsAfter target.now every)) }
+{
+    if !is_met(target, every, LEAST_QUANTUM) {
+        return None;
+    }
+    let mut met = LEAST_QUANTUM;
+    let mut unmet = MOST_QUANTUM + 1;
+    while unmet - met > 1 {
+        let middle = met + (unmet - met) / 2;
+        if is_met(target, every, middle) {
+            met = middle;
+        } else {
+            unmet = middle;
+        }
+    }
+    Some(met)
+}
+
+/// The least number of units of the mutator after which a quantum may be run that leaves it the share.
+pub fn least_every_for(target: &Target, quantum: u32) -> Option<u32>
+    requires least { 209 ≤ quantum }
+    requires most { quantum ≤ 1000000 }
+    ensures { MatchOption result (HasNone (MeetsWith target.now quantum)) (IsLeastEvery (MeetsWith target.now quantum)) }
+{
+    if !is_met(target, MOST_EVERY, quantum) {
+        return None;
+    }
+    let mut unmet = 0;
+    let mut met = MOST_EVERY;
+    while met - unmet > 1 {
+        let middle = unmet + (met - unmet) / 2;
+        if is_met(target, middle, quantum) {
+            met = middle;
+        } else {
+            unmet = middle;
+        }
+    }
+    Some(met)
+}

@@ -1,0 +1,4 @@
+pub mod Rooms
+pub mod MadeParts
+pub mod KeptRoom
+pub mod Intervals

@@ -1,0 +1,10 @@
+pub mod Counting
+pub mod FedTables
+pub mod FedCommands
+pub mod SweptPages
+pub mod BlocksInUse
+pub mod GrownWorlds
+pub mod KeptBlocks
+pub mod FinishedCycles
+pub mod SizedPages
+pub mod MarkedPages

@@ -1,0 +1,149 @@
+-- Events that end a cycle: how many pages they leave in use.
+use Rattle.std.proofs.Common.{◌≡◌, inl, inr, ℕ, nat_lt, not, Bool, true, false, ◌&&◌, ◌||◌, if◌then◌else◌, List, [], ◌∷◌, length, refl, sym, ap, ◌∙◌, subst, arith}
+use Rattle.std.proofs.lemmas.Bool.{cases_Bool, and_parts, false≢true, true≢false, ltb-true}
+use Rattle.mh_model.specs.declared.command.Event.{Event}
+use Rattle.mh_model.specs.declared.cycle.Phase.{Phase}
+use Rattle.mh_model.specs.declared.cycle.Phase.TheVariants.{Idle, Roots, Mark, Sweep, Defrag}
+use Rattle.mh_model.specs.Collector.{Collector, is_idle, is_start_due, quantum}
+use Rattle.mh_model.specs.Machine.{Machine, half_step, event_step}
+use Rattle.mh_model.specs.Mutator.{HeapState}
+use Rattle.mh_model.specs.Snapshot.{Moment, first_moment, half_moment, next_moment, moment_after, has_quantum, snapshot_at, world_beside_event}
+use Rattle.mh_model.specs.View.{in_sweep}
+use Rattle.mh_run_laws.specs.BesideTheWorld.{IsInCycle}
+use Rattle.mh_laws.proofs.costs.QuantumStarts.{begins, quantum-rests}
+use Rattle.mh_laws.proofs.snapshots.SteadyStates.{heaps-kept}
+use Rattle.mh_run_laws.proofs.following.AllCommands.{commands-follow}
+use Rattle.mh_run_laws.proofs.runs.FaithfulMoments.{moments-faithful, finished-exact}
+use Rattle.mh_run_laws.proofs.showing.QuantaShow.{agrees-quantum}
+use Rattle.mh_run_laws.proofs.worlds.Moments.{machine-moment_after}
+use Rattle.mh_sizing_laws.specs.Openings.{asked_parts}
+use Rattle.mh_sizing_laws.specs.PagesLeft.{HasAtMostLive, parts_since, count_blocks, is_plain, FinishedCyclesLeaveFewPages}
+use Rattle.mh_sizing_laws.specs.Triggers.{has_ended}
+use Rattle.mh_sizing_laws.proofs.openings.Intervals.{quiet-event, quantum-event}
+use Rattle.mh_sizing_laws.proofs.triggers.SizedRuns.{IsOnWay, half-on_way, run-collector}
+use Rattle.mh_sizing_laws.proofs.pages_left.BlocksInUse.{UsesWell, half-machine, event-uses}
+use Rattle.mh_sizing_laws.proofs.pages_left.GrownWorlds.{HasGrown, GrowsBy, grown-same, grown-more, event-grows}
+use Rattle.mh_sizing_laws.proofs.pages_left.KeptBlocks.{kept-few}
+
+-- Moments ----------------------------------------------------------------------------------------
+
+module _ (moment : Moment) (event : Event) where
+  pub next-machine : (next_moment moment event).machine ≡ (event_step moment.machine event).state
+  unfolding next_moment
+  next-machine = refl
+
+  pub next-world : (next_moment moment event).world ≡ (half_moment moment event).world
+  unfolding next_moment
+  next-world = refl
+
+  pub next-snapshot : (next_moment moment event).snapshot ≡ (if has_quantum moment.machine event then snapshot_at (half_moment moment event) else moment.snapshot)
+  unfolding next_moment
+  next-snapshot = refl
+
+  pub half-world : (half_moment moment event).world ≡ world_beside_event moment.world event (event_step moment.machine event).reply
+  unfolding half_moment
+  half-world = refl
+
+  pub half-snapshot : (half_moment moment event).snapshot ≡ moment.snapshot
+  unfolding half_moment
+  half-snapshot = refl
+
+  pub half-grows : GrowsBy (length (asked_parts moment.world.config event)) moment.world (half_moment moment event).world
+  half-grows = subst (GrowsBy (length (asked_parts moment.world.config event)) moment.world) (sym half-world) (event-grows moment.world event (event_step moment.machine event).reply)
+
+  -- from the snapshot of a cycle, which may have started now
+  pub half-grown : HasGrown moment.snapshot moment.world → HasGrown (snapshot_at (half_moment moment event)) (half_moment moment event).world
+  half-grown grown = go (is_start_due (half_moment moment event).machine.heap.config (half_moment moment event).machine.heap.collector)
+    where
+      go : (due : Bool) → HasGrown (if due then (half_moment moment event).world else (half_moment moment event).snapshot) (half_moment moment event).world
+      go true = grown-same (half_moment moment event).world
+      go false = subst (λ s. HasGrown s (half_moment moment event).world) (sym half-snapshot) (grown-more (length (asked_parts moment.world.config event)) moment.snapshot moment.world (half_moment moment event).world grown half-grows)
+
+  pub next-grown : HasGrown moment.snapshot moment.world → HasGrown (next_moment moment event).snapshot (next_moment moment event).world
+  next-grown grown = subst (λ s. HasGrown s (next_moment moment event).world) (sym next-snapshot) (subst (HasGrown (if has_quantum moment.machine event then snapshot_at (half_moment moment event) else moment.snapshot)) (sym next-world) (go (has_quantum moment.machine event)))
+    where
+      go : (runs : Bool) → HasGrown (if runs then snapshot_at (half_moment moment event) else moment.snapshot) (half_moment moment event).world
+      go true = half-grown grown
+      go false = grown-more (length (asked_parts moment.world.config event)) moment.snapshot moment.world (half_moment moment event).world grown half-grows
+
+pub moment-grown : (events : List Event) (moment : Moment) → HasGrown moment.snapshot moment.world → HasGrown (moment_after moment events).snapshot (moment_after moment events).world
+unfolding moment_after
+moment-grown [] moment grown = grown
+moment-grown (event ∷ events) moment grown = moment-grown events (next_moment moment event) (next-grown moment event grown)
+
+-- Ends of cycles ---------------------------------------------------------------------------------
+
+not-less : (n : ℕ) → nat_lt n n ≡ true → ⊥
+not-less n less = omega (arith, ltb-true n n less)
+
+not-ended : (old new : Collector) → IsOnWay old new → has_ended old new ≡ true → ⊥
+not-ended old new like ended = go (is_idle new.phase) (is_idle old.phase) (nat_lt old.cycle new.cycle) (ap is_idle like.phase) (λ less. not-less old.cycle (subst (λ n. nat_lt old.cycle n ≡ true) like.cycle less)) ended
+  where
+    go : (now before less : Bool) → now ≡ before → (less ≡ true → ⊥) → (now && (not before || less)) ≡ true → ⊥
+    go false before less same none e = false≢true e
+    go true false less same none e = true≢false same
+    go true true less same none e = none e
+
+-- an event that ended a cycle ran a quantum of it
+pub record HasRun (machine : Machine) (event : Event) : Type 0 where
+  pub runs : has_quantum machine event ≡ true
+  pub within : IsInCycle (half_step machine event).heap
+  pub collector : (event_step machine event).state.heap.collector ≡ (quantum (half_step machine event).heap.config (half_step machine event).heap.collector).collector
+
+-- what a quantum leaves
+pub ran-collector : (machine : Machine) (event : Event) → has_quantum machine event ≡ true → (event_step machine event).state.heap.collector ≡ (quantum (half_step machine event).heap.config (half_step machine event).heap.collector).collector
+ran-collector machine event runs = ap (λ (m : Machine). m.heap.collector) (quantum-event machine event runs) ∙ run-collector (half_step machine event)
+
+pub ended-run : (machine : Machine) (event : Event) → has_ended machine.heap.collector (event_step machine event).state.heap.collector ≡ true → HasRun machine event
+ended-run machine event ended = elim (cases_Bool (has_quantum machine event)) [
+  | inr quiet ↦
+      let same = quiet-event machine event quiet in
+      let half = half-on_way machine event in
+      absurd (not-ended machine.heap.collector (event_step machine event).state.heap.collector (record { phase = same.phase ∙ half.phase; cycle = same.cycle ∙ half.cycle; quanta = same.quanta ∙ half.quanta }) ended)
+  | inl runs ↦ record { runs = runs; within = within runs; collector = ran-collector machine event runs }
+]
+  where
+    heap : HeapState
+    heap = (half_step machine event).heap
+
+    within : has_quantum machine event ≡ true → IsInCycle (half_step machine event).heap
+    within runs = elim (begins (half_step machine event).heap.config (half_step machine event).heap.collector).case [
+      | inl starts ↦ inr starts.0
+      | inr other ↦ elim other [
+        | inl ran ↦ inl ran.0
+        | inr (rests, idle, same) ↦
+            let half = half-on_way machine event in
+            let still = ran-collector machine event runs ∙ quantum-rests (half_step machine event).heap.config (half_step machine event).heap.collector (ap is_idle idle) rests in
+            absurd (not-ended machine.heap.collector (event_step machine event).state.heap.collector (record { phase = ap (λ (c : Collector). c.phase) still ∙ half.phase; cycle = ap (λ (c : Collector). c.cycle) still ∙ half.cycle; quanta = ap (λ (c : Collector). c.quanta) still ∙ half.quanta }) ended)
+      ]
+    ]
+
+idle-quiet : (phase : Phase) → is_idle phase ≡ true → in_sweep phase ≡ false
+idle-quiet Idle idle = refl
+idle-quiet Roots idle = refl
+idle-quiet Mark idle = refl
+idle-quiet Sweep idle = absurd (false≢true idle)
+idle-quiet Defrag idle = refl
+
+-- A cycle that ends leaves few pages in use
+pub finished-few : FinishedCyclesLeaveFewPages
+finished-few config events event most ended live =
+    let before : Moment = moment_after (first_moment config) events in
+    let machine : Machine = before.machine in
+    let half : Moment = half_moment before event in
+    let heap : HeapState = half.machine.heap in
+    let next : Moment = next_moment before event in
+    let run : HasRun machine event = ended-run machine event (subst (λ (m : Machine). has_ended machine.heap.collector m.heap.collector ≡ true) (next-machine before event) ended) in
+    let now : HeapState = record heap { collector = (quantum heap.config heap.collector).collector } in
+    let halves : half.machine ≡ half_step machine event = half-machine before event in
+    let collector : next.machine.heap.collector ≡ now.collector = ap (λ (m : Machine). m.heap.collector) (next-machine before event) ∙ run.collector ∙ ap (λ (m : Machine). (quantum m.heap.config m.heap.collector).collector) (sym halves) in
+    let idle : is_idle now.collector.phase ≡ true = subst (λ (c : Collector). is_idle c.phase ≡ true) collector (and_parts (is_idle next.machine.heap.collector.phase) _ ended).0 in
+    let quiet : in_sweep now.collector.phase ≡ false = idle-quiet now.collector.phase idle in
+    let within : IsInCycle heap = subst (λ (m : Machine). IsInCycle m.heap) (sym halves) run.within in
+    let faithful = (moments-faithful commands-follow).half config events event in
+    let kept = heaps-kept.quanta heap (half.snapshot, faithful.keeps) in
+    let snapshot : next.snapshot ≡ snapshot_at half = next-snapshot before event ∙ ap (λ b. if b then snapshot_at half else before.snapshot) run.runs in
+    let few = kept-few (snapshot_at half) half.world now kept.1.sound quiet (agrees-quantum half.snapshot half.world heap faithful.keeps faithful.agrees) (finished-exact commands-follow config events event within idle)
+    most (half-grown before event (moment-grown events (first_moment config) (grown-same (first_moment config).world))) (subst (HasAtMostLive most) snapshot live) in
+    let uses : UsesWell config next.machine = subst (UsesWell config) (ap (λ (m : Machine). (event_step m event).state) (sym (machine-moment_after events (first_moment config))) ∙ sym (next-machine before event)) (event-uses config events event) in
+    omega (arith, uses (subst (λ (c : Collector). in_sweep c.phase ≡ false) (sym collector) quiet), few, ap (λ (c : Collector). count_blocks is_plain c.table) collector, ap (λ s. parts_since s next.world) snapshot, ap (λ w. parts_since (snapshot_at half) w) (next-world before event))

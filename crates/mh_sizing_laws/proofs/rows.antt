@@ -1,0 +1,3 @@
+pub mod SizedRuns
+pub mod LeftPages
+pub mod ReachedUnits

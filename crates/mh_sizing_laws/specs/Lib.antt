@@ -1,0 +1,5 @@
+pub mod Openings
+pub mod Triggers
+pub mod Cycles
+pub mod PagesLeft
+pub mod Reached
