@@ -26,8 +26,8 @@ pub(crate) fn units_for(pages: u32, marked: u32) -> u64
     288 + u64::from(marked) + 192 * u64::from(pages)
 }
 
-/// The most quanta of a cycle that starts with blocks of so many marking units: 1 for a block, and 1 for each of its
-/// references.
+/// The most quanta of a cycle whose snapshot reaches objects of so many marking units, in a run that has room for it: 1 for
+/// each part, and 1 for each of its references.
 pub fn quanta_of_cycle_marking(config: &Config, marked: u32) -> u64
     requires { 353 ≤ config.now.quantum }
     ensures { result ≡ quanta_for_marking config.now marked }

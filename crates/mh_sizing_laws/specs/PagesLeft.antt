@@ -91,26 +91,26 @@ pub record HasPagesFor (config : Config) (events : List Event) (quanta opened as
   pub live : AllByRecursion (HasAtMostLive most) (worlds (first_moment config) events)
 
 -- such a run has room for its cycles, and so is never full
-pub record HasEnough (config : Config) (events : List Event) (quanta opened : ℕ) : Type 0 where
+pub record NeverFills (config : Config) (events : List Event) (quanta opened : ℕ) : Type 0 where
   pub room : HasRoomFor config events quanta opened
   pub never_full : IsNeverFull config events
 
 -- Pages for live parts and for what is asked for while a cycle runs suffice
 abbrev pub PagesSuffice : Type 0
-PagesSuffice = (config : Config) (events : List Event) (quanta opened asked most : ℕ) → 1 ≤ quanta → CyclesTakeAtMost quanta config events → HasPagesFor config events quanta opened asked most → HasEnough config events quanta opened
+PagesSuffice = (config : Config) (events : List Event) (quanta opened asked most : ℕ) → 1 ≤ quanta → CyclesTakeAtMost quanta config events → HasPagesFor config events quanta opened asked most → NeverFills config events quanta opened
 
 -- and so they do for as many quanta as the bound of a cycle
 abbrev pub PagesForTheBoundSuffice : Type 0
-PagesForTheBoundSuffice = (config : Config) (events : List Event) (opened asked most : ℕ) → HasPagesFor config events (most_quanta config) opened asked most → HasEnough config events (most_quanta config) opened
+PagesForTheBoundSuffice = (config : Config) (events : List Event) (opened asked most : ℕ) → HasPagesFor config events (most_quanta config) opened asked most → NeverFills config events (most_quanta config) opened
 
 -- and for cycles that mark few blocks, which then take few quanta
 abbrev pub PagesForMarkingSuffice : Type 0
 PagesForMarkingSuffice = (config : Config) (events : List Event) (marked opened asked most : ℕ) →
     let quanta = quanta_for config marked (flat_map (asked_parts config) events) in
-    353 ≤ config.quantum → CyclesMarkAtMost marked config events → HasPagesFor config events quanta opened asked most → CyclesTakeAtMost quanta config events × HasEnough config events quanta opened
+    353 ≤ config.quantum → CyclesMarkAtMost marked config events → HasPagesFor config events quanta opened asked most → CyclesTakeAtMost quanta config events × NeverFills config events quanta opened
 
 -- and for the quanta of cycles whose snapshots reach little, however much garbage there is
 abbrev pub PagesForReachedSuffice : Type 0
 PagesForReachedSuffice = (config : Config) (events : List Event) (marked opened asked most : ℕ) →
     let quanta = quanta_for config marked (flat_map (asked_parts config) events) in
-    353 ≤ config.quantum → CyclesReachAtMost marked config events → HasPagesFor config events quanta opened asked most → CyclesTakeAtMost quanta config events × HasEnough config events quanta opened
+    353 ≤ config.quantum → CyclesReachAtMost marked config events → HasPagesFor config events quanta opened asked most → CyclesTakeAtMost quanta config events × NeverFills config events quanta opened
