@@ -2,7 +2,7 @@
 use Rattle.std.proofs.Common.{◌≡◌, ℕ, suc, ◌+◌, ◌==◌, if◌then◌else◌, List, [], ◌∷◌, map, Option, Some, None, option_map, refl, ap, ◌∙◌}
 use Rattle.mh_model.specs.Pages.{Page, Table}
 use Rattle.mh_pages.specs.FreePlaces.{empty_count, free_in, free_places}
-use Rattle.mh_blocks.specs.TableMaps.{page_map, table_map}
+use Rattle.mh_table_laws.specs.TableMaps.{page_map, table_map}
 
 module _ {X Y : Type 0} (f : X → Y) where
   empty_count-map : (slots : List (Option X)) → empty_count (map (option_map f) slots) ≡ empty_count slots

@@ -10,7 +10,7 @@ use Rattle.mh_pages.specs.Words.{words_at, with_word, with_header}
 use Rattle.mh_blocks.specs.Words.{place_in, reference_words, block_of, blocks_of}
 use Rattle.mh_blocks.specs.Packed.{ArePacked}
 use Rattle.mh_blocks.specs.Marks.{Index, IsIndexOf}
-use Rattle.mh_blocks.proofs.TableMapLemmas.{freed-table_map, with_flag-table_map, with_released-table_map}
+use Rattle.mh_table_laws.proofs.TableMapLemmas.{freed-table_map, with_flag-table_map, with_released-table_map}
 use Rattle.mh_blocks.proofs.PageMapLemmas.{class_at-table_map, free_above}
 use Rattle.mh_blocks.proofs.ReadLemmas.{HasReference, HasNumber}
 use Rattle.mh_blocks.proofs.WriteLemmas.{with_word-stamp, with_word-reference, with_word-number}

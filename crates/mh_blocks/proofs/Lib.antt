@@ -1,4 +1,3 @@
-pub mod TableMapLemmas
 pub mod PageMapLemmas
 pub mod ChangeLemmas
 pub mod CountLemmas

@@ -15,7 +15,7 @@ use Rattle.mh_pages.specs.Words.{with_word, with_header}
 use Rattle.mh_blocks.specs.Words.{place_in, header_in, block_of, blocks_of}
 use Rattle.mh_blocks.specs.Packed.{IsPacked, ArePacked}
 use Rattle.mh_blocks.specs.Headers.{IsNewHeader}
-use Rattle.mh_blocks.proofs.TableMapLemmas.{with_taken-table_map}
+use Rattle.mh_table_laws.proofs.TableMapLemmas.{with_taken-table_map}
 use Rattle.mh_table_laws.proofs.placing.Places.{block_at-with_taken_same, with_block-with_taken}
 use Rattle.mh_blocks.proofs.PackedLemmas.{taken_packed}
 use Rattle.mh_blocks.proofs.FreeLemmas.{at_some}

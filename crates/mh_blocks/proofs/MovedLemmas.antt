@@ -7,7 +7,7 @@ use Rattle.mh_model.specs.Collector.{moved_table}
 use Rattle.mh_pages.specs.Words.{words_at, with_word}
 use Rattle.mh_blocks.specs.Words.{place_in, block_of, blocks_of}
 use Rattle.mh_blocks.specs.Packed.{ArePacked}
-use Rattle.mh_blocks.proofs.TableMapLemmas.{block_at-table_map, with_taken-table_map}
+use Rattle.mh_table_laws.proofs.TableMapLemmas.{block_at-table_map, with_taken-table_map}
 use Rattle.mh_blocks.proofs.PageMapLemmas.{class_at-table_map, free_above}
 use Rattle.mh_table_laws.proofs.placing.Places.{block_at-with_taken_there}
 use Rattle.mh_blocks.proofs.ReadLemmas.{words_there, header_within, small_place}

@@ -5,8 +5,8 @@ use Rattle.std.proofs.lemmas.List.{length-map}
 use Rattle.std.proofs.lemmas.Option.{none-some, same_Some}
 use Rattle.mh_model.specs.Pages.{Page, Table, page_number, page_at, block_at, class_at, flag_at, block_count, live_in, free_pages, count_at, is_dense, is_sparse, empty_slot, open_slot, fresh_slot, least, least_dense_place, least_place, is_dense_page, has_denser, page_for, HasItsSlots, HaveTheirSlots, IsFreeFor}
 use Rattle.mh_pages.specs.Addresses.{address_in}
-use Rattle.mh_blocks.specs.TableMaps.{page_map, table_map}
-use Rattle.mh_blocks.proofs.TableMapLemmas.{length-table_map, page_at-table_map, block_at-table_map, page_for-table_map}
+use Rattle.mh_table_laws.specs.TableMaps.{page_map, table_map}
+use Rattle.mh_table_laws.proofs.TableMapLemmas.{length-table_map, page_at-table_map, block_at-table_map, page_for-table_map}
 
 module _ {X Y : Type 0} (f : X → Y) where
   -- Pages ----------------------------------------------------------------------------------------

@@ -6,7 +6,7 @@ use Rattle.mh_model.specs.Table.{Block, references_at, reference_at, numbers_at,
 use Rattle.mh_pages.specs.Words.{words_at}
 use Rattle.mh_blocks.specs.Words.{place_in, part_in, header_in, reference_words, number_words, block_of, blocks_of}
 use Rattle.mh_blocks.specs.Packed.{IsPacked, ArePacked}
-use Rattle.mh_blocks.proofs.TableMapLemmas.{length-table_map, block_at-table_map}
+use Rattle.mh_table_laws.proofs.TableMapLemmas.{length-table_map, block_at-table_map}
 use Rattle.mh_blocks.proofs.BlockLemmas.{length-references, length-numbers, reference-is, number-is}
 
 -- a block that is there, and its words

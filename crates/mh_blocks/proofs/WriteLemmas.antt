@@ -5,7 +5,7 @@ use Rattle.mh_model.specs.Table.{with_block_change, with_reference_at, with_numb
 use Rattle.mh_pages.specs.Words.{words_at, with_word}
 use Rattle.mh_blocks.specs.Words.{place_in, reference_words, block_of, blocks_of}
 use Rattle.mh_blocks.specs.Packed.{ArePacked}
-use Rattle.mh_blocks.proofs.TableMapLemmas.{changed}
+use Rattle.mh_table_laws.proofs.TableMapLemmas.{changed}
 use Rattle.mh_blocks.proofs.BlockLemmas.{stamp_written, forward_written, reference_written, number_written}
 use Rattle.mh_blocks.proofs.ReadLemmas.{HasReference, HasNumber}
 

@@ -1,4 +1,3 @@
-pub mod TableMaps
 pub mod Words
 pub mod Packed
 pub mod Counted

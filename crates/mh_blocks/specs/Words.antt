@@ -6,7 +6,7 @@ use Rattle.mh_model.specs.declared.shape.Shape.{Shape}
 use Rattle.mh_model.specs.Pages.{Table}
 use Rattle.mh_model.specs.Table.{Block}
 use Rattle.mh_classes.specs.Counts.{reference_count, number_count}
-use Rattle.mh_blocks.specs.TableMaps.{table_map}
+use Rattle.mh_table_laws.specs.TableMaps.{table_map}
 
 -- the place that a word stands for: none for 0
 abbrev pub place_in : ℕ → Option ℕ

@@ -1,5 +1,4 @@
 pub mod Checks
-pub mod Memory
 pub mod Outcome
 pub mod PlainHeap
 pub mod PlainShown

@@ -1,7 +1,6 @@
 ghost use Rattle.std.specs.Prelude.{◌≡◌, ◌<◌, None, IfOk, OnErr};
 ghost use Rattle.mh_model.specs.declared.birth.TheConstants.{LIFE};
-ghost use Rattle.mh_model.specs.World.{births, sight_of, refusal, IsClosed, Performs};
-ghost use Rattle.mh_heap.specs.Memory.{IsNew};
+ghost use Rattle.mh_model.specs.World.{births, sight_of, refusal, IsClosed, IsNew, Performs};
 ghost use Rattle.mh_heap.specs.Outcome.{done_or, number_or, same_or, shape_or};
 
 use crate::heap::Heap;

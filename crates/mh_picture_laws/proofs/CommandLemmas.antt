@@ -23,10 +23,10 @@ use Rattle.mh_table_laws.proofs.objects.MadeGroups.{length-words_of, made_parts-
 use Rattle.mh_table_laws.proofs.objects.Parts.{parts_fit}
 use Rattle.mh_table_laws.proofs.placing.Places.{IsShaped}
 use Rattle.mh_laws.proofs.commands.CommandAnswers.{new-done}
-use Rattle.mh_picture_laws.specs.TableMaps.{table_map}
+use Rattle.mh_table_laws.specs.TableMaps.{table_map}
 use Rattle.mh_picture_laws.specs.Picture.{Picture, Drawn, drawn_of, picture_of, with_table, drawn, drawn_all}
 use Rattle.mh_picture_laws.specs.Laws.{CommandsTellThePicture}
-use Rattle.mh_picture_laws.proofs.TableMapLemmas.{unseen, seen_alike, with_taken-table_map}
+use Rattle.mh_table_laws.proofs.TableMapLemmas.{unseen, seen_alike, with_taken-table_map}
 use Rattle.mh_picture_laws.proofs.ShadingLemmas.{drawn_all-append, marking_picture, marked-picture, shade-case}
 use Rattle.mh_picture_laws.proofs.MarkLemmas.{written-unseen}
 

@@ -6,7 +6,7 @@ use Rattle.mh_model.specs.Pages.{Table, free_pages}
 use Rattle.mh_model.specs.Table.{Block, is_forwarder}
 use Rattle.mh_model.specs.Collector.{Collector}
 use Rattle.mh_model.specs.Machine.{dump_block, dump_slots, dump_pages, blocks_in, blocks_of, stat_on}
-use Rattle.mh_picture_laws.specs.TableMaps.{page_map, table_map}
+use Rattle.mh_table_laws.specs.TableMaps.{page_map, table_map}
 use Rattle.mh_picture_laws.specs.Picture.{drawn_of, picture_of, bare_block, dump_of, stat_of}
 use Rattle.mh_picture_laws.specs.Laws.{PictureGivesTheDump}
 

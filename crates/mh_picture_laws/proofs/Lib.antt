@@ -1,4 +1,3 @@
-pub mod TableMapLemmas
 pub mod ShadingLemmas
 pub mod MarkLemmas
 pub mod SweepLemmas

@@ -9,9 +9,9 @@ use Rattle.mh_model.specs.Deeds.{edge_of, reference_deeds, mark_deeds}
 use Rattle.mh_model.specs.Invariant.{IsSteady, IsIn}
 use Rattle.mh_table_laws.proofs.marking.BatchMarking.{written_back-keeps}
 use Rattle.mh_laws.proofs.fields.FoundFields.{references-lead}
-use Rattle.mh_picture_laws.specs.TableMaps.{table_map}
+use Rattle.mh_table_laws.specs.TableMaps.{table_map}
 use Rattle.mh_picture_laws.specs.Picture.{Picture, Drawn, drawn_of, shaded_at, with_edge, drawn_all}
-use Rattle.mh_picture_laws.proofs.TableMapLemmas.{block_at-table_map, unseen}
+use Rattle.mh_table_laws.proofs.TableMapLemmas.{block_at-table_map, unseen}
 use Rattle.mh_picture_laws.proofs.ShadingLemmas.{marking_picture, IsShaded, shade-case, edge-drawn}
 
 -- One hop ----------------------------------------------------------------------------------------

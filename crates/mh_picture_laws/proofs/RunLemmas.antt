@@ -15,7 +15,7 @@ use Rattle.mh_laws.proofs.snapshots.SteadyStates.{collectors-steady, heaps-kept}
 use Rattle.mh_laws.proofs.snapshots.RunningCycles.{moments_keep}
 use Rattle.mh_picture_laws.specs.Picture.{drawn_of, picture_of, empty_picture, with_table, drawn_all, drawn_quantum, drawn_account, accounts_of, drawn_run, dump_of, stat_of}
 use Rattle.mh_picture_laws.specs.Laws.{EventsTellThePicture, RunsTellThePicture}
-use Rattle.mh_picture_laws.proofs.TableMapLemmas.{free-table_map}
+use Rattle.mh_table_laws.proofs.TableMapLemmas.{free-table_map}
 use Rattle.mh_picture_laws.proofs.QuantumLemmas.{quanta-tell}
 use Rattle.mh_picture_laws.proofs.CommandLemmas.{commands-tell}
 use Rattle.mh_picture_laws.proofs.DumpLemmas.{dump-drawn, stat-drawn}

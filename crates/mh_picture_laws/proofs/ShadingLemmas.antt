@@ -8,9 +8,9 @@ use Rattle.mh_model.specs.Pages.{Table, block_at, with_block}
 use Rattle.mh_model.specs.Table.{Block, resolve, target_of}
 use Rattle.mh_model.specs.Collector.{Collector, Marking, is_marked, with_grey, shade_block, shade, with_marking}
 use Rattle.mh_model.specs.Deeds.{edge_of}
-use Rattle.mh_picture_laws.specs.TableMaps.{table_map}
+use Rattle.mh_table_laws.specs.TableMaps.{table_map}
 use Rattle.mh_picture_laws.specs.Picture.{Picture, Drawn, drawn_of, picture_of, marked_in, shaded, shaded_at, with_edge, drawn, drawn_all}
-use Rattle.mh_picture_laws.proofs.TableMapLemmas.{block_at-table_map, with_block-table_map}
+use Rattle.mh_table_laws.proofs.TableMapLemmas.{block_at-table_map, with_block-table_map}
 
 -- deeds after deeds
 pub drawn_all-append : (first second : List Deed) (picture : Picture) → drawn_all picture (first ++ second) ≡ drawn_all (drawn_all picture first) second

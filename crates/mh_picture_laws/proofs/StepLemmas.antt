@@ -9,10 +9,10 @@ use Rattle.mh_model.specs.Deeds.{root_deed, forward_deeds, slot_deeds, defrag_de
 use Rattle.mh_model.specs.Invariant.{IsSteady}
 use Rattle.mh_table_laws.proofs.marking.GreyList.{cycle-shade, cycle-mark_first}
 use Rattle.mh_laws.proofs.moving.NextMove.{IsNextMove, next_move-is}
-use Rattle.mh_picture_laws.specs.TableMaps.{table_map}
+use Rattle.mh_table_laws.specs.TableMaps.{table_map}
 use Rattle.mh_picture_laws.specs.Picture.{Picture, drawn_of, picture_of, with_table, moved_drawn, drawn, drawn_all}
 use Rattle.mh_picture_laws.specs.Laws.{StepsTellThePicture}
-use Rattle.mh_picture_laws.proofs.TableMapLemmas.{block_at-table_map, with_block-table_map, with_taken-table_map}
+use Rattle.mh_table_laws.proofs.TableMapLemmas.{block_at-table_map, with_block-table_map, with_taken-table_map}
 use Rattle.mh_picture_laws.proofs.ShadingLemmas.{drawn_all-append, marked-picture, shade-drawn}
 use Rattle.mh_picture_laws.proofs.MarkLemmas.{mark-drawn}
 use Rattle.mh_picture_laws.proofs.SweepLemmas.{sweep-drawn}

@@ -7,9 +7,9 @@ use Rattle.mh_model.specs.Collector.{is_marked, is_last_slot, survivor, judged_p
 use Rattle.mh_model.specs.declared.deed.Fate.TheVariants as fate
 use Rattle.mh_model.specs.Deeds.{name_of, block_fate, slot_fate, flag_deeds, page_deeds, sweep_deeds}
 use Rattle.mh_table_laws.proofs.Lists.{below_length}
-use Rattle.mh_picture_laws.specs.TableMaps.{table_map}
+use Rattle.mh_table_laws.specs.TableMaps.{table_map}
 use Rattle.mh_picture_laws.specs.Picture.{Picture, drawn_of, with_table, swept_slot, drawn_all}
-use Rattle.mh_picture_laws.proofs.TableMapLemmas.{freed-table_map, with_block-table_map, with_flag-table_map}
+use Rattle.mh_table_laws.proofs.TableMapLemmas.{freed-table_map, with_block-table_map, with_flag-table_map}
 
 -- what is written where it was
 set-same : {X : Type 0} (xs : List (Option X)) (i : ℕ) (x : Option X) → get_or xs i None ≡ x → set xs i x ≡ xs

@@ -1,3 +1,2 @@
-pub mod TableMaps
 pub mod Picture
 pub mod Laws

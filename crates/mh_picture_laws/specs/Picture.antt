@@ -18,7 +18,7 @@ use Rattle.mh_model.specs.Table.{Block}
 use Rattle.mh_model.specs.Collector.{Collector}
 use Rattle.mh_model.specs.Deeds.{Ran, Account, account_of, name_of}
 use Rattle.mh_model.specs.Machine.{Machine, event_step, dump_pages, stat_on}
-use Rattle.mh_picture_laws.specs.TableMaps.{table_map}
+use Rattle.mh_table_laws.specs.TableMaps.{table_map}
 
 -- Pictures ---------------------------------------------------------------------------------------
 

@@ -1,3 +1,4 @@
 pub mod Agreement
 pub mod FullHeaps
+pub mod FullAlone
 pub mod Moments

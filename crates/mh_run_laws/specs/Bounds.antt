@@ -3,7 +3,6 @@ use Rattle.std.specs.Prelude.{ℕ, suc, ◌+◌, ◌*◌, ◌≤◌, List, lengt
 use Rattle.mh_model.specs.declared.command.Event.{Event}
 use Rattle.mh_model.specs.declared.config.Config.{Config}
 use Rattle.mh_model.specs.declared.config.Rules.TheVariants.{Second}
-use Rattle.mh_model.specs.Collector.{quantum}
 use Rattle.mh_model.specs.World.{most_fields_under}
 use Rattle.mh_model.specs.Classes.{run_count, middle_count}
 use Rattle.mh_model.specs.Machine.{Machine, first_machine, half_step, machine_after}

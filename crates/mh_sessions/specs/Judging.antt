@@ -1,6 +1,5 @@
 -- The judging of a history by what its sessions see: the try of an entry, and what a judge knows of the entries before.
 use Rattle.std.specs.Prelude.{◌≡◌, ◌≢◌, ◌⊎◌, ℕ, Bool, true, false, Option, MatchOption, List, length}
-use Rattle.mh_heap.specs.Memory.{IsNew}
 use Rattle.mh_model.specs.declared.command.Event.{Event}
 use Rattle.mh_model.specs.declared.command.Event.TheVariants as event
 use Rattle.mh_model.specs.declared.config.Rules.{Rules}
@@ -10,7 +9,7 @@ use Rattle.mh_model.specs.History.{IsFirstBadOf, events_of, replies_of}
 use Rattle.mh_model.specs.Limits.{most_entries}
 use Rattle.mh_model.specs.Sessions.{IsLegalForSessions, IsSeen, lacks_room}
 use Rattle.mh_model.specs.Snapshot.{world_beside, world_beside_event}
-use Rattle.mh_model.specs.World.{World, first_world}
+use Rattle.mh_model.specs.World.{IsNew, World, first_world}
 
 -- an event that makes an object, for which the reply says that there was room
 abbrev pub MakesObject : Event → Reply → Type 0

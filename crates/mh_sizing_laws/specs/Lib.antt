@@ -3,3 +3,4 @@ pub mod Triggers
 pub mod Cycles
 pub mod PagesLeft
 pub mod Reached
+pub mod Needs

@@ -1,49 +1,16 @@
--- How many pages new objects may open while no quantum is run.
-use Rattle.std.specs.Prelude.{◌≡◌, ℕ, ◌+◌, ◌==◌, ◌≤◌, nat_lt, Bool, true, false, if◌then◌else◌, Some, None, option_map, unwrap_or, List, [], ◌∷◌, ◌++◌}
-use Rattle.std.specs.Int.{div_ceil}
-use Rattle.std.specs.List.{sum_by, count_by, flat_map}
-use Rattle.mh_model.specs.declared.command.Command.TheVariants as command
+-- Laws of the pages that new objects open while no quantum is run.
+use Rattle.std.specs.Prelude.{◌≡◌, ℕ, ◌+◌, ◌≤◌, Some, List, [], ◌∷◌, ◌++◌}
 use Rattle.mh_model.specs.declared.command.Event.{Event}
-use Rattle.mh_model.specs.declared.command.Event.TheVariants as event
 use Rattle.mh_model.specs.declared.config.Config.{Config}
-use Rattle.mh_model.specs.World.{most_fields}
-use Rattle.mh_model.specs.Classes.{Part, class_sizes, class_of, slots_in, part_words, parts}
-use Rattle.mh_model.specs.Pages.{Table, page_number, block_at, flag_at, free_pages, HaveTheirSlots}
+use Rattle.mh_model.specs.Classes.{Part}
+use Rattle.mh_model.specs.Pages.{Table, free_pages, HaveTheirSlots}
 use Rattle.mh_model.specs.Table.{Block, Made, made_group}
-use Rattle.mh_model.specs.Machine.{Machine, first_machine, half_step, machine_after}
-
--- a part goes into pages of this class
-abbrev pub is_of_class : ℕ → Part → Bool
-is_of_class size part = unwrap_or (option_map (λ class. class == size) (class_of (part_words part))) false
-
--- how many of these parts do
-abbrev pub class_parts : ℕ → List Part → ℕ
-class_parts size parts = count_by (is_of_class size) parts
-
--- how many pages of a class so many parts fill, of which the last may have room
-abbrev pub pages_for : ℕ → ℕ → ℕ
-pages_for size count = div_ceil count (slots_in size)
-
--- how many pages parts fill if each class has pages of its own
-abbrev pub pages_of_parts : List Part → ℕ
-pages_of_parts list = sum_by (λ size. pages_for size (class_parts size list)) class_sizes
-
--- the parts of the object that an event asks for, and none if the rules don't allow so large a one
-abbrev pub asked_parts : Config → Event → List Part
-asked_parts config (event.Session who (command.New slot references numbers)) = if nat_lt (most_fields config) (references + numbers) then [] else parts references numbers
-asked_parts config _ = []
-
--- The most pages that a list of events opens if it runs no quantum
-abbrev pub opens_at_most : Config → List Event → ℕ
-opens_at_most config events = pages_of_parts (flat_map (asked_parts config) events)
+use Rattle.mh_model.specs.Machine.{first_machine, half_step, machine_after}
+use Rattle.mh_model.specs.Openings.{pages_of_parts, opens_at_most, free_of}
 
 -- An object that is made opens no more pages than its parts fill by class
 abbrev pub ObjectsOpenFewPages : Type 0
 ObjectsOpenFewPages = (table : Table Block) (birth stamp : ℕ) (list : List Part) (made : Made) → HaveTheirSlots table → made_group table birth stamp list ≡ Some made → free_pages table ≤ free_pages made.table + pages_of_parts list
-
--- how many pages of a machine are free
-abbrev pub free_of : Machine → ℕ
-free_of machine = free_pages machine.heap.collector.table
 
 -- While no quantum is run, a list of events opens no more pages than its parts fill by class; nor does it with a command after it, before the quantum that this makes due
 pub record IntervalsOpenFewPages : Type 0 where
@@ -55,8 +22,3 @@ pub record IntervalsOpenFewPages : Type 0 where
       let machine = machine_after (first_machine config) events in
       let later = machine_after machine more in
       later.trace.quanta ≡ machine.trace.quanta → free_of machine ≤ free_of (half_step later event) + opens_at_most config (more ++ event ∷ [])
-
--- Flagged pages stay flagged, and a place in one of them that has no block gets none
-pub record LeavesFlagged {X : Type 0} (old new : Table X) : Type 0 where
-  pub flags : (number : ℕ) → flag_at old number ≡ true → flag_at new number ≡ true
-  pub empty : (place : ℕ) → flag_at old (page_number place) ≡ true → block_at old place ≡ None → block_at new place ≡ None

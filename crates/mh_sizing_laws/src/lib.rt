@@ -3,6 +3,7 @@
 #![tactic(auto)]
 
 pub mod cycles;
+pub mod needs;
 pub mod openings;
 pub mod pages_left;
 pub mod reached;

@@ -1,3 +1,4 @@
 pub mod Lists
 pub mod objects
 pub mod marking
+pub mod TableMapLemmas

@@ -18,7 +18,7 @@ use Rattle.mh_model.specs.Collector.{step_cost, collector_step, steps, quantum}
 use Rattle.mh_model.specs.Mutator.{heap_effect, mutator_step}
 use Rattle.mh_model.specs.Machine.{first_machine, quantum_run, command_step, control_step, event_step}
 use Rattle.mh_model.specs.Deeds.{step_deeds, deeds_of_steps, quantum_deeds, command_deeds, account_of}
-use Rattle.mh_picture_laws.specs.TableMaps.{table_map}
+use Rattle.mh_table_laws.specs.TableMaps.{table_map}
 use Rattle.mh_picture_laws.specs.Picture.{Drawn, Picture, drawn_of, empty_picture, drawn, drawn_all, accounts_of, drawn_run, dump_of}
 
 -- a row that unfolds this name computes

@@ -12,7 +12,8 @@ use Rattle.mh_model.specs.CycleBounds.{IsRoomyPage, IsRoomy}
 use Rattle.mh_model.specs.Machine.{Machine, first_machine, half_step, event_step, machine_after}
 use Rattle.mh_model.specs.Snapshot.{has_quantum}
 use Rattle.mh_laws.proofs.bounds.CyclesInTime.{StaysInBounds, run-stays}
-use Rattle.mh_sizing_laws.specs.Cycles.{slot_units, page_units, marking_units, cycle_starts, RoomForPagesSuffices}
+use Rattle.mh_model.specs.CycleUnits.{slot_units, page_units, marking_units, cycle_starts}
+use Rattle.mh_sizing_laws.specs.Cycles.{RoomForPagesSuffices}
 use Rattle.mh_sizing_laws.proofs.triggers.SizedRuns.{half-stays, next-stays}
 use Rattle.mh_sizing_laws.proofs.cycles.SharperRuns.{marking-suffices}
 

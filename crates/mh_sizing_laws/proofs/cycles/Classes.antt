@@ -18,7 +18,7 @@ use Rattle.mh_table_laws.proofs.Lists.{get_or-set_either}
 use Rattle.mh_table_laws.proofs.tables.PageSlots.{judged_page-is}
 use Rattle.mh_laws.proofs.costs.Quanta.{steps-stop, steps-go}
 use Rattle.mh_laws.proofs.moving.NextMove.{next_move-is}
-use Rattle.mh_sizing_laws.specs.Openings.{class_parts, asked_parts}
+use Rattle.mh_model.specs.Openings.{class_parts, asked_parts}
 use Rattle.mh_sizing_laws.proofs.openings.Rooms.{HasSameRoom}
 use Rattle.mh_sizing_laws.proofs.openings.MadeParts.{one_of-same, first-made, class_parts-cons}
 use Rattle.mh_sizing_laws.proofs.openings.KeptRoom.{linked_parts-room, with_shade-room, mark_first-room, with_root-room, heap_effect-room}

@@ -6,8 +6,8 @@ use Rattle.std.proofs.lemmas.Bool.{cases_Bool, eqb-true, false≢true}
 use Rattle.std.proofs.lemmas.List.Sums.{sum_by-cons}
 use Rattle.mh_model.specs.Classes.{Part, class_sizes, class_of, part_words, slots_in, is_class_size}
 use Rattle.mh_table_laws.proofs.tables.PageSlots.{class_of-class_size}
-use Rattle.mh_sizing_laws.specs.Openings.{is_of_class, class_parts}
-use Rattle.mh_sizing_laws.specs.Cycles.{occurs, greatest_of, most_slots, slots_and_moves, most_moves}
+use Rattle.mh_model.specs.Openings.{is_of_class, class_parts}
+use Rattle.mh_model.specs.CycleUnits.{occurs, greatest_of, most_slots, slots_and_moves, most_moves}
 use Rattle.mh_sizing_laws.proofs.openings.MadeParts.{IsAmong, among-classes}
 use Rattle.mh_sizing_laws.proofs.cycles.Classes.{PartsFit, FitsClass}
 

@@ -19,8 +19,8 @@ use Rattle.mh_laws.proofs.bounds.CycleBounds.{steps-spend, steps-count}
 use Rattle.mh_laws.proofs.bounds.CyclesInTime.{cycle_start-fresh}
 use Rattle.mh_laws.proofs.commands.LeftUnchanged.{mutator_step-course}
 use Rattle.mh_laws.proofs.costs.QuantumStarts.{begins, quantum-rests}
-use Rattle.mh_sizing_laws.specs.Openings.{asked_parts}
-use Rattle.mh_sizing_laws.specs.Cycles.{slot_units, page_units, marking_units}
+use Rattle.mh_model.specs.Openings.{asked_parts}
+use Rattle.mh_model.specs.CycleUnits.{slot_units, page_units, marking_units}
 use Rattle.mh_sizing_laws.proofs.openings.Rooms.{LeavesAlone}
 use Rattle.mh_sizing_laws.proofs.cycles.SparsePages.{AreSparse, sparse-alone, IsAtSlot, at_slot-inside, at_slot-kept, page_left, page_left-alone, IsSwept}
 use Rattle.mh_sizing_laws.proofs.cycles.Classes.{HasClasses, PartsFit, command-classes, steps-classes, FitsClass}

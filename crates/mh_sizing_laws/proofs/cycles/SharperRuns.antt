@@ -17,9 +17,10 @@ use Rattle.mh_model.specs.Collector.{Collector, is_start_due, quantum}
 use Rattle.mh_model.specs.Machine.{Machine, first_machine, quantum_run, command_step, control_step, half_step, event_step, machine_replies}
 use Rattle.mh_model.specs.Snapshot.{has_quantum, is_heap_full}
 use Rattle.mh_table_laws.proofs.Lists.{none_at}
-use Rattle.mh_sizing_laws.specs.Openings.{class_parts, asked_parts}
-use Rattle.mh_sizing_laws.specs.Triggers.{moments, intervals, has_ended, cycle_ends, LeaveFlagged}
-use Rattle.mh_sizing_laws.specs.Cycles.{marking_units, cycle_starts, most_slots, most_moves, quanta_for, RoomForMarkingSuffices}
+use Rattle.mh_model.specs.Openings.{class_parts, asked_parts}
+use Rattle.mh_model.specs.Intervals.{moments, intervals, has_ended, cycle_ends, LeaveFlagged}
+use Rattle.mh_model.specs.CycleUnits.{marking_units, cycle_starts, most_slots, most_moves, quanta_for}
+use Rattle.mh_sizing_laws.specs.Cycles.{RoomForMarkingSuffices}
 use Rattle.mh_sizing_laws.proofs.openings.Rooms.{LeavesAlone}
 use Rattle.mh_sizing_laws.proofs.openings.MadeParts.{pages_of}
 use Rattle.mh_sizing_laws.proofs.openings.Intervals.{asked_of, asked-cons, quantum-event, since-half}

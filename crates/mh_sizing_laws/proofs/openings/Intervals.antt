@@ -26,7 +26,8 @@ use Rattle.mh_model.specs.Snapshot.{has_quantum}
 use Rattle.mh_laws.proofs.bounds.CyclesInTime.{run-stays}
 use Rattle.mh_laws.proofs.commands.LeftUnchanged.{mutator_step-course, machine_after-pages}
 use Rattle.mh_laws.proofs.runs.EveryMoment.{config-mutator_step, machine_after-keeps}
-use Rattle.mh_sizing_laws.specs.Openings.{is_of_class, class_parts, asked_parts, opens_at_most, ObjectsOpenFewPages, free_of, IntervalsOpenFewPages}
+use Rattle.mh_model.specs.Openings.{is_of_class, class_parts, asked_parts, opens_at_most, free_of}
+use Rattle.mh_sizing_laws.specs.Openings.{ObjectsOpenFewPages, IntervalsOpenFewPages}
 use Rattle.mh_sizing_laws.proofs.openings.Rooms.{HasSameRoom}
 use Rattle.mh_sizing_laws.proofs.openings.MadeParts.{IsOpened, opened-none, opened-more, made_parts-opened, opened-few}
 use Rattle.mh_sizing_laws.proofs.openings.KeptRoom.{linked_parts-room, with_root-room, heap_effect-room}

@@ -14,7 +14,7 @@ use Rattle.mh_table_laws.specs.Placing.{IsFound}
 use Rattle.mh_table_laws.proofs.Lists.{get_or-set_either}
 use Rattle.mh_table_laws.proofs.placing.Places.{shaped-slots, open_slot-is, least_place-least}
 use Rattle.mh_table_laws.proofs.tables.PageSlots.{slots_in-class_size, class_of-class_size, page_with-slots, page_for-slots}
-use Rattle.mh_sizing_laws.specs.Openings.{is_of_class, class_parts, pages_for}
+use Rattle.mh_model.specs.Openings.{is_of_class, class_parts, pages_for}
 use Rattle.mh_sizing_laws.proofs.openings.Rooms.{dense_room, dense_room-none, TakesRoom, taken-in_use, OpensPage, taken-fresh}
 
 -- Sums over classes ------------------------------------------------------------------------------

@@ -18,8 +18,9 @@ use Rattle.mh_laws.proofs.costs.QuantumStarts.{begins}
 use Rattle.mh_laws.proofs.runs.EveryMoment.{half_step-keeps, event_step-keeps, machine_after-keeps}
 use Rattle.mh_laws.proofs.snapshots.SteadyStates.{collectors-steady, heaps-kept}
 use Rattle.mh_run_laws.proofs.worlds.Moments.{machine-moment_after}
-use Rattle.mh_sizing_laws.specs.Openings.{free_of}
-use Rattle.mh_sizing_laws.specs.PagesLeft.{page_count, count_blocks, is_plain, PagesInUseHaveBlocks}
+use Rattle.mh_model.specs.Openings.{free_of}
+use Rattle.mh_model.specs.LiveParts.{page_count, count_blocks, is_plain}
+use Rattle.mh_sizing_laws.specs.PagesLeft.{PagesInUseHaveBlocks}
 use Rattle.mh_sizing_laws.proofs.pages_left.FedCommands.{mutator_step-feeds}
 use Rattle.mh_sizing_laws.proofs.pages_left.SweptPages.{IsUsedWell, HasItsBlocks, quiet-blocks, fed-blocks, step-blocks}
 

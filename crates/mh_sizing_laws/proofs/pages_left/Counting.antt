@@ -9,7 +9,7 @@ use Rattle.mh_model.specs.Table.{Block}
 use Rattle.mh_table_laws.proofs.Lists.{below_length}
 use Rattle.mh_table_laws.proofs.placing.Places.{IsShaped, block-slot, block_at-with_block_same, block_at-with_block_other}
 use Rattle.mh_laws.proofs.marking.BlockChanges.{pages-with_block}
-use Rattle.mh_sizing_laws.specs.PagesLeft.{slot_count, page_count, count_blocks}
+use Rattle.mh_model.specs.LiveParts.{slot_count, page_count, count_blocks}
 
 -- Sums -------------------------------------------------------------------------------------------
 

@@ -10,7 +10,7 @@ use Rattle.mh_model.specs.Table.{Block, Made, MadeParts, new_block, made_in_clas
 use Rattle.mh_table_laws.proofs.Lists.{below_length}
 use Rattle.mh_table_laws.proofs.placing.Places.{with_block-self, shaped-slots, least_place-free, block_in-page_for}
 use Rattle.mh_table_laws.proofs.tables.PageSlots.{slots_in-class_size, class_of-class_size}
-use Rattle.mh_sizing_laws.specs.PagesLeft.{slot_count, page_count, count_blocks, is_plain}
+use Rattle.mh_model.specs.LiveParts.{slot_count, page_count, count_blocks, is_plain}
 use Rattle.mh_sizing_laws.proofs.openings.Rooms.{if_free, free_pages-set}
 use Rattle.mh_sizing_laws.proofs.openings.MadeParts.{taken-slots}
 use Rattle.mh_sizing_laws.proofs.pages_left.Counting.{count-set, count-slot}

@@ -16,9 +16,10 @@ use Rattle.mh_run_laws.proofs.following.AllCommands.{commands-follow}
 use Rattle.mh_run_laws.proofs.runs.FaithfulMoments.{moments-faithful, finished-exact}
 use Rattle.mh_run_laws.proofs.showing.QuantaShow.{agrees-quantum}
 use Rattle.mh_run_laws.proofs.worlds.Moments.{machine-moment_after}
-use Rattle.mh_sizing_laws.specs.Openings.{asked_parts}
-use Rattle.mh_sizing_laws.specs.PagesLeft.{HasAtMostLive, parts_since, count_blocks, is_plain, FinishedCyclesLeaveFewPages}
-use Rattle.mh_sizing_laws.specs.Triggers.{has_ended}
+use Rattle.mh_model.specs.Openings.{asked_parts}
+use Rattle.mh_model.specs.LiveParts.{HasAtMostLive, parts_since, count_blocks, is_plain}
+use Rattle.mh_sizing_laws.specs.PagesLeft.{FinishedCyclesLeaveFewPages}
+use Rattle.mh_model.specs.Intervals.{has_ended}
 use Rattle.mh_sizing_laws.proofs.openings.Intervals.{quiet-event, quantum-event}
 use Rattle.mh_sizing_laws.proofs.triggers.SizedRuns.{IsOnWay, half-on_way, run-collector}
 use Rattle.mh_sizing_laws.proofs.pages_left.BlocksInUse.{UsesWell, half-machine, event-uses}

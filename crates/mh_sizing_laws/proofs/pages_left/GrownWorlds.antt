@@ -15,8 +15,8 @@ use Rattle.mh_model.specs.World.{Object, World, births, object_at, slot_at, own_
 use Rattle.mh_model.specs.Classes.{parts}
 use Rattle.mh_model.specs.Snapshot.{is_heap_full, world_beside_event}
 use Rattle.mh_run_laws.proofs.following.SlotCommands.{map-put}
-use Rattle.mh_sizing_laws.specs.Openings.{asked_parts}
-use Rattle.mh_sizing_laws.specs.PagesLeft.{object_parts, parts_since}
+use Rattle.mh_model.specs.Openings.{asked_parts}
+use Rattle.mh_model.specs.LiveParts.{object_parts, parts_since}
 use Rattle.mh_sizing_laws.proofs.openings.Intervals.{new-allowed}
 
 -- the numbers of parts of all objects by birth

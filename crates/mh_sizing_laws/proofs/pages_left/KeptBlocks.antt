@@ -19,7 +19,7 @@ use Rattle.mh_table_laws.proofs.objects.Headers.{header_is}
 use Rattle.mh_table_laws.proofs.objects.JoinedFields.{shape_is}
 use Rattle.mh_laws.proofs.showing.FoundBlocks.{live_held}
 use Rattle.mh_laws.proofs.snapshots.CycleStarts.{births-view, first-view}
-use Rattle.mh_sizing_laws.specs.PagesLeft.{object_parts, parts_of_births, HasAtMostLive, parts_since, count_blocks, is_plain}
+use Rattle.mh_model.specs.LiveParts.{object_parts, parts_of_births, HasAtMostLive, parts_since, count_blocks, is_plain}
 use Rattle.mh_sizing_laws.proofs.pages_left.Counting.{sum_to, sum_to-ones, count-some, count-one, with_key, count-keys}
 use Rattle.mh_sizing_laws.proofs.pages_left.GrownWorlds.{total, HasGrown, births-grown, parts-before, parts-after, since-grown}
 

@@ -10,11 +10,12 @@ use Rattle.mh_model.specs.Collector.{is_idle, is_start_due}
 use Rattle.mh_model.specs.Machine.{Machine, first_machine, half_step, event_step, machine_after}
 use Rattle.mh_model.specs.Snapshot.{Moment, first_moment, half_moment, next_moment, has_quantum, snapshot_at}
 use Rattle.mh_model.specs.World.{World}
-use Rattle.mh_sizing_laws.specs.Openings.{class_parts, asked_parts, opens_at_most, free_of}
-use Rattle.mh_sizing_laws.specs.Triggers.{moments, intervals, cycle_ends, CyclesTakeAtMost, HasRoomFor, IsNeverFull}
-use Rattle.mh_sizing_laws.specs.Cycles.{marking_units, cycle_starts, CyclesMarkAtMost, occurs, greatest_of, most_slots, slots_and_moves, most_moves, units_for, quanta_for}
-use Rattle.mh_sizing_laws.specs.Reached.{ReachesAtMost, snapshots, CyclesReachAtMost}
-use Rattle.mh_sizing_laws.specs.PagesLeft.{HasPagesFor, NeverFills, PagesForMarkingSuffice, PagesForReachedSuffice}
+use Rattle.mh_model.specs.Openings.{class_parts, asked_parts, opens_at_most, free_of}
+use Rattle.mh_model.specs.Intervals.{moments, intervals, cycle_ends, CyclesTakeAtMost, HasRoomFor, IsNeverFull}
+use Rattle.mh_model.specs.CycleUnits.{marking_units, cycle_starts, CyclesMarkAtMost, occurs, greatest_of, most_slots, slots_and_moves, most_moves, units_for, quanta_for}
+use Rattle.mh_model.specs.CycleUnits.{ReachesAtMost, snapshots, CyclesReachAtMost}
+use Rattle.mh_model.specs.LiveParts.{HasPagesFor}
+use Rattle.mh_sizing_laws.specs.PagesLeft.{NeverFills, PagesForMarkingSuffice, PagesForReachedSuffice}
 use Rattle.mh_sizing_laws.proofs.openings.Intervals.{asked_of, asked-append}
 use Rattle.mh_sizing_laws.proofs.openings.MadeParts.{pages_of-more}
 use Rattle.mh_sizing_laws.proofs.triggers.SizedRuns.{IsShort, event-short}
@@ -54,7 +55,7 @@ div-more first second k some less =
     let least : first / k * k ≤ first = (le-div_iff_mul-le some).0 (omega arith) in
     (le-div_iff_mul-le some).1 (omega (arith, least, less))
 
-quanta-more : (config : Config) (marked : ℕ) (old new : List Part) → 353 ≤ config.quantum → HasNoMore old new → quanta_for config marked old ≤ quanta_for config marked new
+pub quanta-more : (config : Config) (marked : ℕ) (old new : List Part) → 353 ≤ config.quantum → HasNoMore old new → quanta_for config marked old ≤ quanta_for config marked new
 quanta-more config marked old new large few =
     let slots = greatest-more slots_in old new class_sizes few in
     let moves = greatest-more slots_and_moves old new class_sizes few in
@@ -84,7 +85,7 @@ unfolding machine_after
 last-moment P [] machine all = all.0
 last-moment P (event ∷ done) machine all = last-moment P done (event_step machine event).state all.1
 
-weaker : (P Q : Machine → Type 0) (list : List Machine) → ((machine : Machine) → P machine → Q machine) → AllByRecursion P list → AllByRecursion Q list
+pub weaker : (P Q : Machine → Type 0) (list : List Machine) → ((machine : Machine) → P machine → Q machine) → AllByRecursion P list → AllByRecursion Q list
 weaker P Q [] each all = tt
 weaker P Q (machine ∷ list) each all = (each machine all.0, weaker P Q list each all.1)
 

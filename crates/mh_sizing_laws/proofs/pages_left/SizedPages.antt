@@ -1,5 +1,5 @@
 -- Runs with pages for their cycles: what is born while a cycle runs is no more than its intervals ask for, so each cycle leaves enough pages free.
-use Rattle.std.proofs.Common.{◌≡◌, inl, inr, ℕ, suc, ◌+◌, ◌*◌, ◌/◌, ◌-◌, ◌<◌, ◌≤◌, min, nat_le, Bool, true, false, if◌then◌else◌, List, [], ◌∷◌, ◌++◌, length, flat_map, refl, sym, ap, ◌∙◌, subst, arith}
+use Rattle.std.proofs.Common.{◌≡◌, inl, inr, ℕ, suc, ◌+◌, ◌*◌, ◌<◌, ◌≤◌, Bool, true, false, if◌then◌else◌, List, [], ◌∷◌, ◌++◌, length, flat_map, refl, sym, ap, ◌∙◌, subst, arith}
 use Rattle.std.specs.List.{AllByRecursion}
 use Rattle.std.proofs.Math.Nat.{suc-mul, mul-le-mul_right}
 use Rattle.std.proofs.lemmas.Bool.{and_parts, true≢false}
@@ -8,24 +8,25 @@ use Rattle.std.proofs.lemmas.List.{append-nil, append_assoc, length-append}
 use Rattle.std.proofs.lemmas.List.Concat.{flat_map-cons}
 use Rattle.mh_model.specs.declared.command.Event.{Event}
 use Rattle.mh_model.specs.declared.config.Config.{Config}
-use Rattle.mh_model.specs.Bound.{most_steps, most_units, most_quanta}
+use Rattle.mh_model.specs.Bound.{most_quanta}
 use Rattle.mh_model.specs.Collector.{Collector, is_idle, is_start_due, quantum}
 use Rattle.mh_model.specs.Machine.{Machine, first_machine, half_step, event_step, machine_after}
 use Rattle.mh_model.specs.Pages.{HaveTheirSlots}
 use Rattle.mh_model.specs.Snapshot.{Moment, first_moment, half_moment, next_moment, moment_after, has_quantum, snapshot_at}
 use Rattle.mh_model.specs.World.{World}
 use Rattle.mh_run_laws.specs.BesideTheWorld.{IsInCycle}
-use Rattle.mh_laws.proofs.bounds.CyclesInTime.{cycle_ends, StaysInBounds, run-stays}
+use Rattle.mh_laws.proofs.bounds.CyclesInTime.{StaysInBounds, run-stays}
 use Rattle.mh_laws.proofs.commands.LeftUnchanged.{event-keeps, machine_after-pages}
 use Rattle.mh_laws.proofs.costs.QuantumStarts.{begins, quantum-rests}
 use Rattle.mh_run_laws.proofs.worlds.Moments.{machine-moment_after}
-use Rattle.mh_sizing_laws.specs.Openings.{asked_parts, free_of}
-use Rattle.mh_sizing_laws.specs.PagesLeft.{HasAtMostLive, parts_since, worlds, asked_count, HasPagesFor, PagesSuffice, PagesForTheBoundSuffice}
-use Rattle.mh_sizing_laws.specs.Triggers.{moments, intervals, has_ended, HasRoomFor}
-use Rattle.mh_sizing_laws.specs.Triggers as run
+use Rattle.mh_model.specs.Openings.{asked_count, asked_parts, free_of}
+use Rattle.mh_model.specs.LiveParts.{HasAtMostLive, parts_since, worlds, HasPagesFor}
+use Rattle.mh_sizing_laws.specs.PagesLeft.{PagesSuffice, PagesForTheBoundSuffice}
+use Rattle.mh_model.specs.Intervals.{moments, intervals, has_ended, HasRoomFor}
+use Rattle.mh_model.specs.Intervals as run
 use Rattle.mh_sizing_laws.proofs.openings.Intervals.{quiet-event}
 use Rattle.mh_sizing_laws.proofs.triggers.Quanta.{IsAfter, quantum-after}
-use Rattle.mh_sizing_laws.proofs.triggers.SizedRuns.{half-on_way, next-stays, half-stays, room-suffices}
+use Rattle.mh_sizing_laws.proofs.triggers.SizedRuns.{half-on_way, next-stays, half-stays, room-suffices, some-quanta, cycles-bounded}
 use Rattle.mh_sizing_laws.proofs.pages_left.BlocksInUse.{half-machine}
 use Rattle.mh_sizing_laws.proofs.pages_left.FinishedCycles.{next-world, next-snapshot, half-snapshot, half-grows, next-grown, ran-collector, ended-run, finished-few}
 use Rattle.mh_sizing_laws.proofs.pages_left.GrownWorlds.{HasGrown, grown-same, since-more, since-same}
@@ -305,20 +306,6 @@ pages-suffice config events quanta opened asked most some fewer has =
 
 -- The bound of a cycle ---------------------------------------------------------------------------
 
-some-quanta : (config : Config) → 1 ≤ most_quanta config
-some-quanta config = go (nat_le 353 config.quantum)
-  where
-    go : (large : Bool) → 1 ≤ (if large then min (most_steps config) (most_units config / (config.quantum - 352) + 1) else most_steps config)
-    go true = omega arith
-    go false = omega arith
-
-all-moments : (P : Machine → Type 0) (events : List Event) (machine : Machine) → ((before : List Event) → P (machine_after machine before)) → AllByRecursion P (moments machine events)
-unfolding machine_after
-all-moments P [] start each = (each [], tt)
-all-moments P (event ∷ events) start each = (each [], all-moments P events (event_step start event).state (λ before. each (event ∷ before)))
-
--- and so they do for the bound of a cycle
+-- so they do for the bound of a cycle
 pub bound-pages-suffice : PagesForTheBoundSuffice
-bound-pages-suffice config events opened asked most has =
-    pages-suffice config events (most_quanta config) opened asked most (some-quanta config)
-    (all-moments (λ (machine : Machine). is_idle machine.heap.collector.phase ≡ false → machine.heap.collector.quanta < most_quanta config) events (first_machine config) (λ before. (cycle_ends.after_events config before).running)) has
+bound-pages-suffice config events opened asked most has = pages-suffice config events (most_quanta config) opened asked most (some-quanta config) (cycles-bounded config events) has

@@ -17,7 +17,7 @@ use Rattle.mh_table_laws.proofs.tables.PageSlots.{slots_in-class_size}
 use Rattle.mh_laws.proofs.commands.LeftUnchanged.{step_in-keeps}
 use Rattle.mh_laws.proofs.moving.NextMove.{next_move-is}
 use Rattle.mh_laws.proofs.sweeping.SweepSteps.{snapshot-sweep_step}
-use Rattle.mh_sizing_laws.specs.PagesLeft.{slot_count, page_count, count_blocks, is_plain}
+use Rattle.mh_model.specs.LiveParts.{slot_count, page_count, count_blocks, is_plain}
 use Rattle.mh_sizing_laws.proofs.openings.Rooms.{if_free, free_pages-set, same_room-with_block}
 use Rattle.mh_sizing_laws.proofs.pages_left.Counting.{count-set, count-with_block, place-of}
 use Rattle.mh_sizing_laws.proofs.pages_left.FedTables.{HasBlock, IsWithin, Feeds, plain-is, taken-counts}

@@ -15,8 +15,8 @@ use Rattle.mh_model.specs.Table.{Block}
 use Rattle.mh_model.specs.World.{World, births, object_at}
 use Rattle.mh_table_laws.proofs.Lists.{below_length}
 use Rattle.mh_table_laws.proofs.placing.Places.{IsShaped}
-use Rattle.mh_sizing_laws.specs.Cycles.{slot_units, page_units, marking_units}
-use Rattle.mh_sizing_laws.specs.Reached.{part_units, parts_of, object_units, units_of_births, ReachesAtMost}
+use Rattle.mh_model.specs.CycleUnits.{slot_units, page_units, marking_units}
+use Rattle.mh_model.specs.CycleUnits.{part_units, parts_of, object_units, units_of_births, ReachesAtMost}
 use Rattle.mh_sizing_laws.proofs.reached.Counting.{block_units, slot_sum, page_sum, sum_blocks, sum_to, sum_by-pointwise, count-below, count-some, count-one, with_key, count-keys}
 use Rattle.mh_sizing_laws.proofs.reached.HeldBlocks.{Holds}
 

@@ -29,9 +29,9 @@ use Rattle.mh_laws.proofs.showing.FoundBlocks.{live_held}
 use Rattle.mh_laws.proofs.snapshots.CycleStarts.{births-view, first-view, snapshot-started}
 use Rattle.mh_laws.proofs.snapshots.CycleSteps.{snapshot-counted}
 use Rattle.mh_run_laws.proofs.snapshots.AgreeingWorlds.{snapshot-agreeing}
-use Rattle.mh_sizing_laws.specs.Openings.{asked_parts}
-use Rattle.mh_sizing_laws.specs.Cycles.{marking_units}
-use Rattle.mh_sizing_laws.specs.Reached.{parts_of, ReachesAtMost}
+use Rattle.mh_model.specs.Openings.{asked_parts}
+use Rattle.mh_model.specs.CycleUnits.{marking_units}
+use Rattle.mh_model.specs.CycleUnits.{parts_of, ReachesAtMost}
 use Rattle.mh_sizing_laws.proofs.openings.Rooms.{LeavesAlone}
 use Rattle.mh_sizing_laws.proofs.cycles.Classes.{HasClasses, PartsFit, FitsClass}
 use Rattle.mh_sizing_laws.proofs.cycles.SharperSteps.{sharp_left, FitsStage}

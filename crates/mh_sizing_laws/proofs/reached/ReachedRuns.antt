@@ -16,10 +16,11 @@ use Rattle.mh_model.specs.World.{World}
 use Rattle.mh_run_laws.specs.BesideTheWorld.{IsFaithful}
 use Rattle.mh_run_laws.proofs.following.AllCommands.{commands-follow}
 use Rattle.mh_run_laws.proofs.runs.FaithfulMoments.{moments-faithful}
-use Rattle.mh_sizing_laws.specs.Openings.{class_parts, asked_parts}
-use Rattle.mh_sizing_laws.specs.Triggers.{moments, intervals, has_ended, cycle_ends, LeaveFlagged}
-use Rattle.mh_sizing_laws.specs.Cycles.{most_slots, most_moves, quanta_for}
-use Rattle.mh_sizing_laws.specs.Reached.{ReachesAtMost, snapshots, RoomForReachedSuffices}
+use Rattle.mh_model.specs.Openings.{class_parts, asked_parts}
+use Rattle.mh_model.specs.Intervals.{moments, intervals, has_ended, cycle_ends, LeaveFlagged}
+use Rattle.mh_model.specs.CycleUnits.{most_slots, most_moves, quanta_for}
+use Rattle.mh_model.specs.CycleUnits.{ReachesAtMost, snapshots}
+use Rattle.mh_sizing_laws.specs.Reached.{RoomForReachedSuffices}
 use Rattle.mh_sizing_laws.proofs.openings.Rooms.{LeavesAlone}
 use Rattle.mh_sizing_laws.proofs.openings.MadeParts.{pages_of}
 use Rattle.mh_sizing_laws.proofs.openings.Intervals.{asked_of, asked-cons, quantum-event, since-half}

@@ -19,8 +19,8 @@ use Rattle.mh_laws.proofs.commands.LeftUnchanged.{step_in-keeps, mark_first-keep
 use Rattle.mh_laws.proofs.costs.Quanta.{steps-stop, steps-go}
 use Rattle.mh_laws.proofs.marking.MarkSteps.{runs}
 use Rattle.mh_laws.proofs.snapshots.CycleSteps.{continues-collector_step}
-use Rattle.mh_sizing_laws.specs.Cycles.{marking_units}
-use Rattle.mh_sizing_laws.specs.Reached.{ReachesAtMost}
+use Rattle.mh_model.specs.CycleUnits.{marking_units}
+use Rattle.mh_model.specs.CycleUnits.{ReachesAtMost}
 use Rattle.mh_sizing_laws.proofs.cycles.Classes.{HasClasses, collector_step-classes, FitsClass}
 use Rattle.mh_sizing_laws.proofs.cycles.SharperSteps.{sharp_left, FitsStage, collector_step-sharp, step-charged, steps-sharp}
 use Rattle.mh_sizing_laws.proofs.reached.HeldBlocks.{Holds, holds-then, mark_first-holds, with_shade-holds}

@@ -10,8 +10,8 @@ use Rattle.mh_model.specs.Collector.{step_cost, collector_step, steps, quantum}
 use Rattle.mh_model.specs.Mutator.{heap_effect, mutator_step}
 use Rattle.mh_model.specs.Machine.{quantum_run, command_step, control_step, event_step}
 use Rattle.mh_model.specs.Snapshot.{Moment, first_moment, half_moment, next_moment, moment_after}
-use Rattle.mh_sizing_laws.specs.Openings.{free_of}
-use Rattle.mh_sizing_laws.specs.PagesLeft.{object_parts, parts_since, count_blocks, is_plain, asked_count}
+use Rattle.mh_model.specs.Openings.{asked_count, free_of}
+use Rattle.mh_model.specs.LiveParts.{object_parts, parts_since, count_blocks, is_plain}
 
 -- a row that unfolds this name computes
 unfoldable worked : ℕ

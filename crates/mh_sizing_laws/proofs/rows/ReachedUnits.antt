@@ -11,7 +11,7 @@ use Rattle.mh_model.specs.Mutator.{heap_effect, mutator_step}
 use Rattle.mh_model.specs.Machine.{quantum_run, command_step, control_step, event_step, machine_after}
 use Rattle.mh_model.specs.Snapshot.{first_moment, half_moment, next_moment, moment_after}
 use Rattle.mh_model.specs.World.{blank, heap_step, births}
-use Rattle.mh_sizing_laws.specs.Reached.{object_units, units_of_births, snapshots}
+use Rattle.mh_model.specs.CycleUnits.{object_units, units_of_births, snapshots}
 
 -- a row that unfolds this name computes
 unfoldable shown : ℕ

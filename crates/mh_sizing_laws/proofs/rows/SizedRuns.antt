@@ -13,9 +13,9 @@ use Rattle.mh_model.specs.Collector.{step_cost, collector_step, steps, quantum}
 use Rattle.mh_model.specs.Mutator.{heap_effect, mutator_step}
 use Rattle.mh_model.specs.Machine.{first_machine, quantum_run, command_step, control_step, event_step, machine_after, machine_replies}
 use Rattle.mh_model.specs.Snapshot.{is_heap_full}
-use Rattle.mh_sizing_laws.specs.Openings.{asked_parts, opens_at_most, free_of}
-use Rattle.mh_sizing_laws.specs.Triggers.{intervals, cycle_ends}
-use Rattle.mh_sizing_laws.specs.Cycles.{marking_units, cycle_starts, quanta_for}
+use Rattle.mh_model.specs.Openings.{asked_parts, opens_at_most, free_of}
+use Rattle.mh_model.specs.Intervals.{intervals, cycle_ends}
+use Rattle.mh_model.specs.CycleUnits.{marking_units, cycle_starts, quanta_for}
 
 -- a row that unfolds this name computes
 unfoldable worked : ℕ

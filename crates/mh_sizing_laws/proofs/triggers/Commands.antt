@@ -13,7 +13,7 @@ use Rattle.mh_model.specs.declared.reply.Refusal.{Refusal}
 use Rattle.mh_model.specs.declared.reply.Refusal.TheVariants.{HeapFull}
 use Rattle.mh_model.specs.declared.reply.Reply.{Reply}
 use Rattle.mh_model.specs.declared.reply.Reply.TheVariants as reply
-use Rattle.mh_model.specs.World.{own_slot, most_fields, never_full, refusal, says, unless_refused}
+use Rattle.mh_model.specs.World.{IsNew, own_slot, most_fields, never_full, refusal, says, unless_refused}
 use Rattle.mh_model.specs.Classes.{class_sizes, parts}
 use Rattle.mh_model.specs.Pages.{Table, free_pages, HaveTheirSlots}
 use Rattle.mh_model.specs.Table.{Block, Made}
@@ -23,9 +23,8 @@ use Rattle.mh_model.specs.Machine.{Machine, quantum_run, command_step, control_s
 use Rattle.mh_model.specs.Snapshot.{is_heap_full}
 use Rattle.mh_table_laws.proofs.objects.Parts.{parts_fit, some_parts}
 use Rattle.mh_laws.proofs.commands.CommandAnswers.{new-full}
-use Rattle.mh_promise.specs.Promise.{IsNew}
-use Rattle.mh_promise.proofs.FullHeaps.{new-alone, full-alone}
-use Rattle.mh_sizing_laws.specs.Openings.{class_parts, asked_parts}
+use Rattle.mh_run_laws.proofs.worlds.FullAlone.{new-alone, full-alone}
+use Rattle.mh_model.specs.Openings.{class_parts, asked_parts}
 use Rattle.mh_sizing_laws.proofs.openings.Rooms.{LeavesAlone, alone-same, alone-then}
 use Rattle.mh_sizing_laws.proofs.openings.MadeParts.{IsOpened, pages_of}
 use Rattle.mh_sizing_laws.proofs.openings.KeptRoom.{with_root-room, heap_effect-room}

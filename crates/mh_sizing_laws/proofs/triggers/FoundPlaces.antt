@@ -8,7 +8,7 @@ use Rattle.mh_model.specs.Table.{Block, Made, MadeParts, new_block, made_in_clas
 use Rattle.mh_table_laws.proofs.Lists.{from_some}
 use Rattle.mh_table_laws.proofs.placing.Places.{shaped-slots, least-is, least-some, least-none, least_dense_place-page}
 use Rattle.mh_table_laws.proofs.tables.PageSlots.{class_of-class_size}
-use Rattle.mh_sizing_laws.specs.Openings.{class_parts}
+use Rattle.mh_model.specs.Openings.{class_parts}
 use Rattle.mh_sizing_laws.proofs.openings.Rooms.{LeavesAlone, dense_room-none, alone-same, alone-then, alone-taken}
 use Rattle.mh_sizing_laws.proofs.openings.MadeParts.{one_of, IsOpened, opened-taken, taken-slots, class_parts-cons, among-classes, pages_of, pages_of-more, room-left}
 use Rattle.mh_sizing_laws.proofs.openings.KeptRoom.{linked_parts-room}

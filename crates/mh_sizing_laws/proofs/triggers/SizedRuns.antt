@@ -16,9 +16,11 @@ use Rattle.mh_model.specs.Snapshot.{has_quantum, is_heap_full}
 use Rattle.mh_laws.proofs.bounds.CyclesInTime.{cycle_ends, StaysInBounds, by_command, by_quantum, by_asking, run-stays}
 use Rattle.mh_laws.proofs.commands.LeftUnchanged.{mutator_step-course, event-keeps}
 use Rattle.mh_laws.proofs.runs.EveryMoment.{half_step-keeps, event_step-keeps}
-use Rattle.mh_sizing_laws.specs.Openings.{class_parts, asked_parts, opens_at_most, free_of}
-use Rattle.mh_sizing_laws.specs.Triggers.{moments, intervals, has_ended, LeaveFlagged, RoomSuffices, RoomForTheBoundSuffices}
-use Rattle.mh_sizing_laws.specs.Triggers as run
+use Rattle.mh_model.specs.Openings.{class_parts, asked_parts, opens_at_most, free_of}
+use Rattle.mh_model.specs.Intervals.{moments, intervals, has_ended, LeaveFlagged}
+use Rattle.mh_sizing_laws.specs.Needs.{CyclesTakeTheBound}
+use Rattle.mh_sizing_laws.specs.Triggers.{RoomSuffices, RoomForTheBoundSuffices}
+use Rattle.mh_model.specs.Intervals as run
 use Rattle.mh_sizing_laws.proofs.openings.MadeParts.{opened-none, opened-few, pages_of, pages_of-more}
 use Rattle.mh_sizing_laws.proofs.openings.Intervals.{asked_of, asked-cons, asked-append, quiet-event, quantum-event, IsSince, since-half, since-likewise, since-more, since-first}
 use Rattle.mh_sizing_laws.proofs.triggers.Commands.{event-served}
@@ -232,7 +234,7 @@ room-suffices config events quanta opened some fewer has =
 
 -- The bound of a cycle ---------------------------------------------------------------------------
 
-some-quanta : (config : Config) → 1 ≤ most_quanta config
+pub some-quanta : (config : Config) → 1 ≤ most_quanta config
 some-quanta config = go (nat_le 353 config.quantum)
   where
     go : (large : Bool) → 1 ≤ (if large then min (most_steps config) (most_units config / (config.quantum - 352) + 1) else most_steps config)
@@ -244,8 +246,10 @@ unfolding machine_after
 all-moments P [] machine each = (each [], tt)
 all-moments P (event ∷ events) machine each = (each [], all-moments P events (event_step machine event).state (λ before. each (event ∷ before)))
 
--- and so does room for its bound
+-- No cycle takes more quanta than its bound
+pub cycles-bounded : CyclesTakeTheBound
+cycles-bounded config events = all-moments (λ (machine : Machine). is_idle machine.heap.collector.phase ≡ false → machine.heap.collector.quanta < most_quanta config) events (first_machine config) (λ before. (cycle_ends.after_events config before).running)
+
+-- and so room for its bound suffices
 pub bound-suffices : RoomForTheBoundSuffices
-bound-suffices config events opened has =
-    room-suffices config events (most_quanta config) opened (some-quanta config)
-    (all-moments (λ (machine : Machine). is_idle machine.heap.collector.phase ≡ false → machine.heap.collector.quanta < most_quanta config) events (first_machine config) (λ before. (cycle_ends.after_events config before).running)) has
+bound-suffices config events opened has = room-suffices config events (most_quanta config) opened (some-quanta config) (cycles-bounded config events) has

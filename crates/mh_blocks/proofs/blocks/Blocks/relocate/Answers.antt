@@ -2,7 +2,7 @@ use Rattle.mh_blocks.proofs.IndexedLemmas.{moved_indexed}
 use Rattle.std.proofs.Common.{◌∙◌, refl, sym, arith, ap}
 use Rattle.mh_model.specs.Pages.{page_number, class_at}
 use Rattle.mh_blocks.specs.Words.{block_of, blocks_of}
-use Rattle.mh_blocks.proofs.TableMapLemmas.{length-table_map}
+use Rattle.mh_table_laws.proofs.TableMapLemmas.{length-table_map}
 use Rattle.mh_blocks.proofs.PageMapLemmas.{is_taken-table_map, class_at-table_map}
 use Rattle.mh_blocks.proofs.ReadLemmas.{page_there, class_there}
 use Rattle.mh_blocks.proofs.MovedLemmas.{moves}

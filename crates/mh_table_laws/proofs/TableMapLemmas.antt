@@ -1,11 +1,11 @@
 -- A table seen through a function of its blocks: what is there, and what is changed.
-use Rattle.std.proofs.Common.{◌≡◌, ℕ, zero, suc, Bool, false, List, [], ◌∷◌, map, get_or, set, replicate, Option, Some, None, option_map, option_and_then, refl, sym, ap, ◌∙◌}
-use Rattle.std.proofs.lemmas.List.{map-set}
+use Rattle.std.proofs.Common.{◌≡◌, ℕ, zero, suc, Bool, true, false, List, [], ◌∷◌, length, map, get_or, set, replicate, Option, Some, None, option_map, option_and_then, refl, sym, ap, ◌∙◌}
+use Rattle.std.proofs.lemmas.List.{map-set, length-map}
 use Rattle.std.proofs.lemmas.Option.{none-some, same_Some}
 use Rattle.mh_model.specs.Classes.{slots_in}
-use Rattle.mh_model.specs.Pages.{Page, Table, page_number, slot_number, page_at, block_in, block_at, page_with, with_block, page_for, with_taken, flagged_as, with_flag}
+use Rattle.mh_model.specs.Pages.{Page, Table, page_number, slot_number, page_at, block_in, block_at, page_with, with_block, page_for, with_taken, with_released, flagged_as, with_flag}
 use Rattle.mh_table_laws.proofs.placing.Places.{with_block-self}
-use Rattle.mh_picture_laws.specs.TableMaps.{page_map, table_map}
+use Rattle.mh_table_laws.specs.TableMaps.{page_map, table_map}
 
 at_map : {A B : Type 0} (g : A → B) (xs : List (Option A)) (i : ℕ) → get_or (map (option_map g) xs) i None ≡ option_map g (get_or xs i None)
 at_map g [] i = refl
@@ -17,14 +17,18 @@ none_map g zero = refl
 none_map g (suc n) = ap (λ xs. None ∷ xs) (none_map g n)
 
 module _ {X Y : Type 0} (f : X → Y) where
+  in_page : (slot : ℕ) (page : Option (Page X)) → option_and_then (block_in slot) (option_map (page_map f) page) ≡ option_map f (option_and_then (block_in slot) page)
+  in_page slot None = refl
+  in_page slot (Some page) = at_map f page.slots slot
+
   -- a table of free pages
   pub free-table_map : (pages : ℕ) → table_map f (replicate pages None) ≡ replicate pages None
   unfolding table_map
   free-table_map pages = none_map (page_map f) pages
 
-  in_page : (slot : ℕ) (page : Option (Page X)) → option_and_then (block_in slot) (option_map (page_map f) page) ≡ option_map f (option_and_then (block_in slot) page)
-  in_page slot None = refl
-  in_page slot (Some page) = at_map f page.slots slot
+  pub length-table_map : (table : Table X) → length (table_map f table) ≡ length table
+  unfolding table_map
+  length-table_map table = length-map table (option_map (page_map f))
 
   pub page_at-table_map : (table : Table X) (number : ℕ) → page_at (table_map f table) number ≡ option_map (page_map f) (page_at table number)
   unfolding table_map
@@ -51,6 +55,10 @@ module _ {X Y : Type 0} (f : X → Y) where
       set-table_map table (page_number place) (option_map (page_with (slot_number place) content) (page_at table (page_number place)))
       ∙ ap (set (table_map f table) (page_number place)) (page_with-map (slot_number place) content (page_at table (page_number place)) ∙ ap (option_map (page_with (slot_number place) (option_map f content))) (sym (page_at-table_map table (page_number place))))
 
+  pub with_released-table_map : (table : Table X) (place : ℕ) (frees_page : Bool) → table_map f (with_released table place frees_page) ≡ with_released (table_map f table) place frees_page
+  with_released-table_map table place true = freed-table_map table (page_number place)
+  with_released-table_map table place false = with_block-table_map table place None
+
   flagged-map : (is_flagged : Bool) (page : Option (Page X)) → option_map (page_map f) (option_map (flagged_as is_flagged) page) ≡ option_map (flagged_as is_flagged) (option_map (page_map f) page)
   flagged-map is_flagged None = refl
   flagged-map is_flagged (Some page) = refl
@@ -60,11 +68,11 @@ module _ {X Y : Type 0} (f : X → Y) where
       set-table_map table number (option_map (flagged_as is_flagged) (page_at table number))
       ∙ ap (set (table_map f table) number) (flagged-map is_flagged (page_at table number) ∙ ap (option_map (flagged_as is_flagged)) (sym (page_at-table_map table number)))
 
-  page_for-map : (size : ℕ) (page : Option (Page X)) → page_map f (page_for size page) ≡ page_for size (option_map (page_map f) page)
+  pub page_for-map : (size : ℕ) (page : Option (Page X)) → page_map f (page_for size page) ≡ page_for size (option_map (page_map f) page)
   page_for-map size None = ap (λ slots. record { class_size = size; is_flagged = false; slots = slots }) (none_map f (slots_in size))
   page_for-map size (Some page) = refl
 
-  page_for-table_map : (table : Table X) (size number : ℕ) → page_for size (page_at (table_map f table) number) ≡ page_map f (page_for size (page_at table number))
+  pub page_for-table_map : (table : Table X) (size number : ℕ) → page_for size (page_at (table_map f table) number) ≡ page_map f (page_for size (page_at table number))
   page_for-table_map table size number = ap (page_for size) (page_at-table_map table number) ∙ sym (page_for-map size (page_at table number))
 
   written-map : (slot : ℕ) (block : X) (page : Page X) → page_map f (page_with slot (Some block) page) ≡ page_with slot (Some (f block)) (page_map f page)
@@ -78,6 +86,17 @@ module _ {X Y : Type 0} (f : X → Y) where
       ∙ ap (page_with (slot_number place) (Some (f block))) (sym (page_for-table_map table size (page_number place))))
 
   -- One block changed ----------------------------------------------------------------------------
+
+  changed_content : (g : X → X) (h : Y → Y) (content : Option X) → ((x : X) → content ≡ Some x → f (g x) ≡ h (f x)) → option_map f (option_map g content) ≡ option_map h (option_map f content)
+  changed_content g h None same = refl
+  changed_content g h (Some x) same = ap Some (same x refl)
+
+  -- a block changed below is a block changed above
+  pub changed : (table : Table X) (place : ℕ) (g : X → X) (h : Y → Y) → ((x : X) → block_at table place ≡ Some x → f (g x) ≡ h (f x))
+      → table_map f (with_block table place (option_map g (block_at table place))) ≡ with_block (table_map f table) place (option_map h (block_at (table_map f table) place))
+  changed table place g h same =
+      with_block-table_map table place (option_map g (block_at table place))
+      ∙ ap (with_block (table_map f table) place) (changed_content g h (block_at table place) same ∙ ap (option_map h) (sym (block_at-table_map table place)))
 
   unseen_content : (g : X → X) (content : Option X) → ((x : X) → content ≡ Some x → f (g x) ≡ f x) → option_map f (option_map g content) ≡ option_map f content
   unseen_content g None same = refl

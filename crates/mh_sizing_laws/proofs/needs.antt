@@ -1,0 +1,2 @@
+pub mod BesideRuns
+pub mod NeededRuns
