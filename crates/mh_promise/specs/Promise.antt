@@ -1,5 +1,6 @@
 -- What a run promises of its outcome. If a clause speaks of the events before another, it holds at each moment of the run.
 use Rattle.std.specs.Prelude.{◌≡◌, ℕ, ◌-◌, ◌<◌, ◌≤◌, true, false, Some, None, List, [], ◌∷◌, ◌++◌, length}
+use Rattle.std.specs.List.{AllByRecursion}
 use Rattle.mh_model.specs.declared.command.Command.{Command}
 use Rattle.mh_model.specs.declared.command.Command.TheVariants as command
 use Rattle.mh_model.specs.declared.command.Control.TheVariants as control
@@ -7,20 +8,24 @@ use Rattle.mh_model.specs.declared.command.Event.{Event}
 use Rattle.mh_model.specs.declared.command.Event.TheVariants as event
 use Rattle.mh_model.specs.declared.config.Config.{Config}
 use Rattle.mh_model.specs.declared.cycle.Phase.{Phase}
+use Rattle.mh_model.specs.declared.needs.Needs.{Needs}
 use Rattle.mh_model.specs.declared.reply.Refusal.{Refusal}
 use Rattle.mh_model.specs.declared.reply.Refusal.TheVariants.{HeapFull}
 use Rattle.mh_model.specs.declared.reply.Reply.{Reply}
 use Rattle.mh_model.specs.declared.reply.Reply.TheVariants as reply
 use Rattle.mh_model.specs.Bound.{most_quanta}
-use Rattle.mh_model.specs.World.{first_world, never_full, refusal, world_step}
+use Rattle.mh_model.specs.World.{IsNew, first_world, never_full, refusal, world_step}
 use Rattle.mh_model.specs.Collector.{is_idle, quantum}
 use Rattle.mh_model.specs.Mutator.{heap_sight, new_group}
-use Rattle.mh_model.specs.Machine.{half_step, machine_after}
+use Rattle.mh_model.specs.Machine.{first_machine, half_step, machine_after}
 use Rattle.mh_model.specs.Invariant.{IsFinished, IsLinked}
 use Rattle.mh_model.specs.Snapshot.{Moment, half_moment, has_quantum, is_heap_full, snapshot_at, world_beside}
 use Rattle.mh_model.specs.Trace.{least_mutator, floor}
+use Rattle.mh_model.specs.Intervals.{CyclesTakeAtMost, HasRoomFor, LeaveFlagged, AnswerAsTheWorld}
+use Rattle.mh_model.specs.Needs.{NeedNoMore, HasEnoughFor}
 use Rattle.mh_run_laws.specs.BesideTheWorld.{IsFaithful, IsInCycle}
 use Rattle.mh_laws.specs.Bounds.{HasEnded, HasRun}
+use Rattle.mh_sharp_laws.specs.SharpNeeds.{AskOfClasses, HasSharpEnoughFor}
 use Rattle.mh_run_laws.specs.Forwarders.{AreOfItsCycle}
 use Rattle.mh_promise.specs.Runs.{Outcome, machine_at, moment_at, outcome_of, IsAnswered, IsTheMachines, AreAnsweredSoFar}
 
@@ -34,11 +39,6 @@ AreAnswered events replies = length replies ≡ length events
 abbrev pub AreTheWorlds : Config → List Event → List Reply → Type 0
 AreTheWorlds config events replies = (before : List Event) (who : ℕ) (command : Command) (given : Reply) → IsAnswered events replies before (event.Session who command) given → is_heap_full given ≡ false
     → given ≡ (world_step (world_beside (first_world config) before replies) who command).reply
-
--- a command makes a new object
-abbrev pub IsNew : Command → Type 0
-IsNew (command.New slot references numbers) = Unit {0}
-IsNew _ = ⊥
 
 -- A full heap answers new objects alone, only if some part of the object has no place and no other test refuses it, and then always
 pub record FullIsNoPlace (config : Config) (events : List Event) (replies : List Reply) : Type 0 where
@@ -121,6 +121,27 @@ pub record LeftTellsTheEnd (config : Config) (events : List Event) (replies : Li
   pub running : (before : List Event) (given : Reply) → IsAnswered events replies before (event.Control control.Left) given → is_idle (machine_at config before).heap.collector.phase ≡ false → TellsTheEnd config events before given
   pub idle : (before : List Event) (given : Reply) → IsAnswered events replies before (event.Control control.Left) given → is_idle (machine_at config before).heap.collector.phase ≡ true → given ≡ reply.Left 0
 
+-- Room -------------------------------------------------------------------------------------------
+
+-- No reply is a full heap: the replies are those of a heap that never collects or moves, which is given every command, and no new object goes into a flagged page
+pub record NeverAnswersFull (config : Config) (events : List Event) (replies : List Reply) : Type 0 where
+  pub none : AllByRecursion (λ answer. is_heap_full answer ≡ false) replies
+  pub worlds : AnswerAsTheWorld (first_world config) events replies
+  pub flagged : LeaveFlagged (first_machine config) events
+
+-- a run has room for cycles of so many quanta, of which none takes more, and is never full
+pub record HasRoom (config : Config) (events : List Event) (replies : List Reply) (quanta opened : ℕ) : Type 0 where
+  pub cycles : CyclesTakeAtMost quanta config events
+  pub room : HasRoomFor config events quanta opened
+  pub never_full : NeverAnswersFull config events replies
+
+-- A run is never full whose trigger and pages are enough: for what its cycles take and leave, or for what its sessions need, as told by the ever-growing world. Each new part may keep a page, or small parts share pages
+pub record RoomIsEnough (config : Config) (events : List Event) (replies : List Reply) : Type 0 where
+  pub bound : CyclesTakeAtMost (most_quanta config) config events
+  pub room : (quanta opened : ℕ) → 1 ≤ quanta → CyclesTakeAtMost quanta config events → HasRoomFor config events quanta opened → NeverAnswersFull config events replies
+  pub needs : (needs : Needs) (quanta : ℕ) → NeedNoMore needs config events → HasEnoughFor needs config quanta → HasRoom config events replies quanta needs.opened
+  pub shared : (needs : Needs) (least kinds quanta : ℕ) → NeedNoMore needs config events → AskOfClasses least kinds config events → HasSharpEnoughFor needs least kinds config quanta → HasRoom config events replies quanta needs.opened
+
 -- The promise ------------------------------------------------------------------------------------
 
 -- What a run promises of its outcome
@@ -145,6 +166,8 @@ pub record IsPromised (config : Config) (events : List Event) (outcome : Outcome
   pub ends : CyclesEnd config events
   -- and once as many quanta as are reported to be left have been run, it has ended
   pub left : LeftTellsTheEnd config events outcome.replies
+  -- with room for its cycles it is never full
+  pub room : RoomIsEnough config events outcome.replies
   -- if the scheduler runs quanta, the mutator has its share of the units
   pub share : 0 < config.every → MutatorHasItsFloor config outcome
 

@@ -11,6 +11,9 @@ use mh_run_laws::beside_the_world::{
 use mh_run_laws::forwarders::finished_cycles_made_their_forwarders;
 use mh_run_laws::utilisation::{mutator_has_its_share, quanta_stay_within_their_bound};
 use mh_run_laws::worlds::{moment_has_the_machine, moment_has_the_world};
+use mh_sharp_laws::needs::sharp_enough_for_needs_suffices;
+use mh_sizing_laws::needs::{cycles_take_the_bound, enough_for_needs_suffices};
+use mh_sizing_laws::triggers::{never_full_is_the_world, room_suffices};
 
 /// An outcome that is the machine's keeps the promise.
 pub fn runs_keep_their_promise()
@@ -31,6 +34,11 @@ pub fn runs_keep_their_promise()
     quanta_stay_within_their_bound();
     moment_has_the_machine();
     moment_has_the_world();
+    cycles_take_the_bound();
+    room_suffices();
+    enough_for_needs_suffices();
+    sharp_enough_for_needs_suffices();
+    never_full_is_the_world();
 }
 
 /// A run that stopped early keeps the promise of the events that it did.

@@ -1,24 +1,34 @@
-use Rattle.std.proofs.Common.{◌≡◌, ◌≤◌, true, false, sym, ap, ◌∙◌, subst, length}
+use Rattle.std.proofs.Common.{◌≡◌, ◌≤◌, true, false, List, sym, ap, ◌∙◌, subst, length}
 use Rattle.mh_model.specs.declared.command.Command.TheVariants as command
 use Rattle.mh_model.specs.declared.command.Control.TheVariants as control
+use Rattle.mh_model.specs.declared.command.Event.{Event}
 use Rattle.mh_model.specs.declared.command.Event.TheVariants as event
+use Rattle.mh_model.specs.declared.config.Config.{Config}
 use Rattle.mh_model.specs.declared.reply.Refusal.TheVariants.{HeapFull}
+use Rattle.mh_model.specs.declared.reply.Reply.{Reply}
 use Rattle.mh_model.specs.declared.reply.Reply.TheVariants as reply
 use Rattle.mh_model.specs.World.{first_world, world_step}
 use Rattle.mh_model.specs.Collector.{is_idle, quantum}
-use Rattle.mh_model.specs.Machine.{first_machine, half_step, event_step}
+use Rattle.mh_model.specs.Machine.{first_machine, half_step, event_step, machine_replies}
 use Rattle.mh_model.specs.Snapshot.{first_moment, half_moment, is_heap_full, snapshot_at}
 use Rattle.mh_model.specs.Invariant.{IsFinished, IsLinked}
 use Rattle.mh_laws.specs.Bounds.{left_of}
 use Rattle.mh_run_laws.specs.Utilisation.{HasShare}
 use Rattle.mh_laws.proofs.bounds.CyclesInTime.{run-stays}
+use Rattle.mh_model.specs.Intervals as run
+use Rattle.mh_sizing_laws.specs.Triggers.{NeverFullIsTheWorld}
+use Rattle.mh_promise.specs.Promise.{NeverAnswersFull}
 use Rattle.mh_promise.specs.Runs.{machine_at, moment_at}
 use Rattle.mh_promise.proofs.RunsByEvents.{after_more, replies-length}
 use Rattle.mh_run_laws.proofs.forwarders.RunForwarders.{event-quantum}
 use Rattle.mh_promise.proofs.AnsweredEvents.{answered-is, beside-is, session-reply, told-left, half-heap, half-machine}
-use Rattle.mh_promise.proofs.FullHeaps.{full-alone, new-alone}
+use Rattle.mh_run_laws.proofs.worlds.FullAlone.{full-alone, new-alone}
 use Rattle.mh_promise.proofs.SpentUnits.{told-units}
 use Rattle.mh_promise.proofs.promise.runs_keep_their_promise.Goals as goal
+
+-- a run that is never full, by its replies
+never-full : (config : Config) (events : List Event) (replies : List Reply) → replies ≡ machine_replies (first_machine config) events → NeverFullIsTheWorld → run.IsNeverFull config events → NeverAnswersFull config events replies
+never-full config events replies are worlds never = subst (λ list. NeverAnswersFull config events list) (sym are) (record { none = never.replies; worlds = worlds config events never; flagged = never.flagged })
 
 pub returns : goal.returns
 returns c config events outcome is = record {
@@ -83,6 +93,16 @@ returns c config events outcome is = record {
     idle = λ before given answered idle.
         told-left c.quanta_left_end_the_cycle.ensures (machine_at config before) given (answered-is config events outcome.replies before (event.Control control.Left) given is.replies answered)
         ∙ ap reply.Left (c.quanta_left_end_the_cycle.ensures.none (machine_at config before) idle);
+  };
+  room = record {
+    bound = c.cycles_take_the_bound.ensures config events;
+    room = λ quanta opened some takes has. never-full config events outcome.replies is.replies c.never_full_is_the_world.ensures (c.room_suffices.ensures config events quanta opened some takes has);
+    needs = λ needs quanta need has.
+        let all = c.enough_for_needs_suffices.ensures needs config events quanta need has in
+        record { cycles = all.0; room = all.1.room; never_full = never-full config events outcome.replies is.replies c.never_full_is_the_world.ensures all.1.never_full };
+    shared = λ needs least kinds quanta need few has.
+        let all = c.sharp_enough_for_needs_suffices.ensures needs least kinds config events quanta need few has in
+        record { cycles = all.0; room = all.1.room; never_full = never-full config events outcome.replies is.replies c.never_full_is_the_world.ensures all.1.never_full };
   };
   share = λ often. subst (HasShare config) (sym is.trace) (c.mutator_has_its_share.ensures.after_events config events often);
 }

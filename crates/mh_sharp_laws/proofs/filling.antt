@@ -1,0 +1,10 @@
+pub mod Weights
+pub mod Fronts
+pub mod Fillings
+pub mod Slots
+pub mod PageWeights
+pub mod Ages
+pub mod Newborns
+pub mod AgedCommands
+pub mod FilledTables
+pub mod PartlyNew

@@ -1,0 +1,15 @@
+pub mod SweptWeights
+pub mod ClassSums
+pub mod SweptTables
+pub mod OldBlocks
+pub mod Moves
+pub mod CycleSteps
+pub mod CycleQuanta
+pub mod ClassesThatOccur
+pub mod Intervals
+pub mod SharpStates
+pub mod CountedQuanta
+pub mod HalfStates
+pub mod SharpEvents
+pub mod SharpRuns
+pub mod MarkedRuns

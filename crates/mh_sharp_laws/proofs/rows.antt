@@ -1,0 +1,2 @@
+pub mod SharpNeeds
+pub mod MetPremises
