@@ -10,7 +10,7 @@ use Rattle.std.proofs.lemmas.List.{length-map}
 use Rattle.std.proofs.lemmas.List.Sums.{sum_by-cons}
 use Rattle.mh_model.specs.Classes.{slots_in}
 use Rattle.mh_model.specs.Trace.{lesser, least_of}
-use Rattle.mh_sizing_laws.specs.Openings.{pages_for}
+use Rattle.mh_model.specs.Openings.{pages_for}
 use Rattle.mh_sizing.specs.declared.openings.ClassParts.{ClassParts}
 use Rattle.mh_sizing.specs.Openings.{pages_of_counts, least_slots, pages_at_most}
 
@@ -52,6 +52,17 @@ spread s d e some =
 abbrev filled : ℕ → ℕ → ℕ → ℕ
 filled s k q = min q k + (q - min q k) / s
 
+-- rounded up, it is no more than what is divided
+pub ceil_few : (n t : ℕ) → 1 ≤ t → div_ceil n t ≤ n
+ceil_few n t some = elim (cases_lt n (div_ceil n t)) [
+  | inl more ↦
+      let up : div_ceil n t * t < n + t = (div_ceil_times n t some).1 in
+      let far : suc n * t ≤ div_ceil n t * t = mul-le (suc n) t (div_ceil n t) t more (omega arith) in
+      let whole : n * 1 ≤ n * t = mul-le n 1 n t (omega arith) some in
+      absurd (omega (arith, up, far, whole))
+  | inr within ↦ within
+]
+
 -- it grows with the first parts
 firsts : (s a b q : ℕ) → 0 < s → a ≤ b → b ≤ q → a + (q - a) / s ≤ b + (q - b) / s
 firsts s a b q some more within =
@@ -84,11 +95,11 @@ one_more s t k (suc y) q p some more few =
 
 -- Fewest slots -----------------------------------------------------------------------------------
 
-least_first : (n s : ℕ) (others : Option ℕ) → s ≤ min 64 (lesser n others) → s ≤ n
+pub least_first : (n s : ℕ) (others : Option ℕ) → s ≤ min 64 (lesser n others) → s ≤ n
 least_first n s None few = omega (arith, few)
 least_first n s (Some other) few = omega (arith, few)
 
-least_rest : (n s : ℕ) (others : Option ℕ) → s ≤ min 64 (lesser n others) → s ≤ lesser 64 others
+pub least_rest : (n s : ℕ) (others : Option ℕ) → s ≤ min 64 (lesser n others) → s ≤ lesser 64 others
 least_rest n s None few = omega (arith, few)
 least_rest n s (Some other) few = omega (arith, few)
 

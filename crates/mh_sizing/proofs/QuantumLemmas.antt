@@ -1,29 +1,29 @@
 -- The least quantum by division, and the ends of a search for a quantum or for what lies between two.
-use Rattle.std.proofs.Common.{◌≡◌, ℕ, suc, ◌+◌, ◌-◌, ◌*◌, ◌/◌, ◌<◌, ◌≤◌, ◌↔◌, nat_le, true, refl, sym, subst, inl, inr, arith}
-use Rattle.std.proofs.Math.Nat.{div-lt_iff_lt-mul, div-le_self}
+use Rattle.std.proofs.Common.{◌≡◌, ℕ, zero, suc, ◌+◌, ◌-◌, ◌*◌, ◌/◌, ◌<◌, ◌≤◌, ◌↔◌, nat_le, Bool, true, false, if◌then◌else◌, Option, Some, None, MatchOption, refl, sym, ap, ◌∙◌, subst, inl, inr, arith}
+use Rattle.std.proofs.Math.Nat.{div-le_self}
 use Rattle.std.proofs.lemmas.Nat.{mul-le}
-use Rattle.std.proofs.lemmas.Bool.{and_parts, leb-true, cases_lt}
+use Rattle.std.proofs.lemmas.Bool.{and_parts, leb-true, le-leb, cases_lt, cases_Bool}
 use Rattle.std.proofs.lemmas.Bool.Decides.{nat_tests}
 use Rattle.mh_model.specs.declared.config.Config.{Config}
 use Rattle.mh_model.specs.declared.config.Rules.TheVariants.{Second}
 use Rattle.mh_model.specs.Limits.{is_configuration}
 use Rattle.mh_model.specs.Trace.{floor}
-use Rattle.mh_sizing.specs.Marking.{quanta_for_marking}
-use Rattle.mh_sizing.specs.declared.needs.Needs.{Needs}
+use Rattle.mh_model.specs.declared.needs.Needs.{Needs}
+use Rattle.mh_model.specs.Needs.{quanta_needed, units_needed}
 use Rattle.mh_sizing.specs.declared.targets.Target.{Target}
-use Rattle.mh_sizing.specs.Choices.{HasNone, IsLeastQuantum, IsGreatestQuantum, IsLeastEvery}
-use Rattle.mh_sizing.specs.Needs.{enough_pages, HasEnough}
-use Rattle.mh_sizing.specs.Targets.{IsMetBy, MeetsAfter, MeetsWith}
+use Rattle.mh_sizing.specs.Choices.{HasNone, least_from, IsLeastQuantum, IsGreatestQuantum, IsLeastEvery, IsFit, NoneFits, IsLeastFit}
+use Rattle.mh_sizing.specs.Needs.{enough_pages, is_enough_with, least_quantum_of, HasEnough}
+use Rattle.mh_sizing.specs.Targets.{IsMetBy, Meets, MeetsAfter, MeetsWith}
 use Rattle.mh_sizing.proofs.FloorLemmas.{floor_falls, floor_grows}
 
 -- Limits -----------------------------------------------------------------------------------------
 
-record IsWithin (config : Config) : Type 0 where
-  least : 209 ≤ config.quantum
-  most : config.quantum ≤ 1000000
-  every : config.every ≤ 1000000
+pub record IsWithin (config : Config) : Type 0 where
+  pub least : 209 ≤ config.quantum
+  pub most : config.quantum ≤ 1000000
+  pub every : config.every ≤ 1000000
 
-within : (config : Config) → IsWithin config
+pub within : (config : Config) → IsWithin config
 within config =
     let a = (and_parts (nat_le 1 config.pages) _ config.in_limits).1 in
     let b = (and_parts (nat_le config.pages 4096) _ a).1 in
@@ -36,23 +36,34 @@ limits pages quantum every a b c d e = grind (arith, nat_tests)
 
 -- Pages and quanta -------------------------------------------------------------------------------
 
--- a quantum gives a cycle no more quanta than these exactly if it is no less than that
-by_division : (units quanta quantum : ℕ) → 1 ≤ quanta → 353 ≤ quantum → (units / (quantum - 352) + 1 ≤ quanta) ↔ (353 + units / quanta ≤ quantum)
-by_division units quanta quantum some least =
-    let one = div-lt_iff_lt-mul {k = quantum - 352} {x = units} {y = quanta} (omega arith) in
-    let two = div-lt_iff_lt-mul {k = quanta} {x = units} {y = quantum - 352} (omega arith) in (
-      λ few. let wide : units < quanta * (quantum - 352) = one.0 (omega arith) in
-          let less : units / quanta < quantum - 352 = two.1 (omega (arith, wide)) in omega (arith, less),
-      λ more. let wide : units < (quantum - 352) * quanta = two.0 (omega arith) in
-          let less : units / (quantum - 352) < quanta = one.1 (omega (arith, wide)) in omega (arith, less),
-    )
+-- A property of configurations that says of those of so many pages just that their quantum fits
+pub record IsByQuanta (P : Config → Type 0) (pages units quanta : ℕ) : Type 0 where
+  pub has : (config : Config) → config.pages ≡ pages → IsFit units quanta config.quantum → P config
+  pub fits : (config : Config) → P config → IsFit units quanta config.quantum
 
--- what is known of the most quanta of a cycle that so many pages are enough for
-abbrev pub AreMost : Needs → ℕ → ℕ → ℕ → Type 0
-AreMost needs pages units most = (quanta : ℕ) → 1 ≤ quanta → quanta ≤ units + 1 → (enough_pages needs quanta ≤ pages) ↔ (quanta ≤ most)
+pub least_config : (P : Config → Type 0) (pages units quanta : ℕ) (found : Option ℕ) → 1 ≤ pages → pages ≤ 4096 → IsByQuanta P pages units quanta → MatchOption found (NoneFits units quanta) (IsLeastFit units quanta) → MatchOption found (HasNone P) (IsLeastQuantum P)
+least_config P pages units quanta None some few by none = λ config has. none config.quantum (by.fits config has)
+least_config P pages units quanta (Some quantum) some few by least =
+    let fit = least.fit in
+    let config : Config = record { pages = pages; quantum = quantum; trigger = 0; every = 0; rules = Second; in_limits = limits pages quantum 0 some few (omega (arith, fit.some)) fit.few (omega arith) } in
+    record { has = (config, refl, by.has config refl fit); least = λ other has. least.least other.quantum (by.fits other has) }
+
+-- what is known of the most quanta of a cycle that so many pages are enough for, of which each number of quanta asks for a number
+abbrev pub AreMost : (ℕ → ℕ) → ℕ → ℕ → ℕ → Type 0
+AreMost number pages units most = (quanta : ℕ) → 1 ≤ quanta → quanta ≤ units + 1 → (number quanta ≤ pages) ↔ (quanta ≤ most)
 
 no_more_than_units : (units quantum : ℕ) → units / (quantum - 352) + 1 ≤ units + 1
 no_more_than_units units quantum = let few = div-le_self units (quantum - 352) in omega (arith, few)
+
+-- pages are enough for a configuration exactly if its quantum fits
+pub enough_fits : (number : ℕ → ℕ) (needs : Needs) (pages units most : ℕ) (config : Config) → units ≡ units_needed needs pages → AreMost number pages units most → config.pages ≡ pages
+    → (number (quanta_needed needs config) ≤ config.pages) ↔ (units / (config.quantum - 352) + 1 ≤ most)
+enough_fits number needs pages units most config all are same =
+    let quanta : quanta_needed needs config ≡ units / (config.quantum - 352) + 1 = rw (same, all) refl in
+    let most_fit = are (units / (config.quantum - 352) + 1) (omega arith) (no_more_than_units units config.quantum) in (
+      λ enough. most_fit.0 (rw (quanta, same) at enough),
+      λ few. rw (quanta, same) (most_fit.1 few),
+    )
 
 -- enough pages are no fewer than the trigger
 trigger_within : (live asked opened pages quanta : ℕ) → 1 ≤ quanta → live + (quanta * asked + quanta * opened) - asked ≤ pages → quanta * opened - 1 ≤ pages
@@ -60,37 +71,90 @@ trigger_within live asked opened pages quanta some enough =
     let least : 1 * asked ≤ quanta * asked = mul-le 1 asked quanta asked some (omega arith) in
     omega (arith, least, enough)
 
--- a configuration that has enough
-has_enough : (needs : Needs) (pages most : ℕ) (config : Config) → AreMost needs pages (288 + needs.marked + 192 * pages) most → 1 ≤ most → config.pages ≡ pages → 353 ≤ config.quantum
-    → 353 + (288 + needs.marked + 192 * pages) / most ≤ config.quantum → HasEnough needs pages config
-has_enough needs pages most config are some same least more =
-    let few : (288 + needs.marked + 192 * pages) / (config.quantum - 352) + 1 ≤ most = (by_division (288 + needs.marked + 192 * pages) most config.quantum some least).1 more in
-    let quanta : quanta_for_marking config needs.marked ≡ (288 + needs.marked + 192 * pages) / (config.quantum - 352) + 1 = rw same refl in
-    let enough : enough_pages needs ((288 + needs.marked + 192 * pages) / (config.quantum - 352) + 1) ≤ pages = (are _ (omega arith) (no_more_than_units _ config.quantum)).1 few in
-    record {
-      of_pages = same;
-      quantum = least;
-      enough = rw (quanta, same) enough;
-      trigger = rw (quanta, same) (trigger_within needs.live needs.asked needs.opened pages _ (omega arith) enough);
-    }
+pub enough_by_quanta : (needs : Needs) (pages units most : ℕ) → units ≡ units_needed needs pages → AreMost (enough_pages needs) pages units most → IsByQuanta (HasEnough needs pages) pages units most
+enough_by_quanta needs pages units most all are = record {
+  has = λ config same fit.
+      let enough = (enough_fits (enough_pages needs) needs pages units most config all are same).1 fit.fits in
+      record { of_pages = same; quantum = fit.some; enough = enough; trigger = trigger_within needs.live needs.asked needs.opened config.pages (quanta_needed needs config) (omega arith) enough };
+  fits = λ config has. record { some = has.quantum; few = (within config).most; fits = (enough_fits (enough_pages needs) needs pages units most config all are has.of_pages).0 has.enough };
+}
 
--- and its quantum
-no_less : (needs : Needs) (pages most : ℕ) (config : Config) → AreMost needs pages (288 + needs.marked + 192 * pages) most → 1 ≤ most → HasEnough needs pages config
-    → 353 + (288 + needs.marked + 192 * pages) / most ≤ config.quantum
-no_less needs pages most config are some has =
+-- The least quantum as a number that is searched for --------------------------------------------
+
+module _ (test : ℕ → Bool) where
+  pub least_from-next : (first count : ℕ) → test first ≡ false → least_from test first (suc count) ≡ least_from test (suc first) count
+  unfolding least_from
+  least_from-next first count missed = ap (λ (b : Bool). if b then Some first else least_from test (suc first) count) missed
+
+  pub least_from-here : (first count : ℕ) → test first ≡ true → least_from test first (suc count) ≡ Some first
+  unfolding least_from
+  least_from-here first count passed = ap (λ (b : Bool). if b then Some first else least_from test (suc first) count) passed
+
+  pub least_from-none : (first count : ℕ) → ((k : ℕ) → first ≤ k → k < first + count → test k ≡ false) → least_from test first count ≡ None
+  unfolding least_from
+  least_from-none first zero missed = refl
+  least_from-none first (suc count) missed = least_from-next first count (missed first (omega arith) (omega arith)) ∙ least_from-none (suc first) count (λ k from to. missed k (omega arith) (omega arith))
+
+  pub least_from-some : (first count n : ℕ) → first ≤ n → n < first + count → test n ≡ true → ((k : ℕ) → first ≤ k → k < n → test k ≡ false) → least_from test first count ≡ Some n
+  least_from-some first zero n from to passed missed = absurd (omega arith)
+  least_from-some first (suc count) n from to passed missed = elim (cases_lt first n) [
+    | inl later ↦ least_from-next first count (missed first (omega arith) later) ∙ least_from-some (suc first) count n later (omega arith) passed (λ k above below. missed k (omega arith) below)
+    | inr here ↦
+        let same : first ≡ n = omega arith in
+        subst (λ (k : ℕ). least_from test first (suc count) ≡ Some k) same (least_from-here first count (subst (λ (k : ℕ). test k ≡ true) (sym same) passed))
+  ]
+
+-- a quantum passes the test exactly if a configuration with it has enough
+test_passed : (needs : Needs) (pages : ℕ) (config : Config) → HasEnough needs pages config → is_enough_with needs pages config.quantum ≡ true
+test_passed needs pages config has =
     let same = has.of_pages in
-    let quanta : quanta_for_marking config needs.marked ≡ (288 + needs.marked + 192 * pages) / (config.quantum - 352) + 1 = rw same refl in
-    let enough : enough_pages needs ((288 + needs.marked + 192 * pages) / (config.quantum - 352) + 1) ≤ pages = rw (quanta, same) at has.enough in
-    (by_division (288 + needs.marked + 192 * pages) most config.quantum some has.quantum).0 ((are _ (omega arith) (no_more_than_units _ config.quantum)).0 enough)
+    let quanta : quanta_needed needs config ≡ units_needed needs pages / (config.quantum - 352) + 1 = rw same refl in
+    let enough : enough_pages needs (units_needed needs pages / (config.quantum - 352) + 1) ≤ pages = rw (quanta, same) at has.enough in
+    le-leb _ _ enough
 
-pub least_by_division : (needs : Needs) (pages most quantum units : ℕ) → units ≡ 288 + needs.marked + 192 * pages → AreMost needs pages units most → 1 ≤ pages → pages ≤ 4096 → 1 ≤ most
-    → quantum ≡ 353 + units / most → quantum ≤ 1000000 → IsLeastQuantum (HasEnough needs pages) quantum
-least_by_division needs pages most quantum units all are some few quanta value within_limits =
-    let config : Config = record { pages = pages; quantum = quantum; trigger = 0; every = 0; rules = Second; in_limits = limits pages quantum 0 some few (omega arith) within_limits (omega arith) } in
-    record {
-      has = (config, refl, has_enough needs pages most config (subst (λ (n : ℕ). AreMost needs pages n most) all are) quanta refl (omega arith) (subst (λ (n : ℕ). 353 + n / most ≤ quantum) all (omega arith)));
-      least = λ other has. subst (λ (n : ℕ). n ≤ other.quantum) (sym value) (subst (λ (n : ℕ). 353 + n / most ≤ other.quantum) (sym all) (no_less needs pages most other (subst (λ (n : ℕ). AreMost needs pages n most) all are) quanta has));
-    }
+passed_test : (needs : Needs) (pages quantum : ℕ) → 1 ≤ pages → pages ≤ 4096 → 353 ≤ quantum → quantum ≤ 1000000 → is_enough_with needs pages quantum ≡ true
+    → (config : Config) × (config.quantum ≡ quantum) × HasEnough needs pages config
+passed_test needs pages quantum some few least most is =
+    let config : Config = record { pages = pages; quantum = quantum; trigger = 0; every = 0; rules = Second; in_limits = limits pages quantum 0 some few (omega arith) most (omega arith) } in
+    let enough : enough_pages needs (units_needed needs pages / (quantum - 352) + 1) ≤ pages = leb-true _ _ is in (
+      config,
+      refl,
+      record {
+        of_pages = refl;
+        quantum = least;
+        enough = enough;
+        trigger = trigger_within needs.live needs.asked needs.opened pages _ (omega arith) enough;
+      },
+    )
+
+-- so the least with which pages are enough is the least that passes it
+pub least_value : (needs : Needs) (pages : ℕ) (found : Option ℕ) → 1 ≤ pages → pages ≤ 4096 → MatchOption found (HasNone (HasEnough needs pages)) (IsLeastQuantum (HasEnough needs pages)) → found ≡ least_quantum_of needs pages
+least_value needs pages None some few none = sym (least_from-none (is_enough_with needs pages) 353 999648 (λ k from to. elim (cases_Bool (is_enough_with needs pages k)) [
+  | inl passed ↦ let (config, same, has) = passed_test needs pages k some few from (omega arith) passed in absurd (none config has)
+  | inr missed ↦ missed
+]))
+least_value needs pages (Some quantum) some few least =
+    let (config, same, has) = least.has in
+    let limit = within config in
+    let passed : is_enough_with needs pages quantum ≡ true = subst (λ (k : ℕ). is_enough_with needs pages k ≡ true) same (test_passed needs pages config has) in
+    sym (least_from-some (is_enough_with needs pages) 353 999648 quantum (omega (arith, has.quantum, same)) (omega (arith, limit.most, same)) passed (λ k from below. elim (cases_Bool (is_enough_with needs pages k)) [
+      | inl also ↦
+          let (other, like, so) = passed_test needs pages k some few from (omega (arith, limit.most, same)) also in
+          let fewer : quantum ≤ k = subst (λ (n : ℕ). quantum ≤ n) like (least.least other so) in
+          absurd (omega (arith, fewer, below))
+      | inr missed ↦ missed
+    ]))
+
+-- the same for any test that a quantum passes exactly if it fits
+pub value_by_fits : (test : ℕ → Bool) (units quanta : ℕ) (found : Option ℕ) → ((quantum : ℕ) → (test quantum ≡ true) ↔ (units / (quantum - 352) + 1 ≤ quanta)) → MatchOption found (NoneFits units quanta) (IsLeastFit units quanta) → found ≡ least_from test 353 999648
+value_by_fits test units quanta None same none = sym (least_from-none test 353 999648 (λ k from to. elim (cases_Bool (test k)) [
+  | inl passed ↦ absurd (none k (record { some = from; few = omega arith; fits = (same k).0 passed }))
+  | inr missed ↦ missed
+]))
+value_by_fits test units quanta (Some quantum) same least = sym (least_from-some test 353 999648 quantum least.fit.some (omega (arith, least.fit.few)) ((same quantum).1 least.fit.fits) (λ k from below. elim (cases_Bool (test k)) [
+  | inl also ↦ absurd (omega (arith, below, least.least k (record { some = from; few = omega (arith, least.fit.few); fits = (same k).0 also })))
+  | inr missed ↦ missed
+]))
 
 -- Targets ----------------------------------------------------------------------------------------
 
@@ -131,6 +195,29 @@ greatest_found target every met unmet some few least order next most is not =
             absurd (not (omega (arith, limit)) (misses_greater target every unmet other.quantum some (omega arith) share))
         | inr within_it ↦ within_it
       ];
+    }
+
+-- what meets a target does so too if its quanta are run as rarely as they may be
+widened : (target : Target) (config : Config) → Meets target config → (other : Config) × (other.quantum ≡ config.quantum) × MeetsAfter target 1000000 other
+widened target config has =
+    let limit = within config in
+    let other : Config = record {
+      pages = 1;
+      quantum = config.quantum;
+      trigger = 0;
+      every = 1000000;
+      rules = Second;
+      in_limits = limits 1 config.quantum 1000000 (omega arith) (omega arith) limit.least limit.most (omega arith);
+    } in
+    (other, refl, record { of_every = refl; scheduled = omega arith; share = misses_sooner target 1000000 config.every config.quantum (omega (arith, limit.least)) limit.every has.share })
+
+pub greatest_of_any : (target : Target) (found : Option ℕ) → MatchOption found (HasNone (MeetsAfter target 1000000)) (IsGreatestQuantum (MeetsAfter target 1000000)) → MatchOption found (HasNone (Meets target)) (IsGreatestQuantum (Meets target))
+greatest_of_any target None none = λ config has. let (other, same, meets) = widened target config has in none other meets
+greatest_of_any target (Some quantum) greatest =
+    let (config, same, has) = greatest.has in
+    record {
+      has = (config, same, record { scheduled = has.scheduled; share = has.share });
+      greatest = λ other meets. let (rare, as_long, so) = widened target other meets in subst (λ (n : ℕ). n ≤ quantum) as_long (greatest.greatest rare so);
     }
 
 pub no_every : (target : Target) (quantum : ℕ) → 1 ≤ quantum → (IsMetBy target 1000000 quantum → ⊥) → HasNone (MeetsWith target quantum)

@@ -1,6 +1,7 @@
 pub mod Choices
 pub mod Openings
-pub mod Marking
+pub mod PageUnits
 pub mod Needs
+pub mod Shared
 pub mod Targets
 pub mod Sized

@@ -1,26 +1,26 @@
--- Runs in a heap that is sized for what their mutators need.
-use Rattle.std.specs.Prelude.{ℕ, ◌≤◌, List, []}
-use Rattle.std.specs.List.{AllByRecursion}
+-- Heaps that are sized for what their sessions need.
+use Rattle.std.specs.Prelude.{◌≤◌, List}
 use Rattle.mh_model.specs.declared.command.Event.{Event}
 use Rattle.mh_model.specs.declared.config.Config.{Config}
-use Rattle.mh_model.specs.Machine.{first_machine}
-use Rattle.mh_model.specs.Snapshot.{first_moment}
-use Rattle.mh_sizing_laws.specs.Openings.{opens_at_most}
-use Rattle.mh_sizing_laws.specs.Triggers.{intervals, IsNeverFull}
-use Rattle.mh_sizing_laws.specs.PagesLeft.{HasAtMostLive, worlds, asked_count}
-use Rattle.mh_sizing_laws.specs.Reached.{CyclesReachAtMost}
-use Rattle.mh_sizing.specs.declared.needs.Needs.{Needs}
-use Rattle.mh_sizing.specs.Marking.{quanta_for_marking}
+use Rattle.mh_model.specs.declared.needs.Needs.{Needs}
+use Rattle.mh_model.specs.Intervals.{IsNeverFull}
+use Rattle.mh_model.specs.Needs.{quanta_needed, NeedNoMore, HasEnoughFor}
+use Rattle.mh_sharp_laws.specs.SharpNeeds.{AskOfClasses}
+use Rattle.mh_sizing.specs.declared.kinds.Kinds.{Kinds}
 use Rattle.mh_sizing.specs.Needs.{enough_trigger, HasEnough}
+use Rattle.mh_sizing.specs.Shared.{HasEnoughShared}
 
--- the mutators of a run need no more than this
-pub record NeedNoMore (needs : Needs) (config : Config) (events : List Event) : Type 0 where
-  pub live : AllByRecursion (HasAtMostLive needs.live) (worlds (first_moment config) events)
-  pub marked : CyclesReachAtMost needs.marked config events
-  pub asked : AllByRecursion (λ interval. asked_count config interval ≤ needs.asked) (intervals [] (first_machine config) events)
-  pub opened : AllByRecursion (λ interval. opens_at_most config interval ≤ needs.opened) (intervals [] (first_machine config) events)
+-- A configuration whose pages are enough, and whose trigger is enough or more, has enough for the quanta that its cycles need
+abbrev pub SizedHeapsHaveEnough : Type 0
+SizedHeapsHaveEnough = (needs : Needs) (config : Config) → HasEnough needs config.pages config → enough_trigger needs (quanta_needed needs config) ≤ config.trigger
+    → HasEnoughFor needs config (quanta_needed needs config)
 
--- Such a run is never full if the pages are enough and the trigger is enough or more
+-- So a run in it is never full whose sessions need no more
 abbrev pub SizedRunsAreNeverFull : Type 0
-SizedRunsAreNeverFull = (needs : Needs) (config : Config) (events : List Event) → NeedNoMore needs config events → HasEnough needs config.pages config → enough_trigger needs (quanta_for_marking config needs.marked) ≤ config.trigger
+SizedRunsAreNeverFull = (needs : Needs) (config : Config) (events : List Event) → NeedNoMore needs config events → HasEnough needs config.pages config → enough_trigger needs (quanta_needed needs config) ≤ config.trigger
+    → IsNeverFull config events
+
+-- And so it is never full where small parts share pages, in a configuration whose pages are then enough for the classes of its parts
+abbrev pub SharedRunsAreNeverFull : Type 0
+SharedRunsAreNeverFull = (needs : Needs) (kinds : Kinds) (config : Config) (events : List Event) → NeedNoMore needs config events → AskOfClasses kinds.least kinds.kinds config events → HasEnoughShared needs kinds config.pages config → enough_trigger needs (quanta_needed needs config) ≤ config.trigger
     → IsNeverFull config events

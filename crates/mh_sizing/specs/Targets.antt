@@ -19,3 +19,8 @@ pub record MeetsWith (target : Target) (quantum : ℕ) (config : Config) : Type 
   pub of_quantum : config.quantum ≡ quantum
   pub scheduled : 1 ≤ config.every
   pub share : IsMetBy target config.every config.quantum
+
+-- A configuration has quanta run by the scheduler, and meets a target
+pub record Meets (target : Target) (config : Config) : Type 0 where
+  pub scheduled : 1 ≤ config.every
+  pub share : IsMetBy target config.every config.quantum

@@ -1,9 +1,10 @@
 //! How many quanta a cycle takes at most.
-ghost use Rattle.std.specs.Prelude.{◌≡◌, ◌+◌, ◌*◌, ◌≤◌};
+ghost use Rattle.std.specs.Prelude.{◌≡◌, ◌+◌, ◌*◌, ◌^◌, ◌<◌, ◌≤◌};
 ghost use Rattle.mh_model.specs.Bound.{most_quanta};
-ghost use Rattle.mh_sizing.specs.Marking.{quanta_for_marking, units_for_marking};
+ghost use Rattle.mh_model.specs.Needs.{quanta_needed, units_needed};
 
 use mh_model::config::Config;
+use mh_model::needs::Needs;
 
 /// The most quanta of a cycle, whatever blocks the heap holds.
 pub fn quanta_of_cycle(config: &Config) -> u64
@@ -18,19 +19,19 @@ pub fn quanta_of_cycle(config: &Config) -> u64
     most_steps.min((288 + 640 * pages) / (quantum - 352) + 1)
 }
 
-/// What a cycle spends at most that has so many units to mark.
-pub(crate) fn units_for(pages: u32, marked: u32) -> u64
+/// What a cycle spends at most, without the charge for slots, in a heap of so many pages.
+pub fn units_needed(pages: u32, needs: &Needs) -> u64
     requires { pages ≤ 4096 }
-    ensures { result ≡ units_for_marking pages marked }
+    ensures value { result ≡ units_needed needs.now pages }
+    ensures few { result < 2 ^ 63 }
 {
-    288 + u64::from(marked) + 192 * u64::from(pages)
+    288 + u64::from(needs.marked) + u64::from(needs.page) * u64::from(pages)
 }
 
-/// The most quanta of a cycle whose snapshot reaches objects of so many marking units, in a run that has room for it: 1 for
-/// each part, and 1 for each of its references.
-pub fn quanta_of_cycle_marking(config: &Config, marked: u32) -> u64
+/// The most quanta of a cycle of a run that has room for it, whose sessions need no more than this.
+pub fn quanta_needed(config: &Config, needs: &Needs) -> u64
     requires { 353 ≤ config.now.quantum }
-    ensures { result ≡ quanta_for_marking config.now marked }
+    ensures { result ≡ quanta_needed needs.now config.now }
 {
-    units_for(config.pages, marked) / u64::from(config.quantum - 352) + 1
+    units_needed(config.pages, needs) / u64::from(config.quantum - 352) + 1
 }

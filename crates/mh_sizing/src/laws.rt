@@ -1,7 +1,24 @@
-//! The law by which sized heaps are never full.
-ghost use Rattle.mh_sizing.specs.Sized.{SizedRunsAreNeverFull};
+//! The laws by which sized heaps are never full.
+ghost use Rattle.mh_sizing.specs.Sized.{SizedHeapsHaveEnough, SizedRunsAreNeverFull, SharedRunsAreNeverFull};
 
-/// No reply of a run is a full heap if its pages and its trigger are enough for what its mutators need.
+use mh_sharp_laws::needs::sharp_enough_for_needs_suffices;
+use mh_sizing_laws::needs::enough_for_needs_suffices;
+
+/// A configuration with enough pages, and with a trigger that is enough or more, has enough for what its sessions need.
+pub fn sized_heaps_have_enough()
+    ensures { SizedHeapsHaveEnough }
+{}
+
+/// No reply of a run in it is a full heap, if its sessions need no more.
 pub fn sized_runs_are_never_full()
     ensures { SizedRunsAreNeverFull }
-{}
+{
+    enough_for_needs_suffices();
+}
+
+/// Nor is one where small parts share pages, if its events ask for parts of no other classes.
+pub fn shared_runs_are_never_full()
+    ensures { SharedRunsAreNeverFull }
+{
+    sharp_enough_for_needs_suffices();
+}

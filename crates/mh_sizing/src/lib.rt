@@ -3,7 +3,10 @@
 #![tactic(auto)]
 
 pub mod cycles;
+pub mod kinds;
 pub mod laws;
 pub mod needs;
 pub mod openings;
+pub mod pages;
+pub mod shared;
 pub mod targets;

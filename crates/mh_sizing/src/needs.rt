@@ -1,23 +1,14 @@
-//! The trigger and the pages that are enough for what mutators need, and the least quantum for them.
-ghost use Rattle.std.specs.Prelude.{◌≡◌, ℕ, ◌+◌, ◌^◌, ◌<◌, ◌≤◌, ◌↔◌, MatchOption};
-ghost use Rattle.mh_sizing.specs.Needs.{enough_trigger, enough_pages, HasEnough};
-ghost use Rattle.mh_sizing.specs.Choices.{HasNone, IsLeastQuantum};
+//! The trigger and the pages that are enough for what sessions need, and the least quantum for them.
+ghost use Rattle.std.specs.Prelude.{◌≡◌, ℕ, ◌+◌, ◌^◌, ◌<◌, ◌≤◌, ◌↔◌, IfSome, MatchOption, length};
+ghost use Rattle.mh_sizing.specs.Needs.{enough_trigger, enough_pages, least_quantum_of, needs_of_counts, HasEnough};
+ghost use Rattle.mh_sizing.specs.Openings.{parts_of_counts};
+ghost use Rattle.mh_sizing.specs.Choices.{HasNone, IsLeastQuantum, NoneFits, IsLeastFit};
 
-use crate::cycles::units_for;
+use crate::cycles::units_needed;
+use crate::openings::{ClassParts, pages_opened};
+use crate::pages::page_units_counted;
 use mh_model::limits::MOST_QUANTUM;
-
-/// What mutators need of a heap. A heap has fewer than 2^20 words, so 32 bits are enough for each.
-#[derive(Clone, Copy, Debug)]
-pub struct Needs {
-    /// The most parts of objects that are reachable at a time.
-    pub live: u32,
-    /// The most marking units of those parts: 1 for each, and 1 for each of its references.
-    pub marked: u32,
-    /// The most parts that an interval between two quanta asks for.
-    pub asked: u32,
-    /// The most pages that such an interval opens.
-    pub opened: u32,
-}
+use mh_model::needs::Needs;
 
 /// The trigger that is enough if a cycle takes so many quanta at most.
 pub fn enough_trigger(needs: &Needs, quanta: u64) -> u128
@@ -50,14 +41,11 @@ fn quanta_in(pages: u32, needs: &Needs, units: u64) -> u64
     }
 }
 
-/// The least quantum of 353 or more with which so many pages, and a trigger of no more than these, are enough.
-pub fn least_quantum(pages: u32, needs: &Needs) -> Option<u32>
-    requires some { 1 ≤ pages }
-    requires few { pages ≤ 4096 }
-    ensures { MatchOption result (HasNone (HasEnough needs.now pages)) (IsLeastQuantum (HasEnough needs.now pages)) }
+/// The least quantum of 353 or more with which a cycle of so many units takes no more quanta than these.
+pub(crate) fn least_quantum_for(units: u64, quanta: u64) -> Option<u32>
+    requires { units < 2 ^ 63 }
+    ensures { MatchOption result (NoneFits units quanta) (IsLeastFit units quanta) }
 {
-    let units = units_for(pages, needs.marked);
-    let quanta = quanta_in(pages, needs, units);
     if quanta == 0 {
         return None;
     }
@@ -66,5 +54,56 @@ pub fn least_quantum(pages: u32, needs: &Needs) -> Option<u32>
         Some(quantum as u32)
     } else {
         None
+    }
+}
+
+/// The least quantum, by division.
+fn least_by_division(pages: u32, needs: &Needs) -> Option<u32>
+    requires some { 1 ≤ pages }
+    requires few { pages ≤ 4096 }
+    ensures least { MatchOption result (HasNone (HasEnough needs.now pages)) (IsLeastQuantum (HasEnough needs.now pages)) }
+    ensures within { IfSome result (λ quantum. (353 ≤ quantum) × (quantum ≤ 1000000)) }
+{
+    let units = units_needed(pages, needs);
+    least_quantum_for(units, quanta_in(pages, needs, units))
+}
+
+/// The least quantum of 353 or more with which so many pages, and a trigger of no more than these, are enough.
+pub fn least_quantum(pages: u32, needs: &Needs) -> Option<u32>
+    requires some { 1 ≤ pages }
+    requires few { pages ≤ 4096 }
+    ensures least { MatchOption result (HasNone (HasEnough needs.now pages)) (IsLeastQuantum (HasEnough needs.now pages)) }
+    ensures value { result ≡ least_quantum_of needs.now pages }
+    ensures within { IfSome result (λ quantum. (353 ≤ quantum) × (quantum ≤ 1000000)) }
+{
+    least_by_division(pages, needs)
+}
+
+/// How many parts are counted.
+pub fn parts_counted(counts: &[ClassParts]) -> u64
+    requires { length counts.now ≤ 20 }
+    ensures { result ≡ parts_of_counts counts.now }
+{
+    let mut parts = 0;
+    for count in counts {
+        parts += u64::from(count.parts);
+    }
+    parts
+}
+
+/// What sessions need that have so many live parts with so many references at a time, and whose intervals ask for no more
+/// parts of each class than are counted. Each class is listed once at most.
+pub fn needs_of(counts: &[ClassParts], live: u32, references: u32) -> Needs
+    requires few { length counts.now ≤ 20 }
+    requires parts { parts_of_counts counts.now < 2 ^ 32 }
+    requires marked { live + references < 2 ^ 32 }
+    ensures { result ≡ needs_of_counts counts.now live references }
+{
+    Needs {
+        live,
+        marked: live + references,
+        asked: parts_counted(counts) as u32,
+        opened: pages_opened(counts) as u32,
+        page: page_units_counted(counts),
     }
 }

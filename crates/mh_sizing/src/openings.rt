@@ -2,22 +2,24 @@
 ghost use Rattle.std.specs.Prelude.{◌≡◌, ◌≤◌, ℕ, List, length, map};
 ghost use Rattle.std.specs.List.{sum_by};
 ghost use Rattle.mh_model.specs.Classes.{Part};
-ghost use Rattle.mh_sizing_laws.specs.Openings.{pages_for, pages_of_parts};
+ghost use Rattle.mh_model.specs.Openings.{pages_for, pages_of_parts};
 ghost use Rattle.mh_sizing.specs.declared.openings.ClassParts.{ClassParts};
-ghost use Rattle.mh_sizing.specs.Openings.{class_counts, pages_of_counts, least_slots, pages_at_most};
+ghost use Rattle.mh_sizing.specs.Openings.{class_counts, pages_of_counts, parts_of_counts, least_slots, pages_at_most};
 
 use mh_classes::class::Class;
 
 /// How many parts go into pages of a class.
-#[derive(Clone, Copy, Debug)]
+#[derive(Clone, Copy, Debug, PartialEq, Eq)]
 pub struct ClassParts {
     pub class: Class,
     pub parts: u32,
 }
 
 /// How many pages so many parts of a class fill.
+#[tactic(auto, using(crate::proofs::OpeningLemmas::ceil_few))]
 fn pages_for(count: ClassParts) -> u32
-    ensures { result ≡ pages_for count.class count.parts }
+    ensures value { result ≡ pages_for count.class count.parts }
+    ensures few { result ≤ count.parts }
 {
     count.parts.div_ceil(count.class.slots() as u32)
 }
@@ -26,6 +28,7 @@ fn pages_for(count: ClassParts) -> u32
 pub fn pages_opened(counts: &[ClassParts]) -> u64
     requires { length counts.now ≤ 20 }
     ensures value { result ≡ pages_of_counts counts.now }
+    ensures few { result ≤ parts_of_counts counts.now }
     ensures parts { (list : List Part) → counts.now ≡ class_counts list → result ≡ pages_of_parts list }
 {
     let mut pages = 0;
@@ -37,7 +40,7 @@ pub fn pages_opened(counts: &[ClassParts]) -> u64
 
 /// The fewest slots that a page of these classes has.
 #[tactic(auto, using(crate::proofs::OpeningLemmas::least_with))]
-fn least_slots(classes: &[Class]) -> u32
+pub(crate) fn least_slots(classes: &[Class]) -> u32
     ensures value { result ≡ least_slots classes.now }
     ensures some { 1 ≤ result }
 {

@@ -1,13 +1,13 @@
 //! Quanta that leave the mutator a share of each stretch of a length.
-ghost use Rattle.std.specs.Prelude.{◌≡◌, ◌≤◌, ◌↔◌, IsTrue, MatchOption};
+ghost use Rattle.std.specs.Prelude.{◌≡◌, ◌≤◌, ◌↔◌, IfSome, IsTrue, MatchOption};
 ghost use Rattle.mh_sizing.specs.Choices.{HasNone, IsGreatestQuantum, IsLeastEvery};
-ghost use Rattle.mh_sizing.specs.Targets.{IsMetBy, MeetsAfter, MeetsWith};
+ghost use Rattle.mh_sizing.specs.Targets.{IsMetBy, Meets, MeetsAfter, MeetsWith};
 
 use mh_model::limits::{LEAST_QUANTUM, MOST_EVERY, MOST_QUANTUM};
 use mh_report::floor::floor;
 
 /// A share of the mutator in each stretch of a length.
-#[derive(Clone, Copy, Debug)]
+#[derive(Clone, Copy, Debug, PartialEq, Eq)]
 pub struct Target {
     /// The share in parts of a hundred.
     pub percent: u32,
@@ -31,7 +31,8 @@ fn is_met(target: &Target, every: u32, quantum: u32) -> bool
 pub fn greatest_quantum_for(target: &Target, every: u32) -> Option<u32>
     requires some { 1 ≤ every }
     requires few { every ≤ 1000000 }
-    ensures { MatchOption result (HasNone (MeetsAfter target.now every)) (IsGreatestQuantum (MeetsAfter target.now every)) }
+    ensures greatest { MatchOption result (HasNone (MeetsAfter target.now every)) (IsGreatestQuantum (MeetsAfter target.now every)) }
+    ensures within { IfSome result (λ quantum. (209 ≤ quantum) × (quantum ≤ 1000000)) }
 {
     if !is_met(target, every, LEAST_QUANTUM) {
         return None;
@@ -47,6 +48,15 @@ pub fn greatest_quantum_for(target: &Target, every: u32) -> Option<u32>
         }
     }
     Some(met)
+}
+
+/// The greatest quantum that leaves the mutator the share, however rarely one is run.
+#[tactic(auto, using(crate::proofs::QuantumLemmas::greatest_of_any))]
+pub fn greatest_quantum(target: &Target) -> Option<u32>
+    ensures greatest { MatchOption result (HasNone (Meets target.now)) (IsGreatestQuantum (Meets target.now)) }
+    ensures within { IfSome result (λ quantum. (209 ≤ quantum) × (quantum ≤ 1000000)) }
+{
+    greatest_quantum_for(target, MOST_EVERY)
 }
 
 /// The least number of units of the mutator after which a quantum may be run that leaves it the share.

@@ -1,8 +1,15 @@
+ghost use Rattle.std.specs.Prelude.{◌≡◌};
+ghost use Rattle.mh_sizing.specs.Openings.{parts_of_counts};
+
 use mh_classes::class::{Class, class_of};
 use mh_model::config::Config;
-use mh_sizing::cycles::{quanta_of_cycle, quanta_of_cycle_marking};
-use mh_sizing::needs::{Needs, enough_pages, enough_trigger, least_quantum};
+use mh_model::needs::Needs;
+use mh_sizing::cycles::{quanta_needed, quanta_of_cycle};
+use mh_sizing::kinds::kinds_of;
+use mh_sizing::needs::{enough_pages, enough_trigger, least_quantum, needs_of};
 use mh_sizing::openings::{ClassParts, pages_opened, pages_opened_at_most};
+use mh_sizing::pages::page_units;
+use mh_sizing::shared::{enough_shared_pages, least_quantum_shared};
 use mh_sizing::targets::{Target, greatest_quantum_for, least_every_for};
 use std::test::Fail;
 
@@ -11,12 +18,12 @@ fn two_classes() -> Option<[Class; 2]> {
     Some([class_of(7)?, class_of(8)?])
 }
 
-/// 100 parts of either class fill three pages and four; 200 of any of them open eight at most.
-#[test]
-fn parts_open_pages(rt: HostRuntime) -> Result<(), Fail> {
-    let classes = two_classes().ok_or("classes")?;
+/// 100 parts of either class.
+fn two_counts(classes: [Class; 2]) -> [ClassParts; 2]
+    ensures { parts_of_counts result ≡ 200 }
+{
     let [seven, eight] = classes;
-    let counts = [
+    [
         ClassParts {
             class: seven,
             parts: 100,
@@ -25,8 +32,15 @@ fn parts_open_pages(rt: HostRuntime) -> Result<(), Fail> {
             class: eight,
             parts: 100,
         },
-    ];
-    assert_eq!(rt; pages_opened(&counts), 7);
+    ]
+}
+
+/// They fill three pages and four; 200 of any of them open eight at most.
+#[test]
+fn parts_open_pages(rt: HostRuntime) -> Result<(), Fail> {
+    let classes = two_classes().ok_or("classes")?;
+    let [_, eight] = classes;
+    assert_eq!(rt; pages_opened(&two_counts(classes)), 7);
     assert_eq!(rt; pages_opened_at_most(200, &classes), 8);
     assert_eq!(rt; pages_opened_at_most(200, &[eight]), 7);
     assert_eq!(rt; pages_opened_at_most(1, &classes), 1);
@@ -40,6 +54,7 @@ fn needs() -> Needs {
         marked: 4500,
         asked: 200,
         opened: 7,
+        page: 192,
     }
 }
 
@@ -47,7 +62,37 @@ fn needs() -> Needs {
 fn cycles_take_quanta(rt: HostRuntime) -> Result<(), Fail> {
     let config = Config::new(4096, 8099, 503, 1000).ok_or("a configuration")?;
     assert_eq!(rt; quanta_of_cycle(&config), 339);
-    assert_eq!(rt; quanta_of_cycle_marking(&config, 4500), 103);
+    assert_eq!(rt; quanta_needed(&config, &needs()), 103);
+    Ok(())
+}
+
+/// A page of 7 words costs the sweep 36 units, and the defragmentation 36 and 9 moves of 7; one of 8 words 32, and 32 and 8
+/// moves of 8. One of 4 words costs most, and one of 64 words least.
+#[test]
+fn pages_cost_units(rt: HostRuntime) -> Result<(), Fail> {
+    let [seven, eight] = two_classes().ok_or("classes")?;
+    let least = class_of(64).ok_or("a class")?;
+    let most = class_of(4).ok_or("a class")?;
+    assert_eq!(rt; page_units(&[seven, eight]), 135);
+    assert_eq!(rt; page_units(&[eight]), 128);
+    assert_eq!(rt; page_units(&[least]), 72);
+    assert_eq!(rt; page_units(&[eight, most]), 192);
+    Ok(())
+}
+
+/// With these classes alone a cycle of 4,096 pages spends 557,748 units, which are 72 quanta of 8,099.
+#[test]
+fn counts_are_needs(rt: HostRuntime) -> Result<(), Fail> {
+    let config = Config::new(4096, 8099, 503, 1000).ok_or("a configuration")?;
+    let counts = two_counts(two_classes().ok_or("classes")?);
+    let counted = needs_of(&counts, 1500, 3000);
+    let expected = Needs {
+        page: 135,
+        ..needs()
+    };
+    assert_eq!(rt; counted, expected);
+    assert_eq!(rt; quanta_needed(&config, &counted), 72);
+    assert_eq!(rt; least_quantum(4096, &counted), Some(43_256));
     Ok(())
 }
 
@@ -60,6 +105,19 @@ fn a_heap_has_enough(rt: HostRuntime) -> Result<(), Fail> {
     assert_eq!(rt; least_quantum(4096, &needs()), Some(61_216));
     assert_eq!(rt; least_quantum(1507, &needs()), Some(294_485));
     assert_eq!(rt; least_quantum(1506, &needs()), None);
+    Ok(())
+}
+
+/// Small parts share pages: one for each live part, 46 that these fill, 28 and one more for each of 88 quanta, two for the
+/// classes, and 22 fewer for the first intervals.
+#[test]
+fn small_parts_share_pages(rt: HostRuntime) -> Result<(), Fail> {
+    let classes = two_classes().ok_or("classes")?;
+    let counted = needs_of(&two_counts(classes), 1500, 3000);
+    let kinds = kinds_of(&classes);
+    assert_eq!(rt; enough_shared_pages(&counted, &kinds, 88), 4078);
+    assert_eq!(rt; enough_shared_pages(&counted, &kinds, 89), 4107);
+    assert_eq!(rt; least_quantum_shared(4096, &counted, &kinds), Some(6691));
     Ok(())
 }
 

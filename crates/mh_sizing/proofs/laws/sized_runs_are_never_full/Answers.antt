@@ -1,5 +1,6 @@
-use Rattle.mh_sizing.proofs.SizedLemmas.{sized-never-full}
+use Rattle.mh_model.specs.Needs.{quanta_needed}
+use Rattle.mh_sizing.proofs.SizedLemmas.{sized-enough}
 use Rattle.mh_sizing.proofs.laws.sized_runs_are_never_full.Goals as goal
 
 pub returns : goal.returns
-returns c = sized-never-full
+returns c needs config events no_more enough trigger = (c.enough_for_needs_suffices.ensures needs config events (quanta_needed needs config) no_more (sized-enough needs config enough trigger)).1.never_full

@@ -1,0 +1,12 @@
+pub mod Asked
+pub mod Births
+pub mod Bounded
+pub mod ClassCounts
+pub mod Needed
+pub mod Objects
+pub mod Reached
+pub mod Runs
+pub mod Steps
+pub mod Units
+pub mod Walk
+pub mod Worlds

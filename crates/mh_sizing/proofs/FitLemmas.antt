@@ -1,0 +1,50 @@
+-- Pages that are enough where small parts share pages, and the quanta for which they are.
+use Rattle.std.proofs.Common.{◌≡◌, ℕ, ◌+◌, ◌-◌, ◌*◌, ◌/◌, ◌≤◌, ◌↔◌, nat_le, Option, MatchOption, true, inr, subst, arith}
+use Rattle.std.proofs.lemmas.Nat.{mul-le}
+use Rattle.std.proofs.lemmas.Bool.{leb-true, le-leb}
+use Rattle.mh_model.specs.declared.config.Config.{Config}
+use Rattle.mh_model.specs.declared.needs.Needs.{Needs}
+use Rattle.mh_model.specs.Needs.{quanta_needed, units_needed}
+use Rattle.mh_sharp_laws.specs.SharpNeeds.{HasSharpEnoughFor}
+use Rattle.mh_sizing.specs.declared.kinds.Kinds.{Kinds}
+use Rattle.mh_sizing.specs.Choices.{NoneFits, IsLeastFit}
+use Rattle.mh_sizing.specs.Needs.{enough_trigger}
+use Rattle.mh_sizing.specs.Shared.{enough_shared_pages, is_enough_shared_with, least_quantum_shared_of, HasEnoughShared}
+use Rattle.mh_sizing.proofs.QuantumLemmas.{AreMost, IsByQuanta, enough_fits, value_by_fits, within}
+
+-- A configuration that has enough has what the law asks for
+pub shared-enough : (needs : Needs) (kinds : Kinds) (config : Config) → HasEnoughShared needs kinds config.pages config → enough_trigger needs (quanta_needed needs config) ≤ config.trigger → HasSharpEnoughFor needs kinds.least kinds.kinds config (quanta_needed needs config)
+shared-enough needs kinds config enough trigger = record {
+  bound = inr (enough.quantum, omega arith);
+  pages = omega (arith, enough.enough);
+  trigger = omega (arith, trigger);
+}
+
+-- enough pages are no fewer than the trigger
+shared-trigger : (fixed opened pages quanta : ℕ) → 1 ≤ quanta → fixed + 4 * (quanta * opened) + quanta - (3 * opened + 1) ≤ pages → quanta * opened - 1 ≤ pages
+shared-trigger fixed opened pages quanta some enough =
+    let least : 1 * opened ≤ quanta * opened = mul-le 1 opened quanta opened some (omega arith) in
+    omega (arith, least, enough)
+
+pub shared_by_quanta : (needs : Needs) (kinds : Kinds) (pages units most : ℕ) → units ≡ units_needed needs pages → AreMost (enough_shared_pages needs kinds) pages units most → IsByQuanta (HasEnoughShared needs kinds pages) pages units most
+shared_by_quanta needs kinds pages units most all are = record {
+  has = λ config same fit.
+      let enough = (enough_fits (enough_shared_pages needs kinds) needs pages units most config all are same).1 fit.fits in
+      record {
+        of_pages = same;
+        quantum = fit.some;
+        enough = enough;
+        trigger = shared-trigger (needs.live + needs.live / kinds.least + kinds.kinds) needs.opened config.pages (quanta_needed needs config) (omega arith) (omega (arith, enough));
+      };
+  fits = λ config has. record { some = has.quantum; few = (within config).most; fits = (enough_fits (enough_shared_pages needs kinds) needs pages units most config all are has.of_pages).0 has.enough };
+}
+
+-- The least quantum as a number that is searched for
+pub shared_value : (needs : Needs) (kinds : Kinds) (pages units most : ℕ) (found : Option ℕ) → units ≡ units_needed needs pages → ((quanta : ℕ) → 1 ≤ quanta → (enough_shared_pages needs kinds quanta ≤ pages) ↔ (quanta ≤ most)) → MatchOption found (NoneFits units most) (IsLeastFit units most) → found ≡ least_quantum_shared_of needs kinds pages
+shared_value needs kinds pages units most found all are least = value_by_fits (is_enough_shared_with needs kinds pages) units most found same least
+  where
+    same : (quantum : ℕ) → (is_enough_shared_with needs kinds pages quantum ≡ true) ↔ (units / (quantum - 352) + 1 ≤ most)
+    same quantum =
+        let fits = are (units / (quantum - 352) + 1) (omega arith) in
+        subst (λ (n : ℕ). (nat_le (enough_shared_pages needs kinds (n / (quantum - 352) + 1)) pages ≡ true) ↔ (units / (quantum - 352) + 1 ≤ most)) all
+        (λ passed. fits.0 (leb-true _ _ passed), λ few. le-leb _ _ (fits.1 few))

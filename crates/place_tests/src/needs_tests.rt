@@ -1,0 +1,68 @@
+use mh_model::command::{Command, Control, Event};
+use mh_model::config::Config;
+use mh_model::needs::Needs;
+use mh_needs::walk::{Walk, needs_of};
+use std::test::Fail;
+
+fn new(slot: u32, references: u32, numbers: u32) -> Command {
+    Command::New {
+        slot,
+        references,
+        numbers,
+    }
+}
+
+/// A session makes an object of one part and one of three, and leaves both to the board. Another takes them and makes a third.
+fn events() -> [Event; 10] {
+    [
+        Event::Session(0, new(0, 2, 0)),
+        Event::Session(0, new(1, 70, 0)),
+        Event::Session(
+            0,
+            Command::Put {
+                slot: 0,
+                field: 0,
+                value: 1,
+            },
+        ),
+        Event::Session(0, Command::Clear { slot: 1 }),
+        Event::Session(0, Command::Post { board: 3, slot: 0 }),
+        Event::Session(0, Command::End),
+        Event::Session(0, new(0, 0, 1)),
+        Event::Session(1, Command::Take { slot: 5, board: 3 }),
+        Event::Session(1, new(0, 0, 3)),
+        Event::Control(Control::Stat),
+    ]
+}
+
+/// All five parts live, 79 units to mark. The first interval ends with the second object, so it asks for four parts, on a page
+/// for two of 6 words and one each for the others. The refused object has the class of 5 words, whose page has 51 slots and 12
+/// moves of 5 at most.
+#[test]
+fn sessions_need_what_they_reach_and_ask_for(rt: HostRuntime) -> Result<(), Fail> {
+    let config = Config::new(100, 1000, 10, 4).ok_or("a configuration")?;
+    let needed = needs_of(rt.alloc(), config, &events())?;
+    let expected = Needs {
+        live: 5,
+        marked: 79,
+        asked: 4,
+        opened: 3,
+        page: 162,
+    };
+    assert_eq!(rt; needed, Some(expected));
+    Ok(())
+}
+
+/// Blocks of 5, 6, 7, 15 and 64 words are asked for; a page has four of the last.
+#[test]
+fn a_walk_knows_its_kinds(rt: HostRuntime) -> Result<(), Fail> {
+    let config = Config::new(100, 1000, 10, 4).ok_or("a configuration")?;
+    let mut walk = Walk::open(rt.alloc(), config);
+    for event in &events() {
+        walk.event(event)?;
+    }
+    let kinds = walk.kinds();
+    assert_eq!(rt; kinds.kinds, 5);
+    assert_eq!(rt; kinds.least, 4);
+    Ok(())
+}
