@@ -1,6 +1,6 @@
 -- What the options of the matches are read as.
 use Rattle.std.proofs.Common.{◌≡◌, ◌∙◌, ◌⊎◌, ◌<◌, ◌≤◌, ◌^◌, ℕ, Bool, true, false, Option, Some, None, option_map, refl, sym, ap, inl, inr, arith, codes}
-use Rattle.std.specs.Prelude.{◌≢◌, IfSome, IsSome, IsSomeAnd, MatchOption, Result, Ok, Err, find, option_and_then, slice_get, unwrap_or}
+use Rattle.std.specs.Prelude.{◌≢◌, IfSome, is_some, IsSome, IsSomeAnd, MatchOption, Result, Ok, Err, find, option_and_then, slice_get, unwrap_or}
 use Rattle.std.specs.Str.{bytes_eq}
 use Rattle.clap.proofs.WalkLemmas.{first_value-rows}
 use Rattle.clap.specs.Matches.{first_value}
@@ -15,6 +15,10 @@ use Rattle.mh_generate.specs.declared.profile.Profile.{Profile}
 use Rattle.mh_generate.specs.declared.profile.Profile.TheVariants.{Mixed}
 use Rattle.mh_program.specs.Line.{IsNumber, number_in, rules_numbered}
 use Rattle.std.specs.Option.{option_map_or}
+use Rattle.std.proofs.lemmas.Bool.Decides.{nat_tests}
+use Rattle.mh_size.specs.Blocks.{ReadsAllocations, allocations_in, counted_of}
+use Rattle.mh_size.specs.Given.{is_between, may_be}
+use Rattle.mh_size.specs.declared.allocations.Allocations.{Allocations}
 
 -- a number that fits is read
 module _ {E : Type 0} (k : ℕ) (gives : Text → Result ℕ E → Type 0) (parses : (text : Text) (r : Result ℕ E) → gives text r → ParsesUnsigned k 10 text r) where
@@ -27,6 +31,11 @@ module _ {E : Type 0} (k : ℕ) (gives : Text → Result ℕ E → Type 0) (pars
       → unwrap_or got other ≡ option_map_or number_in found other
   may-read least most other None got below given none some = ap (λ o. unwrap_or o other) (none refl)
   may-read least most other (Some text) got below given none some = ap (λ o. unwrap_or o other) (number-read text got given.0 (omega (arith, given.3, below)) (some text refl))
+
+  -- and so is its number
+  pub optional-read : (least most : ℕ) (found : Option Text) (got : Option ℕ) → most < 2 ^ k → IfSome found (IsUnsignedIn least most) → (found ≡ None → got ≡ None) → ((t : Text) → found ≡ Some t → ReadsOne gives t got) → got ≡ option_map number_in found
+  optional-read least most None got below given none some = none refl
+  optional-read least most (Some text) got below given none some = number-read text got given.0 (omega (arith, given.3, below)) (some text refl)
 
   -- the rules by such an option, or these others if it is left out
   pub rules-read : (other : Rules) (found : Option Text) (got : Option ℕ) → 2 < 2 ^ k → IfSome found (IsUnsignedIn 1 2) → (found ≡ None → got ≡ None) → ((t : Text) → found ≡ Some t → ReadsOne gives t got)
@@ -72,6 +81,17 @@ pub some_is : {A : Type 0} (o : Option A) (x : A) → o ≡ Some x → IsSome o
 some_is None x e = absurd (some-none (sym e))
 some_is (Some y) x e = refl
 
+pub is_some-mapped : {A B : Type 0} (f : A → B) (o : Option A) → is_some (option_map f o) ≡ is_some o
+is_some-mapped f None = refl
+is_some-mapped f (Some x) = refl
+
+-- whether an option is given is whether it is read as something
+pub is_some-given : (f : Found) (name : Text) → is_some (first_value f name) ≡ is_some (one_of name (rows_of f))
+is_some-given f name = go (first_value f name) refl where
+  go : (read : Option Text) → first_value f name ≡ read → is_some read ≡ is_some (one_of name (rows_of f))
+  go None e = sym (ap is_some (not_given f name e))
+  go (Some text) e = let given = is_given f name text e in sym (some_is (one_of name (rows_of f)) given.0 given.1)
+
 -- Options of `generate` ----------------------------------------------------------------------------
 
 pub if_given : (P : Text → Type 0) (found : Option Text) → IsSomeAnd found P → IfSome found P
@@ -99,3 +119,45 @@ profile-mixed (Some text) none = absurd (some-none none)
 pub profile-lacking : (found : Option Text) (text : Text) → found ≡ Some text → ((t : Text) → found ≡ Some t → ReadsOne NamesProfile t None) → IsSomeAnd found (λ text. (profile : Profile) → text ≢ profile_name profile)
 profile-lacking None text there reads = absurd (some-none (sym there))
 profile-lacking (Some other) text there reads = (reads other refl).1
+
+-- Options of `size` --------------------------------------------------------------------------------
+
+pub given-number : (least most n : ℕ) (found : Option Text) → IfSome found (IsUnsignedIn least most) → Some n ≡ option_map number_in found → IsSomeAnd found (λ text. IsNumber text × (number_in text ≡ n))
+given-number least most n None given is = absurd (some-none is)
+given-number least most n (Some text) given is = (given.0, sym (same_some is))
+  where
+    same_some : {x y : ℕ} → Some x ≡ Some y → x ≡ y
+    same_some e = cc
+
+pub no-number : (found : Option Text) → None ≡ option_map number_in found → found ≡ None
+no-number None is = refl
+no-number (Some text) is = absurd (some-none (sym is))
+
+pub number-is_some : (n : ℕ) (found : Option Text) → Some n ≡ option_map number_in found → IsSome found
+number-is_some n None is = absurd (some-none is)
+number-is_some n (Some text) is = refl
+
+pub has-is_some : (P : Text → Type 0) (found : Option Text) → IsSomeAnd found P → IsSome found
+has-is_some P None is = absurd is
+has-is_some P (Some text) is = refl
+
+-- a number that is given is within its bounds
+pub has-between : (least most n : ℕ) (found : Option Text) → IfSome found (IsUnsignedIn least most) → IsSomeAnd found (λ text. IsNumber text × (number_in text ≡ n)) → (least ≤ n) × (n ≤ most)
+has-between least most n None within has = absurd has
+has-between least most n (Some text) within has = (omega (arith, within.2, has.1), omega (arith, within.3, has.1))
+
+pub between : (least most n : ℕ) → least ≤ n → n ≤ most → is_between least most n ≡ true
+between least most n above below = grind (arith, nat_tests)
+
+-- and so is one that may be given
+pub may-between : (least most : ℕ) (found : Option Text) (number : Option ℕ) → IfSome found (IsUnsignedIn least most) → number ≡ option_map number_in found → may_be least most number ≡ true
+may-between least most None number within is = ap (may_be least most) is
+may-between least most (Some text) number within is = ap (may_be least most) is ∙ between least most (number_in text) within.2 within.3
+
+pub allocations-read : (found : Option Text) (allocations : Allocations) → (found ≡ None → Some allocations ≡ None) → ((t : Text) → found ≡ Some t → ReadsOne ReadsAllocations t (Some allocations)) → IsSomeAnd found (λ text. allocations_in text ≡ Some (counted_of allocations))
+allocations-read None allocations none reads = absurd (some-none (none refl))
+allocations-read (Some text) allocations none reads = reads text refl
+
+pub allocations-lacking : (found : Option Text) (text : Text) → found ≡ Some text → ((t : Text) → found ≡ Some t → ReadsOne ReadsAllocations t None) → IsSomeAnd found (λ text. allocations_in text ≡ None)
+allocations-lacking None text there reads = absurd (some-none (sym there))
+allocations-lacking (Some other) text there reads = (reads other refl).1

@@ -26,10 +26,10 @@ use Rattle.mh_program.specs.declared.line.Order.{Order}
 use Rattle.mh_program.specs.declared.line.Order.TheVariants.{Version}
 use Rattle.mh_program.specs.declared.line.ConfigOption.{ConfigOption}
 use Rattle.mh_program.specs.declared.options.OptionFault.{OptionFault}
-use Rattle.mh_program.specs.declared.options.OptionFault.TheVariants.{NoNumber, NoProfile, Missing, Unwanted, Outside}
+use Rattle.mh_program.specs.declared.options.OptionFault.TheVariants.{NoNumber, NoProfile, NoBlocks, Missing, Lacking, Unwanted, Beside, Outside}
 use Rattle.clap.specs.declared.error.kind.ErrorKind.{ErrorKind}
-use Rattle.mh_program.specs.Orders.{AreAmiss, AskAmiss, AsksOutside, AsksVersion, GivesOrder, HasFewWorkers, HasFirstRules, HasOptionFault, IsFault, IsMissing, IsNoNumber, IsNoProfile, IsOrder, IsOutside, IsUnwanted, Named, NotMet, NotTaken, Refuses, RefusesOptions, kind_of_fault}
-use Rattle.mh_program.specs.Line.{AsksForFew, AsksForRules, Checks, Generates, HasFlag, IsAsked, NamesOne, Nothing, Runs, Shows, TakesWorkers, Tells, Workers, any_text, check_app, event_numbers, every_numbers, flag_rule, generate_app, metroheap, page_numbers, quantum_numbers, rules_numbers, run_app, seeds, session_numbers, show_app, steps_app, step_numbers, worker_numbers, workers_app, Curves, curve_app}
+use Rattle.mh_program.specs.Orders.{AreAmiss, AreNoBlocks, AskAmiss, AsksOutside, AsksVersion, GivesOrder, HasFewWorkers, HasFirstRules, HasOptionFault, IsBeside, IsFault, IsLacking, IsMissing, IsNoNumber, IsNoProfile, IsOrder, IsOutside, IsUnwanted, Named, NotMet, NotTaken, Refuses, RefusesOptions, kind_of_fault}
+use Rattle.mh_program.specs.Line.{AsksForFew, AsksForRules, Checks, Generates, HasFlag, IsAsked, NamesOne, Nothing, Runs, Shows, TakesWorkers, Tells, Workers, any_text, check_app, event_numbers, every_numbers, flag_rule, generate_app, metroheap, page_numbers, quantum_numbers, rules_numbers, run_app, seeds, session_numbers, show_app, steps_app, step_numbers, worker_numbers, workers_app, Curves, curve_app, Sizes, block_numbers, percents, scheduled_numbers, size_app, window_numbers}
 use Rattle.mh_program.proofs.OptionLemmas.{AreRead, IsSafe, level-read, never, none-missing, none_first, none_next, safe-flag, safe-given, safe-help, safe-value, value-given, value-may, value_rule}
 
 -- Options ----------------------------------------------------------------------------------------
@@ -207,6 +207,49 @@ sound-generate words e =
       every = may (codes "every");
     })
 
+-- and that of each option of `size`
+abbrev size_parser : Text → ValueParser
+size_parser name =
+    if bytes_eq name (codes "pages") then page_numbers else (if bytes_eq name (codes "every") then scheduled_numbers else (if bytes_eq name (codes "quantum") then quantum_numbers
+    else (if bytes_eq name (codes "live") then block_numbers else (if bytes_eq name (codes "references") then block_numbers
+    else (if bytes_eq name (codes "target") then percents else (if bytes_eq name (codes "window") then window_numbers else (if bytes_eq name (codes "rules") then rules_numbers else any_text)))))))
+
+size_plain : (name : Text) → reading_of (size_parser name) ≡ AsWritten
+size_plain name =
+    go (bytes_eq name (codes "pages")) (bytes_eq name (codes "every")) (bytes_eq name (codes "quantum")) (bytes_eq name (codes "live")) (bytes_eq name (codes "references")) (bytes_eq name (codes "target")) (bytes_eq name (codes "window")) (bytes_eq name (codes "rules"))
+  where
+    go : (a b c d e f g h : Bool)
+        → reading_of (if a then page_numbers else (if b then scheduled_numbers else (if c then quantum_numbers else (if d then block_numbers else (if e then block_numbers else (if f then percents else (if g then window_numbers else (if h then rules_numbers else any_text)))))))) ≡ AsWritten
+    go true b c d e f g h = refl
+    go false true c d e f g h = refl
+    go false false true d e f g h = refl
+    go false false false true e f g h = refl
+    go false false false false true f g h = refl
+    go false false false false false true g h = refl
+    go false false false false false false true h = refl
+    go false false false false false false false true = refl
+    go false false false false false false false false = refl
+
+sound-size : IsSound (built_leaf size_app.top)
+sound-size words e =
+    let s : Shape = built_leaf size_app.top in
+    let rows : List Row = rows_after s.rules [] words in
+    let value : (name : Text) → _ = λ name. safe-value size_parser size_plain name 1 in
+    let all : AreRead size_parser size_plain rows =
+    level-read size_parser size_plain s words
+    (value (codes "pages"), (value (codes "every"), (value (codes "quantum"), (value (codes "allocates"), (value (codes "live"), (value (codes "references"), (value (codes "target"), (value (codes "window"), (value (codes "rules"), (safe-help size_parser size_plain 1, tt)))))))))) e in
+    let may : (name : Text) → IfSome (one_of name rows) (Accepts false (size_parser name)) = λ name. value-may size_parser size_plain name rows all in
+    Sizes refl (record {
+      pages = may (codes "pages");
+      every = may (codes "every");
+      quantum = may (codes "quantum");
+      live = may (codes "live");
+      references = may (codes "references");
+      target = may (codes "target");
+      window = may (codes "window");
+      rules = may (codes "rules");
+    })
+
 AreSound-find : (test : Shape → Bool) (shapes : List Shape) → AreSound shapes → IfSome (find test shapes) IsSound
 AreSound-find test [] sound = tt
 AreSound-find test (s ∷ shapes) sound = go (test s) (AreSound-find test shapes sound.1) where
@@ -238,7 +281,7 @@ sound-metroheap = (
         sound-workers (codes "live") (inl refl),
         (
           sound-workers (codes "race") (inr refl),
-          (sound-check, ((λ words e. Nothing (inl refl)), ((λ words e. Nothing (inr refl)), (sound-generate, (sound-curve, tt))))),
+          (sound-check, ((λ words e. Nothing (inl refl)), ((λ words e. Nothing (inr refl)), (sound-generate, (sound-curve, (sound-size, tt)))))),
         ),
       ),
     ),
@@ -288,6 +331,9 @@ none_some e = cc
 not_version : (fault : OptionFault) (k : ErrorKind) → kind_of_fault fault ≡ Some k → is_version k ≡ false
 not_version (NoNumber name text) k kinds = sym (ap is_version (same_some kinds))
 not_version (NoProfile text) k kinds = sym (ap is_version (same_some kinds))
+not_version (NoBlocks text) k kinds = sym (ap is_version (same_some kinds))
+not_version (Lacking name) k kinds = sym (ap is_version (same_some kinds))
+not_version (Beside name other) k kinds = sym (ap is_version (same_some kinds))
 not_version (Missing name) k kinds = sym (ap is_version (same_some kinds))
 not_version (Unwanted name) k kinds = sym (ap is_version (same_some kinds))
 not_version (Outside option) k kinds = absurd (none_some kinds)
@@ -321,6 +367,9 @@ module _ (a : App) (words : List Text) (m : ArgMatches) (is : a ≡ metroheap) (
   amiss_by : (name : Text) (rows : List Row) (fault : OptionFault) (k : ErrorKind) → HasOptionFault name rows fault → kind_of_fault fault ≡ Some k → AreAmiss name rows k
   amiss_by name rows (NoNumber option text) k is kinds = subst (AreAmiss name rows) (same_some kinds) (IsNoNumber is.0 option.now is.1.0 is.1.1)
   amiss_by name rows (NoProfile text) k is kinds = subst (AreAmiss name rows) (same_some kinds) (IsNoProfile is.0 is.1)
+  amiss_by name rows (NoBlocks text) k is kinds = subst (AreAmiss name rows) (same_some kinds) (AreNoBlocks is.0 is.1)
+  amiss_by name rows (Lacking option) k is kinds = subst (AreAmiss name rows) (same_some kinds) (IsLacking is.0 option.now is.1 is.2)
+  amiss_by name rows (Beside option other) k is kinds = subst (AreAmiss name rows) (same_some kinds) (IsBeside is.0 option.now other.now is.1 is.2 is.3)
   amiss_by name rows (Missing option) k is kinds = subst (AreAmiss name rows) (same_some kinds) (IsMissing is.0 option.now is.1.0 is.1.1)
   amiss_by name rows (Unwanted option) k is kinds = subst (AreAmiss name rows) (same_some kinds) (IsUnwanted is.0 option.now is.1 is.2 is.3)
   amiss_by name rows (Outside option) k is kinds = absurd (none_some kinds)
@@ -337,12 +386,18 @@ module _ (a : App) (words : List Text) (m : ArgMatches) (is : a ≡ metroheap) (
   options_refused fault NoMemory has told = tt
   options_refused (NoNumber name text) NotText has told = absurd told
   options_refused (NoProfile text) NotText has told = absurd told
+  options_refused (NoBlocks text) NotText has told = absurd told
   options_refused (Missing name) NotText has told = absurd told
+  options_refused (Lacking name) NotText has told = absurd told
+  options_refused (Beside name other) NotText has told = absurd told
   options_refused (Unwanted name) NotText has told = absurd told
   options_refused (Outside option) NotText has told = absurd told
   options_refused (NoNumber name text) (Configuration option) has told = absurd told
   options_refused (NoProfile text) (Configuration option) has told = absurd told
+  options_refused (NoBlocks text) (Configuration option) has told = absurd told
   options_refused (Missing name) (Configuration option) has told = absurd told
+  options_refused (Lacking name) (Configuration option) has told = absurd told
+  options_refused (Beside name other) (Configuration option) has told = absurd told
   options_refused (Unwanted name) (Configuration option) has told = absurd told
   options_refused (Outside option) (Configuration refused) has told =
       let P : ConfigOption → Type 0 = λ option. AsksOutside words option in

@@ -4,3 +4,4 @@ pub mod Program
 pub mod Printable
 pub mod Status
 pub mod Telling
+pub mod Sizes

@@ -1,5 +1,5 @@
 -- The command line as `clap` is given it, and what the options in its matches say.
-use Rattle.std.specs.Prelude.{◌≡◌, ◌⊎◌, ◌<◌, ◌≤◌, ◌==◌, if◌then◌else◌, ℕ, Bool, true, false, List, Option, Some, codes, IfSome, IsSomeAnd, Result, Ok, Err}
+use Rattle.std.specs.Prelude.{◌≡◌, ◌⊎◌, ◌<◌, ◌≤◌, ◌==◌, if◌then◌else◌, ℕ, Bool, true, false, List, Option, Some, option_map, codes, IfSome, IsSomeAnd, Result, Ok, Err}
 use Rattle.std.specs.Str.{bytes_eq}
 use Rattle.std.specs.Option.{option_map_or}
 use Rattle.std.specs.Str.Parse.{IsNumeral, digits_value, without_leading_plus}
@@ -45,6 +45,19 @@ quantum_numbers = Unsigned 209 1000000
 
 abbrev pub every_numbers : ValueParser
 every_numbers = Unsigned 0 1000000
+
+-- the numbers after which the scheduler runs a quantum, those of blocks, and those of a share and its windows
+abbrev pub scheduled_numbers : ValueParser
+scheduled_numbers = Unsigned 1 1000000
+
+abbrev pub block_numbers : ValueParser
+block_numbers = Unsigned 0 1048576
+
+abbrev pub percents : ValueParser
+percents = Unsigned 1 100
+
+abbrev pub window_numbers : ValueParser
+window_numbers = Unsigned 1 18446744073709551615
 
 -- any text
 abbrev pub any_text : ValueParser
@@ -124,10 +137,23 @@ generate_app =
 abbrev pub curve_app : App
 curve_app = with_rule (with_rule (with_rule (new_app (codes "curve")) rules_rule) (flag_rule (codes "history"))) (flag_rule (codes "svg"))
 
--- the ten subcommands
+-- `size`, with the numbers of a configuration, and with what sessions ask for, or with a share of the mutator; or of a script with rules
+abbrev pub sized_app : App
+sized_app = with_rule (with_rule (with_rule (new_app (codes "size")) (parsed_rule (codes "pages") page_numbers)) (parsed_rule (codes "every") scheduled_numbers)) (parsed_rule (codes "quantum") quantum_numbers)
+
+abbrev pub blocks_app : App
+blocks_app = with_rule (with_rule (with_rule sized_app (parsed_rule (codes "allocates") any_text)) (parsed_rule (codes "live") block_numbers)) (parsed_rule (codes "references") block_numbers)
+
+abbrev pub share_app : App
+share_app = with_rule (with_rule blocks_app (parsed_rule (codes "target") percents)) (parsed_rule (codes "window") window_numbers)
+
+abbrev pub size_app : App
+size_app = with_rule share_app rules_rule
+
+-- the eleven subcommands
 abbrev pub optional_app : App
 optional_app =
-    with_subcommand (with_subcommand (with_subcommand (with_subcommand (with_subcommand (with_subcommand (with_subcommand (with_subcommand (with_subcommand (with_subcommand (new_app (codes "metroheap"))
+    with_subcommand (with_subcommand (with_subcommand (with_subcommand (with_subcommand (with_subcommand (with_subcommand (with_subcommand (with_subcommand (with_subcommand (with_subcommand (new_app (codes "metroheap"))
     run_app.top)
     steps_app.top)
     show_app.top)
@@ -137,7 +163,8 @@ optional_app =
     (new_app (codes "audit")).top)
     (config_app (codes "migrate")).top)
     generate_app.top)
-    curve_app.top
+    curve_app.top)
+    size_app.top
 
 -- a program that has a version
 abbrev pub versioned : App → App
@@ -168,6 +195,10 @@ rules_of other rows = option_map_or (λ text. rules_numbered (number_in text)) (
 -- the number of an option, which is this other one if the matches don't say
 abbrev pub number_or : ℕ → Text → List Row → ℕ
 number_or other name rows = option_map_or number_in (one_of name rows) other
+
+-- the number of an option that may be left out, if the matches say
+abbrev pub optional_number : Text → List Row → Option ℕ
+optional_number name rows = option_map number_in (one_of name rows)
 
 -- the flag is given
 abbrev pub is_flagged : Text → List Row → Bool
@@ -244,6 +275,17 @@ pub record AsksToGenerate (rows : List Row) : Type 0 where
   pub quantum : IfSome (one_of (codes "quantum") rows) (IsUnsignedIn 209 1000000)
   pub every : IfSome (one_of (codes "every") rows) (IsUnsignedIn 0 1000000)
 
+-- and those of `size`
+pub record AsksToSize (rows : List Row) : Type 0 where
+  pub pages : IfSome (one_of (codes "pages") rows) (IsUnsignedIn 1 4096)
+  pub every : IfSome (one_of (codes "every") rows) (IsUnsignedIn 1 1000000)
+  pub quantum : IfSome (one_of (codes "quantum") rows) (IsUnsignedIn 209 1000000)
+  pub live : IfSome (one_of (codes "live") rows) (IsUnsignedIn 0 1048576)
+  pub references : IfSome (one_of (codes "references") rows) (IsUnsignedIn 0 1048576)
+  pub target : IfSome (one_of (codes "target") rows) (IsUnsignedIn 1 100)
+  pub window : IfSome (one_of (codes "window") rows) (IsUnsignedIn 1 18446744073709551615)
+  pub rules : AsksForRules rows
+
 abbrev pub TakesWorkers : Text → Type 0
 TakesWorkers name = (name ≡ codes "live") ⊎ (name ≡ codes "race")
 
@@ -260,6 +302,7 @@ pub data IsAsked (name : Text) (rows : List Row) : Type 0 where
   Checks : name ≡ codes "check" → AsksToCheck rows → IsAsked name rows
   Generates : name ≡ codes "generate" → AsksToGenerate rows → IsAsked name rows
   Curves : name ≡ codes "curve" → AsksToCurve rows → IsAsked name rows
+  Sizes : name ≡ codes "size" → AsksToSize rows → IsAsked name rows
   Nothing : (name ≡ codes "audit") ⊎ (name ≡ codes "migrate") → IsAsked name rows
 
 -- the words name one

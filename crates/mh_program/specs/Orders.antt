@@ -16,7 +16,7 @@ use Rattle.mh_model.specs.declared.config.Rules.TheVariants.{First, Second}
 use Rattle.mh_program.specs.declared.fault.LineFault.{LineFault}
 use Rattle.mh_program.specs.declared.fault.LineFault.TheVariants.{Words, NotText, Configuration, NoMemory}
 use Rattle.mh_program.specs.declared.line.Order.{Order}
-use Rattle.mh_program.specs.declared.line.Order.TheVariants.{Run, Steps, Show, Live, Race, Check, CheckSessions, Audit, Migrate, Generate, Version, Curve, CurveHistory}
+use Rattle.mh_program.specs.declared.line.Order.TheVariants.{Run, Steps, Show, Live, Race, Check, CheckSessions, Audit, Migrate, Generate, Version, Curve, CurveHistory, Size, SizeTarget, SizeScript}
 use Rattle.mh_program.specs.declared.curve.CurveOptions.{CurveOptions}
 use Rattle.mh_program.specs.declared.line.Form.{Form}
 use Rattle.mh_program.specs.declared.line.Form.TheVariants.{Replies, History}
@@ -27,7 +27,8 @@ use Rattle.mh_telling.specs.declared.form.Form.TheVariants as form
 use Rattle.mh_program.specs.declared.line.ConfigOption.{ConfigOption}
 use Rattle.mh_program.specs.declared.line.ConfigOption.TheVariants.{Pages, Quantum, Trigger, Every}
 use Rattle.mh_program.specs.declared.options.OptionFault.{OptionFault}
-use Rattle.mh_program.specs.declared.options.OptionFault.TheVariants.{NoNumber, NoProfile, Missing, Unwanted, Outside}
+use Rattle.mh_program.specs.declared.options.OptionFault.TheVariants.{NoNumber, NoProfile, NoBlocks, Missing, Lacking, Unwanted, Beside, Outside}
+use Rattle.mh_program.specs.Sizes.{AreHeapOptions, AreTargetOptions, IsApart, IsWanted, LacksAllocations, has_size}
 use Rattle.mh_program.specs.Line.{HasNumber, IsConfigOption, LacksNumber, WantsConfig, is_flagged, metroheap, number_or, rules_of, workers_of}
 
 -- Orders -----------------------------------------------------------------------------------------
@@ -123,6 +124,9 @@ IsOrder name rows (Migrate config) = (name ≡ codes "migrate") × MakesConfig F
 IsOrder name rows (Curve options) = (name ≡ codes "curve") × (is_flagged (codes "history") rows ≡ false) × AreCurveOptions rows options
 IsOrder name rows (CurveHistory form) = (name ≡ codes "curve") × (is_flagged (codes "history") rows ≡ true) × (form ≡ curve_form_of rows)
 IsOrder name rows (Generate options) = (name ≡ codes "generate") × AreGenerateOptions rows options
+IsOrder name rows (Size options) = (name ≡ codes "size") × AreHeapOptions rows options
+IsOrder name rows (SizeTarget options) = (name ≡ codes "size") × AreTargetOptions rows options
+IsOrder name rows (SizeScript rules) = (name ≡ codes "size") × (has_size rows ≡ false) × (rules ≡ rules_of Second rows)
 IsOrder name rows Version = ⊥
 
 -- an option of a configuration is outside its limits: that of the trigger if it is above that of the pages
@@ -170,21 +174,30 @@ LacksProfile rows = IsSomeAnd (one_of (codes "profile") rows) (λ text. (profile
 abbrev pub IsNumberFault : List Row → OptionFault → Type 0
 IsNumberFault rows (NoNumber name text) = IsConfigOption name.now × LacksNumber rows name.now
 IsNumberFault rows (NoProfile text) = ⊥
+IsNumberFault rows (NoBlocks text) = ⊥
 IsNumberFault rows (Missing name) = IsConfigOption name.now × (one_of name.now rows ≡ None)
+IsNumberFault rows (Lacking name) = ⊥
 IsNumberFault rows (Unwanted name) = ⊥
+IsNumberFault rows (Beside name other) = ⊥
 IsNumberFault rows (Outside option) = AreOutside rows option
 
--- what is wrong with those of a subcommand: these are, if it wants a configuration; or one is given beside `--sessions`; or a profile is none
+-- what is wrong with those of a subcommand: these are, if it wants a configuration; or one is given beside `--sessions`; or a profile is none; or options of `size` don't go together
 abbrev pub HasOptionFault : Text → List Row → OptionFault → Type 0
 HasOptionFault subcommand rows (Unwanted name) = (subcommand ≡ codes "check") × IsConfigOption name.now × (is_flagged (codes "sessions") rows ≡ true) × IsSome (one_of name.now rows)
 HasOptionFault subcommand rows (NoProfile text) = (subcommand ≡ codes "generate") × LacksProfile rows
+HasOptionFault subcommand rows (NoBlocks text) = (subcommand ≡ codes "size") × LacksAllocations rows
+HasOptionFault subcommand rows (Lacking name) = (subcommand ≡ codes "size") × IsWanted rows name.now × (one_of name.now rows ≡ None)
+HasOptionFault subcommand rows (Beside name other) = (subcommand ≡ codes "size") × IsApart rows name.now other.now × IsSome (one_of name.now rows) × IsSome (one_of other.now rows)
 HasOptionFault subcommand rows fault = WantsConfig subcommand rows × IsNumberFault rows fault
 
--- `clap` takes the options of a subcommand, and one of a configuration or a profile is amiss: the kind of fault that this is
+-- `clap` takes the options of a subcommand, and one of a configuration, a profile or one of `size` is amiss: the kind of fault that this is
 pub data AreAmiss (name : Text) (rows : List Row) : ErrorKind → Type 0 where
   IsNoNumber : WantsConfig name rows → (option : Text) → IsConfigOption option → LacksNumber rows option → AreAmiss name rows ValueValidation
   IsMissing : WantsConfig name rows → (option : Text) → IsConfigOption option → one_of option rows ≡ None → AreAmiss name rows MissingRequiredArgument
   IsNoProfile : name ≡ codes "generate" → LacksProfile rows → AreAmiss name rows ValueValidation
+  AreNoBlocks : name ≡ codes "size" → LacksAllocations rows → AreAmiss name rows ValueValidation
+  IsLacking : name ≡ codes "size" → (option : Text) → IsWanted rows option → one_of option rows ≡ None → AreAmiss name rows MissingRequiredArgument
+  IsBeside : name ≡ codes "size" → (option other : Text) → IsApart rows option other → IsSome (one_of option rows) → IsSome (one_of other rows) → AreAmiss name rows ArgumentConflict
   IsUnwanted : name ≡ codes "check" → (option : Text) → IsConfigOption option → is_flagged (codes "sessions") rows ≡ true → IsSome (one_of option rows) → AreAmiss name rows ArgumentConflict
 
 -- Words ------------------------------------------------------------------------------------------
@@ -240,8 +253,11 @@ OrdersBy words (Err fault) = IsFault words fault
 abbrev pub kind_of_fault : OptionFault → Option ErrorKind
 kind_of_fault (NoNumber name text) = Some ValueValidation
 kind_of_fault (NoProfile text) = Some ValueValidation
+kind_of_fault (NoBlocks text) = Some ValueValidation
 kind_of_fault (Missing name) = Some MissingRequiredArgument
+kind_of_fault (Lacking name) = Some MissingRequiredArgument
 kind_of_fault (Unwanted name) = Some ArgumentConflict
+kind_of_fault (Beside name other) = Some ArgumentConflict
 kind_of_fault (Outside option) = None
 
 -- what is said of options with a fault

@@ -1,11 +1,11 @@
 -- What the program does with the words of its command line, and what it writes to standard error.
-use Rattle.std.specs.Prelude.{◌≡◌, ℕ, ◌<◌, [], Result, Ok, Err, codes}
+use Rattle.std.specs.Prelude.{◌≡◌, ℕ, ◌<◌, Result, Ok, Err, codes}
 use Rattle.std.specs.Io.KnownBytes.{Appends}
 use Rattle.mh_model.specs.Bytes.{Text, line_text}
 use Rattle.mh_script.specs.declared.fault.ScriptFault.{ScriptFault}
 use Rattle.mh_program.specs.declared.fault.LineFault.{LineFault}
 use Rattle.mh_program.specs.declared.line.Order.{Order}
-use Rattle.mh_program.specs.declared.line.Order.TheVariants.{Run, Steps, Show, Live, Race, Check, CheckSessions, Audit, Migrate, Generate, Version, Curve, CurveHistory}
+use Rattle.mh_program.specs.declared.line.Order.TheVariants.{Run, Steps, Show, Live, Race, Check, CheckSessions, Audit, Migrate, Generate, Version, Curve, CurveHistory, Size, SizeTarget, SizeScript}
 use Rattle.mh_program.specs.declared.line.Form.{Form}
 use Rattle.mh_program.specs.declared.line.Form.TheVariants.{Replies, History}
 use Rattle.mh_script.specs.declared.fault.ScriptFault.TheVariants.{Write, NoMemory}
@@ -24,6 +24,9 @@ use Rattle.mh_model.specs.declared.config.Rules.{Rules}
 use Rattle.mh_sessions.specs.Texts.{IsSessionsJudging}
 use Rattle.mh_script.specs.Run.{Device, IsRun, transcript}
 use Rattle.mh_show.specs.Page.{page_text}
+use Rattle.mh_size.specs.Heaps.{IsHeapText}
+use Rattle.mh_size.specs.Scripts.{IsSizing}
+use Rattle.mh_size.specs.Targets.{IsTargetText}
 use Rattle.mh_telling.specs.Steps.{steps_text}
 use Rattle.mh_program.specs.Status.{judgement_status_of, line_status_of, live_status_of, status_of, curve_status_of}
 use Rattle.mh_program.specs.Telling.{ErrorStream, TellsEnd, TellsFault, TellsJudgement, TellsLine, TellsRefusals, TellsRun, TellsCurve}
@@ -60,6 +63,13 @@ WritesScript options old new (Err Write) = WritesAsked AppendsBeginning options 
 WritesScript options old new (Err NoMemory) = WritesAsked AppendsBeginning options old.bytes new.bytes × (new.failures ≡ old.failures)
 WritesScript options old new ended = ⊥
 
+-- a text of this kind was written whole, or a prefix of it if the device failed, and nothing if memory was refused
+abbrev pub WritesSize : (Text → Type 0) → Device → Device → Result End ScriptFault → Type 0
+WritesSize Is old new (Ok Done) = ((text : Text) × Is text × Appends old.bytes new.bytes text) × (new.failures ≡ old.failures)
+WritesSize Is old new (Err Write) = ((text : Text) × Is text × AppendsBeginning old.bytes new.bytes text) × (old.failures < new.failures)
+WritesSize Is old new (Err NoMemory) = new ≡ old
+WritesSize Is old new ended = ⊥
+
 -- there was no order: nothing was read or written, and the reason was reported
 pub record Declines (source source' sink sink' : Device) (errors errors' : ErrorStream) (fault : LineFault) (status : ℕ) : Type 0 where
   pub unread : source' ≡ source
@@ -86,5 +96,8 @@ Serves (Ok (Migrate config)) source source' sink sink' errors errors' status = O
 Serves (Ok (Curve options)) source source' sink sink' errors errors' status = Obeys (IsRun (curve_output options.form options.rules) source source' sink sink') (TellsRun TellsEnd) status_of errors errors' status
 Serves (Ok (CurveHistory form)) source source' sink sink' errors errors' status = Obeys (IsDrawing form source source' sink sink') (TellsRun TellsCurve) curve_status_of errors errors' status
 Serves (Ok (Generate options)) source source' sink sink' errors errors' status = (source' ≡ source) × Obeys (WritesScript options sink sink') TellsFault status_of errors errors' status
+Serves (Ok (Size options)) source source' sink sink' errors errors' status = (source' ≡ source) × Obeys (WritesSize (IsHeapText options) sink sink') TellsFault status_of errors errors' status
+Serves (Ok (SizeTarget options)) source source' sink sink' errors errors' status = (source' ≡ source) × Obeys (WritesSize (IsTargetText options) sink sink') TellsFault status_of errors errors' status
+Serves (Ok (SizeScript rules)) source source' sink sink' errors errors' status = Obeys (IsSizing rules source source' sink sink') (TellsRun TellsEnd) status_of errors errors' status
 Serves (Ok Version) source source' sink sink' errors errors' status = (source' ≡ source) × Obeys (WritesVersion sink sink') TellsFault status_of errors errors' status
 Serves (Err fault) source source' sink sink' errors errors' status = Declines source source' sink sink' errors errors' fault status

@@ -5,6 +5,7 @@ ghost use Rattle.clap.specs.declared.builder.value_parser.ValueParser.TheVariant
 ghost use Rattle.mh_program.specs.Line.{check_app, config_app, flag_rule, generate_app, metroheap, named_rule, number_rule, option_rule, optional_app, parsed_rule, profile_rule, required_rule, rules_rule, run_app, seeded_app, show_app, steps_app, versioned, workers_app, workers_rule};
 
 use crate::curve::curve;
+use crate::size::size;
 use clap::builder::ValueParser;
 use clap::{Arg, ArgAction, Command};
 use mh_model::limits::{
@@ -82,7 +83,7 @@ fn explained<'a>(option: Arg<'a>, value: &'a str, help: &'a str) -> Arg<'a>
 }
 
 /// An option that is given with one value.
-fn option<'a>(alloc: Global, name: &'a str, value: &'a str, help: &'a str) -> Arg<'a>
+pub(crate) fn option<'a>(alloc: Global, name: &'a str, value: &'a str, help: &'a str) -> Arg<'a>
     ensures rule { rule_of result ≡ option_rule name.entry.now }
     ensures local { result.global ≡ false }
 {
@@ -152,7 +153,7 @@ fn number<'a>(alloc: Global, name: &'a str, value: &'a str, help: &'a str) -> Ar
 }
 
 /// An option with a number within bounds.
-fn bounded<'a>(
+pub(crate) fn bounded<'a>(
     alloc: Global,
     name: &'a str,
     value: &'a str,
@@ -388,7 +389,10 @@ fn profile<'a>(alloc: Global) -> Arg<'a>
 }
 
 /// The command with one option more.
-fn with_option<'a>(command: Command<'a>, option: Arg<'a>) -> Result<Command<'a>, AllocError>
+pub(crate) fn with_option<'a>(
+    command: Command<'a>,
+    option: Arg<'a>,
+) -> Result<Command<'a>, AllocError>
     requires command { (out-Command command).has_globals ≡ false }
     requires option { option.global ≡ false }
     ensures app { IfOk result (λ more. app_of more ≡ with_rule (app_of command.entry) (rule_of option.entry)) }
@@ -440,7 +444,8 @@ fn optional<'a>(alloc: Global) -> Result<Command<'a>, AllocError>
     let app = with_subcommand(app, Ok(audit(alloc)))?;
     let app = with_subcommand(app, migrate(alloc))?;
     let app = with_subcommand(app, generate(alloc))?;
-    with_subcommand(app, curve(alloc))
+    let app = with_subcommand(app, curve(alloc))?;
+    with_subcommand(app, size(alloc))
 }
 
 /// The command with what help says of the program, and with its version.

@@ -13,6 +13,8 @@ pub mod order;
 pub mod program;
 pub mod prompt;
 mod quoted;
+mod size;
+mod sized;
 pub mod status;
 mod telling;
 pub mod version;

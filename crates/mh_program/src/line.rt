@@ -2,6 +2,8 @@ use crate::curve::CurveOptions;
 use mh_curve::form::CurveForm;
 use mh_generate::options::Options;
 use mh_model::config::{Config, Rules};
+use mh_size::heap_options::HeapOptions;
+use mh_size::target_options::TargetOptions;
 use mh_telling::steps::Steps;
 use thiserror::Error;
 
@@ -57,6 +59,12 @@ pub enum Order {
     CurveHistory(CurveForm),
     /// Write the random script that is asked for.
     Generate(Options),
+    /// Write how large a heap has to be for what its intervals ask for.
+    Size(HeapOptions),
+    /// Write which quantum keeps a share of the mutator.
+    SizeTarget(TargetOptions),
+    /// Write what the sessions of the script on standard input need under these rules.
+    SizeScript(Rules),
     /// Write the version of the program.
     Version,
 }

@@ -25,10 +25,16 @@ pub(crate) enum OptionFault<'a> {
     NoNumber(&'static str, &'a str),
     /// The profile that is asked for is none.
     NoProfile(&'a str),
+    /// What an interval is to ask for has no blocks.
+    NoBlocks(&'a str),
     /// The option with this name is not given.
     Missing(&'static str),
+    /// The option of `size` with this name is not given, which the others want.
+    Lacking(&'static str),
     /// The option with this name is given beside `--sessions`.
     Unwanted(&'static str),
+    /// The option with this name is given beside another.
+    Beside(&'static str, &'static str),
     /// The number of this option is outside its limits.
     Outside(ConfigOption),
 }

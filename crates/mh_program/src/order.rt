@@ -14,6 +14,7 @@ use crate::options::{
     workers_asked,
 };
 use crate::quoted::{are_plain, quoted, quoted_words};
+use crate::size::size_asked;
 use clap::ArgMatches;
 use clap::error::ErrorKind;
 use mh_generate::profile::UnknownProfile;
@@ -38,6 +39,7 @@ fn order_named<'a>(name: &str, matches: &ArgMatches<'a>) -> Result<Order, Option
         "audit" => Ok(Order::Audit),
         "curve" => Ok(curve_asked(matches)),
         "migrate" => Ok(Order::Migrate(config_given(matches, Rules::First)?)),
+        "size" => size_asked(matches),
         "generate" => Ok(Order::Generate(generate_asked(matches)?)),
         _ => unreachable!(),
     }
@@ -83,6 +85,17 @@ fn no_profile(alloc: Global, text: &str) -> Result<clap::Error, AllocError>
     refused(alloc, ErrorKind::ValueValidation, message.as_str())
 }
 
+/// `clap`'s refusal of blocks that are none.
+fn no_blocks(alloc: Global, text: &str) -> Result<clap::Error, AllocError>
+    ensures { IfOk result (λ error. kind_of error ≡ ValueValidation) }
+{
+    let text = quoted(alloc, text)?;
+    let message = format!(in alloc;
+        "invalid value '{text}' for '--allocates': not WORDS:COUNT with 4 to 64 words and 1 to 1048576 blocks of a class"
+    )?;
+    refused(alloc, ErrorKind::ValueValidation, message.as_str())
+}
+
 /// `clap`'s refusal of options without this one.
 fn missing(alloc: Global, name: &str) -> Result<clap::Error, AllocError>
     ensures { IfOk result (λ error. kind_of error ≡ MissingRequiredArgument) }
@@ -91,11 +104,11 @@ fn missing(alloc: Global, name: &str) -> Result<clap::Error, AllocError>
     refused(alloc, ErrorKind::MissingRequiredArgument, message.as_str())
 }
 
-/// `clap`'s refusal of this option beside `--sessions`.
-fn unwanted(alloc: Global, name: &str) -> Result<clap::Error, AllocError>
+/// `clap`'s refusal of an option beside another.
+fn beside(alloc: Global, name: &str, other: &str) -> Result<clap::Error, AllocError>
     ensures { IfOk result (λ error. kind_of error ≡ ArgumentConflict) }
 {
-    let message = format!(in alloc; "the argument '--{name}' cannot be used with '--sessions'")?;
+    let message = format!(in alloc; "the argument '--{name}' cannot be used with '--{other}'")?;
     refused(alloc, ErrorKind::ArgumentConflict, message.as_str())
 }
 
@@ -106,8 +119,10 @@ fn refused_options(alloc: Global, fault: OptionFault<'_>) -> LineFault
         OptionFault::Outside(option) => return LineFault::Configuration(option),
         OptionFault::NoNumber(name, text) => no_number(alloc, name, text),
         OptionFault::NoProfile(text) => no_profile(alloc, text),
-        OptionFault::Missing(name) => missing(alloc, name),
-        OptionFault::Unwanted(name) => unwanted(alloc, name),
+        OptionFault::NoBlocks(text) => no_blocks(alloc, text),
+        OptionFault::Missing(name) | OptionFault::Lacking(name) => missing(alloc, name),
+        OptionFault::Unwanted(name) => beside(alloc, name, "sessions"),
+        OptionFault::Beside(name, other) => beside(alloc, name, other),
     };
     match refusal {
         Ok(error) => LineFault::Words(error),

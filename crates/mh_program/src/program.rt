@@ -19,6 +19,7 @@ use crate::errors::Errors;
 use crate::fault::LineFault;
 use crate::line::{Form, Order, RunOptions, StepsOptions};
 use crate::order::line_order;
+use crate::sized::{size_heap, size_needs, size_target};
 use crate::status::{judgement_status, line_status, live_status, status};
 use crate::version::VERSION_LINE;
 use mh_generate::generate::generate;
@@ -359,6 +360,9 @@ pub fn serve<R: Threads + Wait + Sync, S: Source, W: Sink, E: Sink, G: CrewGate 
         Ok(Order::Curve(options)) => { draw_script(rt, alloc, options, source, sink, errors, gate) }
         Ok(Order::CurveHistory(form)) => draw_history(alloc, form, source, sink, errors),
         Ok(Order::Generate(options)) => write_script(alloc, options, sink, errors),
+        Ok(Order::Size(options)) => size_heap(alloc, options, sink, errors),
+        Ok(Order::SizeTarget(options)) => size_target(alloc, options, sink, errors),
+        Ok(Order::SizeScript(rules)) => size_needs(alloc, rules, source, sink, errors),
         Ok(Order::Version) => version(sink, errors),
         Err(fault) => {
             errors.tell_line(&fault);

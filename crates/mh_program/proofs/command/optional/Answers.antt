@@ -13,4 +13,5 @@ returns c =
     let seventh = c.in_ok-app-7.ensures ∙ same-with _ _ _ _ sixth c.audit.ensures.app in
     let eighth = grown c.migrate.result _ _ _ _ seventh c.migrate.ensures.app c.in_ok-app-8.ensures in
     let ninth = grown c.generate.result _ _ _ _ eighth c.generate.ensures.app c.in_ok-app-9.ensures in
-    IfOk-grown c.with_subcommand-10.result c.curve.result _ _ _ ninth c.curve.ensures.app c.with_subcommand-10.ensures
+    let tenth = grown c.curve.result _ _ _ _ ninth c.curve.ensures.app c.in_ok-app-10.ensures in
+    IfOk-grown c.with_subcommand-11.result c.size.result _ _ _ tenth c.size.ensures.app c.with_subcommand-11.ensures

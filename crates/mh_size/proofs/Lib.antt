@@ -1,0 +1,5 @@
+pub mod BlockLemmas
+pub mod WindowLemmas
+pub mod HeapLemmas
+pub mod SizingLemmas
+pub mod KindLemmas

@@ -1,0 +1,105 @@
+-- Heaps for what intervals ask for, and their texts.
+use Rattle.std.specs.Prelude.{◌≡◌, ◌⊎◌, ℕ, zero, suc, ◌-◌, ◌*◌, ◌/◌, min, max, length, Bool, if◌then◌else◌, Option, Some, None, is_some, unwrap_or, List, [], ◌∷◌, ◌++◌, map, codes}
+use Rattle.mh_model.specs.Bytes.{Text, lines_text}
+use Rattle.mh_model.specs.declared.config.Config.{Config}
+use Rattle.mh_model.specs.declared.needs.Needs.{Needs}
+use Rattle.mh_sizing.specs.Choices.{least_from}
+use Rattle.std.proofs.Math.Nat.{le-max_left}
+use Rattle.mh_sizing.specs.declared.kinds.Kinds.{Kinds}
+use Rattle.mh_sizing.specs.declared.openings.ClassParts.{ClassParts}
+use Rattle.mh_sizing.specs.Needs.{enough_trigger, needs_of_counts}
+use Rattle.mh_sizing.specs.Openings.{counted_classes, least_slots, pages_of_counts, parts_of_counts}
+use Rattle.mh_size.specs.declared.demand.Demand.{Demand}
+use Rattle.mh_size.specs.declared.heap_options.HeapOptions.{HeapOptions}
+use Rattle.mh_size.specs.Blocks.{counts_of}
+use Rattle.mh_size.specs.Cycles.{cycle_quanta, quantum_needed}
+use Rattle.mh_size.specs.Floors.{floors_text}
+use Rattle.mh_size.specs.Texts.{cycle_lines, demand_lines, optional_line}
+
+-- the most references in live parts, which are all their words but the headers' if they aren't given
+abbrev pub references_of : HeapOptions → ℕ
+references_of options = unwrap_or options.references (options.live * (options.allocations.most_words - 4))
+
+-- what sessions need
+unfoldable pub needs_asked : HeapOptions → Needs
+needs_asked options = needs_of_counts (counts_of options.allocations.parts) options.live (references_of options)
+
+-- how many classes there are, and the fewest slots of a page of them: one at least
+abbrev pub kinds_of_classes : List ℕ → Kinds
+kinds_of_classes classes = record { kinds = length classes; least = max 1 (least_slots classes); some = le-max_left 1 (least_slots classes) }
+
+-- those of which there are parts
+unfoldable pub kinds_counted : List ClassParts → Kinds
+kinds_counted counts = kinds_of_classes (counted_classes counts)
+
+-- the classes of the parts that are asked for
+abbrev pub kinds_asked : HeapOptions → Kinds
+kinds_asked options = kinds_counted (counts_of options.allocations.parts)
+
+-- what sessions need, and these
+abbrev pub demand_asked : HeapOptions → Demand
+demand_asked options = record { needs = needs_asked options; kinds = kinds_asked options }
+
+-- the quantum that is given, or the least with which the pages are enough
+abbrev pub quantum_of : Option ℕ → Demand → ℕ → Option ℕ
+quantum_of (Some quantum) demand pages = Some quantum
+quantum_of None demand pages = quantum_needed demand pages
+
+-- a heap as it is asked for: with that quantum, and with the trigger that is enough if the pages have room for it
+pub record IsHeap (options : HeapOptions) (config : Config) : Type 0 where
+  pub pages : config.pages ≡ options.pages
+  pub every : config.every ≡ options.every
+  pub quantum : quantum_of options.quantum (demand_asked options) options.pages ≡ Some config.quantum
+  pub trigger : config.trigger ≡ min options.pages (enough_trigger (needs_asked options) (cycle_quanta (needs_asked options) config))
+
+-- some quantum is enough for so many pages
+abbrev pub has_quantum : Demand → ℕ → Bool
+has_quantum demand pages = is_some (quantum_needed demand pages)
+
+-- the least number of pages with which one is
+unfoldable pub least_pages : Demand → Option ℕ
+least_pages demand = least_from (has_quantum demand) 1 4096
+
+-- so many per cent of each count, rounded down
+abbrev pub scaled : ℕ → List ℕ → List ℕ
+scaled percent parts = map (λ count. count * percent / 100) parts
+
+-- what sessions need that ask for so many per cent of the counts
+unfoldable pub needs_scaled : ℕ → HeapOptions → Needs
+needs_scaled percent options =
+    let counts = counts_of (scaled percent options.allocations.parts) in
+    record (needs_asked options) { asked = parts_of_counts counts; opened = pages_of_counts counts }
+
+-- and what they ask of a heap: their classes are those of all counts
+abbrev pub demand_scaled : ℕ → HeapOptions → Demand
+demand_scaled percent options = record { needs = needs_scaled percent options; kinds = kinds_asked options }
+
+-- the greatest number below another that passes a test
+unfoldable pub greatest_below : (ℕ → Bool) → ℕ → Option ℕ
+greatest_below test zero = None
+greatest_below test (suc most) = if test most then Some most else greatest_below test most
+
+-- the greatest share of the counts in per cent with which some quantum is enough for the pages
+unfoldable pub greatest_percent : HeapOptions → Option ℕ
+greatest_percent options = greatest_below (λ percent. has_quantum (demand_scaled percent options) options.pages) 100
+
+-- What is written of a heap: what its sessions need, its cycles, and the floors of its windows
+abbrev pub heap_text : Demand → Config → Text
+heap_text demand config = lines_text (demand_lines demand) ++ (lines_text (cycle_lines demand config) ++ floors_text config.every config.quantum)
+
+abbrev pub IsSizedText : HeapOptions → Text → Type 0
+IsSizedText options text = (config : Config) × IsHeap options config × (text ≡ heap_text (demand_asked options) config)
+
+-- If no quantum is enough, what would be: so many pages, or so many per cent of the counts
+abbrev pub enough_text : Option ℕ → Option ℕ → Text
+enough_text pages percent = lines_text (optional_line (codes "quantum") None ∷ []) ++ (lines_text (optional_line (codes "pages_enough") pages ∷ []) ++ lines_text (optional_line (codes "allocations_enough") percent ∷ []))
+
+abbrev pub small_text : Demand → Option ℕ → Option ℕ → Text
+small_text demand pages percent = lines_text (demand_lines demand) ++ enough_text pages percent
+
+abbrev pub IsSmallText : HeapOptions → Text → Type 0
+IsSmallText options text = (quantum_of options.quantum (demand_asked options) options.pages ≡ None) × (text ≡ small_text (demand_asked options) (least_pages (demand_asked options)) (greatest_percent options))
+
+-- What is written: either, as a quantum is given or is enough, or none is
+abbrev pub IsHeapText : HeapOptions → Text → Type 0
+IsHeapText options text = IsSizedText options text ⊎ IsSmallText options text

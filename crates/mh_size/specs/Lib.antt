@@ -1,0 +1,8 @@
+pub mod Cycles
+pub mod Texts
+pub mod Floors
+pub mod Blocks
+pub mod Heaps
+pub mod Given
+pub mod Targets
+pub mod Scripts
