@@ -100,18 +100,18 @@ const MEBIBYTE: usize = 1 << 20;
 const RANGES: [Range; 3] = [
     Range {
         first: 0,
-        step: 32,
-        count: 128,
+        step: 64,
+        count: 64,
     },
     Range {
         first: 4 * KIBIBYTE,
-        step: KIBIBYTE,
-        count: 196,
+        step: 2 * KIBIBYTE,
+        count: 98,
     },
     Range {
         first: 0,
-        step: MEBIBYTE,
-        count: 41,
+        step: 2 * MEBIBYTE,
+        count: 21,
     },
 ];
 

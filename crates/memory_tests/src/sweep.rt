@@ -8,10 +8,10 @@ use test_support::famine::Famine;
 pub const PLENTY: usize = 1 << 22;
 
 /// By how many bytes the memory grows that is left to a try.
-pub const STEP: usize = 32;
+pub const STEP: usize = 64;
 
 /// The most steps that are tried.
-pub const MOST_STEPS: usize = 4_000;
+pub const MOST_STEPS: usize = 2_000;
 
 /// Work that can be tried again if memory was refused to it.
 pub trait Attempt {
