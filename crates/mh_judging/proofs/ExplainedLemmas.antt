@@ -4,9 +4,9 @@ use Rattle.std.proofs.lemmas.Bool.Decides.{nat_tests}
 use Rattle.std.proofs.Math.Seq.{take-length}
 use Rattle.std.specs.Prelude.{Result, Ok, Err, IfOk}
 use Rattle.std.specs.Io.KnownBytes.{Consumes, IsAtEnd}
-use Rattle.mh_findings.specs.declared.judgement.Judgement.{Judgement}
-use Rattle.mh_findings.specs.declared.judgement.Judgement.TheVariants as judgement
-use Rattle.mh_findings.specs.Judgements.{IsAuditExplained, IsAuditedFault, IsCheckExplained, IsCheckedFault, verdict_of}
+use Rattle.mh_judging.specs.declared.judgement.Judgement.{Judgement}
+use Rattle.mh_judging.specs.declared.judgement.Judgement.TheVariants as judgement
+use Rattle.mh_judging.specs.Judgements.{IsAuditExplained, IsAuditedFault, IsCheckExplained, IsCheckedFault, verdict_of}
 use Rattle.mh_history.specs.Beginnings.{HasEntry, entries_left, with_header}
 use Rattle.mh_history.proofs.HistoryLemmas.{history_long, record_long}
 use Rattle.mh_model.specs.declared.config.Config.{Config}

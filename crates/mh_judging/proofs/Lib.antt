@@ -5,3 +5,4 @@ pub mod RecordingLemmas
 pub mod RunHistoryLemmas
 pub mod ShownLemmas
 pub mod ExplainedLemmas
+pub mod ReplayLemmas

@@ -13,8 +13,8 @@ use Rattle.mh_model.specs.Script.{Reading, BadLine, Means}
 use Rattle.mh_state.specs.Judging.{HasSeenEntries, HasSeenMeasured, Judging}
 use Rattle.mh_text.specs.Stream.{AppendsBeginning}
 use Rattle.mh_history.specs.Beginnings.{BeginsWithEntry, BeginsWithMeasured}
-use Rattle.mh_findings.specs.declared.judgement.Judgement.{Judgement}
-use Rattle.mh_findings.specs.Judgements.{IsAuditExplained, IsCheckExplained, verdict_of}
+use Rattle.mh_judging.specs.declared.judgement.Judgement.{Judgement}
+use Rattle.mh_judging.specs.Judgements.{IsAuditExplained, IsCheckExplained, verdict_of}
 use Rattle.mh_script.specs.declared.fault.ScriptFault.{ScriptFault}
 use Rattle.mh_script.specs.declared.fault.ScriptFault.TheVariants.{Read, NoMemory, HistoryFull}
 use Rattle.mh_script.specs.Run.{Device}

@@ -1,3 +1,5 @@
 pub mod Judged
 pub mod Recording
 pub mod RunHistory
+pub mod Faults
+pub mod Judgements

@@ -1,14 +1,14 @@
 //! Judgements: verdicts on whole texts, with what is wrong with a text that isn't legal.
 ghost use Rattle.std.specs.Prelude.{IfOk, OnErr};
-ghost use Rattle.mh_findings.specs.Judgements.{IsAuditExplained, IsAuditedFault, IsCheckExplained, IsCheckedFault, verdict_of};
+ghost use Rattle.mh_judging.specs.Judgements.{IsAuditExplained, IsAuditedFault, IsCheckExplained, IsCheckedFault, verdict_of};
 ghost use Rattle.mh_history.specs.Beginnings.{BeginsWithEntry, BeginsWithMeasured};
 ghost use Rattle.mh_model.specs.declared.history.Verdict.TheVariants.{FirstBad};
 ghost use Rattle.mh_model.specs.HistoryTexts.{IsAudited, IsChecked};
 
+use crate::entry_fault::EntryFault;
 use crate::judge::{verdict_on_history, verdict_on_record};
-use mh_findings::entry_fault::EntryFault;
-use mh_findings::judgement::Judgement;
-use mh_findings::replay::fault_in;
+use crate::judgement::Judgement;
+use crate::replay::fault_in;
 use mh_history::history::history_lines;
 use mh_history::record::record_lines;
 use mh_model::config::Config;

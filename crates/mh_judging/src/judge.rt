@@ -9,12 +9,12 @@ ghost use Rattle.mh_state.specs.Judging.{HasSeenEntries, HasSeenMeasured, Judgin
 ghost use Rattle.mh_state.proofs.JudgeLemmas.{legal_rule, record_rule};
 ghost use Rattle.mh_text.specs.TextErrors.{Refuses};
 ghost use Rattle.mh_history.specs.Beginnings.{BeginsWithEntry, BeginsWithMeasured, HasEntry, entries_left, entry_before};
-ghost use Rattle.mh_findings.specs.Judgements.{IsAuditExplained, IsCheckExplained, verdict_of};
+ghost use Rattle.mh_judging.specs.Judgements.{IsAuditExplained, IsCheckExplained, verdict_of};
 ghost use Rattle.mh_judging.specs.Judged.{BeginsToJudge, Explains, Finds, HasSeenNone, IsVerdictOn, Judges};
 ghost use Rattle.mh_script.specs.Texts.{Blames, LeavesSource, WantsMemory};
 
 use crate::explained::{judge_history, judge_record};
-use mh_findings::judgement::Judgement;
+use crate::judgement::Judgement;
 use mh_history::history::{HISTORY_BYTES, history_lines};
 use mh_history::lines::{FromLine, RefusedLine, next_entry};
 use mh_history::record::{RECORD_BYTES, record_lines};

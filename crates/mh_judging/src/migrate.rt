@@ -1,7 +1,7 @@
 //! Histories of version 1 that become histories of version 2.
 ghost use Rattle.std.specs.Prelude.{◌≡◌, ◌≢◌, ◌<◌, ◌^◌, IfOk, OnErr, IsErrOf};
 ghost use Rattle.std.specs.Io.KnownBytes.{Appends, Keeps};
-ghost use Rattle.mh_findings.specs.Judgements.{IsCheckExplained, verdict_of};
+ghost use Rattle.mh_judging.specs.Judgements.{IsCheckExplained, verdict_of};
 ghost use Rattle.mh_model.specs.declared.config.Rules.TheVariants.{First};
 ghost use Rattle.mh_model.specs.Bytes.{line_text};
 ghost use Rattle.mh_model.specs.declared.history.Verdict.TheVariants as verdict;
@@ -11,8 +11,8 @@ ghost use Rattle.mh_judging.specs.Judged.{BeginsMigration, BeginsToMigrate, Expl
 ghost use Rattle.mh_script.specs.Texts.{Blames, BlamesSink, LeavesSource, WantsMemory};
 
 use crate::explained::judge_history;
+use crate::judgement::Judgement;
 use crate::record::write_lines;
-use mh_findings::judgement::Judgement;
 use mh_history::history::{HISTORY_BYTES, history_lines};
 use mh_model::config::Config;
 use mh_script::fault::ScriptFault;

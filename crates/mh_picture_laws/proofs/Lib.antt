@@ -6,4 +6,3 @@ pub mod QuantumLemmas
 pub mod CommandLemmas
 pub mod RunLemmas
 pub mod DumpLemmas
-pub mod rows

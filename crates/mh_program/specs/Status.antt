@@ -2,8 +2,8 @@
 use Rattle.std.specs.Prelude.{ℕ, Result, Ok, Err}
 use Rattle.mh_curve.specs.declared.end.CurveEnd.{CurveEnd}
 use Rattle.mh_curve.specs.declared.end.CurveEnd.TheVariants as curve
-use Rattle.mh_findings.specs.declared.judgement.Judgement.{Judgement}
-use Rattle.mh_findings.specs.declared.judgement.Judgement.TheVariants as judgement
+use Rattle.mh_judging.specs.declared.judgement.Judgement.{Judgement}
+use Rattle.mh_judging.specs.declared.judgement.Judgement.TheVariants as judgement
 use Rattle.mh_script.specs.declared.end.End.{End}
 use Rattle.mh_script.specs.declared.end.End.TheVariants.{Done, Refused}
 use Rattle.mh_program.specs.declared.fault.LineFault.{LineFault}

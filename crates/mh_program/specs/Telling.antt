@@ -4,8 +4,8 @@ use Rattle.std.specs.Io.KnownBytes.{Appends}
 use Rattle.std.specs.List.{All}
 use Rattle.mh_curve.specs.declared.end.CurveEnd.{CurveEnd}
 use Rattle.mh_curve.specs.declared.end.CurveEnd.TheVariants as curve
-use Rattle.mh_findings.specs.declared.judgement.Judgement.{Judgement}
-use Rattle.mh_findings.specs.declared.judgement.Judgement.TheVariants as judgement
+use Rattle.mh_judging.specs.declared.judgement.Judgement.{Judgement}
+use Rattle.mh_judging.specs.declared.judgement.Judgement.TheVariants as judgement
 use Rattle.mh_model.specs.Bytes.{Text, line_text}
 use Rattle.mh_program.specs.declared.fault.LineFault.{LineFault}
 use Rattle.mh_program.specs.declared.fault.LineFault.TheVariants as line

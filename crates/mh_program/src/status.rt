@@ -3,7 +3,7 @@ ghost use Rattle.mh_program.specs.Status.{curve_status_of, judgement_status_of, 
 
 use crate::fault::LineFault;
 use mh_curve::end::CurveEnd;
-use mh_findings::judgement::Judgement;
+use mh_judging::judgement::Judgement;
 use mh_script::end::End;
 use mh_script::fault::ScriptFault;
 

@@ -10,7 +10,7 @@ use crate::fault::LineFault;
 use crate::line::ConfigOption;
 use crate::quoted::{printable, signs};
 use mh_curve::end::CurveEnd;
-use mh_findings::judgement::Judgement;
+use mh_judging::judgement::Judgement;
 use mh_live::listener::Listener;
 use mh_script::end::{End, Refusal};
 use mh_script::fault::{HISTORY_FULL, NO_MEMORY, READ_FAILED, ScriptFault, WRITE_FAILED};

@@ -25,7 +25,7 @@ use Rattle.mh_model.specs.Intervals.{CyclesTakeAtMost, HasRoomFor, LeaveFlagged,
 use Rattle.mh_model.specs.Needs.{NeedNoMore, HasEnoughFor}
 use Rattle.mh_run_laws.specs.BesideTheWorld.{IsFaithful, IsInCycle}
 use Rattle.mh_laws.specs.Bounds.{HasEnded, HasRun}
-use Rattle.mh_sharp_laws.specs.SharpNeeds.{AskOfClasses, HasSharpEnoughFor}
+use Rattle.mh_sizing_laws.specs.SharpNeeds.{AskOfClasses, HasSharpEnoughFor}
 use Rattle.mh_run_laws.specs.Forwarders.{AreOfItsCycle}
 use Rattle.mh_promise.specs.Runs.{Outcome, machine_at, moment_at, outcome_of, IsAnswered, IsTheMachines, AreAnsweredSoFar}
 

@@ -5,3 +5,11 @@ pub mod ReadLemmas
 pub mod EntryLemmas
 pub mod HeaderLemmas
 pub mod HistoryLemmas
+pub mod WrongWords
+pub mod SoundWords
+pub mod SoundLines
+pub mod WrongLines
+pub mod SoundEntries
+pub mod SoundEntryLines
+pub mod WrongEntries
+pub mod WrongHeaders

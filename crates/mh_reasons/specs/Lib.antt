@@ -6,3 +6,4 @@ pub mod Lines
 pub mod Operands
 pub mod Reasons
 pub mod HistoryReasons
+pub mod Laws

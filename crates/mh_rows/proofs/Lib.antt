@@ -1,1 +1,5 @@
 pub mod rows
+pub mod picture_rows
+pub mod seat_rows
+pub mod sizing_rows
+pub mod text_rows

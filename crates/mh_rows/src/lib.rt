@@ -1,2 +1,2 @@
-//! Worked rows: what the machine of the model answers to a script or to a few calls, compared by evaluation.
+//! Worked rows: what the model answers to a script, a history or a few calls, compared by evaluation.
 #![tactic(auto)]

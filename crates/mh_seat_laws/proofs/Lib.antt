@@ -1,2 +1,1 @@
 pub mod TotalLemmas
-pub mod rows

@@ -3,9 +3,9 @@ use Rattle.std.proofs.Common.{◌≡◌, ◌∙◌, inl, inr, ℕ, ◌<◌, ◌�
 use Rattle.std.proofs.lemmas.Bool.Decides.{nat_tests}
 use Rattle.std.proofs.lemmas.List.{map-id}
 use Rattle.std.specs.Io.KnownBytes.{Consumes, IsAtEnd}
-use Rattle.mh_findings.specs.declared.judgement.Judgement.{Judgement}
-use Rattle.mh_findings.specs.declared.judgement.Judgement.TheVariants as judgement
-use Rattle.mh_findings.specs.Judgements.{IsRefusal, verdict_of}
+use Rattle.mh_judging.specs.declared.judgement.Judgement.{Judgement}
+use Rattle.mh_judging.specs.declared.judgement.Judgement.TheVariants as judgement
+use Rattle.mh_judging.specs.Judgements.{IsRefusal, verdict_of}
 use Rattle.mh_history.specs.Beginnings.{with_header}
 use Rattle.mh_model.specs.declared.config.Config.{Config}
 use Rattle.mh_model.specs.declared.config.Rules.{Rules}

@@ -2,9 +2,9 @@
 use Rattle.std.proofs.Common.{◌≡◌, ◌≢◌, ◌∙◌, ◌⊎◌, inl, inr, ℕ, suc, ◌+◌, ◌-◌, ◌<◌, ◌≤◌, Bool, true, false, List, [], ◌∷◌, ◌++◌, length, map, take, Option, ap, sym, refl, subst, arith}
 use Rattle.std.proofs.Math.Seq.{take-append-add}
 use Rattle.std.proofs.lemmas.List.{length-append, length-map, map-append}
-use Rattle.mh_findings.specs.declared.entry_fault.EntryFault.{EntryFault}
-use Rattle.mh_findings.specs.Faults.{HasFault, IsFaultAfter, IsReplyFault}
-use Rattle.mh_findings.proofs.ReplayLemmas.{Stands, left_means, stands, unlawful_with}
+use Rattle.mh_judging.specs.declared.entry_fault.EntryFault.{EntryFault}
+use Rattle.mh_judging.specs.Faults.{HasFault, IsFaultAfter, IsReplyFault}
+use Rattle.mh_judging.proofs.ReplayLemmas.{Stands, left_means, stands, unlawful_with}
 use Rattle.mh_judging.proofs.ExplainedLemmas.{has_entry}
 use Rattle.mh_history.proofs.LineLemmas.{Walked, walked_more, walked_start}
 use Rattle.mh_history.specs.Beginnings.{HasEntry, TakesEntry, entries_left}

@@ -1,7 +1,7 @@
 -- What is wrong with the first entry that its session may not see.
 use Rattle.std.specs.Prelude.{◌≡◌, List, false}
-use Rattle.mh_findings.specs.declared.entry_fault.EntryFault.{EntryFault}
-use Rattle.mh_findings.specs.Faults.{IsReplyFault}
+use Rattle.mh_judging.specs.declared.entry_fault.EntryFault.{EntryFault}
+use Rattle.mh_judging.specs.Faults.{IsReplyFault}
 use Rattle.mh_model.specs.declared.command.Event.{Event}
 use Rattle.mh_model.specs.declared.command.Event.TheVariants as event
 use Rattle.mh_model.specs.declared.config.Config.{Config}

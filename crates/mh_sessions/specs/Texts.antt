@@ -10,10 +10,10 @@ use Rattle.mh_model.specs.Sessions.{IsSeenThrough, entries_reading, is_of_versio
 use Rattle.mh_reasons.specs.declared.history_reason.HistoryReason.{HistoryReason}
 use Rattle.mh_reasons.specs.HistoryReasons.{IsHistoryReason}
 use Rattle.mh_history.specs.Beginnings.{BeginsWithEntry, BeginsWithMeasured}
-use Rattle.mh_findings.specs.declared.entry_fault.EntryFault.{EntryFault}
-use Rattle.mh_findings.specs.declared.judgement.Judgement.{Judgement}
-use Rattle.mh_findings.specs.Faults.{HasFault}
-use Rattle.mh_findings.specs.Judgements.{IsExplained}
+use Rattle.mh_judging.specs.declared.entry_fault.EntryFault.{EntryFault}
+use Rattle.mh_judging.specs.declared.judgement.Judgement.{Judgement}
+use Rattle.mh_judging.specs.Faults.{HasFault}
+use Rattle.mh_judging.specs.Judgements.{IsExplained}
 use Rattle.mh_judging.specs.Judged.{IsJudging}
 use Rattle.mh_script.specs.declared.fault.ScriptFault.{ScriptFault}
 use Rattle.mh_script.specs.Run.{Device}

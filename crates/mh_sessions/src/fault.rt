@@ -1,6 +1,6 @@
 //! What is wrong with the first entry that its session may not see.
 ghost use Rattle.std.specs.Prelude.{◌≡◌, ◌≢◌, ◌<◌, ◌≤◌, List, map, IfOk};
-ghost use Rattle.mh_findings.specs.Faults.{HasFault, IsFaultAfter};
+ghost use Rattle.mh_judging.specs.Faults.{HasFault, IsFaultAfter};
 ghost use Rattle.mh_heap.specs.PlainHeap.{world_of};
 ghost use Rattle.mh_history.specs.Beginnings.{entries_left};
 ghost use Rattle.mh_model.specs.declared.birth.TheConstants.{LIFE};
@@ -14,11 +14,11 @@ ghost use Rattle.mh_sessions.specs.Faults.{IsUnseen, IsUnseenAfter};
 
 use crate::judge::{follow, plain_heap};
 use crate::lines::SeenLine;
-use mh_findings::entry_fault::EntryFault;
-use mh_findings::replay::entry_again;
-use mh_findings::reply_fault::reply_fault;
 use mh_heap::perform::perform;
 use mh_heap::plain::PlainHeap;
+use mh_judging::entry_fault::EntryFault;
+use mh_judging::replay::entry_again;
+use mh_judging::reply_fault::reply_fault;
 use mh_model::command::Event;
 use mh_model::config::Rules;
 use mh_model::history::Entry;

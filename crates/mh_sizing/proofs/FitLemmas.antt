@@ -5,7 +5,7 @@ use Rattle.std.proofs.lemmas.Bool.{leb-true, le-leb}
 use Rattle.mh_model.specs.declared.config.Config.{Config}
 use Rattle.mh_model.specs.declared.needs.Needs.{Needs}
 use Rattle.mh_model.specs.Needs.{quanta_needed, units_needed}
-use Rattle.mh_sharp_laws.specs.SharpNeeds.{HasSharpEnoughFor}
+use Rattle.mh_sizing_laws.specs.SharpNeeds.{HasSharpEnoughFor}
 use Rattle.mh_sizing.specs.declared.kinds.Kinds.{Kinds}
 use Rattle.mh_sizing.specs.Choices.{NoneFits, IsLeastFit}
 use Rattle.mh_sizing.specs.Needs.{enough_trigger}

@@ -12,8 +12,8 @@ use Rattle.mh_model.specs.Openings.{is_of_class, class_parts}
 use Rattle.mh_model.specs.Trace.{lesser, least_of}
 use Rattle.mh_table_laws.proofs.tables.PageSlots.{class_of-class_size}
 use Rattle.mh_sizing_laws.proofs.openings.MadeParts.{IsAmong}
-use Rattle.mh_sharp_laws.specs.SharpPages.{occurring, fewest_of, fewest_slots}
-use Rattle.mh_sharp_laws.proofs.pages.ClassesThatOccur.{occurring-once, occurring-parts, fewest-least}
+use Rattle.mh_sizing_laws.specs.SharpPages.{occurring, fewest_of, fewest_slots}
+use Rattle.mh_sizing_laws.proofs.sharp_pages.ClassesThatOccur.{occurring-once, occurring-parts, fewest-least}
 use Rattle.mh_sizing.specs.Openings.{least_slots}
 use Rattle.mh_sizing.specs.PageUnits.{AreOfJust}
 use Rattle.mh_sizing.proofs.OpeningLemmas.{least_first, least_rest}

@@ -5,3 +5,12 @@ pub mod PageLemmas
 pub mod SizedLemmas
 pub mod KindLemmas
 pub mod FitLemmas
+pub mod BirthLemmas
+pub mod ClassLemmas
+pub mod CountLemmas
+pub mod RunLemmas
+pub mod SearchLemmas
+pub mod StepLemmas
+pub mod WalkLemmas
+pub mod WorldLemmas
+pub mod WalkedKinds

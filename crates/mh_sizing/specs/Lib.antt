@@ -5,3 +5,15 @@ pub mod Needs
 pub mod Shared
 pub mod Targets
 pub mod Sized
+pub mod Asked
+pub mod Births
+pub mod Bounded
+pub mod ClassCounts
+pub mod Needed
+pub mod Objects
+pub mod Reached
+pub mod Runs
+pub mod Steps
+pub mod Units
+pub mod Walk
+pub mod Worlds

@@ -5,7 +5,7 @@ use Rattle.mh_model.specs.declared.config.Config.{Config}
 use Rattle.mh_model.specs.declared.needs.Needs.{Needs}
 use Rattle.mh_model.specs.Intervals.{IsNeverFull}
 use Rattle.mh_model.specs.Needs.{quanta_needed, NeedNoMore, HasEnoughFor}
-use Rattle.mh_sharp_laws.specs.SharpNeeds.{AskOfClasses}
+use Rattle.mh_sizing_laws.specs.SharpNeeds.{AskOfClasses}
 use Rattle.mh_sizing.specs.declared.kinds.Kinds.{Kinds}
 use Rattle.mh_sizing.specs.Needs.{enough_trigger, HasEnough}
 use Rattle.mh_sizing.specs.Shared.{HasEnoughShared}

@@ -3,8 +3,8 @@ ghost use Rattle.std.specs.Prelude.{◌≡◌, ◌≤◌, List, length};
 ghost use Rattle.mh_model.specs.declared.command.Event.{Event};
 ghost use Rattle.mh_model.specs.declared.config.Config.{Config};
 ghost use Rattle.mh_model.specs.Classes.{Part};
-ghost use Rattle.mh_sharp_laws.specs.SharpNeeds.{AskOfClasses};
-ghost use Rattle.mh_sharp_laws.specs.SharpPages.{all_asked, fewest_slots, occurring};
+ghost use Rattle.mh_sizing_laws.specs.SharpNeeds.{AskOfClasses};
+ghost use Rattle.mh_sizing_laws.specs.SharpPages.{all_asked, fewest_slots, occurring};
 ghost use Rattle.mh_sizing.specs.Openings.{least_slots};
 ghost use Rattle.mh_sizing.specs.PageUnits.{AreOfJust};
 

@@ -1,8 +1,8 @@
 //! The laws by which sized heaps are never full.
 ghost use Rattle.mh_sizing.specs.Sized.{SizedHeapsHaveEnough, SizedRunsAreNeverFull, SharedRunsAreNeverFull};
 
-use mh_sharp_laws::needs::sharp_enough_for_needs_suffices;
 use mh_sizing_laws::needs::enough_for_needs_suffices;
+use mh_sizing_laws::sharp_needs::sharp_enough_for_needs_suffices;
 
 /// A configuration with enough pages, and with a trigger that is enough or more, has enough for what its sessions need.
 pub fn sized_heaps_have_enough()

@@ -1,12 +1,20 @@
 //! Numbers that size a heap in which no new object is refused: pages that an interval opens, quanta of a cycle, the
-//! trigger, the pages, and quanta for a share of the mutator. The laws of sizing say what they are enough for.
+//! trigger, the pages, and quanta for a share of the mutator. The laws of sizing say what they are enough for. What the
+//! sessions of a run need is found by the ever-growing world alone, so that a heap can be sized before the run.
 #![tactic(auto)]
 
+mod asked;
+mod births;
+mod classes;
+mod counts;
 pub mod cycles;
 pub mod kinds;
 pub mod laws;
 pub mod needs;
 pub mod openings;
 pub mod pages;
+mod reach;
 pub mod shared;
 pub mod targets;
+pub mod walk;
+mod world;

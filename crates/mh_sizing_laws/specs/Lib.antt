@@ -4,3 +4,6 @@ pub mod Cycles
 pub mod PagesLeft
 pub mod Reached
 pub mod Needs
+pub mod Filling
+pub mod SharpPages
+pub mod SharpNeeds

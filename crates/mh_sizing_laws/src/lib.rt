@@ -3,8 +3,11 @@
 #![tactic(auto)]
 
 pub mod cycles;
+pub mod filling;
 pub mod needs;
 pub mod openings;
 pub mod pages_left;
 pub mod reached;
+pub mod sharp_needs;
+pub mod sharp_pages;
 pub mod triggers;

@@ -1,7 +1,7 @@
 use mh_model::command::{Command, Control, Event};
 use mh_model::config::Config;
 use mh_model::needs::Needs;
-use mh_needs::walk::{Walk, needs_of};
+use mh_sizing::walk::{Walk, needs_of};
 use std::test::Fail;
 
 fn new(slot: u32, references: u32, numbers: u32) -> Command {

@@ -1,7 +1,7 @@
 //! Calls of the program that may be refused memory.
 use crate::comparing::Comparing;
 use crate::live_answers::{are_right, has_starved, refused_in};
-use mh_findings::judgement::Judgement;
+use mh_judging::judgement::Judgement;
 use mh_judging::judge::audit_script;
 use mh_program::errors::Errors;
 use mh_program::launch::launch;

@@ -2,7 +2,7 @@ use Rattle.std.proofs.lemmas.Result.{IfOk-weaker, err_from_is_err_and, on_err_we
 use Rattle.mh_text.proofs.ErrorLemmas.{same_error}
 use Rattle.mh_script.specs.Texts.{ForBytes}
 use Rattle.mh_script.proofs.AddedLines.{on_err}
-use Rattle.mh_findings.specs.Judgements.{verdict_of}
+use Rattle.mh_judging.specs.Judgements.{verdict_of}
 use Rattle.mh_judging.proofs.ExplainedLemmas.{both_ok, check_explains}
 use Rattle.mh_judging.proofs.MigratedLemmas.{begins_to_migrate_nothing, begins_to_migrate_reads, migrates_reads, takes_short}
 use Rattle.mh_script.proofs.SourceLemmas.{history_bounded, reads_slice, wants_text}

@@ -1,7 +1,7 @@
 use Rattle.std.proofs.Common.{ap, inl, inr, subst, sym}
 use Rattle.std.proofs.lemmas.Result.{IfOk-weaker, on_err_weaker}
 use Rattle.mh_script.proofs.AddedLines.{on_err}
-use Rattle.mh_findings.specs.Judgements.{IsCheckExplained, verdict_of}
+use Rattle.mh_judging.specs.Judgements.{IsCheckExplained, verdict_of}
 use Rattle.mh_judging.proofs.ExplainedLemmas.{other_verdict}
 use Rattle.mh_judging.proofs.MigratedLemmas.{begins_migration, begins_migration_nothing, legal_entries, makes_line, migrates_told}
 use Rattle.mh_judging.proofs.migrate.write_migrated.Goals as goal

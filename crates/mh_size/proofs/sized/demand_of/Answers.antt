@@ -1,7 +1,7 @@
 use Rattle.std.proofs.Common.{◌≡◌, length, take, ap, sym, subst, ◌∙◌, arith}
 use Rattle.std.proofs.Math.Seq.{take-length}
 use Rattle.std.proofs.lemmas.List.{take_more}
-use Rattle.mh_needs.specs.Walk.{HasWalked}
+use Rattle.mh_sizing.specs.Walk.{HasWalked}
 use Rattle.mh_size.proofs.sized.demand_of.Goals as goal
 
 pub loop-event-preserved : goal.loop-event-preserved

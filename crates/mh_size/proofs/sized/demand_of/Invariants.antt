@@ -1,5 +1,5 @@
 use Rattle.std.proofs.Common.{take}
-use Rattle.mh_needs.specs.Walk.{HasWalked}
+use Rattle.mh_sizing.specs.Walk.{HasWalked}
 use Rattle.mh_size.proofs.sized.demand_of.Given as goal
 
 abbrev pub invariant-loop-event : goal.invariant-loop-event

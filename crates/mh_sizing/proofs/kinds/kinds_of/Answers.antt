@@ -1,5 +1,5 @@
 use Rattle.std.proofs.Common.{◌∙◌, arith}
-use Rattle.mh_sharp_laws.specs.SharpPages.{all_asked}
+use Rattle.mh_sizing_laws.specs.SharpPages.{all_asked}
 use Rattle.mh_sizing.proofs.KindLemmas.{listed-kinds, listed-slots}
 use Rattle.mh_sizing.proofs.kinds.kinds_of.Goals as goal
 

@@ -1,0 +1,49 @@
+-- Judgements: verdicts, and what makes them true.
+use Rattle.std.specs.Prelude.{◌≡◌, ℕ, List}
+use Rattle.mh_model.specs.declared.config.Config.{Config}
+use Rattle.mh_model.specs.declared.history.Entry.{Entry}
+use Rattle.mh_model.specs.declared.history.Verdict.{Verdict}
+use Rattle.mh_model.specs.declared.history.Verdict.TheVariants as verdict
+use Rattle.mh_model.specs.declared.history.Version.{Version}
+use Rattle.mh_model.specs.declared.history.Version.TheVariants.{One, Two}
+use Rattle.mh_model.specs.Bytes.{Text}
+use Rattle.mh_model.specs.HistoryTexts.{Recorded, history_reading, recorded_reading}
+use Rattle.mh_model.specs.Script.{Means}
+use Rattle.mh_reasons.specs.declared.history_reason.HistoryReason.{HistoryReason}
+use Rattle.mh_reasons.specs.HistoryReasons.{IsHistoryReason}
+use Rattle.mh_judging.specs.declared.entry_fault.EntryFault.{EntryFault}
+use Rattle.mh_judging.specs.declared.judgement.Judgement.{Judgement}
+use Rattle.mh_judging.specs.declared.judgement.Judgement.TheVariants.{Legal, Refused, FirstBad}
+use Rattle.mh_judging.specs.Faults.{HasFault, IsEntryFault, IsMeasuredFault, IsWrongAfter}
+
+-- the verdict alone
+abbrev pub verdict_of : Judgement → Verdict
+verdict_of (Legal count) = verdict.Legal count
+verdict_of (Refused line reason) = verdict.Refused line
+verdict_of (FirstBad number fault) = verdict.FirstBad number
+
+-- the text is refused as a history of this version with this line, for a reason that is true of it
+abbrev pub IsRefusal : Version → Text → ℕ → Judgement → Type 0
+IsRefusal version text line (Refused of reason) = (of ≡ line) × IsHistoryReason version text line reason
+IsRefusal version text line judgement = ⊥
+
+-- What a judgement says beside its verdict is true: the reason of a bad line, and what is wrong with a bad entry
+abbrev pub IsExplained : (ℕ → HistoryReason → Type 0) → (ℕ → EntryFault → Type 0) → Judgement → Type 0
+IsExplained Bad Wrong (Legal count) = Unit {0}
+IsExplained Bad Wrong (Refused line reason) = Bad line reason
+IsExplained Bad Wrong (FirstBad number fault) = Wrong number fault
+
+-- of a text of version 1 under a configuration
+abbrev pub IsCheckedFault : Config → Text → ℕ → EntryFault → Type 0
+IsCheckedFault config text number fault = (entries : List Entry) × (history_reading text ≡ Means entries) × HasFault (IsWrongAfter config (λ entry. entry.event) IsEntryFault) entries number fault
+
+abbrev pub IsCheckExplained : Config → Text → Judgement → Type 0
+IsCheckExplained config text = IsExplained (IsHistoryReason One text) (IsCheckedFault config text)
+
+-- and of one of version 2
+abbrev pub IsAuditedFault : Text → ℕ → EntryFault → Type 0
+IsAuditedFault text number fault =
+    (recorded : Recorded) × (recorded_reading text ≡ Means recorded) × HasFault (IsWrongAfter recorded.config (λ measured. measured.entry.event) IsMeasuredFault) recorded.entries number fault
+
+abbrev pub IsAuditExplained : Text → Judgement → Type 0
+IsAuditExplained text = IsExplained (IsHistoryReason Two text) (IsAuditedFault text)

@@ -1,9 +1,0 @@
-pub mod BirthLemmas
-pub mod ClassLemmas
-pub mod CountLemmas
-pub mod RunLemmas
-pub mod SearchLemmas
-pub mod StepLemmas
-pub mod WalkLemmas
-pub mod WorldLemmas
-pub mod KindLemmas

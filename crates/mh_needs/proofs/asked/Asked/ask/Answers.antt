@@ -1,8 +1,0 @@
-use Rattle.std.proofs.Common.{Option, List, [], unwrap_or, ap, refl, sym, ◌∙◌}
-use Rattle.mh_model.specs.Classes.{Part}
-use Rattle.mh_needs.proofs.WalkLemmas.{asked-parts}
-use Rattle.mh_needs.proofs.asked.Asked.ask.Goals as goal
-
-pub returns-in-Some : goal.returns-in-Some
-returns-in-Some c = λ config event all running ended parts has.
-    asked-parts c.args.self.now _ config all running ended event _ (sym (ap (λ (o : Option (List Part)). unwrap_or o []) c.in-Some.is) ∙ parts) (c.ask.ensures.asked _ _ has.counted) refl refl has

@@ -1,7 +1,0 @@
-use Rattle.std.proofs.Common.{◌≡◌, take}
-use Rattle.std.specs.List.{fold}
-use Rattle.mh_needs.specs.Births.{with_name}
-use Rattle.mh_needs.proofs.reach.insert_all.Given as goal
-
-abbrev pub invariant-loop-name : goal.invariant-loop-name
-invariant-loop-name l = l.set ≡ record { births = fold with_name l.initial.set.births (take l.name-index l.names); room = l.initial.set.room }

@@ -1,4 +1,0 @@
-//! Laws of reasons: a line that has one is outside the grammar.
-#![tactic(auto)]
-
-pub mod laws;

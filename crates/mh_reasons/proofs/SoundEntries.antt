@@ -1,0 +1,201 @@
+-- The words of entries are sound: none is empty, and each byte is printable and no space.
+use Rattle.std.proofs.Common.{option_to_list, ◌≡◌, ℕ, ◌<◌, ◌^◌, nat_lt, nat_le, ◌&&◌, Bool, true, false, Option, Some, None, List, [], ◌∷◌, ◌++◌, flat_map, map, refl, decimal, codes, arith}
+use Rattle.std.specs.List.{list_all}
+use Rattle.std.proofs.lemmas.Bool.{and_parts, and_from, ltb-true, leb-true}
+use Rattle.std.proofs.lemmas.Bool.Decides.{nat_tests}
+use Rattle.mh_model.specs.declared.command.Command.{Command}
+use Rattle.mh_model.specs.declared.command.Command.TheVariants as command
+use Rattle.mh_model.specs.declared.command.Control.{Control}
+use Rattle.mh_model.specs.declared.command.Control.TheVariants as control
+use Rattle.mh_model.specs.declared.command.Event.{Event}
+use Rattle.mh_model.specs.declared.command.Event.TheVariants as event
+use Rattle.mh_model.specs.declared.reply.Reply.{Reply}
+use Rattle.mh_model.specs.declared.reply.Reply.TheVariants as reply
+use Rattle.mh_model.specs.declared.reply.Refusal.{Refusal}
+use Rattle.mh_model.specs.declared.reply.Refusal.TheVariants.{BadSlot, Null, NoField, TooLarge, HeapFull, Ended, TooManySessions}
+use Rattle.mh_model.specs.declared.cycle.Phase.{Phase}
+use Rattle.mh_model.specs.declared.cycle.Phase.TheVariants.{Idle, Roots, Mark, Sweep, Defrag}
+use Rattle.mh_model.specs.declared.dump.DumpItem.{DumpItem}
+use Rattle.mh_model.specs.declared.dump.DumpItem.TheVariants as item
+use Rattle.mh_model.specs.declared.history.Entry.{Entry}
+use Rattle.mh_model.specs.declared.history.Measured.{Measured}
+use Rattle.mh_model.specs.declared.history.Version.{Version}
+use Rattle.mh_model.specs.declared.history.Version.TheVariants.{One, Two}
+use Rattle.mh_model.specs.Bytes.{Text, is_digit, number}
+use Rattle.mh_model.specs.Forms.{u32, u64, Phrase, phrase_words, is_sayable, command_phrase, control_phrase, knows_control}
+use Rattle.mh_model.specs.Replies.{refusal_words, phase_word, flag_word, placed_word, item_words, optional_word, reply_words, are_u64, item_numbers, items_in_range, ascends, is_reply}
+use Rattle.mh_model.specs.HistoryTexts.{event_words, entry_words, measured_words, is_event, is_entry, is_measured}
+use Rattle.mh_text_laws.proofs.ListLemmas.{all-append}
+use Rattle.mh_text_laws.proofs.round_trips.WordRoundTrips.{number-decimal, all-decimals, are_small}
+use Rattle.mh_text_laws.proofs.round_trips.ReplyRoundTrips.{small_numbers}
+use Rattle.mh_reasons.specs.Lines.{is_stray}
+use Rattle.mh_reasons.proofs.SoundWords.{is_full, is_sound, are_sound, unsound_number}
+
+-- Bytes ------------------------------------------------------------------------------------------
+
+-- printable, and no space
+abbrev pub is_printable : ℕ → Bool
+is_printable byte = nat_lt 32 byte && nat_lt byte 127
+
+pub printable_digit : (byte : ℕ) → is_digit byte ≡ true → is_printable byte ≡ true
+printable_digit byte is = grind (arith, nat_tests)
+
+pub printable_stray : (byte : ℕ) → is_stray byte ≡ true → is_printable byte ≡ false
+printable_stray byte is = grind (arith, nat_tests)
+
+-- Words ------------------------------------------------------------------------------------------
+
+sound_by : (is : Bool) (word : Text) (n : ℕ) → number word ≡ Some n → is_sound is_printable word ≡ is → is ≡ true
+sound_by true word n read same = refl
+sound_by false word n read same = let none : number word ≡ None = unsound_number is_printable printable_digit word same in cc
+
+sound_decimal : (n : ℕ) → n < 2 ^ 64 → is_sound is_printable (decimal n) ≡ true
+sound_decimal n small = sound_by (is_sound is_printable (decimal n)) (decimal n) n (number-decimal n small) refl
+
+sound_decimals : (ns : List ℕ) → are_u64 ns ≡ true → are_sound is_printable (map decimal ns) ≡ true
+sound_decimals = all-decimals (is_sound is_printable) sound_decimal
+
+-- the bytes of a number
+decimal_bytes : (n : ℕ) → n < 2 ^ 64 → list_all is_printable (decimal n) ≡ true
+decimal_bytes n small = (and_parts (is_full (decimal n)) (list_all is_printable (decimal n)) (sound_decimal n small)).1
+
+-- a number after a byte
+tagged_sound : (tag n : ℕ) → is_printable tag ≡ true → n < 2 ^ 64 → is_sound is_printable (tag ∷ decimal n) ≡ true
+tagged_sound tag n is small = and_from _ _ is (decimal_bytes n small)
+
+-- a number before others
+next_sound : (n : ℕ) (ns : List ℕ) (rest : Bool) → are_u64 (n ∷ ns) ≡ true → (are_u64 ns ≡ true → rest ≡ true) → (is_sound is_printable (decimal n) && rest) ≡ true
+next_sound n ns rest h more = and_from _ _ (sound_decimal n (ltb-true n u64 (and_parts _ _ h).0)) (more (and_parts _ _ h).1)
+
+-- Events -----------------------------------------------------------------------------------------
+
+-- its verb is sound, and its numbers have 64 bits at most
+abbrev is_fine : Phrase → Bool
+is_fine said = is_sound is_printable said.verb && list_all (λ bound. nat_le bound u64) said.bounds
+
+phrase_sound : (said : Phrase) → is_fine said ≡ true → is_sayable said ≡ true → are_sound is_printable (phrase_words said) ≡ true
+phrase_sound said fine h =
+    let both = and_parts (is_sound is_printable said.verb) (list_all (λ bound. nat_le bound u64) said.bounds) fine in
+    and_from _ _ both.0 (sound_decimals said.numbers (small_numbers said.bounds said.numbers h both.1))
+
+fine_command : (c : Command) → is_fine (command_phrase c) ≡ true
+fine_command (command.New d r n) = refl
+fine_command (command.Get d s f) = refl
+fine_command (command.Put s f v) = refl
+fine_command (command.Copy d s) = refl
+fine_command (command.Clear d) = refl
+fine_command (command.Read s i) = refl
+fine_command (command.Write s i x) = refl
+fine_command (command.Same a b) = refl
+fine_command (command.Shape s) = refl
+fine_command (command.Post b s) = refl
+fine_command (command.Take d b) = refl
+fine_command command.End = refl
+
+fine_control : (c : Control) → is_fine (control_phrase c) ≡ true
+fine_control control.Quantum = refl
+fine_control control.Start = refl
+fine_control control.Stat = refl
+fine_control control.Dump = refl
+fine_control control.Left = refl
+fine_control (control.Report window) = refl
+
+small_session : (who : ℕ) → nat_le who 8 ≡ true → who < 2 ^ 64
+small_session who few = omega (arith, leb-true who 8 few)
+
+event_sound : (version : Version) (e : Event) → is_event version e ≡ true → are_sound is_printable (event_words e) ≡ true
+event_sound version (event.Session who c) h =
+    let both = and_parts (nat_le who 8) (is_sayable (command_phrase c)) h in
+    and_from _ _ (tagged_sound 115 who refl (small_session who both.0)) (phrase_sound (command_phrase c) (fine_command c) both.1)
+event_sound version (event.Control c) h = phrase_sound (control_phrase c) (fine_control c) (and_parts (knows_control version c) (is_sayable (control_phrase c)) h).1
+
+-- Replies ----------------------------------------------------------------------------------------
+
+full_first : (bytes more : Text) → is_full bytes ≡ true → is_full (bytes ++ more) ≡ true
+full_first [] more is = cc
+full_first (byte ∷ bytes) more is = refl
+
+placed_sound : (mark slot a b : ℕ) → is_printable mark ≡ true → are_u64 (slot ∷ a ∷ b ∷ []) ≡ true → is_sound is_printable (placed_word mark slot a b) ≡ true
+placed_sound mark slot a b is h =
+    let small = are_small slot a b h in
+    let first = and_parts (is_full (decimal slot)) (list_all is_printable (decimal slot)) (sound_decimal slot small.first) in
+    let place : list_all is_printable (mark ∷ (decimal a ++ 46 ∷ decimal b)) ≡ true =
+    and_from _ _ is (all-append is_printable (decimal a) (46 ∷ decimal b) (decimal_bytes a small.second) (decimal_bytes b small.third)) in
+    and_from _ _ (full_first (decimal slot) (mark ∷ (decimal a ++ 46 ∷ decimal b)) first.0)
+    (all-append is_printable (decimal slot) (mark ∷ (decimal a ++ 46 ∷ decimal b)) first.1 place)
+
+flag_sound : (flag : Bool) → is_sound is_printable (flag_word flag) ≡ true
+flag_sound true = refl
+flag_sound false = refl
+
+phase_sound : (phase : Phase) → is_sound is_printable (phase_word phase) ≡ true
+phase_sound Idle = refl
+phase_sound Roots = refl
+phase_sound Mark = refl
+phase_sound Sweep = refl
+phase_sound Defrag = refl
+
+optional_sound : (n : Option ℕ) → are_u64 (option_to_list n) ≡ true → is_sound is_printable (optional_word n) ≡ true
+optional_sound None h = refl
+optional_sound (Some n) h = sound_decimal n (ltb-true n u64 (and_parts _ _ h).0)
+
+refusal_sound : (refusal : Refusal) → are_sound is_printable (refusal_words refusal) ≡ true
+refusal_sound BadSlot = refl
+refusal_sound Null = refl
+refusal_sound NoField = refl
+refusal_sound TooLarge = refl
+refusal_sound HeapFull = refl
+refusal_sound Ended = refl
+refusal_sound TooManySessions = refl
+
+item_sound : (i : DumpItem) → are_u64 (item_numbers i) ≡ true → are_sound is_printable (item_words i) ≡ true
+item_sound (item.Page page class_size flag) h =
+    let first = and_parts _ _ h in
+    let second = and_parts _ _ first.1 in
+    and_from _ _ (tagged_sound 80 page refl (ltb-true page u64 first.0))
+    (and_from _ _ (tagged_sound 67 class_size refl (ltb-true class_size u64 second.0)) (and_from _ _ (flag_sound flag) refl))
+item_sound (item.Block slot a b) h = and_from _ _ (placed_sound 61 slot a b refl h) refl
+item_sound (item.Forwarder slot a b) h = and_from _ _ (placed_sound 62 slot a b refl h) refl
+
+items_sound : (items : List DumpItem) → items_in_range items ≡ true → are_sound is_printable (flat_map item_words items) ≡ true
+items_sound [] h = refl
+items_sound (i ∷ items) h =
+    all-append (is_sound is_printable) (item_words i) (flat_map item_words items) (item_sound i (and_parts _ _ h).0) (items_sound items (and_parts _ _ h).1)
+
+reply_sound : (version : Version) (r : Reply) → is_reply version r ≡ true → are_sound is_printable (reply_words r) ≡ true
+reply_sound version reply.Done h = refl
+reply_sound version reply.Yes h = refl
+reply_sound version reply.No h = refl
+reply_sound version (reply.Number n) h = sound_decimals (n ∷ []) h
+reply_sound version (reply.Shape shape) h = sound_decimals (shape.references ∷ shape.numbers ∷ []) (small_numbers (u32 ∷ u32 ∷ []) (shape.references ∷ shape.numbers ∷ []) h refl)
+reply_sound version (reply.Refused refusal) h = refusal_sound refusal
+reply_sound version (reply.Spent units phase) h = next_sound units [] _ h (λ end. and_from _ _ (phase_sound phase) refl)
+reply_sound version (reply.Stat stat) h =
+    next_sound stat.free (stat.live ∷ stat.old ∷ stat.cycle ∷ []) _ h
+    (λ h1. next_sound stat.live (stat.old ∷ stat.cycle ∷ []) _ h1
+    (λ h2. next_sound stat.old (stat.cycle ∷ []) _ h2
+    (λ h3. and_from _ _ (phase_sound stat.phase) (sound_decimals (stat.cycle ∷ []) h3))))
+reply_sound version (reply.Dump items) h = items_sound items (and_parts (items_in_range items) (ascends None None items) h).0
+reply_sound version (reply.Report report) h =
+    let both = and_parts (are_u64 (report.mutator ∷ report.collector ∷ report.quanta ∷ report.greatest ∷ report.window ∷ [])) (are_u64 (option_to_list report.least) && are_u64 (option_to_list report.floor)) h in
+    next_sound report.mutator (report.collector ∷ report.quanta ∷ report.greatest ∷ report.window ∷ []) _ both.0
+    (λ h1. next_sound report.collector (report.quanta ∷ report.greatest ∷ report.window ∷ []) _ h1
+    (λ h2. next_sound report.quanta (report.greatest ∷ report.window ∷ []) _ h2
+    (λ h3. next_sound report.greatest (report.window ∷ []) _ h3
+    (λ h4. next_sound report.window [] _ h4
+    (λ end. and_from _ _ (optional_sound report.least (and_parts _ _ both.1).0) (and_from _ _ (optional_sound report.floor (and_parts _ _ both.1).1) refl))))))
+reply_sound One (reply.Left quanta) h = cc
+reply_sound Two (reply.Left quanta) h = sound_decimals (quanta ∷ []) h
+
+-- Entries ----------------------------------------------------------------------------------------
+
+pub entry_sound : (version : Version) (e : Entry) → is_entry version e ≡ true → are_sound is_printable (entry_words e) ≡ true
+entry_sound version e h =
+    let both = and_parts (is_event version e.event) (is_reply version e.reply) h in
+    all-append (is_sound is_printable) (event_words e.event) (codes "=" ∷ reply_words e.reply) (event_sound version e.event both.0) (reply_sound version e.reply both.1)
+
+pub measured_sound : (m : Measured) → is_measured m ≡ true → are_sound is_printable (measured_words m) ≡ true
+measured_sound m h =
+    let both = and_parts (is_entry Two m.entry) (are_u64 (m.mutator ∷ m.collector ∷ [])) h in
+    all-append (is_sound is_printable) (entry_words m.entry) (codes "units" ∷ decimal m.mutator ∷ decimal m.collector ∷ [])
+    (entry_sound Two m.entry both.0) (sound_decimals (m.mutator ∷ m.collector ∷ []) both.1)

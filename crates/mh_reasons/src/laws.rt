@@ -1,0 +1,17 @@
+//! Laws of reasons.
+ghost use Rattle.mh_reasons.specs.Laws.{EntriesWithReasonsAreWrong, FirstLinesWithReasonsAreWrong, LinesWithReasonsAreWrong};
+
+/// A line of a script with a reason is outside the grammar.
+pub fn lines_with_reasons_are_wrong()
+    ensures { LinesWithReasonsAreWrong }
+{}
+
+/// A first line with a reason is no first line of a history.
+pub fn first_lines_with_reasons_are_wrong()
+    ensures { FirstLinesWithReasonsAreWrong }
+{}
+
+/// A line after the first with a reason is no entry.
+pub fn entries_with_reasons_are_wrong()
+    ensures { EntriesWithReasonsAreWrong }
+{}

@@ -1,0 +1,5 @@
+pub mod SizedRuns
+pub mod LeftPages
+pub mod ReachedUnits
+pub mod SharpNeeds
+pub mod MetPremises

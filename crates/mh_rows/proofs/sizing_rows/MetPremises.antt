@@ -1,0 +1,101 @@
+-- A small run that has the pages which suffice: two objects, each of which takes the place of the one before, with a quantum after each.
+use Rattle.std.proofs.Common.{◌≡◌, ℕ, zero, suc, ◌≤◌, Option, Some, None, List, [], ◌∷◌, get_or, replicate, refl, sym, ap, ◌∙◌, arith, eq-eqb}
+use Rattle.std.specs.List.{AllByRecursion, IsDistinct}
+use Rattle.std.proofs.lemmas.Bool.{true≢false}
+use Rattle.std.proofs.lemmas.List.Sums.{sum_by-cons}
+use Rattle.std.proofs.lemmas.Option.{none-some, same_Some}
+use Rattle.mh_model.specs.declared.command.Command.TheVariants.{New}
+use Rattle.mh_model.specs.declared.command.Event.{Event}
+use Rattle.mh_model.specs.declared.command.Event.TheVariants as event
+use Rattle.mh_model.specs.declared.config.Config.{Config}
+use Rattle.mh_model.specs.declared.config.Rules.TheVariants.{Second}
+use Rattle.mh_model.specs.Collector.{step_cost, collector_step, steps, quantum}
+use Rattle.mh_model.specs.Intervals.{CyclesTakeAtMost}
+use Rattle.mh_model.specs.LiveParts.{object_parts, HasAtMostLive}
+use Rattle.mh_model.specs.Machine.{quantum_run, command_step, control_step, event_step}
+use Rattle.mh_model.specs.Mutator.{heap_effect, mutator_step}
+use Rattle.mh_model.specs.Paths.{IsPath}
+use Rattle.mh_model.specs.Snapshot.{Moment, first_moment, half_moment, next_moment}
+use Rattle.mh_model.specs.World.{Object, World, object_at, slot_at, reference_of, heap_step}
+use Rattle.mh_sizing_laws.specs.PagesLeft.{NeverFills}
+use Rattle.mh_table_laws.proofs.Lists.{none_at}
+use Rattle.mh_sizing_laws.specs.SharpPages.{HasSharpPagesFor}
+use Rattle.mh_sizing_laws.proofs.sharp_pages.SharpRuns.{sharp-pages-suffice}
+
+-- Worlds of one root -----------------------------------------------------------------------------
+
+-- an object has no references
+abbrev IsFlat : Option Object → Type 0
+IsFlat None = Unit {0}
+IsFlat (Some object) = object.references ≡ []
+
+flat-refers : (objects : List (Option Object)) → AllByRecursion IsFlat objects → (birth field target : ℕ) → reference_of (get_or objects birth None) field ≡ Some target → ⊥
+flat-refers [] flat birth field target e = none-some target e
+flat-refers (None ∷ objects) flat zero field target e = none-some target e
+flat-refers (Some object ∷ objects) flat zero field target e = none-some target (sym (ap (λ references. get_or references field None) flat.0) ∙ e)
+flat-refers (object ∷ objects) flat (suc birth) field target e = flat-refers objects flat.1 birth field target e
+
+-- a world whose objects have no references, and of whose births slot 0 alone may name one
+record HasOneRoot (last : ℕ) (world : World) : Type 0 where
+  flat : AllByRecursion IsFlat world.objects
+  named : (slot birth : ℕ) → slot_at world slot ≡ Some birth → birth ≡ last
+  small : object_parts (object_at world last) ≤ 1
+
+one-reached : (last : ℕ) (world : World) → HasOneRoot last world → (path : List ℕ) (birth : ℕ) → IsPath world birth path → birth ≡ last
+one-reached last world has [] birth (slot, e) = has.named slot birth e
+one-reached last world has (nearest ∷ path) birth ((field, e), after) = absurd (flat-refers world.objects has.flat nearest field birth e)
+
+one-live : (last : ℕ) (world : World) → HasOneRoot last world → HasAtMostLive 1 world
+unfolding IsDistinct
+one-live last world has [] once reached = omega arith
+one-live last world has (birth ∷ []) once reached =
+    let (path, is) = reached.0 in
+    omega (arith, has.small, ap (λ b. object_parts (object_at world b)) (one-reached last world has path birth is), sum_by-cons (λ b. object_parts (object_at world b)) birth [])
+one-live last world has (birth ∷ other ∷ list) once reached =
+    let (path, is) = reached.0 in
+    let (path', is') = reached.1.0 in
+    absurd (true≢false (sym (eq-eqb birth other (one-reached last world has path birth is ∙ sym (one-reached last world has path' other is'))) ∙ once.0.0))
+
+first-slot : (last slot birth : ℕ) → get_or (Some last ∷ replicate 143 None) slot None ≡ Some birth → birth ≡ last
+first-slot last zero birth e = sym (same_Some last birth e)
+first-slot last (suc slot) birth e = absurd (none-some birth (sym (none_at 143 slot) ∙ e))
+
+-- The run ----------------------------------------------------------------------------------------
+
+abbrev small : Config
+small = record { pages = 3; quantum = 1000; trigger = 2; every = 1; rules = Second; in_limits = refl }
+
+abbrev born : Event
+born = event.Session 0 (New 0 0 60)
+
+abbrev two : List Event
+two = born ∷ born ∷ []
+
+-- the moment after one of them
+abbrev later : Moment
+later = next_moment (first_moment small) born
+
+-- cycles of one quantum, intervals that open a page, and one live part
+pub has_pages : HasSharpPagesFor small two 1 1 1
+unfolding step_cost collector_step steps quantum heap_effect mutator_step heap_step quantum_run command_step control_step event_step half_moment next_moment
+has_pages = record {
+  pages = omega arith;
+  trigger = omega arith;
+  intervals = (omega arith, (omega arith, (omega arith, tt)));
+  live = (
+    one-live 0 (first_moment small).world (record { flat = tt; named = λ slot birth e. absurd (none-some birth (sym (none_at 144 slot) ∙ e)); small = omega arith }),
+    (
+      one-live 0 later.world (record { flat = (refl, tt); named = λ slot birth e. first-slot 0 slot birth e; small = omega arith }),
+      (one-live 1 (next_moment later born).world (record { flat = (refl, (refl, tt)); named = λ slot birth e. first-slot 1 slot birth e; small = omega arith }), tt),
+    ),
+  );
+}
+
+-- each quantum ends the cycle that it starts
+pub takes_one : CyclesTakeAtMost 1 small two
+unfolding step_cost collector_step steps quantum heap_effect mutator_step heap_step quantum_run command_step control_step event_step
+takes_one = (λ runs. absurd (true≢false runs), (λ runs. absurd (true≢false runs), (λ runs. absurd (true≢false runs), tt)))
+
+-- so the law says that it is never full
+pub never_fills : NeverFills small two 1 1
+never_fills = sharp-pages-suffice small two 1 1 1 (omega arith) takes_one has_pages

@@ -1,0 +1,94 @@
+-- The pages that runs of small parts need, with pages of their own and with shared ones.
+use Rattle.std.proofs.Common.{◌≡◌, ℕ, zero, suc, ◌+◌, ◌-◌, ◌*◌, ◌/◌, Bool, false, Option, Some, None, List, [], ◌∷◌, length, map, refl}
+use Rattle.mh_model.specs.declared.command.Command.TheVariants.{New}
+use Rattle.mh_model.specs.declared.command.Event.{Event}
+use Rattle.mh_model.specs.declared.command.Event.TheVariants as event
+use Rattle.mh_model.specs.declared.config.Config.{Config}
+use Rattle.mh_model.specs.Configs.{configured}
+use Rattle.mh_model.specs.Collector.{step_cost, collector_step, steps, quantum}
+use Rattle.mh_model.specs.Mutator.{heap_effect, mutator_step}
+use Rattle.mh_model.specs.Machine.{first_machine, quantum_run, command_step, control_step, event_step, machine_replies}
+use Rattle.mh_model.specs.Intervals.{cycle_ends, intervals}
+use Rattle.mh_model.specs.Openings.{asked_count, free_of, opens_at_most}
+use Rattle.mh_model.specs.Snapshot.{is_heap_full}
+use Rattle.mh_sizing_laws.specs.SharpPages.{occurring, fewest_slots, all_asked}
+
+-- a row that unfolds this name computes
+unfoldable worked : ℕ
+unfolding step_cost collector_step steps quantum heap_effect mutator_step quantum_run command_step control_step event_step machine_replies
+worked = 0
+
+-- objects of one block of 4 words
+abbrev tiny : ℕ → List Event
+tiny zero = []
+tiny (suc count) = event.Session 0 (New 0 0 0) ∷ tiny count
+
+-- and of one of 64
+abbrev wide : ℕ → List Event
+wide zero = []
+wide (suc count) = event.Session 0 (New 0 0 60) ∷ wide count
+
+-- the classes of the parts that events ask for, and the fewest slots of their pages
+abbrev classes : Option Config → List Event → List ℕ
+classes None events = []
+classes (Some config) events = fewest_slots (all_asked config events) ∷ occurring (all_asked config events)
+
+-- the pages that suffice for cycles of so many quanta with so many live parts, if each interval is like these events: where parts may each keep a page, and where they share them
+abbrev needed : Option Config → ℕ → ℕ → List Event → List ℕ
+needed None quanta most events = []
+needed (Some config) quanta most events =
+    let opened = opens_at_most config events in
+    let asked = asked_count config events in
+    let list = all_asked config events in
+    ((most + (quanta * asked + quanta * opened)) - asked) ∷ ((most + most / fewest_slots list + 4 * (quanta * opened) + length (occurring list) + quanta) - (3 * opened + 1)) ∷ []
+
+-- what the intervals of a run open, and the free pages that its cycles leave
+abbrev opened_and_left : Option Config → List Event → List (List ℕ)
+opened_and_left None events = []
+opened_and_left (Some config) events = map (opens_at_most config) (intervals [] (first_machine config) events) ∷ map free_of (cycle_ends (first_machine config) events) ∷ []
+
+-- which replies of a run are a full heap
+abbrev full : Option Config → List Event → List Bool
+full None events = []
+full (Some config) events = map is_heap_full (machine_replies (first_machine config) events)
+
+abbrev never : ℕ → List Bool
+never zero = []
+never (suc count) = false ∷ never count
+
+-- blocks of 4 words have 64 slots in a page
+pub one_class : classes (configured 13 1000 2 8) (tiny 8) ≡ 64 ∷ 4 ∷ []
+one_class = refl
+
+-- a spine of two references, an arraylet of 60 fields and one of 1
+pub three_classes : classes (configured 13 1000 2 8) (event.Session 0 (New 0 0 61) ∷ []) ≡ 4 ∷ 5 ∷ 6 ∷ 64 ∷ []
+three_classes = refl
+
+pub no_class : classes (configured 13 1000 2 8) [] ≡ 64 ∷ []
+no_class = refl
+
+-- 8 small parts in each interval of a cycle of three quanta, and one live part
+pub eight_parts : needed (configured 13 1000 2 8) 3 1 (tiny 8) ≡ 20 ∷ 13 ∷ []
+eight_parts = refl
+
+-- with 64 in each the need is the same where they share a page
+pub a_page_of_parts : needed (configured 13 1000 2 8) 3 1 (tiny 64) ≡ 132 ∷ 13 ∷ []
+a_page_of_parts = refl
+
+-- 640 live parts fill ten pages more than the one that each may keep
+pub many_live : needed (configured 13 1000 2 8) 3 640 (tiny 64) ≡ 771 ∷ 662 ∷ []
+many_live = refl
+
+-- a cycle within one quantum needs pages for live parts, for what one interval opens, and for each class
+pub one_quantum : needed (configured 4 1000 1 8) 1 1 (wide 8) ≡ 3 ∷ 4 ∷ []
+one_quantum = refl
+
+-- so in four pages such a run is never full
+pub never_full : full (configured 4 1000 1 8) (wide 24) ≡ never 24
+unfolding worked
+never_full = refl
+
+-- it opens two pages in each interval, and its cycle leaves three free
+pub opens_two : opened_and_left (configured 4 1000 1 8) (wide 24) ≡ (2 ∷ 2 ∷ 2 ∷ 0 ∷ []) ∷ (3 ∷ 3 ∷ []) ∷ []
+unfolding worked
+opens_two = refl

@@ -1,0 +1,11 @@
+pub mod Worked
+pub mod WholeScripts
+pub mod RefusedScripts
+pub mod Endings
+pub mod CheckedHistories
+pub mod RefusedHistories
+pub mod AuditedHistories
+pub mod RacedScripts
+pub mod AnsweredLines
+pub mod RunTexts
+pub mod SeenHistories

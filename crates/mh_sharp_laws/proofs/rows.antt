@@ -1,2 +1,0 @@
-pub mod SharpNeeds
-pub mod MetPremises

@@ -1,3 +1,0 @@
-pub mod Filling
-pub mod SharpPages
-pub mod SharpNeeds

@@ -1,0 +1,293 @@
+-- Walks with one more event.
+use Rattle.std.proofs.Common.{◌≡◌, ℕ, zero, suc, ◌+◌, ◌==◌, ◌<◌, ◌≤◌, ◌&&◌, not, nat_le, Bool, true, false, if◌then◌else◌, Option, Some, None, List, [], ◌∷◌, ◌++◌, length, refl, sym, ap, ap₂, ◌∙◌, subst, arith}
+use Rattle.std.specs.List.{AllByRecursion, Any, flat_map}
+use Rattle.std.proofs.lemmas.Bool.{eq-eqb, ne_eqb, lt-leb, le-leb}
+use Rattle.std.proofs.lemmas.List.{append-nil, length-replicate}
+use Rattle.mh_model.specs.declared.command.Command.{Command}
+use Rattle.mh_model.specs.declared.command.Command.TheVariants as command
+use Rattle.mh_model.specs.declared.command.Control.{Control}
+use Rattle.mh_model.specs.declared.command.Event.{Event}
+use Rattle.mh_model.specs.declared.command.Event.TheVariants as event
+use Rattle.mh_model.specs.declared.config.Config.{Config}
+use Rattle.mh_model.specs.declared.config.Rules.{Rules}
+use Rattle.mh_model.specs.declared.config.Rules.TheVariants.{First, Second}
+use Rattle.mh_model.specs.declared.reply.Refusal.{Refusal}
+use Rattle.mh_model.specs.declared.reply.Reply.{Reply}
+use Rattle.mh_model.specs.declared.reply.Reply.TheVariants as reply
+use Rattle.mh_model.specs.Classes.{Part, parts, plain_part, spine_parts}
+use Rattle.mh_model.specs.declared.needs.Needs.{Needs}
+use Rattle.mh_model.specs.CycleUnits.{object_units, most_slots, most_moves}
+use Rattle.mh_model.specs.LiveParts.{object_parts}
+use Rattle.mh_model.specs.Machine.{new_units, command_units}
+use Rattle.mh_model.specs.Needs.{WorldRun, first_run, half_run, runs_quantum, next_run, run_worlds, run_intervals}
+use Rattle.mh_model.specs.Openings.{asked_parts, asked_count, opens_at_most}
+use Rattle.mh_model.specs.World.{Object, World, Answer, refusal, with_change, effect, says, unless_refused, sight_of, never_full, heap_step, slot_at, own_slot, with_reference, with_number, Performs}
+use Rattle.mh_sizing.specs.declared.asked.Asked.{Asked}
+use Rattle.mh_sizing.specs.declared.world.RunWorld.{RunWorld}
+use Rattle.mh_sizing.specs.declared.walk.Walk.{Walk}
+use Rattle.mh_sizing.specs.Asked.{HasAsked}
+use Rattle.mh_sizing.specs.ClassCounts.{HasCounts}
+use Rattle.mh_sizing.specs.Needed.{AreTheNeeds}
+use Rattle.mh_sizing.specs.Reached.{HasAtMost, HasJust}
+use Rattle.mh_sizing.specs.Runs.{run_after, ended_intervals, running_interval, most_of}
+use Rattle.mh_sizing.specs.Steps.{made}
+use Rattle.mh_sizing.specs.Units.{units_made}
+use Rattle.mh_sizing.specs.Walk.{HasWalked}
+use Rattle.mh_sizing.specs.Worlds.{world_in, HasMost, Performed}
+use Rattle.mh_sizing.proofs.RunLemmas.{most_of-enough, most_of-few, after-push, worlds-push, intervals-cut, ended-push, running-push, flat_map-push}
+use Rattle.mh_sizing.proofs.WorldLemmas.{most-of-push, still-grown}
+
+-- Commands ---------------------------------------------------------------------------------------
+
+change-config : (world : World) (name : Option ℕ) (change : Object → Object) → (with_change world name change).config ≡ world.config
+change-config world None change = refl
+change-config world (Some birth) change = refl
+
+effect-config : (world : World) (who : ℕ) (c : Command) → (effect world who c).state.config ≡ world.config
+effect-config world who (command.Put slot field value) = change-config world (slot_at world (own_slot who slot)) (with_reference field (slot_at world (own_slot who value)))
+effect-config world who (command.Write slot index number) = change-config world (slot_at world (own_slot who slot)) (with_number index number)
+effect-config world who _ = refl
+
+step-config : (world : World) (who : ℕ) (c : Command) (answer : Reply) (new : World) → Performs never_full world who c answer new → new.config ≡ world.config
+unfolding heap_step
+step-config world who c answer new performs = go (refusal (sight_of never_full world) who c) performs
+  where
+    go : (refused : Option Refusal) → unless_refused refused world (effect world who c) ≡ says answer new → new.config ≡ world.config
+    go None is = subst (λ (a : Answer World). a.state.config ≡ world.config) is (effect-config world who c)
+    go (Some refused) is = subst (λ (a : Answer World). a.state.config ≡ world.config) is refl
+
+-- an object has a part
+parts-some : (references numbers : ℕ) → (length (parts references numbers) == 0) ≡ false
+parts-some references numbers = go (nat_le (references + numbers) 60)
+  where
+    go : (one : Bool) → (length (if one then plain_part references numbers ∷ [] else spine_parts references numbers) == 0) ≡ false
+    go true = refl
+    go false = ne_eqb (length (spine_parts references numbers)) 0 (λ none. omega (arith, none))
+
+-- the units of a command by what it made
+units-are : (config : Config) (c : Command) (answer : Reply) → units_made config.rules (object_parts (made c answer)) ≡ command_units config c answer
+units-are config (command.New slot references numbers) answer = go config.rules answer
+  where
+    blank-parts : object_parts (made (command.New slot references numbers) reply.Done) ≡ length (parts references numbers)
+    blank-parts = ap₂ (λ r n. length (parts r n)) (length-replicate {A = Option ℕ} references None) (length-replicate {A = ℕ} numbers 0)
+
+    go : (rules : Rules) (a : Reply) → units_made rules (object_parts (made (command.New slot references numbers) a)) ≡ new_units rules a (length (parts references numbers))
+    go First a = refl
+    go Second reply.Done = ap (λ n. if n == 0 then 1 else n) blank-parts ∙ ap {B = ℕ} (λ (b : Bool). if b then 1 else length (parts references numbers)) (parts-some references numbers)
+    go Second _ = refl
+units-are config _ answer = none config.rules
+  where
+    none : (rules : Rules) → units_made rules 0 ≡ 1
+    none First = refl
+    none Second = refl
+
+-- Half steps -------------------------------------------------------------------------------------
+
+module _ (run : WorldRun) (config : Config) (who : ℕ) (c : Command) (new : World) (parts_made : ℕ) (at_config : run.world.config ≡ config) (performed : Performed run.world new who c parts_made) where
+  pub half-world : (half_run run (event.Session who c)).world ≡ new
+  half-world = ap (λ (a : Answer World). a.state) performed.performs
+
+  pub half-units : (half_run run (event.Session who c)).units ≡ run.units + units_made config.rules parts_made
+  half-units =
+      ap (λ (a : Answer World). run.units + command_units run.world.config c a.reply) performed.performs
+      ∙ ap (λ n. run.units + n) (sym (units-are run.world.config c performed.answer) ∙ ap₂ (λ (k : Config) n. units_made k.rules n) at_config (sym performed.count))
+
+  pub half-config : new.config ≡ config
+  half-config = step-config run.world who c performed.answer new performed.performs ∙ at_config
+
+  quantum-by : runs_quantum run (event.Session who c) ≡ (not (config.every == 0) && nat_le config.every (run.units + units_made config.rules parts_made))
+  quantum-by = ap₂ (λ (k : Config) n. not (k.every == 0) && nat_le k.every n) at_config half-units
+
+  -- the scheduler runs no quantum
+  pub quantum-never : config.every ≡ 0 → runs_quantum run (event.Session who c) ≡ false
+  quantum-never none = quantum-by ∙ ap (λ (b : Bool). not b && nat_le config.every (run.units + units_made config.rules parts_made)) (eq-eqb config.every 0 none)
+
+  pub quantum-is : (due : Bool) → (config.every ≡ 0 → ⊥) → nat_le config.every (run.units + units_made config.rules parts_made) ≡ due → runs_quantum run (event.Session who c) ≡ due
+  quantum-is due some is = quantum-by ∙ ap₂ (λ a b. not a && b) (ne_eqb config.every 0 some) is
+
+-- Steps ------------------------------------------------------------------------------------------
+
+next-is : (run : WorldRun) (event : Event) (quantum : Bool) → runs_quantum run event ≡ quantum → next_run run event ≡ (if quantum then record { world = (half_run run event).world; units = 0 } else half_run run event)
+next-is run event quantum is = ap (λ (b : Bool). if b then record { world = (half_run run event).world; units = 0 } else half_run run event) is
+
+next-world : (run : WorldRun) (event : Event) (quantum : Bool) → (if quantum then record { world = (half_run run event).world; units = 0 } else half_run run event).world ≡ (half_run run event).world
+next-world run event true = refl
+next-world run event false = refl
+
+next-units : (run : WorldRun) (event : Event) (quantum : Bool) → (if quantum then record { world = (half_run run event).world; units = 0 } else half_run run event).units ≡ (if quantum then 0 else (half_run run event).units)
+next-units run event true = refl
+next-units run event false = refl
+
+-- One more event walked
+module _ (new : Walk) (config : Config) (events : List Event) (event : Event) (quantum : Bool) where
+  abbrev pub run : WorldRun
+  run = run_after (first_run config) events
+
+  abbrev pub running_now : List Event
+  running_now = running_interval [] (first_run config) events
+
+  abbrev pub ended_before : List (List Event)
+  ended_before = ended_intervals [] (first_run config) events
+
+  pub walked-on : new.config ≡ config → (world_in new.world).config ≡ config → runs_quantum run event ≡ quantum → world_in new.world ≡ (half_run run event).world
+      → ((config.every ≡ 0 → ⊥) → new.units ≡ (if quantum then 0 else (half_run run event).units))
+      → HasMost new.world (run_worlds (first_run config) events ++ world_in new.world ∷ [])
+      → HasAsked new.asked config (events ++ event ∷ []) (if quantum then [] else running_now ++ event ∷ []) (if quantum then ended_before ++ (running_now ++ event ∷ []) ∷ [] else ended_before)
+      → HasWalked new config (events ++ event ∷ [])
+  walked-on configured at_config is world units most asks = record {
+    configured = configured;
+    at_config = at_config;
+    at_world = world ∙ sym next;
+    at_units = λ some. units some ∙ sym (ap (λ (r : WorldRun). r.units) after ∙ next-units run event quantum);
+    most = subst (HasMost new.world) (ap (λ (w : World). run_worlds (first_run config) events ++ w ∷ []) (world ∙ sym last) ∙ sym (worlds-push (first_run config) events event)) most;
+    asks = subst (λ (list : List Event). HasAsked new.asked config (events ++ event ∷ []) list (ended_intervals [] (first_run config) (events ++ event ∷ []))) (sym (running-push quantum [] (first_run config) events event is))
+        (subst (HasAsked new.asked config (events ++ event ∷ []) (if quantum then [] else running_now ++ event ∷ [])) (sym (ended-push quantum [] (first_run config) events event is)) asks);
+  }
+    where
+      after : run_after (first_run config) (events ++ event ∷ []) ≡ (if quantum then record { world = (half_run run event).world; units = 0 } else half_run run event)
+      after = after-push (first_run config) events event ∙ next-is run event quantum is
+
+      last : (next_run run event).world ≡ (half_run run event).world
+      last = ap (λ (r : WorldRun). r.world) (next-is run event quantum is) ∙ next-world run event quantum
+
+      next : (run_after (first_run config) (events ++ event ∷ [])).world ≡ (half_run run event).world
+      next = ap (λ (r : WorldRun). r.world) (after-push (first_run config) events event) ∙ last
+
+-- the same world once more
+pub same-most : (world : RunWorld) (worlds : List World) → HasMost world worlds → HasMost world (worlds ++ world_in world ∷ [])
+same-most world worlds most = record {
+  parts = most-of-push object_parts world.reach.parts world.reach.parts (world_in world) worlds (still-grown object_parts world.reach.parts (world_in world) world.bounded.parts_within world.bounded.parts) most.parts;
+  units = most-of-push object_units world.reach.units world.reach.units (world_in world) worlds (still-grown object_units world.reach.units (world_in world) world.bounded.units_within world.bounded.units) most.units;
+}
+
+-- an event that asks for nothing
+pub asked-nothing : (asked : Asked) (config : Config) (all running : List Event) (ended : List (List Event)) (event : Event) → asked_parts config event ≡ [] → HasAsked asked config all running ended → HasAsked asked config (all ++ event ∷ []) (running ++ event ∷ []) ended
+asked-nothing asked config all running ended event none has = record {
+  counted = subst (λ (list : List Part). HasCounts asked.running list (flat_map (asked_parts config) (running ++ event ∷ []))) (sym (same all))
+      (subst (λ (list : List Part). HasCounts asked.running (flat_map (asked_parts config) all) list) (sym (same running)) has.counted);
+  parts = has.parts;
+  pages = has.pages;
+}
+  where
+    same : (list : List Event) → flat_map (asked_parts config) (list ++ event ∷ []) ≡ flat_map (asked_parts config) list
+    same list = flat_map-push (asked_parts config) list event ∙ ap (λ (parts : List Part). flat_map (asked_parts config) list ++ parts) none ∙ append-nil (flat_map (asked_parts config) list)
+
+-- and one that asks for these parts
+pub asked-parts : (old new : Asked) (config : Config) (all running : List Event) (ended : List (List Event)) (event : Event) (list : List Part) → list ≡ asked_parts config event
+    → HasCounts new.running (flat_map (asked_parts config) all ++ list) (flat_map (asked_parts config) running ++ list) → new.parts ≡ old.parts → new.pages ≡ old.pages
+    → HasAsked old config all running ended → HasAsked new config (all ++ event ∷ []) (running ++ event ∷ []) ended
+asked-parts old new config all running ended event list is counted parts_same pages_same has = record {
+  counted = subst (λ (l : List Part). HasCounts new.running l (flat_map (asked_parts config) (running ++ event ∷ []))) (sym (same all))
+      (subst (λ (l : List Part). HasCounts new.running (flat_map (asked_parts config) all ++ list) l) (sym (same running)) counted);
+  parts = parts_same ∙ has.parts;
+  pages = pages_same ∙ has.pages;
+}
+  where
+    same : (events : List Event) → flat_map (asked_parts config) (events ++ event ∷ []) ≡ flat_map (asked_parts config) events ++ list
+    same events = flat_map-push (asked_parts config) events event ∙ ap (λ (l : List Part). flat_map (asked_parts config) events ++ l) (sym is)
+
+-- Sessions ---------------------------------------------------------------------------------------
+
+module _ (old new : Walk) (config : Config) (before : List Event) (walked : HasWalked old config before) (who : ℕ) (c : Command) (parts_made : ℕ) (configured : new.config ≡ old.config)
+    (performed : Performed (world_in old.world) (world_in new.world) who c parts_made) (most : HasMost new.world (run_worlds (first_run config) before ++ world_in new.world ∷ [])) where
+  abbrev at : WorldRun
+  at = run_after (first_run config) before
+
+  at-config : at.world.config ≡ config
+  at-config = ap (λ (w : World). w.config) (sym walked.at_world) ∙ walked.at_config
+
+  did : Performed at.world (world_in new.world) who c parts_made
+  did = subst (λ (w : World). Performed w (world_in new.world) who c parts_made) walked.at_world performed
+
+  every-same : old.config.every ≡ config.every
+  every-same = ap (λ (k : Config). k.every) walked.configured
+
+  pub unscheduled : old.config.every ≡ 0 → HasAsked new.asked config (before ++ event.Session who c ∷ []) (running_interval [] (first_run config) before ++ event.Session who c ∷ []) (ended_intervals [] (first_run config) before)
+      → HasWalked new config (before ++ event.Session who c ∷ [])
+  unscheduled none asks =
+      let never : config.every ≡ 0 = sym every-same ∙ none in
+      walked-on new config before (event.Session who c) false (configured ∙ walked.configured) (half-config at config who c (world_in new.world) parts_made at-config did) (quantum-never at config who c (world_in new.world) parts_made at-config did never)
+      (sym (half-world at config who c (world_in new.world) parts_made at-config did)) (λ some. absurd (some never)) most asks
+
+  module _ (some : old.config.every ≡ 0 → ⊥) (units : ℕ) (units_is : units ≡ units_made old.config.rules parts_made) where
+    sum-is : old.units + units ≡ at.units + units_made config.rules parts_made
+    sum-is = ap₂ (λ a b. a + b) (walked.at_units (λ none. some (every-same ∙ none))) (units_is ∙ ap (λ (k : Config). units_made k.rules parts_made) walked.configured)
+
+    pub scheduled-on : new.units ≡ old.units + units → new.units < old.config.every → HasAsked new.asked config (before ++ event.Session who c ∷ []) (running_interval [] (first_run config) before ++ event.Session who c ∷ []) (ended_intervals [] (first_run config) before)
+        → HasWalked new config (before ++ event.Session who c ∷ [])
+    scheduled-on sum few asks =
+        walked-on new config before (event.Session who c) false (configured ∙ walked.configured) (half-config at config who c (world_in new.world) parts_made at-config did)
+        (quantum-is at config who c (world_in new.world) parts_made at-config did false (λ none. some (every-same ∙ none)) (lt-leb config.every (at.units + units_made config.rules parts_made) (omega (arith, few, sum, sum-is, every-same))))
+        (sym (half-world at config who c (world_in new.world) parts_made at-config did)) (λ _. sum ∙ sum-is ∙ sym (half-units at config who c (world_in new.world) parts_made at-config did)) most asks
+
+    pub scheduled-due : new.units ≡ 0 → old.config.every ≤ old.units + units
+        → HasAsked new.asked config (before ++ event.Session who c ∷ []) [] (ended_intervals [] (first_run config) before ++ (running_interval [] (first_run config) before ++ event.Session who c ∷ []) ∷ [])
+        → HasWalked new config (before ++ event.Session who c ∷ [])
+    scheduled-due none due asks =
+        walked-on new config before (event.Session who c) true (configured ∙ walked.configured) (half-config at config who c (world_in new.world) parts_made at-config did)
+        (quantum-is at config who c (world_in new.world) parts_made at-config did true (λ never. some (every-same ∙ never)) (le-leb config.every (at.units + units_made config.rules parts_made) (omega (arith, due, sum-is, every-same))))
+        (sym (half-world at config who c (world_in new.world) parts_made at-config did)) (λ _. none) most asks
+
+-- Controls ---------------------------------------------------------------------------------------
+
+module _ (old new : Walk) (config : Config) (before : List Event) (walked : HasWalked old config before) (control : Control) (configured : new.config ≡ old.config) (same : new.world ≡ old.world) where
+  run-config : (run_after (first_run config) before).world.config ≡ old.config
+  run-config = ap (λ (w : World). w.config) (sym walked.at_world) ∙ walked.at_config ∙ sym walked.configured
+
+  most-on : HasMost new.world (run_worlds (first_run config) before ++ world_in new.world ∷ [])
+  most-on = subst (λ (w : RunWorld). HasMost w (run_worlds (first_run config) before ++ world_in w ∷ [])) (sym same) (same-most old.world (run_worlds (first_run config) before) walked.most)
+
+  pub control-on : (quantum : Bool) → runs_quantum (run_after (first_run config) before) (event.Control control) ≡ quantum → new.units ≡ (if quantum then 0 else old.units)
+      → HasAsked new.asked config (before ++ event.Control control ∷ []) (if quantum then [] else running_interval [] (first_run config) before ++ event.Control control ∷ []) (if quantum then ended_intervals [] (first_run config) before ++ (running_interval [] (first_run config) before ++ event.Control control ∷ []) ∷ [] else ended_intervals [] (first_run config) before)
+      → HasWalked new config (before ++ event.Control control ∷ [])
+  control-on quantum is units asks =
+      walked-on new config before (event.Control control) quantum (configured ∙ walked.configured) (ap (λ (w : RunWorld). (world_in w).config) same ∙ walked.at_config) is (ap world_in same ∙ walked.at_world) (λ some. units ∙ ap (λ n. if quantum then 0 else n) (walked.at_units some)) most-on asks
+
+  -- whether it has a quantum run
+  pub control-quantum : (asks : Bool) → runs_quantum (run_after (first_run config) before) (event.Control control) ≡ (asks && ((run_after (first_run config) before).world.config.every == 0)) → (due : Bool) → (asks && (old.config.every == 0)) ≡ due
+      → runs_quantum (run_after (first_run config) before) (event.Control control) ≡ due
+  control-quantum asks is due e = is ∙ ap (λ (k : Config). asks && (k.every == 0)) run-config ∙ e
+
+-- Needs ------------------------------------------------------------------------------------------
+
+-- what all worlds have at most is no less than what one has
+attained-few : (number : Option Object → ℕ) (few most : ℕ) (worlds : List World) → AllByRecursion (HasAtMost number most) worlds → Any (HasJust number few) worlds → few ≤ most
+attained-few number few most [] all (index, world, inside, at, just) = absurd (omega (arith, inside))
+attained-few number few most (first ∷ worlds) all (zero, world, inside, at, just) =
+    let reached = subst (HasAtMost number most) at all.0 in omega (arith, reached just.list just.once just.reached, just.sum)
+attained-few number few most (first ∷ worlds) all (suc index, world, inside, at, just) = attained-few number few most worlds all.1 (index, world, omega (arith, inside), at, just)
+
+module _ (walk : Walk) (config : Config) (events : List Event) (walked : HasWalked walk config events) where
+  cut : run_intervals [] (first_run config) events ≡ ended_intervals [] (first_run config) events ++ running_interval [] (first_run config) events ∷ []
+  cut = intervals-cut [] (first_run config) events
+
+  -- what all intervals have at most is no less than the greatest
+  pub interval-few : (number : List Event → ℕ) (count most : ℕ) → count ≡ most_of number (ended_intervals [] (first_run config) events ++ running_interval [] (first_run config) events ∷ [])
+      → AllByRecursion (λ interval. number interval ≤ most) (run_intervals [] (first_run config) events) → count ≤ most
+  interval-few number count most is all = omega (arith, is, most_of-few number (ended_intervals [] (first_run config) events ++ running_interval [] (first_run config) events ∷ []) most (subst (AllByRecursion (λ interval. number interval ≤ most)) cut all))
+
+  -- the numbers that were found are the needs
+  pub needs-are : (needs : Needs) → needs.live ≡ walk.world.reach.parts.most → needs.marked ≡ walk.world.reach.units.most
+      → needs.asked ≡ most_of (asked_count config) (ended_intervals [] (first_run config) events ++ running_interval [] (first_run config) events ∷ [])
+      → needs.opened ≡ most_of (opens_at_most config) (ended_intervals [] (first_run config) events ++ running_interval [] (first_run config) events ∷ [])
+      → needs.page ≡ most_slots (flat_map (asked_parts config) events) + most_moves (flat_map (asked_parts config) events) → AreTheNeeds needs config events
+  needs-are needs live marked asked opened page = record {
+    enough = record {
+      live = subst (λ (n : ℕ). AllByRecursion (HasAtMost object_parts n) (run_worlds (first_run config) events)) (sym live) walked.most.parts.enough;
+      marked = subst (λ (n : ℕ). AllByRecursion (HasAtMost object_units n) (run_worlds (first_run config) events)) (sym marked) walked.most.units.enough;
+      asked = most_of-enough (asked_count config) (run_intervals [] (first_run config) events) needs.asked (omega (arith, all-asked));
+      opened = most_of-enough (opens_at_most config) (run_intervals [] (first_run config) events) needs.opened (omega (arith, all-opened));
+      page = omega (arith, page);
+    };
+    live = subst (λ (n : ℕ). Any (HasJust object_parts n) (run_worlds (first_run config) events)) (sym live) walked.most.parts.just;
+    marked = subst (λ (n : ℕ). Any (HasJust object_units n) (run_worlds (first_run config) events)) (sym marked) walked.most.units.just;
+    asked = all-asked;
+    opened = all-opened;
+    page = page;
+  }
+    where
+      all-asked : needs.asked ≡ most_of (asked_count config) (run_intervals [] (first_run config) events)
+      all-asked = asked ∙ ap (most_of (asked_count config)) (sym cut)
+
+      all-opened : needs.opened ≡ most_of (opens_at_most config) (run_intervals [] (first_run config) events)
+      all-opened = opened ∙ ap (most_of (opens_at_most config)) (sym cut)

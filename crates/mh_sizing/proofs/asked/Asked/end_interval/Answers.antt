@@ -1,0 +1,11 @@
+use Rattle.std.proofs.Common.{max, ap₂, sym, ◌∙◌}
+use Rattle.mh_model.specs.Openings.{asked_count, opens_at_most}
+use Rattle.mh_sizing.proofs.RunLemmas.{most_of-push}
+use Rattle.mh_sizing.proofs.asked.Asked.end_interval.Goals as goal
+
+pub returns : goal.returns
+returns c = λ config all running ended has. record {
+  counted = c.clear.ensures _ _ has.counted;
+  parts = c.max-self.ensures ∙ ap₂ max has.parts (c.total.ensures ∙ has.counted.total) ∙ sym (most_of-push (asked_count config) ended running);
+  pages = c.max-self-2.ensures ∙ ap₂ max has.pages (c.pages.ensures _ _ has.counted) ∙ sym (most_of-push (opens_at_most config) ended running);
+}

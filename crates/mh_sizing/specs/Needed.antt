@@ -1,0 +1,32 @@
+-- What the sessions of a run need, and no less.
+use Rattle.std.specs.Prelude.{◌≡◌, ◌⊎◌, ◌+◌, ◌≤◌, ◌^◌, List, []}
+use Rattle.std.specs.List.{Any, flat_map}
+use Rattle.mh_model.specs.declared.command.Event.{Event}
+use Rattle.mh_model.specs.declared.command.Event.TheVariants as event
+use Rattle.mh_model.specs.declared.config.Config.{Config}
+use Rattle.mh_model.specs.declared.needs.Needs.{Needs}
+use Rattle.mh_model.specs.CycleUnits.{object_units, most_slots, most_moves}
+use Rattle.mh_model.specs.LiveParts.{object_parts}
+use Rattle.mh_model.specs.Needs.{first_run, run_worlds, run_intervals, NeedNoMore}
+use Rattle.mh_model.specs.Openings.{asked_count, asked_parts, opens_at_most}
+use Rattle.mh_model.specs.World.{IsNew}
+use Rattle.mh_sizing.specs.Reached.{HasJust}
+use Rattle.mh_sizing.specs.Runs.{most_of}
+
+-- The sessions of a run need no more than this, and no number is too large: some world has just so many live parts, some costs just so much to mark, and some interval asks for so many parts and opens so many pages, or there is nothing to ask for
+pub record AreTheNeeds (needs : Needs) (config : Config) (events : List Event) : Type 0 where
+  pub enough : NeedNoMore needs config events
+  pub live : Any (HasJust object_parts needs.live) (run_worlds (first_run config) events)
+  pub marked : Any (HasJust object_units needs.marked) (run_worlds (first_run config) events)
+  pub asked : needs.asked ≡ most_of (asked_count config) (run_intervals [] (first_run config) events)
+  pub opened : needs.opened ≡ most_of (opens_at_most config) (run_intervals [] (first_run config) events)
+  pub page : let list = flat_map (asked_parts config) events in needs.page ≡ most_slots list + most_moves list
+
+-- an event asks for a new object
+abbrev pub AsksForObject : Event → Type 0
+AsksForObject (event.Session who command) = IsNew command
+AsksForObject (event.Control control) = ⊥
+
+-- one of the numbers does not fit 32 bits
+abbrev pub IsTooLarge : Needs → Type 0
+IsTooLarge needs = (2 ^ 32 ≤ needs.live) ⊎ ((2 ^ 32 ≤ needs.marked) ⊎ ((2 ^ 32 ≤ needs.asked) ⊎ (2 ^ 32 ≤ needs.opened)))

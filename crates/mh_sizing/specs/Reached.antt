@@ -1,0 +1,32 @@
+-- The births that a world reaches, and how much their objects count.
+use Rattle.std.specs.Prelude.{◌≡◌, ℕ, ◌<◌, ◌≤◌, true, Option, Some, None, List, get_or}
+use Rattle.std.specs.List.{AllByRecursion, sum_by}
+use Rattle.mh_model.specs.Batches.{NoneTwice}
+use Rattle.mh_model.specs.Paths.{Reachable}
+use Rattle.mh_model.specs.World.{Object, World, object_at}
+use Rattle.mh_sizing.specs.Births.{is_in}
+
+-- what these slots or references name is below a number
+abbrev pub NamesBelow : ℕ → List (Option ℕ) → Type 0
+NamesBelow room names = (index birth : ℕ) → get_or names index None ≡ Some birth → birth < room
+
+-- All births that a world reaches and no other, each once
+pub record AllReached (world : World) (list : List ℕ) : Type 0 where
+  pub once : NoneTwice list
+  pub reached : AllByRecursion (Reachable world) list
+  pub all : (birth : ℕ) → Reachable world birth → is_in list birth ≡ true
+
+-- how much the objects of these births count
+abbrev pub sum_of : (Option Object → ℕ) → World → List ℕ → ℕ
+sum_of number world list = sum_by (λ birth. number (object_at world birth)) list
+
+-- the objects that a world reaches count no more than this, each once
+abbrev pub HasAtMost : (Option Object → ℕ) → ℕ → World → Type 0
+HasAtMost number most world = (list : List ℕ) → NoneTwice list → AllByRecursion (Reachable world) list → sum_of number world list ≤ most
+
+-- Some objects that a world reaches count just this, each once
+pub record HasJust (number : Option Object → ℕ) (count : ℕ) (world : World) : Type 0 where
+  pub list : List ℕ
+  pub once : NoneTwice list
+  pub reached : AllByRecursion (Reachable world) list
+  pub sum : sum_of number world list ≡ count

@@ -1,0 +1,18 @@
+-- What a walk of the events of a run knows of them.
+use Rattle.std.specs.Prelude.{◌≡◌, List, []}
+use Rattle.mh_model.specs.declared.command.Event.{Event}
+use Rattle.mh_model.specs.declared.config.Config.{Config}
+use Rattle.mh_model.specs.Needs.{first_run, run_worlds}
+use Rattle.mh_sizing.specs.declared.walk.Walk.{Walk}
+use Rattle.mh_sizing.specs.Asked.{HasAsked}
+use Rattle.mh_sizing.specs.Runs.{run_after, ended_intervals, running_interval}
+use Rattle.mh_sizing.specs.Worlds.{world_in, HasMost}
+
+-- It has the world after these events, the units since the last quantum if the scheduler runs them, the most that was reached, and what the intervals asked for
+pub record HasWalked (walk : Walk) (config : Config) (events : List Event) : Type 0 where
+  pub configured : walk.config ≡ config
+  pub at_config : (world_in walk.world).config ≡ config
+  pub at_world : world_in walk.world ≡ (run_after (first_run config) events).world
+  pub at_units : (config.every ≡ 0 → ⊥) → walk.units ≡ (run_after (first_run config) events).units
+  pub most : HasMost walk.world (run_worlds (first_run config) events)
+  pub asks : HasAsked walk.asked config events (running_interval [] (first_run config) events) (ended_intervals [] (first_run config) events)

@@ -1,0 +1,133 @@
+//! How many parts of each class are asked for, and which classes occur.
+ghost use Rattle.std.specs.Prelude.{◌≡◌, ◌+◌, ◌<◌, ◌^◌, [], ◌∷◌, ◌++◌, List, Some, get_or, length, sum};
+ghost use Rattle.mh_model.specs.Classes.{Part, class_of, class_sizes, part_words};
+ghost use Rattle.mh_model.specs.CycleUnits.{most_slots, most_moves};
+ghost use Rattle.mh_model.specs.Openings.{pages_of_parts};
+ghost use Rattle.mh_sizing_laws.specs.SharpPages.{occurring, fewest_slots};
+
+use crate::kinds::Kinds;
+use mh_classes::class::Class;
+use mh_classes::parts::Parts;
+
+const CLASSES: usize = 20;
+
+/// The sizes of the classes by their numbers.
+const SIZES: [u8; CLASSES] = [
+    4, 5, 6, 7, 8, 9, 11, 13, 15, 17, 20, 23, 26, 30, 34, 39, 44, 50, 57, 64,
+];
+
+/// The class of this number.
+fn class_at(number: usize) -> Class
+    requires { number < 20 }
+    ensures { result ≡ get_or class_sizes number 0 }
+{
+    Class::of_size(SIZES[number] as usize)
+}
+
+/// How many parts of each class an interval has asked for, and which classes have occurred until now.
+#[derive(Drop)]
+pub(crate) struct ClassCounts {
+    counts: [u64; CLASSES],
+    total: u64,
+    occurs: [bool; CLASSES],
+    ghost summed: { total ≡ sum counts },
+}
+
+impl ClassCounts {
+    ghost use Rattle.mh_sizing.specs.ClassCounts.{HasCounts};
+
+    pub(crate) fn new() -> ClassCounts
+        ensures { HasCounts result [] [] }
+    {
+        ClassCounts {
+            counts: [0; CLASSES],
+            total: 0,
+            occurs: [false; CLASSES],
+        }
+    }
+
+    /// How many parts the interval has asked for.
+    pub(crate) fn total(&self) -> u64
+        ensures { result ≡ self.now.total }
+    {
+        self.total
+    }
+
+    /// Counts a part of a class.
+    fn ask_part(&mut self, class: Class)
+        requires { self.old.total < 2 ^ 63 }
+        ensures asked { (all running : List Part) (part : Part) → class_of (part_words part) ≡ Some class → HasCounts self.old all running → HasCounts self.new (all ++ part ∷ []) (running ++ part ∷ []) }
+        ensures total { self.new.total ≡ self.old.total + 1 }
+    {
+        let number = class.number();
+        self.counts[number] += 1;
+        self.total += 1;
+        self.occurs[number] = true;
+    }
+
+    /// Counts the parts of an object.
+    pub(crate) fn ask(&mut self, parts: &Parts)
+        requires { self.old.total < 2 ^ 62 }
+        ensures asked { (all running : List Part) → HasCounts self.old all running → HasCounts self.new (all ++ parts.now) (running ++ parts.now) }
+    {
+        for index in 0..parts.count() {
+            self.ask_part(parts.get(index).class());
+        }
+    }
+
+    /// Begins an interval.
+    pub(crate) fn clear(&mut self)
+        ensures { (all running : List Part) → HasCounts self.old all running → HasCounts self.new all [] }
+    {
+        self.counts = [0; CLASSES];
+        self.total = 0;
+    }
+
+    /// How many pages the parts of the interval fill, if each class has pages of its own.
+    pub(crate) fn pages(&self) -> u64
+        ensures { (all running : List Part) → HasCounts self.now all running → result ≡ pages_of_parts running }
+    {
+        // The pages are no more than the parts, whose number fits.
+        let _total = self.total;
+        let mut pages = 0;
+        for number in 0..CLASSES {
+            let slots = class_at(number).slots() as u64;
+            pages += self.counts[number].div_ceil(slots);
+        }
+        pages
+    }
+
+    /// The most units that a cycle spends on a page after marking, for the classes that have occurred.
+    pub(crate) fn page_units(&self) -> u32
+        ensures { (all running : List Part) → HasCounts self.now all running → result ≡ most_slots all + most_moves all }
+    {
+        let mut slots = 1;
+        let mut moves = 1;
+        for number in (0..CLASSES).rev() {
+            if self.occurs[number] {
+                let class = class_at(number);
+                let count = class.slots() as u32;
+                slots = count.max(slots);
+                moves = (count + count / 4 * class.size() as u32).max(moves);
+            }
+        }
+        slots + moves
+    }
+
+    /// How many classes have occurred, and the fewest slots that a page of them has.
+    pub(crate) fn kinds(&self) -> Kinds
+        ensures kinds { (all running : List Part) → HasCounts self.now all running → result.kinds ≡ length (occurring all) }
+        ensures least { (all running : List Part) → HasCounts self.now all running → result.least ≡ fewest_slots all }
+    {
+        let mut kinds = 0;
+        let mut least = 64;
+        for number in (0..CLASSES).rev() {
+            if self.occurs[number] {
+                let slots = class_at(number).slots() as u32;
+                kinds += 1;
+                least = slots.min(least);
+            }
+        }
+        Kinds { kinds, least }
+    }
+}

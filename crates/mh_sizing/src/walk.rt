@@ -1,0 +1,165 @@
+//! The walk of a run's events through the ever-growing world, which finds what its sessions need.
+ghost use Rattle.std.specs.Prelude.{◌≡◌, ◌+◌, ◌≤◌, ℕ, [], ◌∷◌, ◌++◌, not, ◌&&◌, ◌==◌, List, ◌^◌, IfOk, IfSome, IsNone, MatchOption, OnErr, OnOk, length};
+ghost use Rattle.mh_model.specs.declared.command.Event.{Event};
+ghost use Rattle.mh_model.specs.declared.command.Event.TheVariants as events;
+ghost use Rattle.mh_model.specs.declared.config.Config.{Config};
+ghost use Rattle.mh_model.specs.declared.needs.Needs.{Needs};
+ghost use Rattle.mh_model.specs.Needs.{WorldRun, NeedNoMore, runs_quantum};
+ghost use Rattle.mh_model.specs.World.{IsNew};
+ghost use Rattle.mh_sizing_laws.specs.SharpNeeds.{AskOfClasses};
+ghost use Rattle.mh_sizing_laws.specs.SharpPages.{all_asked, fewest_slots, occurring};
+ghost use Rattle.mh_sizing.specs.Needed.{AreTheNeeds, AsksForObject, IsTooLarge};
+ghost use Rattle.mh_sizing.specs.Units.{units_made};
+
+use crate::asked::{Asked, parts_asked};
+use crate::kinds::Kinds;
+use crate::world::RunWorld;
+use mh_model::command::{Command, Control, Event};
+use mh_model::config::{Config, Rules};
+use mh_model::memory::NoMemory;
+use mh_model::needs::Needs;
+use std::alloc::Global;
+
+/// How many units of the mutator a command is that makes an object of so many parts, or none.
+fn mutator_units(rules: Rules, made: u64) -> u64
+    ensures value { result ≡ units_made rules made }
+    ensures few { result ≤ made + 1 }
+{
+    if rules == Rules::Second && made > 0 {
+        made
+    } else {
+        1
+    }
+}
+
+/// Whether a control asks for a quantum.
+fn asks_for_quantum(control: Control) -> bool
+    ensures { (run : WorldRun) → runs_quantum run (events.Control control) ≡ (result && (run.world.config.every == 0)) }
+{
+    matches!(control, Control::Quantum)
+}
+
+/// The same number in 32 bits, if it has no more.
+fn in_32_bits(number: u64) -> Option<u32>
+    ensures { MatchOption result (2 ^ 32 ≤ number) (λ same. same ≡ number) }
+{
+    u32::try_from(number).ok()
+}
+
+/// The events of a run so far, as far as they bear on what its sessions need. It keeps every object that they make.
+#[derive(Drop)]
+pub struct Walk {
+    config: Config,
+    world: RunWorld,
+    /// The units of the mutator since the last quantum, if the scheduler runs them.
+    units: u64,
+    asked: Asked,
+    ghost few: { units ≤ 1000000 },
+}
+
+impl Walk {
+    ghost use Rattle.mh_sizing.specs.Walk.{HasWalked};
+
+    /// The walk of no events, which takes no memory.
+    pub fn open(alloc: Global, config: Config) -> Walk
+        ensures { HasWalked result config [] }
+    {
+        Walk {
+            config,
+            world: RunWorld::open(alloc, config),
+            units: 0,
+            asked: Asked::new(),
+        }
+    }
+
+    /// Does a command of the session `who`, with the quantum that it makes due.
+    fn session(&mut self, who: u8, command: &Command) -> Result<(), NoMemory>
+        ensures walked { OnOk result ((config : Config) (before : List Event) → HasWalked self.old config before → HasWalked self.new config (before ++ events.Session who command.now ∷ [])) }
+        ensures stopped { OnErr result ((config : Config) (before : List Event) → HasWalked self.old config before → HasWalked self.new config before) }
+        ensures memory { OnErr result (IsNew command.now) }
+    {
+        let parts = parts_asked(self.config.rules, command);
+        if !self.asked.has_room(&parts) {
+            return Err(NoMemory);
+        }
+        let made = self.world.perform(who, command)?;
+        self.asked.ask(&parts);
+        if self.config.every == 0 {
+            return Ok(());
+        }
+        let units = self.units + mutator_units(self.config.rules, made);
+        if units < u64::from(self.config.every) {
+            self.units = units;
+            return Ok(());
+        }
+        self.units = 0;
+        self.asked.end_interval();
+        Ok(())
+    }
+
+    /// Does a control, of which only a quantum bears on what is needed.
+    fn control(&mut self, control: Control)
+        ensures { (config : Config) (before : List Event) → HasWalked self.old config before → HasWalked self.new config (before ++ events.Control control ∷ []) }
+    {
+        if !asks_for_quantum(control) || self.config.every != 0 {
+            return;
+        }
+        self.units = 0;
+        self.asked.end_interval();
+    }
+
+    /// Goes on with the next event. If memory is refused, or there is no room to count on, the walk is as it was. There is
+    /// none once 2^62 objects were born, or a bound of what is reached or an interval's parts have come to 2^62.
+    pub fn event(&mut self, event: &Event) -> Result<(), NoMemory>
+        ensures walked { OnOk result ((config : Config) (before : List Event) → HasWalked self.old config before → HasWalked self.new config (before ++ event.now ∷ [])) }
+        ensures stopped { OnErr result ((config : Config) (before : List Event) → HasWalked self.old config before → HasWalked self.new config before) }
+        ensures memory { OnErr result (AsksForObject event.now) }
+    {
+        match *event {
+            Event::Session(who, command) => self.session(who, &command),
+            Event::Control(control) => {
+                self.control(control);
+                Ok(())
+            }
+        }
+    }
+
+    /// What the sessions of the events so far need. None if a number has more than 32 bits.
+    pub fn needs(&self) -> Option<Needs>
+        ensures needs { (config : Config) (events : List Event) → HasWalked self.now config events → IfSome result (λ needs. AreTheNeeds needs config events) }
+        ensures none { (config : Config) (events : List Event) → HasWalked self.now config events → IsNone result → (needs : Needs) → NeedNoMore needs config events → IsTooLarge needs }
+    {
+        let live = in_32_bits(self.world.live())?;
+        let marked = in_32_bits(self.world.marked())?;
+        let asked = in_32_bits(self.asked.parts())?;
+        let opened = in_32_bits(self.asked.pages())?;
+        Some(Needs {
+            live,
+            marked,
+            asked,
+            opened,
+            page: self.asked.page_units(),
+        })
+    }
+
+    /// The classes of all parts that the events so far ask for.
+    pub fn kinds(&self) -> Kinds
+        ensures kinds { (config : Config) (events : List Event) → HasWalked self.now config events → result.kinds ≡ length (occurring (all_asked config events)) }
+        ensures least { (config : Config) (events : List Event) → HasWalked self.now config events → result.least ≡ fewest_slots (all_asked config events) }
+        ensures asked { (config : Config) (events : List Event) → HasWalked self.now config events → AskOfClasses result.least result.kinds config events }
+    {
+        self.asked.kinds()
+    }
+}
+
+/// What the sessions of a run need.
+pub fn needs_of(alloc: Global, config: Config, events: &[Event]) -> Result<Option<Needs>, NoMemory>
+    ensures needs { IfOk result (λ needs. IfSome needs (λ needs. AreTheNeeds needs config events.now)) }
+    ensures none { IfOk result (λ needs. IsNone needs → (needs : Needs) → NeedNoMore needs config events.now → IsTooLarge needs) }
+{
+    let mut walk = Walk::open(alloc, config);
+    for event in events {
+        walk.event(event)?;
+    }
+    Ok(walk.needs())
+}

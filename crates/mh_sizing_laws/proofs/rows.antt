@@ -1,3 +1,0 @@
-pub mod SizedRuns
-pub mod LeftPages
-pub mod ReachedUnits

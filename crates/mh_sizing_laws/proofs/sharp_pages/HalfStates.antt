@@ -1,0 +1,145 @@
+-- What stands after a half step, and after an event that has no quantum run.
+use Rattle.std.proofs.Common.{◌≡◌, inl, inr, ℕ, ◌+◌, ◌*◌, ◌≤◌, false, List, [], ◌∷◌, ◌++◌, refl, sym, ap, subst, arith}
+use Rattle.mh_model.specs.declared.command.Event.{Event}
+use Rattle.mh_model.specs.declared.command.Event.TheVariants as event
+use Rattle.mh_model.specs.declared.config.Config.{Config}
+use Rattle.mh_model.specs.Classes.{Part, slots_in}
+use Rattle.mh_model.specs.Collector.{Collector}
+use Rattle.mh_model.specs.Machine.{Machine, command_step, half_step, event_step}
+use Rattle.mh_model.specs.Openings.{class_parts, asked_parts}
+use Rattle.mh_model.specs.Pages.{HaveTheirSlots}
+use Rattle.mh_model.specs.Snapshot.{has_quantum}
+use Rattle.mh_model.specs.Mutator.{mutator_step}
+use Rattle.mh_laws.proofs.bounds.CyclesInTime.{StaysInBounds}
+use Rattle.mh_laws.proofs.commands.LeftUnchanged.{mutator_step-course}
+use Rattle.mh_sizing_laws.proofs.cycles.Classes.{HasClasses, PartsFit, command-classes}
+use Rattle.mh_sizing_laws.proofs.cycles.SharperRuns.{quiet-collector}
+use Rattle.mh_sizing_laws.proofs.openings.Intervals.{asked_of, asked-cons, asked-append, since-half, since-likewise, since-more, quiet-event}
+use Rattle.mh_sizing_laws.proofs.pages_left.FedCommands.{mutator_step-feeds}
+use Rattle.mh_sizing_laws.proofs.pages_left.SweptPages.{HasItsBlocks, fed-blocks}
+use Rattle.mh_sizing_laws.proofs.filling.FilledTables.{AllFill}
+use Rattle.mh_sizing_laws.proofs.filling.PageWeights.{resting-allows, newborn-allows, marking-allows}
+use Rattle.mh_sizing_laws.proofs.sharp_pages.CycleSteps.{passed_by, entered_by}
+use Rattle.mh_sizing_laws.proofs.sharp_pages.Intervals.{marking_family, newborn_family, half-fill, interval-fill}
+use Rattle.mh_sizing_laws.proofs.sharp_pages.Moves.{resting_family, fill-rested}
+use Rattle.mh_sizing_laws.proofs.sharp_pages.SharpStates.{Rests, Marks, Moves}
+
+-- a half step leaves the course of the collector
+pub record IsSameCourse (old new : Collector) : Type 0 where
+  pub phase : new.phase ≡ old.phase
+  pub cursor : new.cursor ≡ old.cursor
+  pub quanta : new.quanta ≡ old.quanta
+
+pub half-course : (machine : Machine) (event : Event) → IsSameCourse machine.heap.collector (half_step machine event).heap.collector
+unfolding command_step
+half-course machine (event.Session who command) = let course = mutator_step-course machine.heap who command in record { phase = course.phase; cursor = course.cursor; quanta = course.quanta }
+half-course machine (event.Control control) = record { phase = refl; cursor = refl; quanta = refl }
+
+pub half-blocks : (machine : Machine) (event : Event) → HaveTheirSlots machine.heap.collector.table → HasItsBlocks machine.heap.collector → HasItsBlocks (half_step machine event).heap.collector
+unfolding command_step
+half-blocks machine (event.Session who command) slots blocks =
+    let course = mutator_step-course machine.heap who command in
+    fed-blocks machine.heap.collector (mutator_step machine.heap who command).state.collector course.phase course.cursor (mutator_step-feeds machine.heap who command slots) blocks
+half-blocks machine (event.Control control) slots blocks = blocks
+
+pub half-classes : (Fits : ℕ → Type 0) (config : Config) (machine : Machine) (event : Event) → machine.heap.config ≡ config → PartsFit Fits (asked_parts config event) → HasClasses Fits machine.heap.collector.table → HasClasses Fits (half_step machine event).heap.collector.table
+unfolding command_step
+half-classes Fits config machine (event.Session who command) same fit has = command-classes Fits machine.heap who command (subst (λ c. PartsFit Fits (asked_parts c (event.Session who command))) (sym same) fit) has
+half-classes Fits config machine (event.Control control) same fit has = has
+
+module _ (config : Config) (quanta opened most unit : ℕ) (unit_is : unit ≡ opened + opened + 1) (list : List Part) where
+  abbrev MarksOf : ℕ → List Event → Collector → Type 0
+  MarksOf = Marks config quanta opened most unit unit_is list
+
+  abbrev MovesOf : List Event → Machine → Type 0
+  MovesOf = Moves config quanta opened most unit unit_is list
+
+  abbrev RestsOf : Collector → Type 0
+  RestsOf = Rests config quanta opened most unit unit_is list
+
+  module _ (before : List Event) (machine : Machine) (event : Event) (stays : StaysInBounds config machine) (slots : HaveTheirSlots machine.heap.collector.table) where
+    abbrev half : Machine
+    half = half_step machine event
+
+    abbrev now : List Event
+    now = before ++ event ∷ []
+
+    same : IsSameCourse machine.heap.collector half.heap.collector
+    same = half-course machine event
+
+    rested : (base : ℕ → ℕ) → AllFill resting_family base (λ k. 1) machine.heap.collector.table → AllFill resting_family base (λ k. 1) half.heap.collector.table
+    rested base fill = fill-rested base (λ k. 1 + class_parts k (asked_parts config event)) (λ k. 1) half.heap.collector.table (λ k. omega arith)
+        (half-fill resting_family base (λ k. 1) config machine event stays.config_is (λ k. resting-allows k machine.heap.next_birth) slots fill)
+
+    pub half-rests : RestsOf machine.heap.collector → RestsOf half.heap.collector
+    half-rests rests = record { old = rests.old; born = rests.born; few = rests.few; births = rests.births; fill = rested (λ k. rests.old k + slots_in k * rests.born k) rests.fill }
+
+    pub half-moves : MovesOf before machine → MovesOf now half
+    half-moves moves = record {
+      old = moves.old;
+      born = moves.born;
+      bound = moves.bound;
+      start = moves.start;
+      few = moves.few;
+      births = omega (arith, moves.births, ap (λ n. n * opened) same.quanta);
+      limit = omega (arith, moves.limit, ap (λ n. n * unit) same.quanta);
+      used = moves.used;
+      since = since-more config (λ k. asked_of config before k + class_parts k (asked_parts config event)) (asked_of config now) moves.start half (λ k. omega (arith, asked-append config before (event ∷ []) k, asked-cons config event [] k))
+          (since-half config (asked_of config before) moves.start machine event moves.since);
+      fill = rested (λ k. moves.old k + slots_in k * moves.born k) moves.fill;
+    }
+
+    pub half-marks : (from : ℕ) → from ≤ machine.heap.next_birth → MarksOf from before machine.heap.collector → MarksOf from now half.heap.collector
+    half-marks from young marks =
+        let passed : ℕ = passed_by machine.heap.collector.phase machine.heap.collector.cursor in
+        let entered : ℕ = entered_by machine.heap.collector.phase machine.heap.collector.cursor in
+        let base : ℕ → ℕ = λ k. marks.old k + slots_in k * (marks.touched k + marks.swept k) in
+        record {
+          old = marks.old;
+          touched = marks.touched;
+          swept = marks.swept;
+          born = marks.born;
+          few = marks.few;
+          pages = omega (arith, marks.pages, ap (λ n. n * unit) same.quanta);
+          one = marks.one;
+          births = omega (arith, marks.births, ap (λ n. n * opened) same.quanta);
+          fill = subst (λ phase. AllFill (marking_family from (passed_by phase half.heap.collector.cursor) (entered_by phase half.heap.collector.cursor)) base (asked_of config now) half.heap.collector.table) (sym same.phase)
+              (subst (λ cursor. AllFill (marking_family from (passed_by machine.heap.collector.phase cursor) (entered_by machine.heap.collector.phase cursor)) base (asked_of config now) half.heap.collector.table) (sym same.cursor)
+              (interval-fill (marking_family from passed entered) base config before machine event stays.config_is (λ k. marking-allows from passed entered k machine.heap.next_birth young) slots marks.fill));
+          young = interval-fill (newborn_family from) (λ k. slots_in k * marks.born k) config before machine event stays.config_is (λ k. newborn-allows from k machine.heap.next_birth young) slots marks.young;
+        }
+
+    -- Quiet events -------------------------------------------------------------------------------
+
+    module _ (quiet : has_quantum machine event ≡ false) where
+      abbrev next : Machine
+      next = (event_step machine event).state
+
+      pub quiet-rests : RestsOf half.heap.collector → RestsOf next.heap.collector
+      quiet-rests rests = elim (quiet-collector machine event quiet) [
+        | inl is ↦ subst RestsOf (sym is) rests
+        | inr is ↦ subst RestsOf (sym is) (record { old = rests.old; born = rests.born; few = rests.few; births = rests.births; fill = rests.fill })
+      ]
+
+      pub quiet-marks : (from : ℕ) → MarksOf from now half.heap.collector → MarksOf from now next.heap.collector
+      quiet-marks from marks = elim (quiet-collector machine event quiet) [
+        | inl is ↦ subst (MarksOf from now) (sym is) marks
+        | inr is ↦ subst (MarksOf from now) (sym is)
+            (record { old = marks.old; touched = marks.touched; swept = marks.swept; born = marks.born; few = marks.few; pages = marks.pages; one = marks.one; births = marks.births; fill = marks.fill; young = marks.young })
+      ]
+
+      pub quiet-moves : MovesOf now half → MovesOf now next
+      quiet-moves moves =
+          let like = quiet-event machine event quiet in
+          record {
+            old = moves.old;
+            born = moves.born;
+            bound = moves.bound;
+            start = moves.start;
+            few = moves.few;
+            births = omega (arith, moves.births, ap (λ n. n * opened) like.quanta);
+            limit = omega (arith, moves.limit, ap (λ n. n * unit) like.quanta);
+            used = moves.used;
+            since = since-likewise config (asked_of config now) moves.start half next like moves.since;
+            fill = subst (AllFill resting_family (λ k. moves.old k + slots_in k * moves.born k) (λ k. 1)) (sym like.table) moves.fill;
+          }

@@ -1,0 +1,220 @@
+-- Runs with pages where small parts share them: each cycle leaves enough pages free.
+use Rattle.std.proofs.Common.{◌≡◌, inl, inr, ℕ, zero, suc, ◌==◌, cond, Option, Some, None, option_map, unwrap_or, replicate, ◌+◌, ◌*◌, ◌/◌, ◌<◌, ◌≤◌, Bool, true, false, if◌then◌else◌, List, [], ◌∷◌, ◌++◌, length, flat_map, refl, sym, ap, ◌∙◌, subst, arith}
+use Rattle.std.specs.List.{AllByRecursion}
+use Rattle.std.proofs.Math.Nat.{mul-add, mul-le-mul_right}
+use Rattle.std.proofs.lemmas.Bool.{and_parts, cases_Bool, eqb-true, false≢true}
+use Rattle.std.proofs.lemmas.List.Sums.{sum_by-cons}
+use Rattle.std.proofs.lemmas.List.{append-nil, append_assoc}
+use Rattle.std.proofs.lemmas.Option.{none-some}
+use Rattle.mh_model.specs.declared.command.Event.{Event}
+use Rattle.mh_model.specs.declared.config.Config.{Config}
+use Rattle.mh_model.specs.Bound.{most_quanta}
+use Rattle.mh_model.specs.Classes.{Part, class_of, part_words, is_class_size}
+use Rattle.mh_model.specs.Collector.{is_idle}
+use Rattle.mh_model.specs.LiveParts.{HasAtMostLive, worlds}
+use Rattle.mh_model.specs.Machine.{Machine, first_machine, event_step, machine_after}
+use Rattle.mh_model.specs.Openings.{asked_parts, class_parts, is_of_class}
+use Rattle.mh_model.specs.Intervals.{moments, intervals, has_ended, HasRoomFor}
+use Rattle.mh_model.specs.Intervals as run
+use Rattle.mh_model.specs.Snapshot.{Moment, first_moment, next_moment, moment_after, has_quantum}
+use Rattle.mh_model.specs.World.{World}
+use Rattle.mh_laws.proofs.bounds.CyclesInTime.{run-stays}
+use Rattle.mh_laws.proofs.commands.LeftUnchanged.{machine_after-pages}
+use Rattle.mh_run_laws.proofs.worlds.Moments.{machine-moment_after}
+use Rattle.mh_table_laws.proofs.Lists.{none_at}
+use Rattle.mh_table_laws.proofs.TableMapLemmas.{free-table_map}
+use Rattle.mh_table_laws.proofs.tables.PageSlots.{class_of-class_size}
+use Rattle.mh_sizing_laws.proofs.cycles.Classes.{PartsFit}
+use Rattle.mh_sizing_laws.proofs.openings.Intervals.{asked-cons}
+use Rattle.mh_sizing_laws.proofs.openings.MadeParts.{IsAmong}
+use Rattle.mh_sizing_laws.proofs.triggers.SizedRuns.{IsShort, HasHadFewer, LeavesEnough, event-short, room-suffices, some-quanta, cycles-bounded}
+use Rattle.mh_sizing_laws.proofs.pages_left.FinishedCycles.{ended-run}
+use Rattle.mh_sizing_laws.proofs.pages_left.GrownWorlds.{grown-same}
+use Rattle.mh_sizing_laws.specs.SharpPages.{occurring, fewest_of, all_asked, HasSharpPagesFor, SharpPagesSuffice, SharpPagesForTheBoundSuffice}
+use Rattle.mh_sizing_laws.proofs.filling.Ages.{birth_of, ages}
+use Rattle.mh_sizing_laws.proofs.filling.PageWeights.{roomy}
+use Rattle.mh_sizing_laws.proofs.filling.Weights.{weights, weigh}
+use Rattle.mh_sizing_laws.proofs.sharp_pages.ClassesThatOccur.{occurring-parts, sum-none}
+use Rattle.mh_sizing_laws.proofs.sharp_pages.SharpEvents.{IsSharp, left, left-few, sharp-quiet, sharp-quantum}
+
+-- Lists ------------------------------------------------------------------------------------------
+
+moment-push : (done : List Event) (moment : Moment) (event : Event) → moment_after moment (done ++ event ∷ []) ≡ next_moment (moment_after moment done) event
+unfolding moment_after
+moment-push [] moment event = refl
+moment-push (first ∷ done) moment event = moment-push done (next_moment moment first) event
+
+head-world : (P : World → Type 0) (events : List Event) (moment : Moment) → AllByRecursion P (worlds moment events) → P moment.world
+head-world P [] moment all = all.0
+head-world P (event ∷ events) moment all = all.0
+
+-- the ends of cycles with one event more
+ends-push : (P : Machine → Type 0) (done : List Event) (start : Machine) (event : Event) → AllByRecursion P (run.cycle_ends start done)
+    → (has_ended (machine_after start done).heap.collector (event_step (machine_after start done) event).state.heap.collector ≡ true → P (event_step (machine_after start done) event).state) → AllByRecursion P (run.cycle_ends start (done ++ event ∷ []))
+unfolding machine_after
+ends-push P [] start event all here = go (has_ended start.heap.collector next.heap.collector) here
+  where
+    next : Machine
+    next = (event_step start event).state
+
+    go : (ended : Bool) → (ended ≡ true → P next) → AllByRecursion P (if ended then next ∷ [] else [])
+    go true is = (is refl, tt)
+    go false is = tt
+ends-push P (first ∷ done) start event all here = go (has_ended start.heap.collector next.heap.collector) all (λ rest. ends-push P done next event rest here)
+  where
+    next : Machine
+    next = (event_step start first).state
+
+    go : (ended : Bool) → AllByRecursion P (if ended then next ∷ run.cycle_ends next done else run.cycle_ends next done) → (AllByRecursion P (run.cycle_ends next done) → AllByRecursion P (run.cycle_ends next (done ++ event ∷ [])))
+        → AllByRecursion P (if ended then next ∷ run.cycle_ends next (done ++ event ∷ []) else run.cycle_ends next (done ++ event ∷ []))
+    go true all more = (all.0, more all.1)
+    go false all more = more all
+
+-- The first table --------------------------------------------------------------------------------
+
+-- free pages weigh nothing
+zeros : (k pages : ℕ) → weights (weigh k roomy) (replicate pages None) ≤ 0
+zeros k zero = omega arith
+zeros k (suc pages) = omega (arith, zeros k pages)
+
+-- a class of which there are parts is one of the classes
+part-class : (size : ℕ) (part : Part) → is_of_class size part ≡ true → is_class_size size ≡ true
+part-class size part e = go (class_of (part_words part)) refl e
+  where
+    go : (class : Option ℕ) → class_of (part_words part) ≡ class → unwrap_or (option_map (λ c. c == size) class) false ≡ true → is_class_size size ≡ true
+    go None is h = absurd (false≢true h)
+    go (Some other) is h = class_of-class_size (part_words part) size (is ∙ ap (λ n. Some n) (eqb-true other size h))
+
+parts-class : (size : ℕ) (list : List Part) → 0 < class_parts size list → is_class_size size ≡ true
+parts-class size [] some = absurd (omega arith)
+parts-class size (part ∷ list) some = elim (cases_Bool (is_of_class size part)) [
+  | inl here ↦ part-class size part here
+  | inr apart ↦ parts-class size list (omega (arith, some, sum_by-cons (λ p. cond (is_of_class size p) 1 0) part list, ap {B = ℕ} (λ b. cond b 1 0) apart))
+]
+
+-- Runs -------------------------------------------------------------------------------------------
+
+module _ (config : Config) (quanta opened most unit : ℕ) (unit_is : unit ≡ opened + opened + 1) (list : List Part) where
+  abbrev Leaving : Machine → Type 0
+  Leaving = LeavesEnough config quanta opened
+
+  abbrev Short : List Event → Type 0
+  Short = IsShort config quanta opened
+
+  -- no cycle has had all its quanta in any part of a run of which the cycles left enough
+  abbrev pub FewerSoFar : List Event → Type 0
+  FewerSoFar all = (done rest : List Event) → done ++ rest ≡ all → AllByRecursion Leaving (run.cycle_ends (first_machine config) done) → HasHadFewer config quanta opened (machine_after (first_machine config) done)
+
+  -- the parts that these events ask for have classes that occur
+  abbrev pub AskAmong : List Event → Type 0
+  AskAmong events = PartsFit (λ size. IsAmong size (occurring list)) (flat_map (asked_parts config) events)
+
+  -- Each cycle of a run leaves enough pages free, if no cycle has had all its quanta while those before it did
+  ends-enough : (all events done before : List Event) (moment : Moment) → 1 ≤ quanta → most + most / fewest_of (occurring list) + 4 * (quanta * opened) + length (occurring list) + quanta ≤ config.pages + (3 * opened + 1) → FewerSoFar all → done ++ events ≡ all → moment ≡ moment_after (first_moment config) done
+      → IsSharp config quanta opened most unit unit_is list before moment → AskAmong events → AllByRecursion Short (intervals before moment.machine events) → AllByRecursion (HasAtMostLive most) (worlds moment events) → AllByRecursion Leaving (run.cycle_ends (first_machine config) done)
+      → AllByRecursion Leaving (run.cycle_ends (first_machine config) all)
+  unfolding next_moment
+  ends-enough all [] done before moment some pages so_far split is sharp fit short live lefts = subst (λ l. AllByRecursion Leaving (run.cycle_ends (first_machine config) l)) (sym (append-nil done) ∙ split) lefts
+  ends-enough all (event ∷ events) done before moment some pages so_far split is sharp fit short live lefts =
+      by_quantum-run (has_quantum moment.machine event) refl short
+      (λ now there rest. ends-enough all events (done ++ event ∷ []) now next' some pages so_far (append_assoc done (event ∷ []) events ∙ split) on there (λ size one. fit size (omega (arith, one, asked-cons config event events size))) rest live.1
+      (ends-push Leaving done (first_machine config) event lefts left-here))
+    where
+      next' : Moment
+      next' = next_moment moment event
+
+      now-short : Short (before ++ event ∷ [])
+      now-short = event-short config quanta opened events before moment.machine event short
+
+      live-now : HasAtMostLive most next'.world
+      live-now = head-world (HasAtMostLive most) events next' live.1
+
+      on : next' ≡ moment_after (first_moment config) (done ++ event ∷ [])
+      on = ap (λ m. next_moment m event) is ∙ sym (moment-push done (first_moment config) event)
+
+      machine_is : moment.machine ≡ machine_after (first_machine config) done
+      machine_is = ap (λ (m : Moment). m.machine) is ∙ machine-moment_after done (first_moment config)
+
+      fewer : HasHadFewer config quanta opened moment.machine
+      fewer = subst (HasHadFewer config quanta opened) (sym machine_is) (so_far done (event ∷ events) split lefts)
+
+      event-fit : PartsFit (λ size. IsAmong size (occurring list)) (asked_parts config event)
+      event-fit size one = fit size (omega (arith, one, asked-cons config event events size))
+
+      here : has_ended moment.machine.heap.collector (event_step moment.machine event).state.heap.collector ≡ true → Leaving (event_step moment.machine event).state
+      here ended =
+          let has = ended-run moment.machine event ended in
+          let idle : is_idle (event_step moment.machine event).state.heap.collector.phase ≡ true = (and_parts (is_idle (event_step moment.machine event).state.heap.collector.phase) _ ended).0 in
+          let after = left config quanta opened most unit unit_is list done before moment event is sharp event-fit live-now some fewer now-short has.runs has.within in
+          let count = left-few config quanta opened most unit unit_is list done before moment event is sharp event-fit live-now some fewer now-short in
+          let product = mul-le-mul_right unit count in
+          let whole : quanta * unit ≡ quanta * opened + quanta * opened + quanta * 1 = ap (λ n. quanta * n) unit_is ∙ mul-add quanta (opened + opened) 1 ∙ ap (λ n. n + quanta * 1) (mul-add quanta opened opened) in
+          omega (arith, after.ends idle, product, whole, pages, unit_is)
+
+      left-here : has_ended (machine_after (first_machine config) done).heap.collector (event_step (machine_after (first_machine config) done) event).state.heap.collector ≡ true → Leaving (event_step (machine_after (first_machine config) done) event).state
+      left-here = subst (λ m. has_ended m.heap.collector (event_step m event).state.heap.collector ≡ true → Leaving (event_step m event).state) machine_is here
+
+      by_quantum-run : (cut : Bool) → has_quantum moment.machine event ≡ cut
+          → AllByRecursion Short (if cut then (before ++ event ∷ []) ∷ intervals [] (event_step moment.machine event).state events else intervals (before ++ event ∷ []) (event_step moment.machine event).state events)
+          → ((now : List Event) → IsSharp config quanta opened most unit unit_is list now next' → AllByRecursion Short (intervals now (event_step moment.machine event).state events) → AllByRecursion Leaving (run.cycle_ends (first_machine config) all))
+          → AllByRecursion Leaving (run.cycle_ends (first_machine config) all)
+      by_quantum-run true runs cuts more = more [] (sharp-quantum config quanta opened most unit unit_is list done before moment event is sharp event-fit live-now some fewer now-short runs) cuts.1
+      by_quantum-run false quiet cuts more = more (before ++ event ∷ []) (sharp-quiet config quanta opened most unit unit_is list done before moment event is sharp event-fit live-now some fewer now-short quiet) cuts
+
+  -- the first moment: nothing is there
+  first-sharp : 1 ≤ quanta → HasAtMostLive most (first_moment config).world → IsSharp config quanta opened most unit unit_is list [] (first_moment config)
+  unfolding machine_after
+  first-sharp some live = record {
+    stays = run-stays config [];
+    slots = (machine_after-pages config []).slots;
+    grown = grown-same (first_moment config).world;
+    live = live;
+    classes = λ number page at. absurd (none-some page (sym (none_at config.pages number) ∙ at));
+    marks = λ e. absurd (false≢true e);
+    moves = λ e. absurd (false≢true e);
+    rests = λ e. record {
+      old = λ k. 0;
+      born = λ k. 0;
+      few = omega (arith, sum-none (occurring list));
+      births = omega (arith, sum-none (occurring list), mul-le-mul_right opened some);
+      fill = λ k class. inl (omega (arith, nothing k config.pages));
+    };
+  }
+    where
+      nothing : (k pages : ℕ) → weights (weigh k roomy) (ages (replicate pages None)) ≤ 0
+      nothing k pages = omega (arith, ap (weights (weigh k roomy)) (free-table_map birth_of pages), zeros k pages)
+
+-- Runs with pages enough have room, if no cycle has had all its quanta while those before it left enough
+pub sharp-room : (config : Config) (events : List Event) (quanta opened most : ℕ) → 1 ≤ quanta → FewerSoFar config quanta opened most (opened + opened + 1) refl (all_asked config events) events → HasSharpPagesFor config events quanta opened most → HasRoomFor config events quanta opened
+unfolding moment_after
+sharp-room config events quanta opened most some so_far has =
+    let list : List Part = all_asked config events in
+    let unit : ℕ = opened + opened + 1 in
+    let first : Moment = first_moment config in
+    let product = mul-le-mul_right opened some in
+    record {
+      pages = omega (arith, has.pages, product, some);
+      trigger = has.trigger;
+      intervals = has.intervals;
+      left = ends-enough config quanta opened most unit refl list events events [] [] first some (omega (arith, has.pages)) so_far refl refl
+          (first-sharp config quanta opened most unit refl list some (head-world (HasAtMostLive most) events first has.live)) (λ size one. occurring-parts list size (parts-class size list one) one) has.intervals has.live tt;
+    }
+
+moments-at : (P : Machine → Type 0) (done rest : List Event) (start : Machine) → AllByRecursion P (moments start (done ++ rest)) → P (machine_after start done)
+unfolding machine_after
+moments-at P [] [] start all = all.0
+moments-at P [] (event ∷ rest) start all = all.0
+moments-at P (event ∷ done) rest start all = moments-at P done rest (event_step start event).state all.1
+
+-- Pages suffice where small parts share them
+pub sharp-pages-suffice : SharpPagesSuffice
+sharp-pages-suffice config events quanta opened most some fewer has =
+    let P : Machine → Type 0 = HasHadFewer config quanta opened in
+    let room = sharp-room config events quanta opened most some (λ done rest split lefts. moments-at P done rest (first_machine config) (subst (λ l. AllByRecursion P (moments (first_machine config) l)) (sym split) fewer)) has in
+    record { room = room; never_full = room-suffices config events quanta opened some fewer room }
+
+-- The bound of a cycle ---------------------------------------------------------------------------
+
+-- and so they do for the bound of a cycle
+pub sharp-bound-suffices : SharpPagesForTheBoundSuffice
+sharp-bound-suffices config events opened most has = sharp-pages-suffice config events (most_quanta config) opened most (some-quanta config) (cycles-bounded config events) has

@@ -1,0 +1,150 @@
+-- The table as a sweep ends: each page in use has an old block that is kept, or is one of a class with young blocks alone.
+use Rattle.std.proofs.Common.{◌≡◌, ◌⊎◌, inl, inr, ℕ, suc, ◌+◌, ◌*◌, ◌/◌, ◌<◌, ◌≤◌, ◌==◌, nat_le, nat_lt, not, ◌&&◌, Bool, true, false, if◌then◌else◌, Option, Some, None, option_map, List, [], ◌∷◌, length, get_or, map, refl, ap, subst, arith}
+use Rattle.std.specs.List.{sum_by}
+use Rattle.std.proofs.Math.Nat.{le-div_iff_mul-le, mul_comm}
+use Rattle.std.proofs.lemmas.Bool.{cases_lt, lt-ltb, ltb-false, false≢true}
+use Rattle.mh_table_laws.proofs.Lists.{below_length}
+use Rattle.std.proofs.lemmas.List.Sums.{sum_by-cons}
+use Rattle.mh_model.specs.Batches.{NoneTwice}
+use Rattle.mh_model.specs.Classes.{slots_in, is_class_size}
+use Rattle.mh_model.specs.LiveParts.{slot_count, page_count, count_blocks, is_plain}
+use Rattle.mh_model.specs.Pages.{Page, Table, page_at, block_at, block_count, live_in, free_pages, HaveTheirSlots}
+use Rattle.mh_model.specs.Table.{Block}
+use Rattle.mh_table_laws.proofs.placing.Places.{shaped-slots}
+use Rattle.mh_table_laws.proofs.tables.PageSlots.{slots_in-class_size}
+use Rattle.mh_sizing_laws.proofs.cycles.Classes.{HasClasses}
+use Rattle.mh_sizing_laws.proofs.openings.MadeParts.{IsAmong}
+use Rattle.mh_sizing_laws.proofs.openings.Rooms.{empties}
+use Rattle.mh_sizing_laws.proofs.pages_left.Counting.{place-of}
+use Rattle.mh_sizing_laws.proofs.filling.Weights.{weights, weigh, weigh-own, weigh-less}
+use Rattle.mh_sizing_laws.proofs.filling.Slots.{youngs, olds, olds-youngs}
+use Rattle.mh_sizing_laws.proofs.filling.PageWeights.{traced_by, traced, roomy}
+use Rattle.mh_sizing_laws.proofs.filling.Ages.{birth_of, ages, page-map}
+use Rattle.mh_sizing_laws.proofs.sharp_pages.SweptWeights.{aged}
+use Rattle.mh_sizing_laws.proofs.sharp_pages.ClassSums.{sum-among, sum-once, weights-sum, weights-times, weights-same, sum-weights, pages-of_sorts, weights-sum_by}
+
+-- a block that is no forwarder and was born before
+abbrev pub is_old : ℕ → Block → Bool
+is_old from block = is_plain block && not (nat_le from block.birth)
+
+-- the blocks of a page that were born before
+abbrev pub old_in : ℕ → ℕ → Page ℕ → ℕ
+old_in from number page = olds from page.slots
+
+-- and those born since
+abbrev pub young_in : ℕ → ℕ → Page ℕ → ℕ
+young_in from number page = youngs from page.slots
+
+-- 1 for a page that has no old block
+abbrev pub new_page : ℕ → ℕ → Page ℕ → ℕ
+new_page from number page = if nat_lt 0 (olds from page.slots) then 0 else 1
+
+blocks-map : (slots : List (Option Block)) → block_count (map (option_map birth_of) slots) ≡ block_count slots
+blocks-map [] = refl
+blocks-map (None ∷ slots) = blocks-map slots
+blocks-map (Some block ∷ slots) = ap suc (blocks-map slots)
+
+-- in slots without forwarders old blocks are counted by their births
+olds-plain : (from : ℕ) (slots : List (Option Block)) → ((slot : ℕ) (block : Block) → get_or slots slot None ≡ Some block → is_plain block ≡ true) → olds from (map (option_map birth_of) slots) ≡ sum_by (slot_count (is_old from)) slots
+olds-plain from [] plain = refl
+olds-plain from (None ∷ slots) plain = omega (arith, sum_by-cons (slot_count (is_old from)) None slots, olds-plain from slots (λ slot. plain (suc slot)))
+olds-plain from (Some block ∷ slots) plain = omega (arith, sum_by-cons (slot_count (is_old from)) (Some block) slots, olds-plain from slots (λ slot. plain (suc slot)), one (is_plain block) (nat_le from block.birth) (plain 0 block refl))
+  where
+    one : (live young : Bool) → live ≡ true → ◌≡◌ {A = ℕ} (if young then 0 else 1) (if live && not young then 1 else 0)
+    one true true e = refl
+    one true false e = refl
+    one false young e = absurd (false≢true e)
+
+module _ (sizes : List ℕ) (from passed entered : ℕ) (table : Table Block) (slots : HaveTheirSlots table) (classes : HasClasses (λ size. IsAmong size sizes) table)
+    (some : (number : ℕ) (page : Page Block) → page_at table number ≡ Some page → 0 < live_in page) (plain : (place : ℕ) (block : Block) → block_at table place ≡ Some block → is_plain block ≡ true) (past : length table ≤ passed) where
+  abbrev total : ℕ → (ℕ → Page ℕ → ℕ) → ℕ
+  total size w = weights (weigh size w) (ages table)
+
+  page-plain : (number : ℕ) (page : Page Block) → page_at table number ≡ Some page → olds from (aged page).slots ≡ page_count (is_old from) (Some page)
+  page-plain number page at = olds-plain from page.slots (λ slot block is. let (place, same, there) = place-of table (shaped-slots table slots) number slot page block at is in plain place block there)
+
+  -- each page in use has an old block or is new
+  page-sort : (number : ℕ) (page : Page Block) → page_at table number ≡ Some page → 1 ≤ page_count (is_old from) (Some page) + sum_by (λ k. weigh k (new_page from) number (Some (aged page))) sizes
+  page-sort number page at = go (cases_lt 0 (olds from (aged page).slots))
+    where
+      go : (0 < olds from (aged page).slots) ⊎ (olds from (aged page).slots ≤ 0) → 1 ≤ page_count (is_old from) (Some page) + sum_by (λ k. weigh k (new_page from) number (Some (aged page))) sizes
+      go (inl old) = omega (arith, old, page-plain number page at)
+      go (inr none) =
+          let zero_is : olds from (aged page).slots ≡ 0 = omega (arith, none) in
+          omega (arith, sum-among (λ k. weigh k (new_page from) number (Some (aged page))) page.class_size sizes (classes number page at), weigh-own page.class_size (new_page from) number (aged page) refl, ap {B = ℕ} (λ n. if nat_lt 0 n then 0 else 1) zero_is)
+
+  -- So the pages in use are no more than the old blocks and the new pages of each class
+  pub used-sorts : length table ≤ free_pages table + (count_blocks (is_old from) table + sum_by (λ k. total k (new_page from)) sizes)
+  used-sorts = omega (arith, pages-of_sorts (page_count (is_old from)) (λ number content. sum_by (λ k. weigh k (new_page from) number content) sizes) table page-sort, sum-weights (λ k. new_page from) sizes (ages table))
+
+  -- new pages have been weighed by all their slots
+  new-weighed : (size : ℕ) → is_class_size size ≡ true → slots_in size * total size (new_page from) ≤ total size (traced from passed entered 0 (slots_in size))
+  new-weighed size class = omega (arith, times, weigh-less size (λ number page. slots_in size * new_page from number page) (traced from passed entered 0 (slots_in size)) (ages table) each, weights-times (slots_in size) (weigh size (new_page from)) (ages table))
+    where
+      inner : (number : ℕ) (content : Option (Page ℕ)) → slots_in size * weigh size (new_page from) number content ≡ weigh size (λ n page. slots_in size * new_page from n page) number content
+      inner number None = omega arith
+      inner number (Some page) = go (page.class_size == size)
+        where
+          go : (same : Bool) → slots_in size * (if same then new_page from number page else 0) ≡ (if same then slots_in size * new_page from number page else 0)
+          go true = refl
+          go false = omega arith
+
+      times : weights (λ number content. slots_in size * weigh size (new_page from) number content) (ages table) ≡ total size (λ number page. slots_in size * new_page from number page)
+      times = weights-same (λ number content. slots_in size * weigh size (new_page from) number content) (weigh size (λ n page. slots_in size * new_page from n page)) (ages table) inner
+
+      each : (number : ℕ) (page : Page ℕ) → page_at (ages table) number ≡ Some page → page.class_size ≡ size → slots_in size * new_page from number page ≤ traced from passed entered 0 (slots_in size) number page
+      each number page at own =
+          let (seen, there, same) = page-map birth_of table number page at in
+          let within : number < length table = below_length table number seen there in
+          let blocks : 0 < block_count page.slots = subst (λ (p : Page ℕ). 0 < block_count p.slots) same (omega (arith, blocks-map seen.slots, some number seen there)) in
+          by_old (nat_lt 0 (olds from page.slots)) refl (nat_lt number passed) (lt-ltb number passed (omega (arith, within, past))) (λ none. omega (arith, olds-youngs from page.slots, ltb-false 0 (olds from page.slots) none, blocks))
+        where
+          by_young : (young : Bool) → young ≡ true → (slots_in size * 1) ≤ traced_by young false true (nat_lt number entered) (nat_lt 0 (empties page.slots)) (slots_in size) 0 (block_count page.slots)
+          by_young true e = omega arith
+          by_young false e = absurd (false≢true e)
+
+          by_old : (old : Bool) → nat_lt 0 (olds from page.slots) ≡ old → (gone : Bool) → gone ≡ true → (nat_lt 0 (olds from page.slots) ≡ false → 0 < youngs from page.slots)
+              → slots_in size * (if old then 0 else 1) ≤ traced_by (nat_lt 0 (youngs from page.slots)) old gone (nat_lt number entered) (nat_lt 0 (empties page.slots)) (slots_in size) 0 (block_count page.slots)
+          by_old true e gone is young = omega arith
+          by_old false e true is young = by_young (nat_lt 0 (youngs from page.slots)) (lt-ltb 0 (youngs from page.slots) (young e))
+          by_old false e false is young = absurd (false≢true is)
+
+  -- Few new pages of a class are there, by what its pages weigh
+  pub new-few : (size base : ℕ) → is_class_size size ≡ true → total size (traced from passed entered 0 (slots_in size)) ≤ base → total size (new_page from) ≤ base / slots_in size
+  new-few size base class weight = (le-div_iff_mul-le (slots_in-class_size size class).0).1 (omega (arith, new-weighed size class, weight, mul_comm (slots_in size) (total size (new_page from))))
+
+  -- the old blocks of all classes are no more than those that are no forwarders
+  pub olds-few : NoneTwice sizes → sum_by (λ k. total k (old_in from)) sizes ≤ count_blocks (is_old from) table
+  olds-few once = omega (arith, sum-weights (λ k. old_in from) sizes (ages table), weights-sum_by (λ number content. sum_by (λ k. weigh k (old_in from) number content) sizes) (page_count (is_old from)) table none each)
+    where
+      zeros : (list : List ℕ) → sum_by (λ (k : ℕ). 0) list ≡ 0
+      zeros [] = refl
+      zeros (k ∷ list) = omega (arith, sum_by-cons (λ (j : ℕ). 0) k list, zeros list)
+
+      none : (number : ℕ) → sum_by (λ (k : ℕ). 0) sizes ≤ 0
+      none number = omega (arith, zeros sizes)
+
+      each : (number at : ℕ) (page : Page Block) → page_at table at ≡ Some page → sum_by (λ k. weigh k (old_in from) number (Some (aged page))) sizes ≤ page_count (is_old from) (Some page)
+      each number at page there = omega (arith, sum-once page.class_size (olds from (aged page).slots) sizes once, page-plain at page there)
+
+  -- the blocks of pages with room are old and young ones
+  pub roomy-few : (size : ℕ) → total size roomy ≤ total size (old_in from) + total size (young_in from)
+  roomy-few size = omega (arith, weigh-less size roomy (λ number page. olds from page.slots + youngs from page.slots) (ages table) (λ number page at own. each page), both, weights-sum (weigh size (old_in from)) (weigh size (young_in from)) (ages table))
+    where
+      each : (page : Page ℕ) → roomy 0 page ≤ olds from page.slots + youngs from page.slots
+      each page = go (nat_lt 0 (empties page.slots))
+        where
+          go : (room : Bool) → (if room then block_count page.slots else 0) ≤ olds from page.slots + youngs from page.slots
+          go true = omega (arith, olds-youngs from page.slots)
+          go false = omega arith
+
+      inner : (number : ℕ) (content : Option (Page ℕ)) → weigh size (λ n page. olds from page.slots + youngs from page.slots) number content ≡ weigh size (old_in from) number content + weigh size (young_in from) number content
+      inner number None = omega arith
+      inner number (Some page) = go (page.class_size == size)
+        where
+          go : (same : Bool) → (if same then olds from page.slots + youngs from page.slots else 0) ≡ (if same then olds from page.slots else 0) + (if same then youngs from page.slots else 0)
+          go true = refl
+          go false = omega arith
+
+      both : total size (λ number page. olds from page.slots + youngs from page.slots) ≡ weights (λ number content. weigh size (old_in from) number content + weigh size (young_in from) number content) (ages table)
+      both = weights-same (weigh size (λ n page. olds from page.slots + youngs from page.slots)) (λ number content. weigh size (old_in from) number content + weigh size (young_in from) number content) (ages table) inner

@@ -1,0 +1,7 @@
+//! Laws of runs of which only the needs of their sessions are known, where small parts share pages.
+ghost use Rattle.mh_sizing_laws.specs.SharpNeeds.{SharpEnoughForNeedsSuffices};
+
+/// Enough for what sessions need suffices, by the classes of their parts: no reply is a full heap, and no cycle takes more quanta.
+pub fn sharp_enough_for_needs_suffices()
+    ensures { SharpEnoughForNeedsSuffices }
+{}

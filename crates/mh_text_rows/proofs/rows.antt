@@ -1,3 +1,0 @@
-pub mod AnsweredLines
-pub mod RunTexts
-pub mod SeenHistories
