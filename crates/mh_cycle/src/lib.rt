@@ -7,7 +7,6 @@
 //! pages are evacuated.
 #![tactic(auto)]
 
-pub use mh_mark::mh_scan;
 pub use mh_mark::{mh_blocks, mh_scan};
 
 pub mod cycle;
