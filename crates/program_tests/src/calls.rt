@@ -1,17 +1,13 @@
 //! Calls of the program that may be refused memory.
+use crate::cases::AUDIT;
 use crate::comparing::Comparing;
 use crate::live_answers::{are_right, has_starved, refused_in};
-use mh_judging::judgement::Judgement;
-use mh_judging::judge::audit_script;
-use mh_program::errors::Errors;
-use mh_program::launch::launch;
-use mh_program::order::line_order;
-use mh_program::program::serve;
-use mh_program::words::words;
+use crate::program::{Errors, launch, line_order, serve, words};
 use mh_text::sink::StdSink;
 use mh_text::source::StdSource;
 use std::alloc::{AllocError, Global};
 use std::io::Write;
+use std::str;
 use std::sync::Wait;
 use std::thread::Threads;
 use test_support::environment::Words;
@@ -78,8 +74,8 @@ enum Ending {
 
 const NO_MEMORY: &[u8] = b"metroheap: no memory\n";
 
-/// So many bytes are enough for the words of a command line, and to judge a history.
-const ENOUGH: usize = 1 << 20;
+/// So many bytes are enough for the words of a command line, and to judge a history or answers.
+const ENOUGH: usize = 1 << 22;
 
 /// The history of one race is not longer, nor what is reported.
 const MOST_BYTES: usize = 2_048;
@@ -99,8 +95,8 @@ fn serve_with<R: Threads + Wait + Sync, W: Write + Drop>(
     let mut source = StdSource::new(call.text);
     let mut sink = StdSink::new(output);
     let mut errors = Errors::new(alloc, StdSink::new(errors));
-    famine.leave(left)?;
-    Ok(serve(
+    let is_left = famine.leave(left);
+    let status = serve(
         rt,
         alloc,
         order,
@@ -108,16 +104,23 @@ fn serve_with<R: Threads + Wait + Sync, W: Write + Drop>(
         &mut sink,
         &mut errors,
         &Eager,
-    ))
+    );
+    is_left?;
+    Ok(status)
+}
+
+/// The number of entries of a history, if this is the verdict that it is legal.
+fn number_in(verdict: &[u8]) -> Option<u64> {
+    let number = verdict.strip_prefix(b"legal ")?.strip_suffix(b"\n")?;
+    str::from_utf8(number).ok()?.parse().ok()
 }
 
 /// The number of entries of a legal history.
-fn legal_entries(alloc: Global, history: &[u8]) -> Option<u64> {
-    let mut sink = StdSink::new(Vec::new(alloc));
-    match audit_script(alloc, &mut StdSource::new(history), &mut sink) {
-        Ok(Judgement::Legal(count)) => Some(count),
-        _ => None,
-    }
+fn legal_entries<R: Threads + Wait + Sync>(rt: &R, alloc: Global, history: &[u8]) -> Option<u64> {
+    let mut verdict = Vec::new(alloc);
+    let mut told = Vec::new(alloc);
+    launch(rt, alloc, &Words(AUDIT), history, &mut verdict, &mut told);
+    number_in(verdict.as_slice())
 }
 
 fn lines_in(text: &[u8]) -> usize {
@@ -125,7 +128,7 @@ fn lines_in(text: &[u8]) -> usize {
 }
 
 /// Whether a line was told for each that was answered as outside the grammar, and one more at the end if memory was refused.
-fn is_told(answers: &[u8], told: &[u8], ending: &Ending) -> bool {
+fn is_told(answers: &[u8], told: &[u8], ending: Ending) -> bool {
     let refused = refused_in(answers);
     match ending {
         Ending::NoMemory => lines_in(told) == refused.wrapping_add(1),
@@ -133,7 +136,30 @@ fn is_told(answers: &[u8], told: &[u8], ending: &Ending) -> bool {
     }
 }
 
-impl Call<'_> {
+/// How a call whose answers are right came out, if so many answers are all.
+fn answered(ending: Ending, answers: &[u8], count: usize) -> Outcome {
+    let lines = lines_in(answers);
+    match ending {
+        Ending::Quiet(0) if lines == count && !has_starved(answers) => Outcome::Right,
+        Ending::Quiet(0) if lines >= count => Outcome::Refused(answers.len()),
+        Ending::NoMemory => Outcome::Refused(answers.len()),
+        _ => Outcome::Wrong,
+    }
+}
+
+impl<'a> Call<'a> {
+    /// A call of which this is written, and nothing is reported.
+    pub fn known(words: &'a [&'a [u8]], text: &'a [u8], output: &'a [u8]) -> Call<'a> {
+        Call {
+            words,
+            text,
+            wanted: Wanted::Output(output),
+            told: Told::Nothing,
+            status: 0,
+            reading: Reading::Before,
+        }
+    }
+
     /// How the program ended with this status and this on standard error.
     fn ending(&self, status: u8, told: &[u8]) -> Ending {
         if status == 3 && told == NO_MEMORY {
@@ -208,7 +234,8 @@ impl Call<'_> {
         let mut told = Vec::with_capacity(alloc, MOST_BYTES)?;
         let ending = self.carry_out(rt, alloc, famine, left, &mut history, &mut told)?;
         famine.leave(ENOUGH)?;
-        Ok(match (ending, legal_entries(alloc, history.as_slice())) {
+        let legal = legal_entries(rt, alloc, history.as_slice());
+        Ok(match (ending, legal) {
             (Ending::Quiet(status), Some(count)) if status == self.status && count == entries => {
                 Outcome::Right
             }
@@ -237,15 +264,11 @@ impl Call<'_> {
         let answers = answers.as_slice();
         let is_right = are_right(rt, alloc, self.text, answers, true)?
             || are_right(rt, alloc, self.text, answers, false)?;
-        let lines = lines_in(answers);
-        let is_right = is_right && is_told(answers, told.as_slice(), &ending);
-        Ok(match ending {
-            Ending::Quiet(0) if is_right && lines == count && !has_starved(answers) =>
-                Outcome::Right,
-            Ending::Quiet(0) if is_right && lines >= count => Outcome::Refused(answers.len()),
-            Ending::NoMemory if is_right => Outcome::Refused(answers.len()),
-            _ => Outcome::Wrong,
-        })
+        if is_right && is_told(answers, told.as_slice(), ending) {
+            Ok(answered(ending, answers, count))
+        } else {
+            Ok(Outcome::Wrong)
+        }
     }
 
     /// Makes the call with so many bytes left.

@@ -1,6 +1,6 @@
 //! What scripts make the collector do, and how it answers them.
 
-use crate::scripts::{EVENTS, PROFILES, script};
+use crate::random_scripts::{EVENTS, PROFILES, script};
 use mh_generate::profile::Profile;
 use mh_model::cycle::Phase;
 use mh_model::reply::{Refusal, Reply};

@@ -1,60 +1,12 @@
-//! Command lines, scripts and histories, and what is right for them.
+//! Longer texts, with each kind of event, and what is right for them while memory is refused.
 use std::alloc::{AllocError, Global};
 use std::fmt::Write;
 
-pub const RUN: &[&[u8]] = &[b"metroheap", b"run"];
-
-pub const RUN_HISTORY: &[&[u8]] = &[b"metroheap", b"run", b"--history", b"--rules=1"];
-
 pub const STEPS: &[&[u8]] = &[b"metroheap", b"steps", b"--from=11", b"--to=11"];
-
-pub const LIVE: &[&[u8]] = &[b"metroheap", b"live"];
-
-pub const CHECK_SESSIONS: &[&[u8]] = &[b"metroheap", b"check", b"--sessions"];
 
 pub const RUN_BY_TWO: &[&[u8]] = &[b"metroheap", b"run", b"--workers=2"];
 
-pub const RACE: &[&[u8]] = &[b"metroheap", b"race"];
-
 pub const RACE_BY_TWO: &[&[u8]] = &[b"metroheap", b"race", b"--workers=2"];
-
-pub const CHECK: &[&[u8]] = &[
-    b"metroheap",
-    b"check",
-    b"--pages=4",
-    b"--quantum=353",
-    b"--trigger=0",
-    b"--every=0",
-];
-
-pub const AUDIT: &[&[u8]] = &[b"metroheap", b"audit"];
-
-pub const MIGRATE: &[&[u8]] = &[
-    b"metroheap",
-    b"migrate",
-    b"--pages=4",
-    b"--quantum=353",
-    b"--trigger=0",
-    b"--every=0",
-];
-
-pub const GENERATE: &[&[u8]] = &[b"metroheap", b"generate", b"--seed=1", b"--events=12"];
-
-/// The random script that these words ask for.
-pub const GENERATED: &[u8] = b"config 64 250 32 25
-s0 new 0 16 0
-s0 new 1 2 4
-s0 put 1 0 0
-s0 put 1 1 4
-s0 copy 0 1
-s1 put 3 0 9
-s0 write 13 0 12816369009886135965
-s1 new 0 16 0
-s0 new 1 2 3
-s0 put 1 0 0
-s2 new 1 2 2
-s0 put 1 1 4
-";
 
 /// Under this configuration each command is followed by a whole cycle.
 pub const MIGRATE_CYCLES: &[&[u8]] = &[
@@ -155,6 +107,10 @@ s1 shape 0 = refused 2 null
 * report 1 = mutator 13 collector 831 quanta 6 greatest 209 window 1 least 0 floor none
 ";
 
+/// Lines of which each but the first has an answer.
+pub const LINES_ANSWERED: &[u8] =
+    b"config 4 353 0 0\na new 0 0 61\na write 0 60 7\n* dump\n* start\n* quantum\na walk\n* stat\na read 0 60\n* report 1\nb new 1 1 1\nb shape 1\na read 0 60\n";
+
 /// A line that is outside the grammar after some that are not.
 pub const REFUSED: &[u8] = b"config 4 209 0 0\na new 0 1 1\n* dump\nb walk\n";
 
@@ -213,6 +169,10 @@ s0 new 0 0 0 = ok
 s1 clear 16 = refused 1 bad slot
 * report 361 = mutator 2 collector 360 quanta 2 greatest 353 window 361 least 1 floor none
 ";
+
+/// The script of the record.
+pub const CYCLE: &[u8] =
+    b"config 4 353 0 0\na new 0 0 0\n* start\n* quantum\n* quantum\n* dump\nb clear 16\n* report 361\n";
 
 /// The same history as version 2.
 pub const RECORD: &[u8] = b"history 2 rules 1 4 353 0 0

@@ -1,12 +1,10 @@
 //! Answers to lines while memory is refused.
-use mh_live::feed::run_live;
-use mh_live::listener::Listener;
-use mh_scan::gate::Open;
-use mh_script::end::Refusal;
-use mh_text::sink::StdSink;
-use mh_text::source::StdSource;
+use crate::cases::LIVE;
+use crate::program::launch;
 use std::alloc::{AllocError, Global};
+use std::sync::Wait;
 use std::thread::Threads;
+use test_support::environment::Words;
 
 /// What a line is answered for which memory was refused.
 const STARVED: &[u8] = b"refused 9 no memory\n";
@@ -26,34 +24,13 @@ pub fn refused_in(answers: &[u8]) -> usize {
         .count()
 }
 
-/// Hears nothing.
-#[derive(Drop)]
-struct Deaf;
-
-impl Listener for Deaf {
-    ghost hears = { λ _ _ _. Unit {0} };
-
-    fn refused(&mut self, _refusal: &Refusal) {}
-
-    ghost silence = { λ _. tt };
-
-    ghost onward = { λ _ _ _ _ _ _ _. tt };
-}
-
 /// What the lines of a text are answered with all memory there.
-fn answers_to<R: Threads>(rt: &R, alloc: Global, text: &[u8]) -> Option<Vec<u8>> {
-    let mut sink = StdSink::new(Vec::new(alloc));
-    match run_live(
-        rt,
-        alloc,
-        &mut StdSource::new(text),
-        &mut sink,
-        &mut Deaf,
-        1,
-        &Open,
-    ) {
-        Ok(()) => Some(sink.writer),
-        Err(_) => None,
+fn answers_to<R: Threads + Wait + Sync>(rt: &R, alloc: Global, text: &[u8]) -> Option<Vec<u8>> {
+    let mut answers = Vec::new(alloc);
+    let mut told = Vec::new(alloc);
+    match launch(rt, alloc, &Words(LIVE), text, &mut answers, &mut told) {
+        0 => Some(answers),
+        _ => None,
     }
 }
 
@@ -89,7 +66,7 @@ fn without_starved_lines(
 }
 
 /// Whether the answers but those for refused memory are what the other lines are answered, as if there were no more lines.
-pub fn are_right<R: Threads>(
+pub fn are_right<R: Threads + Wait + Sync>(
     rt: &R,
     alloc: Global,
     text: &[u8],

@@ -1,4 +1,4 @@
-use crate::scripts::{PROFILES, script};
+use crate::random_scripts::{PROFILES, script};
 use std::test::Fail;
 
 #[test]

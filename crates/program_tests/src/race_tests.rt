@@ -1,13 +1,11 @@
 //! Races whose sessions have to run at once, and one whose quanta are scanned by crews.
-ghost use Rattle.std.specs.Prelude.{◌<◌, ◌≤◌};
-
-use crate::graph::{SCHEDULED_CUT, SCHEDULED_PIECES, SCHEDULED_QUANTA, scheduled_script};
-use crate::runs::raced;
+use crate::graph::{SCHEDULED_QUANTA, SCHEDULED_SEEN, scheduled_script};
+use crate::program::printed;
 use std::alloc::Global;
 use std::sync::Wait;
 use std::test::Fail;
 use std::thread::Threads;
-use test_support::gates::{Arrivals, Seen, Watch};
+use test_support::gates::{Arrivals, Watch};
 
 /// Whether so many sessions of a script, the desk among them, are in the race at once. Each is held until all have come.
 fn run_at_once<R: Threads + Wait + Sync>(
@@ -17,7 +15,7 @@ fn run_at_once<R: Threads + Wait + Sync>(
     sessions: u32,
 ) -> Result<bool, Fail> {
     let gate = Arrivals::new(sessions);
-    let _ = raced(rt, alloc, script, 2, &gate)?;
+    let _ = printed(rt, alloc, "race", "2", script, &gate)?;
     Ok(gate.sessions().is_each_once(sessions))
 }
 
@@ -45,7 +43,7 @@ fn all_sessions_run_at_once(rt: HostRuntime) -> Result<(), Fail> {
 fn a_session_passes_its_gate_before_its_first_call(rt: HostRuntime) -> Result<(), Fail> {
     let gate = Arrivals::new(1);
     let script = b"config 4 1000 4 1\na new 0 0 0\n";
-    let _ = raced(&rt, rt.alloc(), script, 2, &gate)?;
+    let _ = printed(&rt, rt.alloc(), "race", "2", script, &gate)?;
     assert!(rt; gate.scans() == (1, 0));
     Ok(())
 }
@@ -66,28 +64,21 @@ fn quanta_of_race<R: Threads + Wait + Sync>(
     rt: &R,
     alloc: Global,
     script: &[u8],
-    workers: usize,
+    workers: &str,
     gate: &Watch,
-) -> Result<Vec<u8>, Fail>
-    requires { (0 < workers) × (workers ≤ 64) }
-{
-    let history = raced(rt, alloc, script, workers, gate)?;
+) -> Result<Vec<u8>, Fail> {
+    let history = printed(rt, alloc, "race", workers, script, gate)?;
     quanta_of(alloc, &history)
 }
 
 #[test]
 fn two_workers_share_each_batch_of_a_race(rt: HostRuntime) -> Result<(), Fail> {
-    let wanted = Seen {
-        passed: SCHEDULED_PIECES,
-        cut: SCHEDULED_CUT,
-        faults: 0,
-    };
     let script = scheduled_script(rt.alloc())?;
-    for workers in [2, 7, 64] {
+    for workers in ["2", "7", "64"] {
         let gate = Watch::new(2);
         let quanta = quanta_of_race(&rt, rt.alloc(), &script, workers, &gate)?;
         assert!(rt; quanta.as_slice() == SCHEDULED_QUANTA);
-        assert!(rt; gate.seen() == wanted, "with {workers} workers");
+        assert!(rt; gate.seen() == SCHEDULED_SEEN, "with {workers} workers");
     }
     Ok(())
 }
