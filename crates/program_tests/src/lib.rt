@@ -1,4 +1,4 @@
-//! Tests of the program in threads that really run at once, over devices that give and take little, are interrupted, or fail, and while memory is refused.
+//! Tests of the program: its threads, which really run at once, its devices, which fail, and its memory, which is refused.
 #![tactic(auto)]
 
 #[cfg(test)]
