@@ -1,13 +1,13 @@
 //! Calls of the program that may be refused memory.
 use crate::comparing::Comparing;
 use crate::live_answers::{are_right, has_starved, refused_in};
-use mh_judging::judgement::Judgement;
+use mh_command_line::order::line_order;
+use mh_command_line::words::words;
 use mh_judging::judge::audit_script;
+use mh_judging::judgement::Judgement;
 use mh_program::errors::Errors;
 use mh_program::launch::launch;
-use mh_program::order::line_order;
 use mh_program::program::serve;
-use mh_program::words::words;
 use mh_text::sink::StdSink;
 use mh_text::source::StdSource;
 use std::alloc::{AllocError, Global};
