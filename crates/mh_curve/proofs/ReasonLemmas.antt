@@ -21,7 +21,7 @@ use Rattle.mh_script.proofs.AddedLines.{AppendsBeginning-nothing}
 use Rattle.mh_script.proofs.SourceLemmas.{reads_slice, record_bounded, some_text, wants_text}
 use Rattle.mh_curve.specs.declared.end.CurveEnd.{CurveEnd}
 use Rattle.mh_curve.specs.declared.end.CurveEnd.TheVariants.{Done, Refused, TooLong}
-use Rattle.mh_curve.specs.declared.form.CurveForm.{CurveForm}
+use Rattle.mh_orders.specs.declared.curve.CurveForm.{CurveForm}
 use Rattle.mh_curve.specs.Histories.{TakesToDraw, history_curve, recorded_curve, short_reading}
 use Rattle.mh_curve.specs.Runs.{BeginsToDraw, Draws, EndsSo}
 

@@ -15,7 +15,7 @@ use Rattle.mh_text.specs.Pieces.{Lines}
 use Rattle.mh_history.specs.Beginnings.{TakesEntry, measured_line, with_header}
 use Rattle.mh_history.proofs.LineLemmas.{Walked, walked_more}
 use Rattle.mh_curve.specs.declared.tally.Tally.{Tally}
-use Rattle.mh_curve.specs.declared.form.CurveForm.{CurveForm}
+use Rattle.mh_orders.specs.declared.curve.CurveForm.{CurveForm}
 use Rattle.mh_curve.specs.Histories.{Extends, IsBounded, IsLongHistory, IsShortHistory, TakesToDraw, history_curve, recorded_curve, short_reading, traced_curve, IsTallyOf, IsTraceIf, IsTraceOf, greatest_of, letters_of, units_of}
 
 pub letters_of-more : (entries : List Measured) (measured : Measured) → letters_of (entries ++ measured ∷ []) ≡ letters_of entries ++ units_of measured

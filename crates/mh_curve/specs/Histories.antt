@@ -12,7 +12,7 @@ use Rattle.mh_model.specs.Trace.{Letter, M, C, TraceState}
 use Rattle.mh_history.specs.Beginnings.{BeginsWithMeasured}
 use Rattle.mh_curve.specs.declared.drawing.Drawing.{Drawing}
 use Rattle.mh_curve.specs.declared.drawing.Drawing.TheVariants.{Curve, Refused, TooLong}
-use Rattle.mh_curve.specs.declared.form.CurveForm.{CurveForm}
+use Rattle.mh_orders.specs.declared.curve.CurveForm.{CurveForm}
 use Rattle.mh_curve.specs.declared.tally.Tally.{Tally}
 use Rattle.mh_curve.specs.Points.{counts_of, points_of}
 use Rattle.mh_curve.specs.Texts.{curve_text}

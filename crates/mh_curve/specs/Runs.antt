@@ -17,7 +17,7 @@ use Rattle.mh_script.specs.Texts.{Blames, IsTextOf, LeavesSource, WantsMemory}
 use Rattle.mh_text.specs.Stream.{AppendsBeginning}
 use Rattle.mh_curve.specs.declared.end.CurveEnd.{CurveEnd}
 use Rattle.mh_curve.specs.declared.end.CurveEnd.TheVariants.{Done, Refused, TooLong}
-use Rattle.mh_curve.specs.declared.form.CurveForm.{CurveForm}
+use Rattle.mh_orders.specs.declared.curve.CurveForm.{CurveForm}
 use Rattle.mh_curve.specs.Histories.{IsLongHistory, IsShortHistory, TakesToDraw, history_curve}
 use Rattle.mh_curve.specs.Points.{counts_of, points_of}
 use Rattle.mh_curve.specs.Texts.{curve_text}

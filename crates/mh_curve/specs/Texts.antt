@@ -6,8 +6,8 @@ use Rattle.mh_curve.specs.declared.point.Counts.{Counts}
 use Rattle.mh_curve.specs.declared.point.Point.{Point}
 use Rattle.mh_curve.specs.declared.parts.Part.{Part}
 use Rattle.mh_curve.specs.declared.parts.Part.TheVariants.{Row, Share, Floor, Tick}
-use Rattle.mh_curve.specs.declared.form.CurveForm.{CurveForm}
-use Rattle.mh_curve.specs.declared.form.CurveForm.TheVariants.{Table, Picture}
+use Rattle.mh_orders.specs.declared.curve.CurveForm.{CurveForm}
+use Rattle.mh_orders.specs.declared.curve.CurveForm.TheVariants.{Table, Picture}
 use Rattle.mh_curve.specs.declared.skeleton.TheConstants.{HEAD, COUNTS, AXES, WINDOWS, LEGEND, FLOOR_LEGEND, SHARES, END}
 use Rattle.mh_curve.specs.Points.{share_of}
 

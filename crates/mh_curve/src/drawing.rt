@@ -3,7 +3,7 @@ ghost use Rattle.std.specs.Prelude.{◌≡◌, IfOk, OnErr};
 ghost use Rattle.std.specs.String.{string_bytes};
 ghost use Rattle.mh_curve.specs.Histories.{IsBounded, IsDrawn, TakesToDraw, traced_curve};
 
-use crate::form::{CurveForm, curve_text};
+use crate::form::curve_text;
 use crate::point::Counts;
 use crate::points::curve_points;
 use crate::tally::tally_lines;
@@ -11,6 +11,7 @@ use mh_history::lines::RefusedLine;
 use mh_history::record::record_lines;
 use mh_model::config::Config;
 use mh_model::memory::NoMemory;
+use mh_orders::curve::CurveForm;
 use mh_report::trace::Trace;
 use mh_text::text_error::TextError;
 use std::alloc::Global;

@@ -6,16 +6,8 @@ use crate::picture::push_picture;
 use crate::point::{Counts, Point};
 use crate::table::push_table;
 use mh_model::memory::NoMemory;
+use mh_orders::curve::CurveForm;
 use std::alloc::Global;
-
-/// What a curve is written as.
-#[derive(Clone, Copy, Debug, PartialEq, Eq)]
-pub enum CurveForm {
-    /// A line for each window.
-    Table,
-    /// A picture in SVG.
-    Picture,
-}
 
 /// The text of a curve.
 pub fn curve_text(

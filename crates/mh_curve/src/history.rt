@@ -8,9 +8,9 @@ ghost use Rattle.mh_text.specs.Stream.{AppendsBeginning};
 
 use crate::drawing::{Drawing, drawn};
 use crate::end::CurveEnd;
-use crate::form::CurveForm;
 use mh_history::record::RECORD_BYTES;
 use mh_model::history::{Verdict, Version};
+use mh_orders::curve::CurveForm;
 use mh_reasons::history::history_reason;
 use mh_script::fault::{ScriptFault, WriteError};
 use mh_script::texts::{flush, read_whole, write_verdict};

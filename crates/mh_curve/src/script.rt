@@ -11,12 +11,13 @@ ghost use Rattle.mh_text.specs.Stream.{AppendsBeginning};
 ghost use Rattle.mh_script.specs.Run.{EndsAs, HasReason, Outputs, TakesToRun, WritesBeginning};
 ghost use Rattle.mh_script.specs.Texts.{LeavesSource, Blames, WantsMemory};
 
-use crate::form::{CurveForm, curve_text};
+use crate::form::curve_text;
 use crate::point::Counts;
 use crate::points::curve_points;
 use mh_model::command::Event;
 use mh_model::config::{Config, Rules};
 use mh_model::memory::NoMemory;
+use mh_orders::curve::CurveForm;
 use mh_report::trace::Trace;
 use mh_run_laws::bounds::runs_stay_within_their_events;
 use mh_scan::crew_scan::{CrewGate, CrewScan};
@@ -115,8 +116,13 @@ fn write_curve<C: Scanner, W: Sink>(
 }
 
 /// A run that is written as its curve.
-impl Transcript for CurveForm {
-    ghost text_of = { curve_run };
+#[derive(Clone, Copy)]
+struct Drawn {
+    form: CurveForm,
+}
+
+impl Transcript for Drawn {
+    ghost text_of = { λ drawn. curve_run drawn.form };
 
     fn write<C: Scanner, W: Sink>(
         &self,
@@ -126,7 +132,7 @@ impl Transcript for CurveForm {
         scanner: &mut C,
         sink: &mut W,
     ) -> Result<(), WriteError> {
-        write_curve(alloc, *self, config, events, scanner, sink)
+        write_curve(alloc, self.form, config, events, scanner, sink)
     }
 }
 
@@ -156,5 +162,6 @@ pub fn curve_script<R: Threads, S: Source, W: Sink, G: CrewGate>(
     ensures blames { Blames (S.failures source.old) (S.failures source.new) (W.failures sink.old) (W.failures sink.new) result }
 {
     let mut scanner = CrewScan::new(rt, alloc, workers, gate);
-    transcribe(alloc, &form, source, sink, rules, &mut scanner)
+    let drawn = Drawn { form };
+    transcribe(alloc, &drawn, source, sink, rules, &mut scanner)
 }

@@ -18,7 +18,7 @@ use Rattle.mh_script.specs.Texts.{Buffers}
 use Rattle.mh_script.proofs.AddedLines.{AppendsBeginning-nothing}
 use Rattle.mh_script.proofs.BufferLemmas.{AppendsBeginning-after, AppendsBeginning-buffers, Appends-buffers, Buffers-more, Buffers-trans}
 use Rattle.std.proofs.KnownBytes.{Appends-nil}
-use Rattle.mh_generate.specs.declared.options.Options.{Options}
+use Rattle.mh_orders.specs.declared.generate_options.Options.{Options}
 use Rattle.mh_generate.specs.Generated.{IsAsked, WritesAsked}
 use Rattle.mh_generate.specs.Profiles.{named_by}
 use Rattle.mh_generate.specs.Scripts.{are_in_order, config_line, event_line, is_below, is_next, named_after, named_after_all, script_text}

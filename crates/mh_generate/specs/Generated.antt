@@ -3,7 +3,7 @@ use Rattle.std.specs.Prelude.{◌≡◌, true, length, Option}
 use Rattle.std.specs.List.{list_all}
 use Rattle.mh_model.specs.Bytes.{Text}
 use Rattle.mh_model.specs.Script.{Meaning, Means, reading}
-use Rattle.mh_generate.specs.declared.options.Options.{Options}
+use Rattle.mh_orders.specs.declared.generate_options.Options.{Options}
 use Rattle.mh_generate.specs.Profiles.{named_by}
 use Rattle.mh_generate.specs.Scripts.{is_below}
 

@@ -7,9 +7,9 @@ ghost use Rattle.mh_generate.specs.Scripts.{is_below, is_next, named_after};
 
 use crate::mix::Mix;
 use crate::names::Names;
-use crate::options::Options;
-use crate::profile::Profile;
 use mh_model::command::Event;
+use mh_orders::generate_options::Options;
+use mh_orders::profile::Profile;
 
 /// Which events come next. What they are is by the mix alone; the names see to it that sessions are first named in order.
 #[derive(Drop)]

@@ -6,7 +6,7 @@ ghost use Rattle.mh_generate.specs.Generated.{WritesAsked};
 
 use crate::chooser::Chooser;
 use crate::line::{push_config_line, push_event_line};
-use crate::options::Options;
+use mh_orders::generate_options::Options;
 use mh_script::fault::WriteError;
 use mh_script::texts::{flush, flush_full};
 use mh_text::sink::Sink;

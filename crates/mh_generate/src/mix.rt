@@ -1,14 +1,14 @@
 //! Which commands and controls come, by the profile.
 ghost use Rattle.std.specs.Prelude.{◌<◌};
 
-use crate::options::Options;
 use crate::plan::Plan;
-use crate::profile::Profile;
 use crate::random::Random;
 use crate::session::Session;
 use crate::{churn, controls, fragments, large, lists, refusals, trees, wide};
 use mh_model::command::{Command, Control};
 use mh_model::limits::{RUN, SESSIONS, SPINE_FIELDS};
+use mh_orders::generate_options::Options;
+use mh_orders::profile::Profile;
 
 /// The most sessions that are named: one more than there are.
 pub(crate) const SPEAKERS: usize = SESSIONS + 1;

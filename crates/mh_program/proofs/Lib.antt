@@ -1,7 +1,1 @@
-pub mod CommandLemmas
-pub mod FaultLemmas
-pub mod NumberLemmas
-pub mod OptionLemmas
-pub mod ReadingLemmas
-pub mod SubcommandLemmas
 pub mod TellingLemmas

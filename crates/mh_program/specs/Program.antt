@@ -3,17 +3,17 @@ use Rattle.std.specs.Prelude.{◌≡◌, ℕ, ◌<◌, Result, Ok, Err, codes}
 use Rattle.std.specs.Io.KnownBytes.{Appends}
 use Rattle.mh_model.specs.Bytes.{Text, line_text}
 use Rattle.mh_script.specs.declared.fault.ScriptFault.{ScriptFault}
-use Rattle.mh_program.specs.declared.fault.LineFault.{LineFault}
-use Rattle.mh_program.specs.declared.line.Order.{Order}
-use Rattle.mh_program.specs.declared.line.Order.TheVariants.{Run, Steps, Show, Live, Race, Check, CheckSessions, Audit, Migrate, Generate, Version, Curve, CurveHistory, Size, SizeTarget, SizeScript}
-use Rattle.mh_program.specs.declared.line.Form.{Form}
-use Rattle.mh_program.specs.declared.line.Form.TheVariants.{Replies, History}
+use Rattle.mh_command_line.specs.declared.fault.LineFault.{LineFault}
+use Rattle.mh_orders.specs.declared.order.Order.{Order}
+use Rattle.mh_orders.specs.declared.order.Order.TheVariants.{Run, Steps, Show, Live, Race, Check, CheckSessions, Audit, Migrate, Generate, Version, Curve, CurveHistory, Size, SizeTarget, SizeScript}
+use Rattle.mh_orders.specs.declared.order.Form.{Form}
+use Rattle.mh_orders.specs.declared.order.Form.TheVariants.{Replies, History}
 use Rattle.mh_script.specs.declared.fault.ScriptFault.TheVariants.{Write, NoMemory}
 use Rattle.mh_text.specs.Stream.{AppendsBeginning}
 use Rattle.mh_script.specs.declared.end.End.{End}
 use Rattle.mh_script.specs.declared.end.End.TheVariants.{Done}
 use Rattle.mh_curve.specs.Runs.{IsDrawing, curve_output}
-use Rattle.mh_generate.specs.declared.options.Options.{Options}
+use Rattle.mh_orders.specs.declared.generate_options.Options.{Options}
 use Rattle.mh_generate.specs.Generated.{WritesAsked}
 use Rattle.mh_judging.specs.Judged.{IsAuditing, IsChecking, IsMigrating}
 use Rattle.mh_racing.specs.Raced.{IsRaceRun}

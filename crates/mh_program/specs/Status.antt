@@ -6,8 +6,8 @@ use Rattle.mh_judging.specs.declared.judgement.Judgement.{Judgement}
 use Rattle.mh_judging.specs.declared.judgement.Judgement.TheVariants as judgement
 use Rattle.mh_script.specs.declared.end.End.{End}
 use Rattle.mh_script.specs.declared.end.End.TheVariants.{Done, Refused}
-use Rattle.mh_program.specs.declared.fault.LineFault.{LineFault}
-use Rattle.mh_program.specs.declared.fault.LineFault.TheVariants.{Words, NotText, Configuration, NoMemory}
+use Rattle.mh_command_line.specs.declared.fault.LineFault.{LineFault}
+use Rattle.mh_command_line.specs.declared.fault.LineFault.TheVariants.{Words, NotText, Configuration, NoMemory}
 use Rattle.mh_script.specs.declared.fault.ScriptFault.{ScriptFault}
 
 -- 0 for a script that was run, 1 for one that was refused, 3 for a fault of memory or of a device, and for a full history

@@ -7,11 +7,11 @@ use Rattle.mh_curve.specs.declared.end.CurveEnd.TheVariants as curve
 use Rattle.mh_judging.specs.declared.judgement.Judgement.{Judgement}
 use Rattle.mh_judging.specs.declared.judgement.Judgement.TheVariants as judgement
 use Rattle.mh_model.specs.Bytes.{Text, line_text}
-use Rattle.mh_program.specs.declared.fault.LineFault.{LineFault}
-use Rattle.mh_program.specs.declared.fault.LineFault.TheVariants as line
-use Rattle.mh_program.specs.declared.line.ConfigOption.{ConfigOption}
-use Rattle.mh_program.specs.declared.line.ConfigOption.TheVariants.{Pages, Quantum, Trigger, Every}
-use Rattle.mh_program.specs.Printable.{IsPrintable, IsSign}
+use Rattle.mh_command_line.specs.declared.fault.LineFault.{LineFault}
+use Rattle.mh_command_line.specs.declared.fault.LineFault.TheVariants as line
+use Rattle.mh_orders.specs.declared.order.ConfigOption.{ConfigOption}
+use Rattle.mh_orders.specs.declared.order.ConfigOption.TheVariants.{Pages, Quantum, Trigger, Every}
+use Rattle.mh_command_line.specs.Printable.{IsPrintable, IsSign}
 use Rattle.mh_script.specs.declared.end.End.{End}
 use Rattle.mh_script.specs.declared.end.End.TheVariants.{Done, Refused}
 use Rattle.mh_script.specs.declared.end.Refusal.{Refusal}

@@ -1,6 +1,6 @@
 use crate::errors::Errors;
 use crate::program::program;
-use crate::words::words;
+use mh_command_line::words::words;
 use mh_scan::gate::Open;
 use mh_text::sink::StdSink;
 use mh_text::source::StdSource;

@@ -1,7 +1,7 @@
 ghost use Rattle.std.specs.Prelude.{◌≡◌};
 ghost use Rattle.mh_program.specs.Status.{curve_status_of, judgement_status_of, line_status_of, live_status_of, status_of};
 
-use crate::fault::LineFault;
+use mh_command_line::fault::LineFault;
 use mh_curve::end::CurveEnd;
 use mh_judging::judgement::Judgement;
 use mh_script::end::End;

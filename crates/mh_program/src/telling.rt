@@ -2,16 +2,16 @@
 ghost use Rattle.std.specs.Prelude.{◌≡◌, ◌+◌, IfOk, MatchResult};
 ghost use Rattle.std.specs.String.{string_bytes};
 ghost use Rattle.mh_model.specs.Bytes.{line_text};
-ghost use Rattle.mh_program.specs.Printable.{IsPrintable};
+ghost use Rattle.mh_command_line.specs.Printable.{IsPrintable};
 ghost use Rattle.mh_program.specs.Telling.{IsComplaint, More, None, Tells, TellsCurve, TellsEnd, TellsFault, TellsJudgement, TellsLine, TellsRefusal, TellsRefusals, TellsRun, TellsWords, entry_place, fault_text, line_place, outside_text};
 
 use crate::errors::Errors;
-use crate::fault::LineFault;
-use crate::line::ConfigOption;
-use crate::quoted::{printable, signs};
+use mh_command_line::fault::LineFault;
+use mh_command_line::quoted::{printable, signs};
 use mh_curve::end::CurveEnd;
 use mh_judging::judgement::Judgement;
 use mh_live::listener::Listener;
+use mh_orders::order::ConfigOption;
 use mh_script::end::{End, Refusal};
 use mh_script::fault::{HISTORY_FULL, NO_MEMORY, READ_FAILED, ScriptFault, WRITE_FAILED};
 use mh_text::sink::Sink;

@@ -1,4 +1,3 @@
-pub mod BlockLemmas
 pub mod WindowLemmas
 pub mod HeapLemmas
 pub mod SizingLemmas

@@ -10,7 +10,7 @@ use Rattle.mh_sizing.specs.declared.openings.ClassParts.{ClassParts}
 use Rattle.mh_sizing.specs.Needs.{enough_trigger, needs_of_counts}
 use Rattle.mh_sizing.specs.Openings.{counted_classes, least_slots, pages_of_counts, parts_of_counts}
 use Rattle.mh_size.specs.declared.demand.Demand.{Demand}
-use Rattle.mh_size.specs.declared.heap_options.HeapOptions.{HeapOptions}
+use Rattle.mh_orders.specs.declared.heap_options.HeapOptions.{HeapOptions}
 use Rattle.mh_size.specs.Blocks.{counts_of}
 use Rattle.mh_size.specs.Cycles.{cycle_quanta, quantum_needed}
 use Rattle.mh_size.specs.Floors.{floors_text}

@@ -3,6 +3,5 @@ pub mod Texts
 pub mod Floors
 pub mod Blocks
 pub mod Heaps
-pub mod Given
 pub mod Targets
 pub mod Scripts

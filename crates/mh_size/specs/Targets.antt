@@ -3,13 +3,13 @@ use Rattle.std.specs.Prelude.{◌≡◌, ℕ, Option, None, Some, [], ◌∷◌,
 use Rattle.mh_model.specs.Bound.{most_quanta}
 use Rattle.mh_model.specs.Bytes.{Text, lines_text}
 use Rattle.mh_model.specs.declared.config.Config.{Config}
-use Rattle.mh_sizing.specs.declared.targets.Target.{Target}
+use Rattle.mh_orders.specs.declared.target_options.Target.{Target}
 use Rattle.mh_sizing.specs.Choices.{HasNone, IsGreatestQuantum, IsLeastEvery}
 use Rattle.mh_sizing.specs.Targets.{Meets, MeetsAfter, MeetsWith}
-use Rattle.mh_size.specs.declared.target_options.Given.{Given}
-use Rattle.mh_size.specs.declared.target_options.Given.TheVariants.{Every, Nothing, Quantum}
+use Rattle.mh_orders.specs.declared.target_options.Given.{Given}
+use Rattle.mh_orders.specs.declared.target_options.Given.TheVariants.{Every, Nothing, Quantum}
 use Rattle.mh_size.specs.declared.target.Choice.{Choice}
-use Rattle.mh_size.specs.declared.target_options.TargetOptions.{TargetOptions}
+use Rattle.mh_orders.specs.declared.target_options.TargetOptions.{TargetOptions}
 use Rattle.mh_size.specs.Texts.{optional_line}
 
 -- What keeps a target: the greatest quantum for a given number of units between two, the least such number for a given quantum, and otherwise the greatest quantum of all with the least number for it

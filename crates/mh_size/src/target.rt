@@ -2,15 +2,15 @@
 ghost use Rattle.std.specs.Prelude.{◌≡◌, ◌≤◌, ◌++◌, IfOk, IfSome, IsTrue, OnOk};
 ghost use Rattle.std.specs.String.{string_bytes};
 ghost use Rattle.mh_model.specs.Bytes.{Text};
-ghost use Rattle.mh_size.specs.Given.{may_be};
+ghost use Rattle.mh_orders.specs.Given.{may_be};
 ghost use Rattle.mh_size.specs.Targets.{AreQuanta, IsChoice, IsCycleBound, IsQuantaText, IsTargetText, choice_text};
 
 use crate::lines::push_optional;
-use crate::target_options::{Given, TargetOptions};
 use mh_model::config::{Config, Rules};
 use mh_model::memory::NoMemory;
+use mh_orders::target_options::{Given, Target, TargetOptions};
 use mh_sizing::cycles::quanta_of_cycle;
-use mh_sizing::targets::{Target, greatest_quantum, greatest_quantum_for, least_every_for};
+use mh_sizing::targets::{greatest_quantum, greatest_quantum_for, least_every_for};
 use std::alloc::Global;
 
 /// A quantum and after how many units of the mutator it is run, if there are such that keep the share.

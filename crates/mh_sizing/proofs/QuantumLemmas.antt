@@ -10,7 +10,7 @@ use Rattle.mh_model.specs.Limits.{is_configuration}
 use Rattle.mh_model.specs.Trace.{floor}
 use Rattle.mh_model.specs.declared.needs.Needs.{Needs}
 use Rattle.mh_model.specs.Needs.{quanta_needed, units_needed}
-use Rattle.mh_sizing.specs.declared.targets.Target.{Target}
+use Rattle.mh_orders.specs.declared.target_options.Target.{Target}
 use Rattle.mh_sizing.specs.Choices.{HasNone, least_from, IsLeastQuantum, IsGreatestQuantum, IsLeastEvery, IsFit, NoneFits, IsLeastFit}
 use Rattle.mh_sizing.specs.Needs.{enough_pages, is_enough_with, least_quantum_of, HasEnough}
 use Rattle.mh_sizing.specs.Targets.{IsMetBy, Meets, MeetsAfter, MeetsWith}

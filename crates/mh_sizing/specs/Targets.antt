@@ -2,7 +2,7 @@
 use Rattle.std.specs.Prelude.{◌≡◌, ℕ, ◌*◌, ◌≤◌}
 use Rattle.mh_model.specs.declared.config.Config.{Config}
 use Rattle.mh_model.specs.Trace.{floor}
-use Rattle.mh_sizing.specs.declared.targets.Target.{Target}
+use Rattle.mh_orders.specs.declared.target_options.Target.{Target}
 
 -- a quantum of at most so many units after so many of the mutator leaves it the share of a target
 abbrev pub IsMetBy : Target → ℕ → ℕ → Type 0

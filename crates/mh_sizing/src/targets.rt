@@ -4,16 +4,8 @@ ghost use Rattle.mh_sizing.specs.Choices.{HasNone, IsGreatestQuantum, IsLeastEve
 ghost use Rattle.mh_sizing.specs.Targets.{IsMetBy, Meets, MeetsAfter, MeetsWith};
 
 use mh_model::limits::{LEAST_QUANTUM, MOST_EVERY, MOST_QUANTUM};
+use mh_orders::target_options::Target;
 use mh_report::floor::floor;
-
-/// A share of the mutator in each stretch of a length.
-#[derive(Clone, Copy, Debug, PartialEq, Eq)]
-pub struct Target {
-    /// The share in parts of a hundred.
-    pub percent: u32,
-    /// The length, in units of the mutator and the collector together.
-    pub window: u64,
-}
 
 /// A quantum of at most so many units after so many of the mutator leaves it the share.
 fn is_met(target: &Target, every: u32, quantum: u32) -> bool

@@ -4,7 +4,7 @@ use Rattle.mh_model.specs.declared.command.Event.{Event}
 use Rattle.mh_model.specs.Bytes.{Text}
 use Rattle.mh_model.specs.Machine.{Machine, event_step}
 use Rattle.mh_script.proofs.AddedLines.{AddsLines}
-use Rattle.mh_telling.specs.declared.steps.Steps.{Steps}
+use Rattle.mh_orders.specs.declared.steps.Steps.{Steps}
 use Rattle.mh_telling.specs.Steps.{event_text, events_text}
 
 -- the machine, and the number of its next event

@@ -8,8 +8,8 @@ use Rattle.mh_model.specs.Deeds.{Account, Ran, deed_units}
 use Rattle.mh_model.specs.HistoryTexts.{entry_words, event_words}
 use Rattle.mh_model.specs.Pages.{page_number, slot_number}
 use Rattle.mh_model.specs.Replies.{reply_text}
-use Rattle.mh_telling.specs.declared.form.Form.{Form}
-use Rattle.mh_telling.specs.declared.form.Form.TheVariants as form
+use Rattle.mh_orders.specs.declared.steps.Form.{Form}
+use Rattle.mh_orders.specs.declared.steps.Form.TheVariants as form
 use Rattle.mh_telling.specs.Fields.{Value, Number, At, Word, Flag, Nothing, Field, deed_verb, deed_fields, cost_fields, end_fields}
 
 -- Values -----------------------------------------------------------------------------------------

@@ -1,16 +1,13 @@
 -- What a run of a script writes as its steps: each event with its reply, and below it what it did.
-use Rattle.std.specs.Prelude.{ℕ, suc, nat_le, Bool, ◌&&◌, if◌then◌else◌, List, [], ◌∷◌, ◌++◌}
+use Rattle.std.specs.Prelude.{ℕ, suc, if◌then◌else◌, List, [], ◌∷◌, ◌++◌}
 use Rattle.mh_model.specs.declared.command.Event.{Event}
 use Rattle.mh_model.specs.declared.config.Config.{Config}
 use Rattle.mh_model.specs.Bytes.{Text}
 use Rattle.mh_model.specs.Deeds.{account_of}
 use Rattle.mh_model.specs.Machine.{Machine, first_machine, event_step}
-use Rattle.mh_telling.specs.declared.steps.Steps.{Steps}
+use Rattle.mh_orders.specs.declared.steps.Steps.{Steps}
+use Rattle.mh_orders.specs.Steps.{is_asked}
 use Rattle.mh_telling.specs.Lines.{account_text, entry_line}
-
--- the deeds of the event of this number are asked for
-abbrev pub is_asked : Steps → ℕ → Bool
-is_asked steps number = nat_le steps.from number && nat_le number steps.to
 
 -- the account of an event, if its deeds are asked for
 abbrev pub deeds_text : Steps → ℕ → Machine → Event → Text

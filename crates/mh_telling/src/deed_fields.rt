@@ -8,12 +8,12 @@ ghost use Rattle.mh_telling.specs.Fields.{At, Number, Word, cost_fields, deed_fi
 ghost use Rattle.mh_telling.specs.Lines.{fields_text};
 
 use crate::fields::{push_flag, push_number, push_optional_place, push_place, push_word};
-use crate::form::Form;
 use mh_model::cycle::Phase;
 use mh_model::deed::{Deed, Edge, Fate, PartName, QuantumEnd, Tier};
 use mh_model::memory::NoMemory;
 use mh_model::place::Place;
 use mh_model::shape::Shape;
+use mh_orders::steps::Form;
 
 /// The verb of a deed.
 pub(crate) fn deed_verb(deed: &Deed) -> &'static str

@@ -3,11 +3,11 @@ ghost use Rattle.std.specs.Prelude.{◌≡◌, ◌++◌, OnOk};
 ghost use Rattle.std.specs.String.{string_bytes};
 ghost use Rattle.mh_telling.specs.Lines.{entry_line};
 
-use crate::form::Form;
 use crate::lines::push_event_key;
 use mh_history::measured_line::{push_event, push_reply};
 use mh_model::history::Entry;
 use mh_model::memory::NoMemory;
+use mh_orders::steps::Form;
 
 /// Adds the line of an entry, the event of this number. After an error the text may end with a part of it.
 #[tactic(auto, using(crate::proofs::LineLemmas::entry_written))]

@@ -4,10 +4,10 @@ ghost use Rattle.std.specs.String.{string_bytes};
 ghost use Rattle.mh_telling.specs.Fields.{At, Flag, Number, Word, field, optional_place};
 ghost use Rattle.mh_telling.specs.Lines.{field_text, flag_text, key_text, place_text, quoted};
 
-use crate::form::Form;
 use itoa::Buffer;
 use mh_model::memory::NoMemory;
 use mh_model::place::Place;
+use mh_orders::steps::Form;
 
 pub(crate) fn push_decimal(text: &mut String, number: u128) -> Result<(), NoMemory>
     ensures { OnOk result (string_bytes text.new ≡ string_bytes text.old ++ decimal number) }

@@ -4,7 +4,5 @@
 mod deed_fields;
 pub mod entry;
 mod fields;
-pub mod form;
 mod lines;
 pub mod run;
-pub mod steps;

@@ -6,10 +6,10 @@ ghost use Rattle.mh_telling.specs.Lines.{account_text, deed_head, deed_line, eve
 
 use crate::deed_fields::{deed_units, deed_verb, push_cost, push_deed_fields, push_end};
 use crate::fields::{push_decimal, push_key, push_quoted};
-use crate::form::Form;
 use mh_deeds::account::Account;
 use mh_model::deed::{Deed, QuantumEnd};
 use mh_model::memory::NoMemory;
+use mh_orders::steps::Form;
 
 /// Adds how each object begins: with the number of its event.
 pub(crate) fn push_event_key(text: &mut String, number: u64) -> Result<(), NoMemory>

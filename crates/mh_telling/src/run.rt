@@ -7,22 +7,23 @@ ghost use Rattle.mh_model.specs.Deeds.{account_of};
 ghost use Rattle.mh_model.specs.Limits.{most_entries};
 ghost use Rattle.mh_model.specs.Machine.{event_step};
 ghost use Rattle.mh_model.specs.Output as model;
+ghost use Rattle.mh_orders.specs.Steps.{is_asked};
 ghost use Rattle.mh_script.specs.Run.{EndsAs, HasReason, Outputs, TakesToRun, WritesBeginning, transcript};
 ghost use Rattle.mh_script.specs.Texts.{LeavesSource, Blames, WantsMemory};
 ghost use Rattle.mh_state.specs.Running.{Does};
 ghost use Rattle.mh_telling.specs.Lines.{account_text, entry_line};
-ghost use Rattle.mh_telling.specs.Steps.{event_text, events_text, is_asked, steps_text};
+ghost use Rattle.mh_telling.specs.Steps.{event_text, events_text, steps_text};
 ghost use Rattle.mh_text.specs.Stream.{AppendsBeginning};
 
 use crate::entry::push_entry_line;
 use crate::lines::push_account;
-use crate::steps::Steps;
 use mh_deeds::account::Account;
 use mh_model::command::Event;
 use mh_model::config::{Config, Rules};
 use mh_model::history::Entry;
 use mh_model::memory::NoMemory;
 use mh_model::reply::Reply;
+use mh_orders::steps::Steps;
 use mh_scan::scan::{OneScan, Scanner};
 use mh_script::end::End;
 use mh_script::fault::{ScriptFault, WriteError};
@@ -165,8 +166,14 @@ fn write_steps<C: Scanner, W: Sink>(
     Ok(())
 }
 
-impl Transcript for Steps {
-    ghost text_of = { steps_text };
+/// A run that is written as these steps.
+#[derive(Clone, Copy)]
+struct Stepped {
+    steps: Steps,
+}
+
+impl Transcript for Stepped {
+    ghost text_of = { λ stepped. steps_text stepped.steps };
 
     fn write<C: Scanner, W: Sink>(
         &self,
@@ -177,7 +184,7 @@ impl Transcript for Steps {
         sink: &mut W,
     ) -> Result<(), WriteError> {
         let mut machine = Machine::open(alloc, config)?;
-        write_steps(alloc, *self, &mut machine, events, scanner, sink)
+        write_steps(alloc, self.steps, &mut machine, events, scanner, sink)
     }
 }
 
@@ -201,5 +208,6 @@ pub fn tell_script<S: Source, W: Sink>(
     ensures taken { LeavesSource SCRIPT_BYTES (S.rest source.old) (S.rest source.new) result }
     ensures blames { Blames (S.failures source.old) (S.failures source.new) (W.failures sink.old) (W.failures sink.new) result }
 {
+    let steps = Stepped { steps };
     transcribe(alloc, &steps, source, sink, rules, &mut OneScan::new(alloc))
 }

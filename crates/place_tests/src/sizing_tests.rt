@@ -4,13 +4,14 @@ ghost use Rattle.mh_sizing.specs.Openings.{parts_of_counts};
 use mh_classes::class::{Class, class_of};
 use mh_model::config::Config;
 use mh_model::needs::Needs;
+use mh_orders::target_options::Target;
 use mh_sizing::cycles::{quanta_needed, quanta_of_cycle};
 use mh_sizing::kinds::kinds_of;
 use mh_sizing::needs::{enough_pages, enough_trigger, least_quantum, needs_of};
 use mh_sizing::openings::{ClassParts, pages_opened, pages_opened_at_most};
 use mh_sizing::pages::page_units;
 use mh_sizing::shared::{enough_shared_pages, least_quantum_shared};
-use mh_sizing::targets::{Target, greatest_quantum_for, least_every_for};
+use mh_sizing::targets::{greatest_quantum_for, least_every_for};
 use std::test::Fail;
 
 /// The classes of 7 and of 8 words, with 36 and 32 slots.

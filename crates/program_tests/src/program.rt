@@ -1,11 +1,11 @@
 //! What tests call of the program, and what it prints while a hook watches its crew or its sessions.
+pub use mh_command_line::order::{line_order, order};
+pub use mh_command_line::words::words;
+pub use mh_orders::order::Order;
 pub use mh_program::errors::Errors;
 pub use mh_program::launch::launch;
-pub use mh_program::line::Order;
-pub use mh_program::order::{line_order, order};
 pub use mh_program::program::{program, serve};
 pub use mh_program::prompt::Prompting;
-pub use mh_program::words::words;
 use mh_scan::crew_scan::CrewGate;
 use mh_text::sink::StdSink;
 use mh_text::source::StdSource;

@@ -1,9 +1,9 @@
 //! What scripts make the collector do, and how it answers them.
 
 use crate::random_scripts::{EVENTS, PROFILES, script};
-use mh_generate::profile::Profile;
 use mh_model::cycle::Phase;
 use mh_model::reply::{Refusal, Reply};
+use mh_orders::profile::Profile;
 use mh_scan::scan::OneScan;
 use mh_state::machine::Machine;
 use mh_text::script::parse;

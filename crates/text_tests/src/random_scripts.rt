@@ -1,9 +1,9 @@
 //! Scripts as the program writes them if little is asked for.
 
 use mh_generate::generate::generate;
-use mh_generate::options::Options;
-use mh_generate::profile::Profile;
 use mh_model::config::{Config, Rules};
+use mh_orders::generate_options::Options;
+use mh_orders::profile::Profile;
 use mh_text::sink::StdSink;
 use std::alloc::Global;
 use std::test::Fail;

@@ -1,6 +1,6 @@
 use Rattle.std.proofs.Common.{sym, subst}
 use Rattle.mh_program.specs.Telling.{TellsLine}
-use Rattle.mh_program.specs.declared.fault.LineFault.{LineFault}
+use Rattle.mh_command_line.specs.declared.fault.LineFault.{LineFault}
 use Rattle.mh_program.proofs.errors.Errors.tell_line.Goals as goal
 
 pub returns-in-Words : goal.returns-in-Words

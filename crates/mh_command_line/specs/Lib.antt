@@ -1,0 +1,5 @@
+pub mod Blocks
+pub mod Line
+pub mod Orders
+pub mod Printable
+pub mod Sizes

@@ -1,0 +1,310 @@
+-- The command line as `clap` is given it, and what the options in its matches say.
+use Rattle.std.specs.Prelude.{◌≡◌, ◌⊎◌, ◌<◌, ◌≤◌, ◌==◌, if◌then◌else◌, ℕ, Bool, true, false, List, Option, Some, option_map, codes, IfSome, IsSomeAnd, Result, Ok, Err}
+use Rattle.std.specs.Str.{bytes_eq}
+use Rattle.std.specs.Option.{option_map_or}
+use Rattle.std.specs.Str.Parse.{IsNumeral, digits_value, without_leading_plus}
+use Rattle.clap.specs.Words.{App, IsUnsignedIn, Row, Rule, Text, new_app, new_rule, one_of, with_rule, with_subcommand}
+use Rattle.clap.specs.declared.builder.value_parser.ValueParser.{ValueParser}
+use Rattle.mh_command_line.specs.declared.options.OptionNumber.{OptionNumber}
+use Rattle.mh_command_line.specs.declared.options.NotNumber.{NotNumber}
+use Rattle.clap.specs.declared.builder.action.ArgAction.TheVariants.{SetTrue}
+use Rattle.clap.specs.declared.builder.value_parser.ValueParser.TheVariants.{String, Unsigned}
+use Rattle.mh_model.specs.declared.config.Rules.{Rules}
+use Rattle.mh_model.specs.declared.config.Rules.TheVariants.{First, Second}
+
+-- Options ----------------------------------------------------------------------------------------
+
+-- the numbers from 1 to 64
+abbrev pub worker_numbers : ValueParser
+worker_numbers = Unsigned 1 64
+
+-- the numbers of the rules
+abbrev pub rules_numbers : ValueParser
+rules_numbers = Unsigned 1 2
+
+-- the numbers of 64 bits, the numbers of events, and those of sessions that do the work of a random script
+abbrev pub seeds : ValueParser
+seeds = Unsigned 0 18446744073709551615
+
+abbrev pub event_numbers : ValueParser
+event_numbers = Unsigned 1 1000000
+
+abbrev pub session_numbers : ValueParser
+session_numbers = Unsigned 1 8
+
+-- the numbers of 32 bits, by which an event is named
+abbrev pub step_numbers : ValueParser
+step_numbers = Unsigned 0 4294967295
+
+-- the numbers of a random script's configuration
+abbrev pub page_numbers : ValueParser
+page_numbers = Unsigned 1 4096
+
+abbrev pub quantum_numbers : ValueParser
+quantum_numbers = Unsigned 209 1000000
+
+abbrev pub every_numbers : ValueParser
+every_numbers = Unsigned 0 1000000
+
+-- the numbers after which the scheduler runs a quantum, those of blocks, and those of a share and its windows
+abbrev pub scheduled_numbers : ValueParser
+scheduled_numbers = Unsigned 1 1000000
+
+abbrev pub block_numbers : ValueParser
+block_numbers = Unsigned 0 1048576
+
+abbrev pub percents : ValueParser
+percents = Unsigned 1 100
+
+abbrev pub window_numbers : ValueParser
+window_numbers = Unsigned 1 18446744073709551615
+
+-- any text
+abbrev pub any_text : ValueParser
+any_text = String
+
+-- an option that is called by its name
+abbrev pub named_rule : Text → Rule
+named_rule name = record (new_rule name) { long = Some name }
+
+-- an option that is given with one value
+abbrev pub option_rule : Text → Rule
+option_rule name = record (named_rule name) { value_names = 1 }
+
+-- one whose value passes a parser
+abbrev pub parsed_rule : Text → ValueParser → Rule
+parsed_rule name parser = record (option_rule name) { parser = Some parser }
+
+-- one of these that has to be given
+abbrev pub required_rule : Text → ValueParser → Rule
+required_rule name parser = record (parsed_rule name parser) { required = true }
+
+-- the option `--workers W`, which may be left out
+abbrev pub workers_rule : Rule
+workers_rule = parsed_rule (codes "workers") worker_numbers
+
+-- an option with a number of a configuration; whether it is given, and whether its text is a number, `clap` leaves open
+abbrev pub number_rule : Text → Rule
+number_rule name = parsed_rule name any_text
+
+-- the option `--rules R`, which may be left out
+abbrev pub rules_rule : Rule
+rules_rule = parsed_rule (codes "rules") rules_numbers
+
+-- the option `--profile NAME`; whether its text is a profile, `clap` leaves open
+abbrev pub profile_rule : Rule
+profile_rule = parsed_rule (codes "profile") any_text
+
+-- an option without a value, which is given or not
+abbrev pub flag_rule : Text → Rule
+flag_rule name = record (named_rule name) { action = Some SetTrue }
+
+-- Subcommands ------------------------------------------------------------------------------------
+
+-- a subcommand with a number of workers
+abbrev pub workers_app : Text → App
+workers_app name = with_rule (new_app name) workers_rule
+
+-- a subcommand with the four numbers of a configuration
+abbrev pub config_app : Text → App
+config_app name = with_rule (with_rule (with_rule (with_rule (new_app name) (number_rule (codes "pages"))) (number_rule (codes "quantum"))) (number_rule (codes "trigger"))) (number_rule (codes "every"))
+
+-- `run`, with rules, of a script's replies or of its history
+abbrev pub run_app : App
+run_app = with_rule (with_rule (workers_app (codes "run")) rules_rule) (flag_rule (codes "history"))
+
+-- `steps`, of the events between two numbers, in words or as JSON, with rules
+abbrev pub steps_app : App
+steps_app = with_rule (with_rule (with_rule (with_rule (new_app (codes "steps")) (parsed_rule (codes "from") step_numbers)) (parsed_rule (codes "to") step_numbers)) (flag_rule (codes "json"))) rules_rule
+
+-- `show`, with rules
+abbrev pub show_app : App
+show_app = with_rule (new_app (codes "show")) rules_rule
+
+-- `check`, with rules, under a configuration or by what sessions see
+abbrev pub check_app : App
+check_app = with_rule (with_rule (config_app (codes "check")) rules_rule) (flag_rule (codes "sessions"))
+
+-- `generate`, whose seed and number of events have to be given; with the numbers of a configuration but the trigger
+abbrev pub seeded_app : App
+seeded_app = with_rule (with_rule (with_rule (new_app (codes "generate")) (required_rule (codes "seed") seeds)) (required_rule (codes "events") event_numbers)) (parsed_rule (codes "sessions") session_numbers)
+
+abbrev pub generate_app : App
+generate_app =
+    with_rule (with_rule (with_rule (with_rule seeded_app (parsed_rule (codes "pages") page_numbers)) (parsed_rule (codes "quantum") quantum_numbers)) (parsed_rule (codes "every") every_numbers)) profile_rule
+
+-- `curve`, of a script with rules or of a history, as a table or as a picture
+abbrev pub curve_app : App
+curve_app = with_rule (with_rule (with_rule (new_app (codes "curve")) rules_rule) (flag_rule (codes "history"))) (flag_rule (codes "svg"))
+
+-- `size`, with the numbers of a configuration, and with what sessions ask for, or with a share of the mutator; or of a script with rules
+abbrev pub sized_app : App
+sized_app = with_rule (with_rule (with_rule (new_app (codes "size")) (parsed_rule (codes "pages") page_numbers)) (parsed_rule (codes "every") scheduled_numbers)) (parsed_rule (codes "quantum") quantum_numbers)
+
+abbrev pub blocks_app : App
+blocks_app = with_rule (with_rule (with_rule sized_app (parsed_rule (codes "allocates") any_text)) (parsed_rule (codes "live") block_numbers)) (parsed_rule (codes "references") block_numbers)
+
+abbrev pub share_app : App
+share_app = with_rule (with_rule blocks_app (parsed_rule (codes "target") percents)) (parsed_rule (codes "window") window_numbers)
+
+abbrev pub size_app : App
+size_app = with_rule share_app rules_rule
+
+-- the eleven subcommands
+abbrev pub optional_app : App
+optional_app =
+    with_subcommand (with_subcommand (with_subcommand (with_subcommand (with_subcommand (with_subcommand (with_subcommand (with_subcommand (with_subcommand (with_subcommand (with_subcommand (new_app (codes "metroheap"))
+    run_app.top)
+    steps_app.top)
+    show_app.top)
+    (workers_app (codes "live")).top)
+    (workers_app (codes "race")).top)
+    check_app.top)
+    (new_app (codes "audit")).top)
+    (config_app (codes "migrate")).top)
+    generate_app.top)
+    curve_app.top)
+    size_app.top
+
+-- a program that has a version
+abbrev pub versioned : App → App
+versioned app = record app { top = record app.top { has_version = true } }
+
+-- the program, whose words name a subcommand; `help` is none
+abbrev pub metroheap : App
+metroheap = let app : App = versioned optional_app in record app { top = record app.top { subcommand_required = true; disable_help_subcommand = true } }
+
+-- Numbers ----------------------------------------------------------------------------------------
+
+-- the number that a text of digits is, after a plus if it has one
+abbrev pub number_in : Text → ℕ
+number_in text = digits_value 10 (without_leading_plus text)
+
+-- how many workers the matches ask for, which is 1 if they don't say
+abbrev pub workers_of : List Row → ℕ
+workers_of rows = option_map_or number_in (one_of (codes "workers") rows) 1
+
+-- the rules with a number: the first with 1
+abbrev pub rules_numbered : ℕ → Rules
+rules_numbered number = if number == 1 then First else Second
+
+-- the rules that the matches ask for, which are these if they don't say
+abbrev pub rules_of : Rules → List Row → Rules
+rules_of other rows = option_map_or (λ text. rules_numbered (number_in text)) (one_of (codes "rules") rows) other
+
+-- the number of an option, which is this other one if the matches don't say
+abbrev pub number_or : ℕ → Text → List Row → ℕ
+number_or other name rows = option_map_or number_in (one_of name rows) other
+
+-- the number of an option that may be left out, if the matches say
+abbrev pub optional_number : Text → List Row → Option ℕ
+optional_number name rows = option_map number_in (one_of name rows)
+
+-- the flag is given
+abbrev pub is_flagged : Text → List Row → Bool
+is_flagged name rows = option_map_or (λ text. bytes_eq text (codes "true")) (one_of name rows) false
+
+-- the text is digits, after a plus if it has one
+abbrev pub IsNumber : Text → Type 0
+IsNumber text = IsNumeral 10 (without_leading_plus text)
+
+-- the option is given with this number
+abbrev pub HasNumber : List Row → Text → ℕ → Type 0
+HasNumber rows name n = IsSomeAnd (one_of name rows) (λ text. IsNumber text × (number_in text ≡ n))
+
+-- the option is given with a text that is no number
+abbrev pub LacksNumber : List Row → Text → Type 0
+LacksNumber rows name = IsSomeAnd (one_of name rows) (λ text. ¬ (IsNumber text))
+
+-- the name is that of an option of a configuration
+abbrev pub IsConfigOption : Text → Type 0
+IsConfigOption name = (name ≡ codes "pages") ⊎ (name ≡ codes "quantum") ⊎ (name ≡ codes "trigger") ⊎ (name ≡ codes "every")
+
+-- a number as 32 bits hold it: itself, or the largest if it is larger
+abbrev pub IsHeld : ℕ → ℕ → Type 0
+IsHeld n held = ((n ≤ 4294967295) × (held ≡ n)) ⊎ ((4294967295 < n) × (held ≡ 4294967295))
+
+-- what a text is read as, if it is a number
+abbrev pub ReadsNumber : Text → Result OptionNumber NotNumber → Type 0
+ReadsNumber text (Ok number) = IsNumber text × IsHeld (number_in text) number.value
+ReadsNumber text (Err fault) = ¬ (IsNumber text)
+
+-- the option is given with a number that is held so
+abbrev pub HoldsNumber : List Row → Text → ℕ → Type 0
+HoldsNumber rows name held = IsSomeAnd (one_of name rows) (λ text. IsNumber text × IsHeld (number_in text) held)
+
+-- What `clap` has seen to -------------------------------------------------------------------------
+
+-- no number of workers is given, or one from 1 to 64
+abbrev pub AsksForFew : List Row → Type 0
+AsksForFew rows = IfSome (one_of (codes "workers") rows) (IsUnsignedIn 1 64)
+
+-- no number of the rules is given, or 1 or 2
+abbrev pub AsksForRules : List Row → Type 0
+AsksForRules rows = IfSome (one_of (codes "rules") rows) (IsUnsignedIn 1 2)
+
+-- a flag's value, if it has one, is `true` or `false`
+abbrev pub HasFlag : Text → List Row → Type 0
+HasFlag name rows = IfSome (one_of name rows) (λ text. (text ≡ codes "true") ⊎ (text ≡ codes "false"))
+
+-- what the options of `run` may be
+abbrev pub AsksToRun : List Row → Type 0
+AsksToRun rows = AsksForFew rows × AsksForRules rows × HasFlag (codes "history") rows
+
+-- those of `steps`
+pub record AsksToTell (rows : List Row) : Type 0 where
+  pub from : IfSome (one_of (codes "from") rows) (IsUnsignedIn 0 4294967295)
+  pub to : IfSome (one_of (codes "to") rows) (IsUnsignedIn 0 4294967295)
+  pub json : HasFlag (codes "json") rows
+  pub rules : AsksForRules rows
+
+-- those of `check`
+abbrev pub AsksToCheck : List Row → Type 0
+AsksToCheck rows = AsksForRules rows × HasFlag (codes "sessions") rows
+
+-- those of `curve`
+abbrev pub AsksToCurve : List Row → Type 0
+AsksToCurve rows = AsksForRules rows × HasFlag (codes "history") rows × HasFlag (codes "svg") rows
+
+-- what those of `generate` may be, of which two are given
+pub record AsksToGenerate (rows : List Row) : Type 0 where
+  pub seed : IsSomeAnd (one_of (codes "seed") rows) (IsUnsignedIn 0 18446744073709551615)
+  pub events : IsSomeAnd (one_of (codes "events") rows) (IsUnsignedIn 1 1000000)
+  pub sessions : IfSome (one_of (codes "sessions") rows) (IsUnsignedIn 1 8)
+  pub pages : IfSome (one_of (codes "pages") rows) (IsUnsignedIn 1 4096)
+  pub quantum : IfSome (one_of (codes "quantum") rows) (IsUnsignedIn 209 1000000)
+  pub every : IfSome (one_of (codes "every") rows) (IsUnsignedIn 0 1000000)
+
+-- and those of `size`
+pub record AsksToSize (rows : List Row) : Type 0 where
+  pub pages : IfSome (one_of (codes "pages") rows) (IsUnsignedIn 1 4096)
+  pub every : IfSome (one_of (codes "every") rows) (IsUnsignedIn 1 1000000)
+  pub quantum : IfSome (one_of (codes "quantum") rows) (IsUnsignedIn 209 1000000)
+  pub live : IfSome (one_of (codes "live") rows) (IsUnsignedIn 0 1048576)
+  pub references : IfSome (one_of (codes "references") rows) (IsUnsignedIn 0 1048576)
+  pub target : IfSome (one_of (codes "target") rows) (IsUnsignedIn 1 100)
+  pub window : IfSome (one_of (codes "window") rows) (IsUnsignedIn 1 18446744073709551615)
+  pub rules : AsksForRules rows
+
+abbrev pub TakesWorkers : Text → Type 0
+TakesWorkers name = (name ≡ codes "live") ⊎ (name ≡ codes "race")
+
+-- the subcommand wants a configuration: `migrate` does, and `check` without `--sessions`
+abbrev pub WantsConfig : Text → List Row → Type 0
+WantsConfig name rows = ((name ≡ codes "check") × (is_flagged (codes "sessions") rows ≡ false)) ⊎ (name ≡ codes "migrate")
+
+-- a subcommand of the program, with what its options may be
+pub data IsAsked (name : Text) (rows : List Row) : Type 0 where
+  Runs : name ≡ codes "run" → AsksToRun rows → IsAsked name rows
+  Tells : name ≡ codes "steps" → AsksToTell rows → IsAsked name rows
+  Shows : name ≡ codes "show" → AsksForRules rows → IsAsked name rows
+  Workers : TakesWorkers name → AsksForFew rows → IsAsked name rows
+  Checks : name ≡ codes "check" → AsksToCheck rows → IsAsked name rows
+  Generates : name ≡ codes "generate" → AsksToGenerate rows → IsAsked name rows
+  Curves : name ≡ codes "curve" → AsksToCurve rows → IsAsked name rows
+  Sizes : name ≡ codes "size" → AsksToSize rows → IsAsked name rows
+  Nothing : (name ≡ codes "audit") ⊎ (name ≡ codes "migrate") → IsAsked name rows
+
+-- the words name one
+abbrev pub NamesOne : Option (Text × List Row) → Type 0
+NamesOne matched = IsSomeAnd matched (λ subcommand. IsAsked subcommand.0 subcommand.1)

@@ -1,0 +1,274 @@
+-- The order that the matches of a command line give, and why other words give none.
+use Rattle.std.specs.Prelude.{◌≡◌, ◌≢◌, ◌⊎◌, ◌<◌, ◌≤◌, ◌/◌, ℕ, true, false, if◌then◌else◌, List, [], Option, Some, None, Result, Ok, Err, codes, IsSome, IsSomeAnd, MatchOption}
+use Rattle.clap.specs.declared.error.kind.ErrorKind.{ErrorKind}
+use Rattle.clap.specs.declared.error.kind.ErrorKind.TheVariants.{ArgumentConflict, DisplayVersion, MissingRequiredArgument, OutOfMemory, ValueValidation}
+use Rattle.clap.specs.Words.{Row, Text, one_of, subcommand_of, fault_of, kind_of, IsAmong}
+use Rattle.mh_orders.specs.declared.curve.CurveForm.{CurveForm}
+use Rattle.mh_orders.specs.declared.curve.CurveForm.TheVariants.{Table, Picture}
+use Rattle.mh_orders.specs.declared.generate_options.Options.{Options}
+use Rattle.mh_orders.specs.declared.profile.Profile.{Profile}
+use Rattle.mh_orders.specs.declared.profile.Profile.TheVariants.{Mixed}
+use Rattle.mh_orders.specs.Profiles.{profile_name}
+use Rattle.mh_model.specs.Configs.{configured, configured_under}
+use Rattle.mh_model.specs.declared.config.Config.{Config}
+use Rattle.mh_model.specs.declared.config.Rules.{Rules}
+use Rattle.mh_model.specs.declared.config.Rules.TheVariants.{First, Second}
+use Rattle.mh_command_line.specs.declared.fault.LineFault.{LineFault}
+use Rattle.mh_command_line.specs.declared.fault.LineFault.TheVariants.{Words, NotText, Configuration, NoMemory}
+use Rattle.mh_orders.specs.declared.order.Order.{Order}
+use Rattle.mh_orders.specs.declared.order.Order.TheVariants.{Run, Steps, Show, Live, Race, Check, CheckSessions, Audit, Migrate, Generate, Version, Curve, CurveHistory, Size, SizeTarget, SizeScript}
+use Rattle.mh_orders.specs.declared.curve.CurveOptions.{CurveOptions}
+use Rattle.mh_orders.specs.declared.order.Form.{Form}
+use Rattle.mh_orders.specs.declared.order.Form.TheVariants.{Replies, History}
+use Rattle.mh_orders.specs.declared.order.RunOptions.{RunOptions}
+use Rattle.mh_orders.specs.declared.order.StepsOptions.{StepsOptions}
+use Rattle.mh_orders.specs.declared.steps.Form as steps
+use Rattle.mh_orders.specs.declared.steps.Form.TheVariants as form
+use Rattle.mh_orders.specs.declared.order.ConfigOption.{ConfigOption}
+use Rattle.mh_orders.specs.declared.order.ConfigOption.TheVariants.{Pages, Quantum, Trigger, Every}
+use Rattle.mh_command_line.specs.declared.options.OptionFault.{OptionFault}
+use Rattle.mh_command_line.specs.declared.options.OptionFault.TheVariants.{NoNumber, NoProfile, NoBlocks, Missing, Lacking, Unwanted, Beside, Outside}
+use Rattle.mh_command_line.specs.Sizes.{AreHeapOptions, AreTargetOptions, IsApart, IsWanted, LacksAllocations, has_size}
+use Rattle.mh_command_line.specs.Line.{HasNumber, IsConfigOption, LacksNumber, WantsConfig, is_flagged, metroheap, number_or, rules_of, workers_of}
+
+-- Orders -----------------------------------------------------------------------------------------
+
+-- the numbers of a configuration, in the limits or not
+pub record ConfigNumbers : Type 0 where
+  pub pages : ℕ
+  pub quantum : ℕ
+  pub trigger : ℕ
+  pub every : ℕ
+
+-- each stands in the matches under the name of its option
+pub record HasNumbers (rows : List Row) (numbers : ConfigNumbers) : Type 0 where
+  pub pages : HasNumber rows (codes "pages") numbers.pages
+  pub quantum : HasNumber rows (codes "quantum") numbers.quantum
+  pub trigger : HasNumber rows (codes "trigger") numbers.trigger
+  pub every : HasNumber rows (codes "every") numbers.every
+
+-- the configuration of these numbers under these rules, none outside the limits
+abbrev pub config_under : Rules → ConfigNumbers → Option Config
+config_under rules numbers = configured_under rules numbers.pages numbers.quantum numbers.trigger numbers.every
+
+-- the numbers in the matches make this configuration under these rules
+pub record MakesConfig (rules : Rules) (rows : List Row) (config : Config) : Type 0 where
+  pub numbers : ConfigNumbers
+  pub has : HasNumbers rows numbers
+  pub makes : config_under rules numbers ≡ Some config
+
+-- no option of a configuration is given
+pub record HasNoConfig (rows : List Row) : Type 0 where
+  pub pages : one_of (codes "pages") rows ≡ None
+  pub quantum : one_of (codes "quantum") rows ≡ None
+  pub trigger : one_of (codes "trigger") rows ≡ None
+  pub every : one_of (codes "every") rows ≡ None
+
+-- what a run writes: its replies, or its history if the flag is given
+abbrev pub form_of : List Row → Form
+form_of rows = if is_flagged (codes "history") rows then History else Replies
+
+-- the options of a run: under the second rules if the matches don't say
+pub record AreRunOptions (rows : List Row) (options : RunOptions) : Type 0 where
+  pub workers : options.workers ≡ workers_of rows
+  pub rules : options.rules ≡ rules_of Second rows
+  pub form : options.form ≡ form_of rows
+
+-- how steps are written: in words, or as JSON if the flag is given
+abbrev pub steps_form_of : List Row → steps.Form
+steps_form_of rows = if is_flagged (codes "json") rows then form.Json else form.Text
+
+-- the options of steps: those of all events if the matches don't say, under the second rules
+pub record AreStepsOptions (rows : List Row) (options : StepsOptions) : Type 0 where
+  pub form : options.steps.form ≡ steps_form_of rows
+  pub from : options.steps.from ≡ number_or 1 (codes "from") rows
+  pub to : options.steps.to ≡ number_or 4294967295 (codes "to") rows
+  pub rules : options.rules ≡ rules_of Second rows
+
+-- what a curve is written as: a table, or a picture if the flag is given
+abbrev pub curve_form_of : List Row → CurveForm
+curve_form_of rows = if is_flagged (codes "svg") rows then Picture else Table
+
+-- the options of the curve of a script
+pub record AreCurveOptions (rows : List Row) (options : CurveOptions) : Type 0 where
+  pub rules : options.rules ≡ rules_of Second rows
+  pub form : options.form ≡ curve_form_of rows
+
+-- the configuration of a random script: what the matches don't say is by default, and cycles start once half of the pages are free at most
+abbrev pub generated_config : List Row → Option Config
+generated_config rows = let pages : ℕ = number_or 64 (codes "pages") rows in configured pages (number_or 250 (codes "quantum") rows) (pages / 2) (number_or 25 (codes "every") rows)
+
+-- the profile that the matches ask for by its name, which is mixed if they don't say
+abbrev pub AsksProfile : List Row → Profile → Type 0
+AsksProfile rows profile = MatchOption (one_of (codes "profile") rows) (profile ≡ Mixed) (λ text. text ≡ profile_name profile)
+
+-- the options of a random script
+pub record AreGenerateOptions (rows : List Row) (options : Options) : Type 0 where
+  pub seed : HasNumber rows (codes "seed") options.seed
+  pub events : HasNumber rows (codes "events") options.events
+  pub sessions : options.sessions ≡ number_or 4 (codes "sessions") rows
+  pub config : generated_config rows ≡ Some options.config
+  pub profile : AsksProfile rows options.profile
+
+-- the order of a subcommand with its matches
+abbrev pub IsOrder : Text → List Row → Order → Type 0
+IsOrder name rows (Run options) = (name ≡ codes "run") × AreRunOptions rows options
+IsOrder name rows (Steps options) = (name ≡ codes "steps") × AreStepsOptions rows options
+IsOrder name rows (Show rules) = (name ≡ codes "show") × (rules ≡ rules_of Second rows)
+IsOrder name rows (Live workers) = (name ≡ codes "live") × (workers ≡ workers_of rows)
+IsOrder name rows (Race workers) = (name ≡ codes "race") × (workers ≡ workers_of rows)
+IsOrder name rows (Check config) = (name ≡ codes "check") × (is_flagged (codes "sessions") rows ≡ false) × MakesConfig (rules_of First rows) rows config
+IsOrder name rows (CheckSessions rules) = (name ≡ codes "check") × (is_flagged (codes "sessions") rows ≡ true) × HasNoConfig rows × (rules ≡ rules_of Second rows)
+IsOrder name rows Audit = name ≡ codes "audit"
+IsOrder name rows (Migrate config) = (name ≡ codes "migrate") × MakesConfig First rows config
+IsOrder name rows (Curve options) = (name ≡ codes "curve") × (is_flagged (codes "history") rows ≡ false) × AreCurveOptions rows options
+IsOrder name rows (CurveHistory form) = (name ≡ codes "curve") × (is_flagged (codes "history") rows ≡ true) × (form ≡ curve_form_of rows)
+IsOrder name rows (Generate options) = (name ≡ codes "generate") × AreGenerateOptions rows options
+IsOrder name rows (Size options) = (name ≡ codes "size") × AreHeapOptions rows options
+IsOrder name rows (SizeTarget options) = (name ≡ codes "size") × AreTargetOptions rows options
+IsOrder name rows (SizeScript rules) = (name ≡ codes "size") × (has_size rows ≡ false) × (rules ≡ rules_of Second rows)
+IsOrder name rows Version = ⊥
+
+-- an option of a configuration is outside its limits: that of the trigger if it is above that of the pages
+abbrev pub IsOutsideBy : ConfigOption → ConfigNumbers → Type 0
+IsOutsideBy Pages numbers = (numbers.pages < 1) ⊎ (4096 < numbers.pages)
+IsOutsideBy Quantum numbers = (numbers.quantum < 209) ⊎ (1000000 < numbers.quantum)
+IsOutsideBy Trigger numbers = numbers.pages < numbers.trigger
+IsOutsideBy Every numbers = 1000000 < numbers.every
+
+-- the numbers in the matches make no configuration under any rules, and that of this option is outside its limits
+pub record AreOutside (rows : List Row) (option : ConfigOption) : Type 0 where
+  pub numbers : ConfigNumbers
+  pub has : HasNumbers rows numbers
+  pub none : (rules : Rules) → config_under rules numbers ≡ None
+  pub outside : IsOutsideBy option numbers
+
+-- the subcommand wants a configuration, and this one of its numbers is outside its limits
+abbrev pub IsOutside : Text → List Row → ConfigOption → Type 0
+IsOutside name rows option = WantsConfig name rows × AreOutside rows option
+
+-- from 1 to 64 workers, if the order has workers
+abbrev pub HasFewWorkers : Order → Type 0
+HasFewWorkers (Run options) = (0 < options.workers) × (options.workers ≤ 64)
+HasFewWorkers (Live workers) = (0 < workers) × (workers ≤ 64)
+HasFewWorkers (Race workers) = (0 < workers) × (workers ≤ 64)
+HasFewWorkers order = Unit {0}
+
+-- the first rules, if the order is to migrate
+abbrev pub HasFirstRules : Order → Type 0
+HasFirstRules (Migrate config) = config.rules ≡ First
+HasFirstRules order = Unit {0}
+
+-- Faults -----------------------------------------------------------------------------------------
+
+-- the option that is blamed of numbers that are no configuration: one that is outside its limits, and that of the trigger if no other is
+abbrev pub IsBlamed : (pages quantum every : ℕ) → ConfigOption → Type 0
+IsBlamed pages quantum every Trigger = (1 ≤ pages) × (pages ≤ 4096) × (209 ≤ quantum) × (quantum ≤ 1000000) × (every ≤ 1000000)
+IsBlamed pages quantum every option = IsOutsideBy option (record { pages = pages; quantum = quantum; trigger = 0; every = every })
+
+-- the text of the profile that is asked for names none
+abbrev pub LacksProfile : List Row → Type 0
+LacksProfile rows = IsSomeAnd (one_of (codes "profile") rows) (λ text. (profile : Profile) → text ≢ profile_name profile)
+
+-- what is wrong with the options of a configuration: one is no number, or is missing, or is outside its limits
+abbrev pub IsNumberFault : List Row → OptionFault → Type 0
+IsNumberFault rows (NoNumber name text) = IsConfigOption name.now × LacksNumber rows name.now
+IsNumberFault rows (NoProfile text) = ⊥
+IsNumberFault rows (NoBlocks text) = ⊥
+IsNumberFault rows (Missing name) = IsConfigOption name.now × (one_of name.now rows ≡ None)
+IsNumberFault rows (Lacking name) = ⊥
+IsNumberFault rows (Unwanted name) = ⊥
+IsNumberFault rows (Beside name other) = ⊥
+IsNumberFault rows (Outside option) = AreOutside rows option
+
+-- what is wrong with those of a subcommand: these are, if it wants a configuration; or one is given beside `--sessions`; or a profile is none; or options of `size` don't go together
+abbrev pub HasOptionFault : Text → List Row → OptionFault → Type 0
+HasOptionFault subcommand rows (Unwanted name) = (subcommand ≡ codes "check") × IsConfigOption name.now × (is_flagged (codes "sessions") rows ≡ true) × IsSome (one_of name.now rows)
+HasOptionFault subcommand rows (NoProfile text) = (subcommand ≡ codes "generate") × LacksProfile rows
+HasOptionFault subcommand rows (NoBlocks text) = (subcommand ≡ codes "size") × LacksAllocations rows
+HasOptionFault subcommand rows (Lacking name) = (subcommand ≡ codes "size") × IsWanted rows name.now × (one_of name.now rows ≡ None)
+HasOptionFault subcommand rows (Beside name other) = (subcommand ≡ codes "size") × IsApart rows name.now other.now × IsSome (one_of name.now rows) × IsSome (one_of other.now rows)
+HasOptionFault subcommand rows fault = WantsConfig subcommand rows × IsNumberFault rows fault
+
+-- `clap` takes the options of a subcommand, and one of a configuration, a profile or one of `size` is amiss: the kind of fault that this is
+pub data AreAmiss (name : Text) (rows : List Row) : ErrorKind → Type 0 where
+  IsNoNumber : WantsConfig name rows → (option : Text) → IsConfigOption option → LacksNumber rows option → AreAmiss name rows ValueValidation
+  IsMissing : WantsConfig name rows → (option : Text) → IsConfigOption option → one_of option rows ≡ None → AreAmiss name rows MissingRequiredArgument
+  IsNoProfile : name ≡ codes "generate" → LacksProfile rows → AreAmiss name rows ValueValidation
+  AreNoBlocks : name ≡ codes "size" → LacksAllocations rows → AreAmiss name rows ValueValidation
+  IsLacking : name ≡ codes "size" → (option : Text) → IsWanted rows option → one_of option rows ≡ None → AreAmiss name rows MissingRequiredArgument
+  IsBeside : name ≡ codes "size" → (option other : Text) → IsApart rows option other → IsSome (one_of option rows) → IsSome (one_of other rows) → AreAmiss name rows ArgumentConflict
+  IsUnwanted : name ≡ codes "check" → (option : Text) → IsConfigOption option → is_flagged (codes "sessions") rows ≡ true → IsSome (one_of option rows) → AreAmiss name rows ArgumentConflict
+
+-- Words ------------------------------------------------------------------------------------------
+
+-- what words mean: `clap` takes them, and their subcommand gives the order; or `clap` finds that they ask for the version
+pub data Mean (words : List Text) (order : Order) : Type 0 where
+  Named : fault_of metroheap words ≡ [] → IsSomeAnd (subcommand_of metroheap words) (λ subcommand. IsOrder subcommand.0 subcommand.1 order) → Mean words order
+  AsksVersion : order ≡ Version → IsAmong DisplayVersion (fault_of metroheap words) → Mean words order
+
+-- words give an order
+pub record GivesOrder (words : List Text) (order : Order) : Type 0 where
+  pub meant : Mean words order
+  pub few : HasFewWorkers order
+  pub rules : HasFirstRules order
+
+-- `clap` takes the words, and this option of their subcommand is outside the limits of a configuration
+pub record AsksOutside (words : List Text) (option : ConfigOption) : Type 0 where
+  pub taken : fault_of metroheap words ≡ []
+  pub named : IsSomeAnd (subcommand_of metroheap words) (λ subcommand. IsOutside subcommand.0 subcommand.1 option)
+
+-- `clap` takes the words, and the options of their subcommand are amiss
+pub record AskAmiss (words : List Text) (kind : ErrorKind) : Type 0 where
+  pub taken : fault_of metroheap words ≡ []
+  pub named : IsSomeAnd (subcommand_of metroheap words) (λ subcommand. AreAmiss subcommand.0 subcommand.1 kind)
+
+-- why words give no order, of which `clap` says what is wrong: it doesn't take them, or their options are amiss
+pub data AreRefused (words : List Text) (kind : ErrorKind) : Type 0 where
+  NotTaken : IsAmong kind (fault_of metroheap words) → AreRefused words kind
+  NotMet : AskAmiss words kind → AreRefused words kind
+
+-- words are refused only if `clap` doesn't take them, with one of the kinds of fault that it finds first, or if their
+-- configuration is outside the limits; words that ask for the version are never refused for that
+abbrev pub IsFault : List Text → LineFault → Type 0
+IsFault words (Words error) = (kind_of error ≢ DisplayVersion) × AreRefused words (kind_of error)
+IsFault words NotText = ⊥
+IsFault words (Configuration option) = AsksOutside words option
+IsFault words NoMemory = Unit {0}
+
+-- what may be wrong with words that can't be read: one isn't text, or memory was refused
+abbrev pub IsUnread : LineFault → Type 0
+IsUnread NotText = Unit {0}
+IsUnread NoMemory = Unit {0}
+IsUnread fault = ⊥
+
+-- what words give: an order, or a fault
+abbrev pub OrdersBy : List Text → Result Order LineFault → Type 0
+OrdersBy words (Ok order) = GivesOrder words order
+OrdersBy words (Err fault) = IsFault words fault
+
+-- Refusals ---------------------------------------------------------------------------------------
+
+-- the kind by which `clap` refuses options with a fault, which is none of its own if a number is outside its limits
+abbrev pub kind_of_fault : OptionFault → Option ErrorKind
+kind_of_fault (NoNumber name text) = Some ValueValidation
+kind_of_fault (NoProfile text) = Some ValueValidation
+kind_of_fault (NoBlocks text) = Some ValueValidation
+kind_of_fault (Missing name) = Some MissingRequiredArgument
+kind_of_fault (Lacking name) = Some MissingRequiredArgument
+kind_of_fault (Unwanted name) = Some ArgumentConflict
+kind_of_fault (Beside name other) = Some ArgumentConflict
+kind_of_fault (Outside option) = None
+
+-- what is said of options with a fault
+abbrev pub RefusesOptions : OptionFault → LineFault → Type 0
+RefusesOptions fault (Words error) = kind_of_fault fault ≡ Some (kind_of error)
+RefusesOptions fault NoMemory = kind_of_fault fault ≢ None
+RefusesOptions (Outside option) (Configuration refused) = refused ≡ option
+RefusesOptions fault line = ⊥
+
+-- what is said of words that `clap` refuses with this kind of fault: that, or that memory was refused
+abbrev pub Refuses : ErrorKind → LineFault → Type 0
+Refuses kind (Words error) = (kind ≢ OutOfMemory) × (kind_of error ≡ kind)
+Refuses kind NoMemory = Unit {0}
+Refuses kind line = ⊥

@@ -1,0 +1,464 @@
+ghost use Rattle.std.specs.Prelude.{◌≡◌, IfOk, IsOkAnd, false, codes};
+ghost use Rattle.clap.specs.Words.{app_of, new_app, rule_of, with_rule, with_subcommand};
+ghost use Rattle.clap.specs.declared.builder.command.Command.TheViews.{out-Command};
+ghost use Rattle.clap.specs.declared.builder.value_parser.ValueParser.TheVariants.{Unsigned};
+ghost use Rattle.mh_command_line.specs.Line.{check_app, config_app, flag_rule, generate_app, metroheap, named_rule, number_rule, option_rule, optional_app, parsed_rule, profile_rule, required_rule, rules_rule, run_app, seeded_app, show_app, steps_app, versioned, workers_app, workers_rule};
+
+use crate::curve::curve;
+use crate::size::size;
+use clap::builder::ValueParser;
+use clap::{Arg, ArgAction, Command};
+use mh_model::limits::{
+    LEAST_QUANTUM, MOST_EVENTS, MOST_EVERY, MOST_PAGES, MOST_QUANTUM, MOST_WORKERS, SESSIONS,
+};
+use std::alloc::{AllocError, Global};
+
+const ABOUT: &str =
+    "An executable reference of the Metronome collector: runs scripts of mutator commands and collector quanta, writes random ones, and judges histories";
+
+const MANUAL: &str =
+    "Scripts and histories are read from standard input. Their grammar, each command's cost and all exit statuses are in `man metroheap` and in docs/MANUAL.md.";
+
+const ABOUT_RUN: &str =
+    "Run a script: print the reply to each of its events, or the line that refuses the script";
+
+const ABOUT_STEPS: &str =
+    "Run a script and print each event with its reply, and below it what the collector, the barrier and the placing of new parts did";
+
+const ABOUT_SHOW: &str =
+    "Run a script and print a page in HTML that shows the run in a browser: the pages, their slots and the grey list before and after each step";
+
+const ABOUT_LIVE: &str =
+    "Answer each line of a script as it comes: the reply to its event, or the refusal of the line";
+
+const ABOUT_RACE: &str =
+    "Run a script with each session in a thread of its own: print the history that they make, or the line that refuses the script";
+
+const ABOUT_CHECK: &str =
+    "Judge a history of version 1: print how many entries a legal one has, the first bad entry, or the line that refuses it";
+
+const ABOUT_AUDIT: &str =
+    "Judge a history of version 2, with its units: print how many entries a legal one has, the first bad entry, or the line that refuses it";
+
+const ABOUT_MIGRATE: &str =
+    "Print a legal history of version 1 as one of version 2; of any other, print what check prints";
+
+const ABOUT_GENERATE: &str = "Print a random script. The same options print the same bytes";
+
+const PROFILES: &str =
+    "The mix of events: churn, lists, trees, wide, large, frag, refusals or mixed, which is all others in turn; mixed if it is not given";
+
+pub(crate) const RULES_OF_A_RUN: &str =
+    "The rules of large objects and of units, 1 or 2; 2 if it is not given";
+
+const RULES_OF_A_CHECK: &str =
+    "The rules of large objects and of units, 1 or 2; if it is not given 1, and 2 with --sessions";
+
+const SCRIPT_STATUSES: &str =
+    "Exit status: 0 if all events were answered, 1 if the script was refused, 2 if the command line was, 3 if memory was refused, a device failed or the history was full";
+
+const LIVE_STATUSES: &str =
+    "Exit status: 0 at the end of input, 2 if the command line was refused, 3 if a device failed or memory was refused for a line's text";
+
+const GENERATE_STATUSES: &str =
+    "Exit status: 0 if the script was written, 2 if the command line was refused, 3 if memory was refused or a device failed";
+
+const HISTORY_STATUSES: &str =
+    "Exit status: 0 if the history is legal, 1 if the text was refused, 2 if the command line was, 3 if memory was refused or a device failed, 4 if the history is not legal";
+
+/// An option that is called by its name.
+fn named<'a>(alloc: Global, name: &'a str) -> Arg<'a>
+    ensures rule { rule_of result ≡ named_rule name.entry.now }
+    ensures local { result.global ≡ false }
+{
+    Arg::new(alloc, name).long(name)
+}
+
+/// The option, with what help calls its value and says of it.
+fn explained<'a>(option: Arg<'a>, value: &'a str, help: &'a str) -> Arg<'a>
+    ensures rule { rule_of result ≡ record (rule_of option.entry) { value_names = 1 } }
+    ensures local { result.global ≡ option.entry.global }
+{
+    option.value_name(value).help(help)
+}
+
+/// An option that is given with one value.
+pub(crate) fn option<'a>(alloc: Global, name: &'a str, value: &'a str, help: &'a str) -> Arg<'a>
+    ensures rule { rule_of result ≡ option_rule name.entry.now }
+    ensures local { result.global ≡ false }
+{
+    explained(named(alloc, name), value, help)
+}
+
+fn workers<'a>(alloc: Global) -> Arg<'a>
+    ensures rule { rule_of result ≡ workers_rule }
+    ensures local { result.global ≡ false }
+{
+    let help = "How many threads scan at a time at most, from 1 to 64; 1 if it is not given";
+    option(alloc, "workers", "W", help).value_parser(ValueParser::unsigned(1, MOST_WORKERS))
+}
+
+/// A subcommand with what help says of it.
+pub(crate) fn subcommand<'a>(
+    alloc: Global,
+    name: &'a str,
+    about: &'a str,
+    usage: &'a str,
+    statuses: &'a str,
+) -> Command<'a>
+    ensures app { app_of result ≡ new_app name.entry.now }
+    ensures local { (out-Command result).has_globals ≡ false }
+{
+    Command::new(alloc, name)
+        .about(about)
+        .override_usage(usage)
+        .after_help(statuses)
+}
+
+/// The command with one option more.
+pub(crate) fn with_option<'a>(
+    command: Command<'a>,
+    option: Arg<'a>,
+) -> Result<Command<'a>, AllocError>
+    requires command { (out-Command command).has_globals ≡ false }
+    requires option { option.global ≡ false }
+    ensures app { IfOk result (λ more. app_of more ≡ with_rule (app_of command.entry) (rule_of option.entry)) }
+    ensures local { IfOk result (λ more. (out-Command more).has_globals ≡ false) }
+{
+    command.arg(option)
+}
+
+/// A subcommand with a number of workers.
+fn with_workers<'a>(
+    alloc: Global,
+    name: &'a str,
+    about: &'a str,
+    usage: &'a str,
+) -> Result<Command<'a>, AllocError>
+    ensures app { IfOk result (λ command. app_of command ≡ workers_app name.entry.now) }
+    ensures local { IfOk result (λ command. (out-Command command).has_globals ≡ false) }
+{
+    let command = subcommand(alloc, name, about, usage, SCRIPT_STATUSES);
+    with_option(command, workers(alloc))
+}
+
+pub(crate) fn rules<'a>(alloc: Global, help: &'a str) -> Arg<'a>
+    ensures rule { rule_of result ≡ rules_rule }
+    ensures local { result.global ≡ false }
+{
+    option(alloc, "rules", "R", help).value_parser(ValueParser::unsigned(1, 2))
+}
+
+/// An option without a value.
+pub(crate) fn flag<'a>(alloc: Global, name: &'a str, help: &'a str) -> Arg<'a>
+    ensures rule { rule_of result ≡ flag_rule name.entry.now }
+    ensures local { result.global ≡ false }
+{
+    named(alloc, name).action(ArgAction::SetTrue).help(help)
+}
+
+// A number of any length is one, so `clap` takes each text here.
+fn number<'a>(alloc: Global, name: &'a str, value: &'a str, help: &'a str) -> Arg<'a>
+    ensures rule { rule_of result ≡ number_rule name.entry.now }
+    ensures local { result.global ≡ false }
+{
+    option(alloc, name, value, help).value_parser(ValueParser::string())
+}
+
+/// An option with a number within bounds.
+pub(crate) fn bounded<'a>(
+    alloc: Global,
+    name: &'a str,
+    value: &'a str,
+    least: u64,
+    most: u64,
+    help: &'a str,
+) -> Arg<'a>
+    ensures rule { rule_of result ≡ parsed_rule name.entry.now (Unsigned least most) }
+    ensures local { result.global ≡ false }
+{
+    option(alloc, name, value, help).value_parser(ValueParser::unsigned(least, most))
+}
+
+/// The command with one number of a configuration more.
+fn with_number<'a>(
+    command: Command<'a>,
+    alloc: Global,
+    name: &'a str,
+    value: &'a str,
+    help: &'a str,
+) -> Result<Command<'a>, AllocError>
+    requires { (out-Command command).has_globals ≡ false }
+    ensures app { IfOk result (λ more. app_of more ≡ with_rule (app_of command.entry) (number_rule name.entry.now)) }
+    ensures local { IfOk result (λ more. (out-Command more).has_globals ≡ false) }
+{
+    with_option(command, number(alloc, name, value, help))
+}
+
+/// A subcommand with the numbers of a configuration.
+fn with_config<'a>(
+    alloc: Global,
+    name: &'a str,
+    about: &'a str,
+    usage: &'a str,
+) -> Result<Command<'a>, AllocError>
+    ensures app { IfOk result (λ command. app_of command ≡ config_app name.entry.now) }
+    ensures local { IfOk result (λ command. (out-Command command).has_globals ≡ false) }
+{
+    let command = subcommand(alloc, name, about, usage, HISTORY_STATUSES);
+    let command = with_number(
+        command,
+        alloc,
+        "pages",
+        "P",
+        "How many pages the heap has, from 1 to 4096",
+    )?;
+    let command = with_number(
+        command,
+        alloc,
+        "quantum",
+        "K",
+        "The most units that a quantum spends, from 209 to 1000000",
+    )?;
+    let command = with_number(
+        command,
+        alloc,
+        "trigger",
+        "T",
+        "A quantum starts a cycle if no more pages than these are free, from 0 to P",
+    )?;
+    with_number(
+        command,
+        alloc,
+        "every",
+        "E",
+        "After how many units a quantum is run, from 0, for none, to 1000000",
+    )
+}
+
+fn run<'a>(alloc: Global) -> Result<Command<'a>, AllocError>
+    ensures app { IfOk result (λ command. app_of command ≡ run_app) }
+    ensures local { IfOk result (λ command. (out-Command command).has_globals ≡ false) }
+{
+    let command = with_workers(
+        alloc,
+        "run",
+        ABOUT_RUN,
+        "metroheap run [--workers <W>] [--rules <R>] [--history] < SCRIPT",
+    )?;
+    let command = with_option(command, rules(alloc, RULES_OF_A_RUN))?;
+    let help = "Print the history of the run, of version 2, in place of its replies";
+    with_option(command, flag(alloc, "history", help))
+}
+
+fn steps<'a>(alloc: Global) -> Result<Command<'a>, AllocError>
+    ensures app { IfOk result (λ command. app_of command ≡ steps_app) }
+    ensures local { IfOk result (λ command. (out-Command command).has_globals ≡ false) }
+{
+    let command = subcommand(
+        alloc,
+        "steps",
+        ABOUT_STEPS,
+        "metroheap steps [--from <N>] [--to <M>] [--json] [--rules <R>] < SCRIPT",
+        SCRIPT_STATUSES,
+    );
+    let help = "The first event whose deeds are printed, counted from 1; 1 if it is not given";
+    let from = bounded(alloc, "from", "N", 0, u32::MAX.into(), help);
+    let command = with_option(command, from)?;
+    let help = "The last event whose deeds are printed; the last of all if it is not given";
+    let to = bounded(alloc, "to", "M", 0, u32::MAX.into(), help);
+    let command = with_option(command, to)?;
+    let json = flag(alloc, "json", "Print one object of JSON a line");
+    let command = with_option(command, json)?;
+    with_option(command, rules(alloc, RULES_OF_A_RUN))
+}
+
+fn show<'a>(alloc: Global) -> Result<Command<'a>, AllocError>
+    ensures app { IfOk result (λ command. app_of command ≡ show_app) }
+    ensures local { IfOk result (λ command. (out-Command command).has_globals ≡ false) }
+{
+    let command = subcommand(
+        alloc,
+        "show",
+        ABOUT_SHOW,
+        "metroheap show [--rules <R>] < SCRIPT > PAGE",
+        SCRIPT_STATUSES,
+    );
+    with_option(command, rules(alloc, RULES_OF_A_RUN))
+}
+
+fn live<'a>(alloc: Global) -> Result<Command<'a>, AllocError>
+    ensures app { IfOk result (λ command. app_of command ≡ workers_app (codes "live")) }
+    ensures local { IfOk result (λ command. (out-Command command).has_globals ≡ false) }
+{
+    let command = subcommand(
+        alloc,
+        "live",
+        ABOUT_LIVE,
+        "metroheap live [--workers <W>] < LINES",
+        LIVE_STATUSES,
+    );
+    with_option(command, workers(alloc))
+}
+
+fn race<'a>(alloc: Global) -> Result<Command<'a>, AllocError>
+    ensures app { IfOk result (λ command. app_of command ≡ workers_app (codes "race")) }
+    ensures local { IfOk result (λ command. (out-Command command).has_globals ≡ false) }
+{
+    with_workers(
+        alloc,
+        "race",
+        ABOUT_RACE,
+        "metroheap race [--workers <W>] < SCRIPT",
+    )
+}
+
+fn check<'a>(alloc: Global) -> Result<Command<'a>, AllocError>
+    ensures app { IfOk result (λ command. app_of command ≡ check_app) }
+    ensures local { IfOk result (λ command. (out-Command command).has_globals ≡ false) }
+{
+    let command = with_config(
+        alloc,
+        "check",
+        ABOUT_CHECK,
+        "metroheap check --pages <P> --quantum <K> --trigger <T> --every <E> [--rules <R>] < HISTORY\n       metroheap check --sessions [--rules <R>] < HISTORY",
+    )?;
+    let command = with_option(command, rules(alloc, RULES_OF_A_CHECK))?;
+    let help = "Judge only what sessions see, of any collector's history";
+    with_option(command, flag(alloc, "sessions", help))
+}
+
+fn migrate<'a>(alloc: Global) -> Result<Command<'a>, AllocError>
+    ensures app { IfOk result (λ command. app_of command ≡ config_app (codes "migrate")) }
+    ensures local { IfOk result (λ command. (out-Command command).has_globals ≡ false) }
+{
+    with_config(
+        alloc,
+        "migrate",
+        ABOUT_MIGRATE,
+        "metroheap migrate --pages <P> --quantum <K> --trigger <T> --every <E> < HISTORY",
+    )
+}
+
+fn audit<'a>(alloc: Global) -> Command<'a>
+    ensures app { app_of result ≡ new_app (codes "audit") }
+    ensures local { (out-Command result).has_globals ≡ false }
+{
+    subcommand(
+        alloc,
+        "audit",
+        ABOUT_AUDIT,
+        "metroheap audit < HISTORY",
+        HISTORY_STATUSES,
+    )
+}
+
+/// `generate` with its seed, its number of events and its number of sessions.
+fn seeded<'a>(alloc: Global) -> Result<Command<'a>, AllocError>
+    ensures app { IfOk result (λ command. app_of command ≡ seeded_app) }
+    ensures local { IfOk result (λ command. (out-Command command).has_globals ≡ false) }
+{
+    let command = subcommand(
+        alloc,
+        "generate",
+        ABOUT_GENERATE,
+        "metroheap generate --seed <N> --events <M> [--sessions <S>] [--pages <P>] [--quantum <K>] [--every <E>] [--profile <NAME>]",
+        GENERATE_STATUSES,
+    );
+    let seed = bounded(
+        alloc,
+        "seed",
+        "N",
+        0,
+        u64::MAX,
+        "What the random numbers begin with, from 0 to 18446744073709551615",
+    );
+    let command = with_option(command, seed.required(true))?;
+    let events = bounded(
+        alloc,
+        "events",
+        "M",
+        1,
+        MOST_EVENTS,
+        "How many events the script has, from 1 to 1000000",
+    );
+    let command = with_option(command, events.required(true))?;
+    let help = "How many sessions do the work, from 1 to 8; 4 if it is not given";
+    let sessions = bounded(alloc, "sessions", "S", 1, SESSIONS as u64, help);
+    with_option(command, sessions)
+}
+
+/// The option `--profile`, of which `clap` takes each text.
+fn profile<'a>(alloc: Global) -> Arg<'a>
+    ensures rule { rule_of result ≡ profile_rule }
+    ensures local { result.global ≡ false }
+{
+    option(alloc, "profile", "NAME", PROFILES).value_parser(ValueParser::string())
+}
+
+fn generate<'a>(alloc: Global) -> Result<Command<'a>, AllocError>
+    ensures app { IfOk result (λ command. app_of command ≡ generate_app) }
+    ensures local { IfOk result (λ command. (out-Command command).has_globals ≡ false) }
+{
+    let command = seeded(alloc)?;
+    let help = "How many pages the heap has, from 1 to 4096; 64 if it is not given";
+    let pages = bounded(alloc, "pages", "P", 1, MOST_PAGES.into(), help);
+    let command = with_option(command, pages)?;
+    let help = "The most units that a quantum spends, from 209 to 1000000; 250 if it is not given";
+    let least = LEAST_QUANTUM.into();
+    let quantum = bounded(alloc, "quantum", "K", least, MOST_QUANTUM.into(), help);
+    let command = with_option(command, quantum)?;
+    let help =
+        "After how many units a quantum is run, from 0, for none, to 1000000; 25 if it is not given";
+    let every = bounded(alloc, "every", "E", 0, MOST_EVERY.into(), help);
+    let command = with_option(command, every)?;
+    with_option(command, profile(alloc))
+}
+
+/// The command with a subcommand more, if that one was made.
+fn with_subcommand<'a>(
+    command: Command<'a>,
+    subcommand: Result<Command<'a>, AllocError>,
+) -> Result<Command<'a>, AllocError>
+    requires { IfOk subcommand (λ made. (out-Command made).has_globals ≡ false) }
+    ensures { IfOk result (λ more. IsOkAnd subcommand.entry (λ made. app_of more ≡ with_subcommand (app_of command.entry) (app_of made).top)) }
+{
+    command.subcommand(subcommand?)
+}
+
+// One command is at hand at a time: each that were there at a `?` would have to be dropped there.
+fn optional<'a>(alloc: Global) -> Result<Command<'a>, AllocError>
+    ensures { IfOk result (λ command. app_of command ≡ optional_app) }
+{
+    let app = Command::new(alloc, "metroheap");
+    let app = with_subcommand(app, run(alloc))?;
+    let app = with_subcommand(app, steps(alloc))?;
+    let app = with_subcommand(app, show(alloc))?;
+    let app = with_subcommand(app, live(alloc))?;
+    let app = with_subcommand(app, race(alloc))?;
+    let app = with_subcommand(app, check(alloc))?;
+    let app = with_subcommand(app, Ok(audit(alloc)))?;
+    let app = with_subcommand(app, migrate(alloc))?;
+    let app = with_subcommand(app, generate(alloc))?;
+    let app = with_subcommand(app, curve(alloc))?;
+    with_subcommand(app, size(alloc))
+}
+
+/// The command with what help says of the program, and with its version.
+fn described<'a>(command: Command<'a>) -> Command<'a>
+    ensures { app_of result ≡ versioned (app_of command.entry) }
+{
+    command.about(ABOUT).after_help(MANUAL).version("1.0.0")
+}
+
+/// The program's command line, which has to name a subcommand.
+pub fn command<'a>(alloc: Global) -> Result<Command<'a>, AllocError>
+    ensures { IfOk result (λ command. app_of command ≡ metroheap) }
+{
+    let command = described(optional(alloc)?);
+    Ok(
+        command
+            .subcommand_required(true)
+            .disable_help_subcommand(true),
+    )
+}

@@ -1,0 +1,325 @@
+ghost use Rattle.std.specs.Prelude.{◌≡◌, ◌<◌, ◌≤◌, ◌/◌, ◌↔◌, None, Some, true, codes, IfOk, IfErr, IfSome, IsSomeAnd, OnOk, IsTrue};
+ghost use Rattle.std.specs.Char.{is_digit};
+ghost use Rattle.std.specs.List.{list_all};
+ghost use Rattle.std.specs.Str.Parse.{without_leading_plus};
+ghost use Rattle.clap.specs.Words.{IsUnsignedIn, found_of, one_of, rows_of};
+ghost use Rattle.mh_model.specs.Configs.{configured};
+ghost use Rattle.mh_model.specs.declared.config.Rules.TheVariants.{Second};
+ghost use Rattle.mh_command_line.specs.Line.{AsksForFew, AsksForRules, AsksToCheck, AsksToGenerate, AsksToRun, AsksToTell, HasFlag, HasNumber, HoldsNumber, IsConfigOption, IsNumber, ReadsNumber, is_flagged, number_or, rules_numbered, rules_of, workers_of};
+ghost use Rattle.mh_command_line.specs.Orders.{AreGenerateOptions, AreRunOptions, AreStepsOptions, AsksProfile, HasFewWorkers, HasFirstRules, HasOptionFault, IsBlamed, IsNumberFault, IsOrder, MakesConfig, generated_config};
+
+use clap::ArgMatches;
+use mh_model::config::{Config, Rules};
+use mh_model::limits::{LEAST_QUANTUM, MOST_EVERY, MOST_PAGES, MOST_QUANTUM};
+use mh_orders::generate_options::Options;
+use mh_orders::order::{ConfigOption, Form, Order, RunOptions, StepsOptions};
+use mh_orders::profile::Profile;
+use mh_orders::steps::{Form as StepsForm, Steps};
+use std::str::FromStr;
+
+/// Why the options of a configuration give none.
+#[derive(Clone, Copy)]
+pub(crate) enum OptionFault<'a> {
+    /// The option with this name has a text that is no number.
+    NoNumber(&'static str, &'a str),
+    /// The profile that is asked for is none.
+    NoProfile(&'a str),
+    /// What an interval is to ask for has no blocks.
+    NoBlocks(&'a str),
+    /// The option with this name is not given.
+    Missing(&'static str),
+    /// The option of `size` with this name is not given, which the others want.
+    Lacking(&'static str),
+    /// The option with this name is given beside `--sessions`.
+    Unwanted(&'static str),
+    /// The option with this name is given beside another.
+    Beside(&'static str, &'static str),
+    /// The number of this option is outside its limits.
+    Outside(ConfigOption),
+}
+
+/// A text that is no number.
+#[derive(Clone, Copy)]
+pub(crate) struct NotNumber;
+
+/// The number of an option. One past 32 bits, which is outside each limit, is held as the largest of them.
+#[derive(Clone, Copy)]
+pub(crate) struct OptionNumber {
+    pub(crate) value: u32,
+}
+
+impl FromStr for OptionNumber {
+    type Err = NotNumber;
+
+    ghost from_str_gives = { ReadsNumber };
+
+    fn from_str(text: &str) -> Result<OptionNumber, NotNumber> {
+        match text.parse::<u32>() {
+            Ok(value) => Ok(OptionNumber { value }),
+            Err(_) if is_number(text.as_bytes()) => Ok(OptionNumber { value: u32::MAX }),
+            Err(_) => Err(NotNumber),
+        }
+    }
+}
+
+fn are_digits(text: &[u8]) -> bool
+    ensures { result ≡ list_all (λ digit. is_digit digit 10) text.now }
+{
+    text.iter().all(|byte| char::from(*byte).is_digit(10))
+}
+
+fn without_plus(text: &[u8]) -> &[u8]
+    ensures { result.now ≡ without_leading_plus text.now }
+{
+    if !text.is_empty() && text[0] == b'+' {
+        &text[1..]
+    } else {
+        text
+    }
+}
+
+fn is_number(text: &[u8]) -> bool
+    ensures { IsTrue result ↔ IsNumber text.now }
+{
+    let digits = without_plus(text);
+    !digits.is_empty() && are_digits(digits)
+}
+
+pub(crate) fn workers_asked(matches: &ArgMatches<'_>) -> usize
+    requires { AsksForFew (rows_of (found_of matches.now)) }
+    ensures value { result ≡ workers_of (rows_of (found_of matches.now)) }
+    ensures few { (0 < result) × (result ≤ 64) }
+{
+    matches.get_one::<usize>("workers").unwrap_or(1)
+}
+
+fn rules_numbered(number: u8) -> Rules
+    ensures { result ≡ rules_numbered number }
+{
+    if number == 1 {
+        Rules::First
+    } else {
+        Rules::Second
+    }
+}
+
+/// The rules that are asked for, and these others if none are.
+pub(crate) fn rules_asked(matches: &ArgMatches<'_>, other: Rules) -> Rules
+    requires { AsksForRules (rows_of (found_of matches.now)) }
+    ensures { result ≡ rules_of other (rows_of (found_of matches.now)) }
+{
+    match matches.get_one::<u8>("rules") {
+        Some(number) => rules_numbered(number),
+        None => other,
+    }
+}
+
+/// Whether a flag is given.
+pub(crate) fn is_flagged(matches: &ArgMatches<'_>, name: &str) -> bool
+    requires { HasFlag name.now (rows_of (found_of matches.now)) }
+    ensures { result ≡ is_flagged name.now (rows_of (found_of matches.now)) }
+{
+    matches.get_flag(name)
+}
+
+/// How a script is to be run.
+pub(crate) fn run_asked(matches: &ArgMatches<'_>) -> RunOptions
+    requires { AsksToRun (rows_of (found_of matches.now)) }
+    ensures options { AreRunOptions (rows_of (found_of matches.now)) result }
+    ensures few { (0 < result.workers) × (result.workers ≤ 64) }
+{
+    let form = if is_flagged(matches, "history") {
+        Form::History
+    } else {
+        Form::Replies
+    };
+    RunOptions {
+        workers: workers_asked(matches),
+        rules: rules_asked(matches, Rules::Second),
+        form,
+    }
+}
+
+fn number_given<'a>(matches: &ArgMatches<'a>, name: &'static str) -> Result<u32, OptionFault<'a>>
+    requires { IsConfigOption name.now }
+    ensures number { IfOk result (HoldsNumber (rows_of (found_of matches.now)) name.now) }
+    ensures fault { IfErr result (IsNumberFault (rows_of (found_of matches.now))) }
+{
+    if let Some(number) = matches.get_one::<OptionNumber>(name) {
+        return Ok(number.value);
+    }
+    match matches.get_str(name) {
+        Some(text) => Err(OptionFault::NoNumber(name, text)),
+        None => Err(OptionFault::Missing(name)),
+    }
+}
+
+/// An option that is outside its limits, of numbers that are no configuration.
+fn outside(pages: u32, quantum: u32, every: u32) -> ConfigOption
+    ensures { IsBlamed pages quantum every result }
+{
+    if !(1..=MOST_PAGES).contains(&pages) {
+        ConfigOption::Pages
+    } else if !(LEAST_QUANTUM..=MOST_QUANTUM).contains(&quantum) {
+        ConfigOption::Quantum
+    } else if every > MOST_EVERY {
+        ConfigOption::Every
+    } else {
+        ConfigOption::Trigger
+    }
+}
+
+/// The configuration of a subcommand's options.
+pub(crate) fn config_given<'a>(
+    matches: &ArgMatches<'a>,
+    rules: Rules,
+) -> Result<Config, OptionFault<'a>>
+    ensures config { IfOk result (MakesConfig rules (rows_of (found_of matches.now))) }
+    ensures fault { IfErr result (IsNumberFault (rows_of (found_of matches.now))) }
+{
+    let pages = number_given(matches, "pages")?;
+    let quantum = number_given(matches, "quantum")?;
+    let trigger = number_given(matches, "trigger")?;
+    let every = number_given(matches, "every")?;
+    match Config::under(rules, pages, quantum, trigger, every) {
+        Some(config) => Ok(config),
+        None => Err(OptionFault::Outside(outside(pages, quantum, every))),
+    }
+}
+
+/// An option that is not to stand beside `--sessions`.
+fn unwanted<'a>(matches: &ArgMatches<'a>, name: &'static str) -> Result<(), OptionFault<'a>>
+    requires option { IsConfigOption name.now }
+    requires sessions { is_flagged (codes "sessions") (rows_of (found_of matches.now)) ≡ true }
+    ensures none { OnOk result (one_of name.now (rows_of (found_of matches.now)) ≡ None) }
+    ensures fault { IfErr result (HasOptionFault (codes "check") (rows_of (found_of matches.now))) }
+{
+    match matches.get_str(name) {
+        None => Ok(()),
+        Some(_) => Err(OptionFault::Unwanted(name)),
+    }
+}
+
+/// What `check` is to do.
+pub(crate) fn check_asked<'a>(matches: &ArgMatches<'a>) -> Result<Order, OptionFault<'a>>
+    requires { AsksToCheck (rows_of (found_of matches.now)) }
+    ensures order { IfOk result (IsOrder (codes "check") (rows_of (found_of matches.now))) }
+    ensures few { IfOk result HasFewWorkers }
+    ensures rules { IfOk result HasFirstRules }
+    ensures fault { IfErr result (HasOptionFault (codes "check") (rows_of (found_of matches.now))) }
+{
+    if !is_flagged(matches, "sessions") {
+        let rules = rules_asked(matches, Rules::First);
+        return Ok(Order::Check(config_given(matches, rules)?));
+    }
+    unwanted(matches, "pages")?;
+    unwanted(matches, "quantum")?;
+    unwanted(matches, "trigger")?;
+    unwanted(matches, "every")?;
+    Ok(Order::CheckSessions(rules_asked(matches, Rules::Second)))
+}
+
+/// The number of an option that may be left out, of 32 bits at most.
+fn number_or(matches: &ArgMatches<'_>, name: &str, other: u32) -> u32
+    requires { IfSome (one_of name.now (rows_of (found_of matches.now))) (IsUnsignedIn 0 4294967295) }
+    ensures { result ≡ number_or other name.now (rows_of (found_of matches.now)) }
+{
+    matches.get_one::<u32>(name).unwrap_or(other)
+}
+
+fn seed_asked(matches: &ArgMatches<'_>) -> u64
+    requires { IsSomeAnd (one_of (codes "seed") (rows_of (found_of matches.now))) (IsUnsignedIn 0 18446744073709551615) }
+    ensures { HasNumber (rows_of (found_of matches.now)) (codes "seed") result }
+{
+    matches.get_one::<u64>("seed").unwrap_or(0)
+}
+
+fn events_asked(matches: &ArgMatches<'_>) -> u32
+    requires { IsSomeAnd (one_of (codes "events") (rows_of (found_of matches.now))) (IsUnsignedIn 1 1000000) }
+    ensures number { HasNumber (rows_of (found_of matches.now)) (codes "events") result }
+    ensures few { result ≤ 1000000 }
+{
+    number_or(matches, "events", 1)
+}
+
+/// How many sessions are to do the work of a random script.
+fn sessions_asked(matches: &ArgMatches<'_>) -> u8
+    requires { IfSome (one_of (codes "sessions") (rows_of (found_of matches.now))) (IsUnsignedIn 1 8) }
+    ensures number { result ≡ number_or 4 (codes "sessions") (rows_of (found_of matches.now)) }
+    ensures few { (0 < result) × (result ≤ 8) }
+{
+    number_or(matches, "sessions", 4) as u8
+}
+
+/// The configuration of a random script, in which cycles start once half of the pages are free at most.
+fn script_config(pages: u32, quantum: u32, every: u32) -> Config
+    requires pages { (1 ≤ pages) × (pages ≤ 4096) }
+    requires quantum { (209 ≤ quantum) × (quantum ≤ 1000000) }
+    requires every { every ≤ 1000000 }
+    ensures config { configured pages quantum (pages / 2) every ≡ Some result }
+    ensures second { result.rules ≡ Second }
+{
+    match Config::new(pages, quantum, pages / 2, every) {
+        Some(config) => config,
+        None => unreachable!(),
+    }
+}
+
+fn generated_config(matches: &ArgMatches<'_>) -> Config
+    requires { AsksToGenerate (rows_of (found_of matches.now)) }
+    ensures config { generated_config (rows_of (found_of matches.now)) ≡ Some result }
+    ensures second { result.rules ≡ Second }
+{
+    let pages = number_or(matches, "pages", 64);
+    let quantum = number_or(matches, "quantum", 250);
+    let every = number_or(matches, "every", 25);
+    script_config(pages, quantum, every)
+}
+
+fn profile_asked<'a>(matches: &ArgMatches<'a>) -> Result<Profile, OptionFault<'a>>
+    ensures profile { IfOk result (AsksProfile (rows_of (found_of matches.now))) }
+    ensures fault { IfErr result (HasOptionFault (codes "generate") (rows_of (found_of matches.now))) }
+{
+    if let Some(profile) = matches.get_one::<Profile>("profile") {
+        return Ok(profile);
+    }
+    match matches.get_str("profile") {
+        Some(text) => Err(OptionFault::NoProfile(text)),
+        None => Ok(Profile::Mixed),
+    }
+}
+
+/// How the steps of a script are to be written.
+pub(crate) fn steps_asked(matches: &ArgMatches<'_>) -> StepsOptions
+    requires { AsksToTell (rows_of (found_of matches.now)) }
+    ensures { AreStepsOptions (rows_of (found_of matches.now)) result }
+{
+    let form = if is_flagged(matches, "json") {
+        StepsForm::Json
+    } else {
+        StepsForm::Text
+    };
+    let steps = Steps {
+        form,
+        from: number_or(matches, "from", 1),
+        to: number_or(matches, "to", u32::MAX),
+    };
+    let rules = rules_asked(matches, Rules::Second);
+    StepsOptions { steps, rules }
+}
+
+/// Which random script is to be written.
+pub(crate) fn generate_asked<'a>(matches: &ArgMatches<'a>) -> Result<Options, OptionFault<'a>>
+    requires { AsksToGenerate (rows_of (found_of matches.now)) }
+    ensures options { IfOk result (AreGenerateOptions (rows_of (found_of matches.now))) }
+    ensures fault { IfErr result (HasOptionFault (codes "generate") (rows_of (found_of matches.now))) }
+{
+    let profile = profile_asked(matches)?;
+    Ok(Options {
+        config: generated_config(matches),
+        seed: seed_asked(matches),
+        events: events_asked(matches),
+        sessions: sessions_asked(matches),
+        profile,
+    })
+}

@@ -1,0 +1,217 @@
+ghost use Rattle.std.specs.Prelude.{◌≡◌, IfOk, IfErr, IsSomeAnd, Err, map};
+ghost use Rattle.std.specs.String.{string_bytes};
+ghost use Rattle.clap.specs.Words.{found_of, kind_of, rows_of, subcommand_rows_of};
+ghost use Rattle.clap.specs.declared.error.kind.ErrorKind.TheVariants.{ArgumentConflict, MissingRequiredArgument, ValueValidation};
+ghost use Rattle.mh_command_line.specs.Line.{IsAsked, NamesOne};
+ghost use Rattle.mh_command_line.specs.Orders.{GivesOrder, HasFewWorkers, HasFirstRules, HasOptionFault, IsFault, IsOrder, Refuses, RefusesOptions};
+
+use crate::command::command;
+use crate::curve::curve_asked;
+use crate::fault::LineFault;
+use crate::options::{
+    OptionFault, check_asked, config_given, generate_asked, rules_asked, run_asked, steps_asked,
+    workers_asked,
+};
+use crate::quoted::{are_plain, quoted, quoted_words};
+use crate::size::size_asked;
+use clap::ArgMatches;
+use clap::error::ErrorKind;
+use mh_model::config::Rules;
+use mh_orders::order::Order;
+use mh_orders::profile::UnknownProfile;
+use std::alloc::{AllocError, Global};
+use std::convert::AsStr;
+
+fn order_named<'a>(name: &str, matches: &ArgMatches<'a>) -> Result<Order, OptionFault<'a>>
+    requires { IsAsked name.now (rows_of (found_of matches.now)) }
+    ensures order { IfOk result (IsOrder name.now (rows_of (found_of matches.now))) }
+    ensures few { IfOk result HasFewWorkers }
+    ensures rules { IfOk result HasFirstRules }
+    ensures fault { IfErr result (HasOptionFault name.now (rows_of (found_of matches.now))) }
+{
+    match name {
+        "run" => Ok(Order::Run(run_asked(matches))),
+        "steps" => Ok(Order::Steps(steps_asked(matches))),
+        "show" => Ok(Order::Show(rules_asked(matches, Rules::Second))),
+        "live" => Ok(Order::Live(workers_asked(matches))),
+        "race" => Ok(Order::Race(workers_asked(matches))),
+        "check" => check_asked(matches),
+        "audit" => Ok(Order::Audit),
+        "curve" => Ok(curve_asked(matches)),
+        "migrate" => Ok(Order::Migrate(config_given(matches, Rules::First)?)),
+        "size" => size_asked(matches),
+        "generate" => Ok(Order::Generate(generate_asked(matches)?)),
+        _ => unreachable!(),
+    }
+}
+
+/// The order of what `clap` found.
+fn order_of<'a>(matches: &ArgMatches<'a>) -> Result<Order, OptionFault<'a>>
+    requires { NamesOne (subcommand_rows_of matches.now) }
+    ensures order { IfOk result (λ order. IsSomeAnd (subcommand_rows_of matches.now) (λ subcommand. IsOrder subcommand.0 subcommand.1 order)) }
+    ensures few { IfOk result HasFewWorkers }
+    ensures rules { IfOk result HasFirstRules }
+    ensures fault { IfErr result (λ fault. IsSomeAnd (subcommand_rows_of matches.now) (λ subcommand. HasOptionFault subcommand.0 subcommand.1 fault)) }
+{
+    match matches.subcommand() {
+        Some((name, matches)) => order_named(name, matches),
+        None => unreachable!(),
+    }
+}
+
+/// `clap`'s refusal of options, with this kind of fault.
+fn refused(alloc: Global, kind: ErrorKind, message: &str) -> Result<clap::Error, AllocError>
+    ensures { IfOk result (λ error. kind_of error ≡ kind) }
+{
+    let mut command = command(alloc)?;
+    command.error(kind, message)
+}
+
+/// `clap`'s refusal of an option that is no number.
+fn no_number(alloc: Global, name: &str, text: &str) -> Result<clap::Error, AllocError>
+    ensures { IfOk result (λ error. kind_of error ≡ ValueValidation) }
+{
+    let text = quoted(alloc, text)?;
+    let message = format!(in alloc; "invalid value '{text}' for '--{name}': not a number")?;
+    refused(alloc, ErrorKind::ValueValidation, message.as_str())
+}
+
+/// `clap`'s refusal of a profile that is none.
+fn no_profile(alloc: Global, text: &str) -> Result<clap::Error, AllocError>
+    ensures { IfOk result (λ error. kind_of error ≡ ValueValidation) }
+{
+    let text = quoted(alloc, text)?;
+    let message = format!(in alloc; "invalid value '{text}' for '--profile': {UnknownProfile}")?;
+    refused(alloc, ErrorKind::ValueValidation, message.as_str())
+}
+
+/// `clap`'s refusal of blocks that are none.
+fn no_blocks(alloc: Global, text: &str) -> Result<clap::Error, AllocError>
+    ensures { IfOk result (λ error. kind_of error ≡ ValueValidation) }
+{
+    let text = quoted(alloc, text)?;
+    let message = format!(in alloc;
+        "invalid value '{text}' for '--allocates': not WORDS:COUNT with 4 to 64 words and 1 to 1048576 blocks of a class"
+    )?;
+    refused(alloc, ErrorKind::ValueValidation, message.as_str())
+}
+
+/// `clap`'s refusal of options without this one.
+fn missing(alloc: Global, name: &str) -> Result<clap::Error, AllocError>
+    ensures { IfOk result (λ error. kind_of error ≡ MissingRequiredArgument) }
+{
+    let message = format!(in alloc; "the argument '--{name}' was not provided")?;
+    refused(alloc, ErrorKind::MissingRequiredArgument, message.as_str())
+}
+
+/// `clap`'s refusal of an option beside another.
+fn beside(alloc: Global, name: &str, other: &str) -> Result<clap::Error, AllocError>
+    ensures { IfOk result (λ error. kind_of error ≡ ArgumentConflict) }
+{
+    let message = format!(in alloc; "the argument '--{name}' cannot be used with '--{other}'")?;
+    refused(alloc, ErrorKind::ArgumentConflict, message.as_str())
+}
+
+fn refused_options(alloc: Global, fault: OptionFault<'_>) -> LineFault
+    ensures { RefusesOptions fault.entry result }
+{
+    let refusal = match fault {
+        OptionFault::Outside(option) => return LineFault::Configuration(option),
+        OptionFault::NoNumber(name, text) => no_number(alloc, name, text),
+        OptionFault::NoProfile(text) => no_profile(alloc, text),
+        OptionFault::NoBlocks(text) => no_blocks(alloc, text),
+        OptionFault::Missing(name) | OptionFault::Lacking(name) => missing(alloc, name),
+        OptionFault::Unwanted(name) => beside(alloc, name, "sessions"),
+        OptionFault::Beside(name, other) => beside(alloc, name, other),
+    };
+    match refusal {
+        Ok(error) => LineFault::Words(error),
+        Err(_) => LineFault::NoMemory,
+    }
+}
+
+/// How `clap` refuses words, if it does.
+fn refusal<T: AsStr>(alloc: Global, words: &[T]) -> Result<Option<clap::Error>, AllocError> {
+    let command = command(alloc)?;
+    Ok(command.try_get_matches_from(words).err())
+}
+
+/// A refusal that quotes nothing.
+fn unquoted(alloc: Global, kind: ErrorKind) -> Result<clap::Error, AllocError>
+    ensures { IfOk result (λ error. kind_of error ≡ kind) }
+{
+    let mut command = command(alloc)?;
+    command.error(kind, "a word is not as it should be")
+}
+
+/// The refusal of words with all that it quotes as it can be printed, which is that of the words as they are quoted. If that
+/// is another, a refusal that quotes nothing.
+fn quoted_refusal<T: AsStr>(
+    alloc: Global,
+    words: &[T],
+    error: clap::Error,
+) -> Result<clap::Error, AllocError>
+    ensures { IfOk result (λ told. kind_of told ≡ kind_of error) }
+{
+    if are_plain(words) {
+        return Ok(error);
+    }
+    let words = quoted_words(alloc, words)?;
+    if let Some(told) = refusal(alloc, words.as_slice())? {
+        if told.kind() == error.kind() {
+            return Ok(told);
+        }
+    }
+    unquoted(alloc, error.kind())
+}
+
+fn refused_words<T: AsStr>(alloc: Global, words: &[T], error: clap::Error) -> LineFault
+    ensures { Refuses (kind_of error) result }
+{
+    if error.kind() == ErrorKind::OutOfMemory {
+        return LineFault::NoMemory;
+    }
+    match quoted_refusal(alloc, words, error) {
+        Ok(error) => LineFault::Words(error),
+        Err(_) => LineFault::NoMemory,
+    }
+}
+
+/// Reads the words of the command line, of which the first is the program's own name.
+pub fn order<T: AsStr>(alloc: Global, words: &[T]) -> Result<Order, LineFault>
+    ensures order { IfOk result (GivesOrder (map T.text words.now)) }
+    ensures fault { IfErr result (IsFault (map T.text words.now)) }
+{
+    let Ok(command) = command(alloc) else {
+        return Err(LineFault::NoMemory);
+    };
+    match command.try_get_matches_from(words) {
+        Ok(matches) => match order_of(&matches) {
+            Ok(order) => Ok(order),
+            Err(fault) => Err(refused_options(alloc, fault)),
+        },
+        Err(error) if error.kind() == ErrorKind::DisplayVersion => Ok(Order::Version),
+        Err(error) => Err(refused_words(alloc, words, error)),
+    }
+}
+
+fn order_of_texts(alloc: Global, words: Vec<String>) -> Result<Order, LineFault>
+    ensures order { IfOk result (GivesOrder (map string_bytes words.items)) }
+    ensures fault { IfErr result (IsFault (map string_bytes words.items)) }
+{
+    order(alloc, words.as_slice())
+}
+
+/// The order of the words that the system gave, of which the first is the program's own name.
+pub fn line_order(alloc: Global, words: Result<Vec<String>, LineFault>) -> Result<Order, LineFault>
+    ensures order { IfOk words (λ words. IfOk result (GivesOrder (map string_bytes words.items))) }
+    ensures fault { IfOk words (λ words. IfErr result (IsFault (map string_bytes words.items))) }
+    ensures unread { IfErr words (λ fault. result ≡ Err fault) }
+    ensures few { IfOk result HasFewWorkers }
+    ensures rules { IfOk result HasFirstRules }
+{
+    match words {
+        Ok(words) => order_of_texts(alloc, words),
+        Err(fault) => Err(fault),
+    }
+}

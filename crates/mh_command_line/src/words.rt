@@ -1,0 +1,66 @@
+//! The words of the command line as the system has them.
+ghost use Rattle.std.specs.Prelude.{IfErr};
+ghost use Rattle.mh_command_line.specs.Orders.{IsUnread};
+
+use crate::fault::LineFault;
+use std::alloc::{AllocError, Global};
+use std::env::{Env, FillError};
+
+/// How the program calls itself, whatever it was called by.
+const NAME: &str = "metroheap";
+
+/// The room for a word at first.
+const ROOM: usize = 256;
+
+/// The bytes of a word, if there is one.
+fn bytes_of<E: Env>(env: &E, alloc: Global, index: usize) -> Result<Option<Vec<u8>>, AllocError> {
+    let mut room = ROOM;
+    for _ in 0..usize::BITS {
+        let mut bytes = Vec::new(alloc);
+        bytes.resize(room, 0u8)?;
+        match env.arg(index, bytes.as_mut_slice()) {
+            Ok(length) => {
+                bytes.truncate(length);
+                return Ok(Some(bytes));
+            }
+            Err(FillError::NotPresent) => return Ok(None),
+            Err(FillError::TooLong) => room = room.saturating_mul(2),
+        }
+    }
+    Err(AllocError)
+}
+
+fn word<E: Env>(env: &E, alloc: Global, index: usize) -> Result<Option<String>, LineFault>
+    ensures { IfErr result IsUnread }
+{
+    match bytes_of(env, alloc, index) {
+        Ok(Some(bytes)) => match String::from_utf8(bytes) {
+            Ok(word) => Ok(Some(word)),
+            Err(_) => Err(LineFault::NotText),
+        },
+        Ok(None) => Ok(None),
+        Err(_) => Err(LineFault::NoMemory),
+    }
+}
+
+/// The words of the command line. The first is the program's own name, for which the system may have any bytes.
+pub fn words<E: Env>(env: &E, alloc: Global) -> Result<Vec<String>, LineFault>
+    ensures { IfErr result IsUnread }
+{
+    let mut words = Vec::new(alloc);
+    let Ok(name) = NAME.to_string(alloc) else {
+        return Err(LineFault::NoMemory);
+    };
+    if words.push(name).is_err() {
+        return Err(LineFault::NoMemory);
+    }
+    for index in 1..usize::MAX {
+        let Some(word) = word(env, alloc, index)? else {
+            break;
+        };
+        if words.push(word).is_err() {
+            return Err(LineFault::NoMemory);
+        }
+    }
+    Ok(words)
+}

@@ -1,0 +1,18 @@
+-- What is given of a configuration, within its limits.
+use Rattle.std.specs.Prelude.{ℕ, nat_le, Bool, true, ◌&&◌, Option, None, Some}
+use Rattle.mh_orders.specs.declared.target_options.Given.{Given}
+use Rattle.mh_orders.specs.declared.target_options.Given.TheVariants.{Every, Nothing, Quantum}
+
+abbrev pub is_between : ℕ → ℕ → ℕ → Bool
+is_between least most number = nat_le least number && nat_le number most
+
+-- a number that is given is between these
+abbrev pub may_be : ℕ → ℕ → Option ℕ → Bool
+may_be least most None = true
+may_be least most (Some number) = is_between least most number
+
+-- and so is what is given beside a target
+abbrev pub is_given_within : Given → Bool
+is_given_within Nothing = true
+is_given_within (Every every) = is_between 1 1000000 every
+is_given_within (Quantum quantum) = is_between 209 1000000 quantum

@@ -1,0 +1,25 @@
+ghost use Rattle.std.specs.Prelude.{◌≤◌, IsTrue};
+ghost use Rattle.mh_orders.specs.Given.{may_be};
+
+use crate::allocations::Allocations;
+
+/// Which heap is asked for.
+#[derive(Clone, Copy, Debug, PartialEq, Eq)]
+pub struct HeapOptions {
+    pub pages: u32,
+    /// After how many units of the mutator a quantum is run.
+    pub every: u32,
+    /// What an interval between two quanta asks for at most.
+    pub allocations: Allocations,
+    /// The most live blocks at a time.
+    pub live: u32,
+    /// The most references in these, and as many as they have room for if it is not given.
+    pub references: Option<u32>,
+    /// The most units that a quantum spends, and the least that is enough if it is not given.
+    pub quantum: Option<u32>,
+    pub ghost pages_within: { (1 ≤ pages) × (pages ≤ 4096) },
+    pub ghost every_within: { (1 ≤ every) × (every ≤ 1000000) },
+    pub ghost few_live: { live ≤ 1048576 },
+    pub ghost few_references: { IsTrue (may_be 0 1048576 references) },
+    pub ghost quantum_within: { IsTrue (may_be 209 1000000 quantum) },
+}

@@ -1,0 +1,83 @@
+//! Orders, and the options of a configuration.
+use crate::curve::{CurveForm, CurveOptions};
+use crate::generate_options::Options;
+use crate::heap_options::HeapOptions;
+use crate::steps::Steps;
+use crate::target_options::TargetOptions;
+use mh_model::config::{Config, Rules};
+use thiserror::Error;
+
+/// What a run of a script writes.
+#[derive(Clone, Copy, Debug, PartialEq, Eq)]
+pub enum Form {
+    /// The reply to each event.
+    Replies,
+    /// A history of version 2.
+    History,
+}
+
+/// How a script is run.
+#[derive(Clone, Copy, Debug, PartialEq, Eq)]
+pub struct RunOptions {
+    /// How many threads scan at a time at most.
+    pub workers: usize,
+    pub rules: Rules,
+    pub form: Form,
+}
+
+/// How the steps of a script are written.
+#[derive(Clone, Copy, Debug, PartialEq, Eq)]
+pub struct StepsOptions {
+    pub steps: Steps,
+    pub rules: Rules,
+}
+
+/// What the program is to do.
+#[derive(Clone, Copy, Debug, PartialEq, Eq)]
+pub enum Order {
+    /// Run the script on standard input.
+    Run(RunOptions),
+    /// Run the script on standard input, and tell what each event did.
+    Steps(StepsOptions),
+    /// Run the script on standard input under these rules, and write a page that shows the run.
+    Show(Rules),
+    /// Answer each line of standard input as it comes, with so many workers at most.
+    Live(usize),
+    /// Let the sessions of the script on standard input race, with so many workers at most.
+    Race(usize),
+    /// Check the history on standard input, of version 1, under a configuration.
+    Check(Config),
+    /// Check the history on standard input, of either version, by what its sessions see under these rules.
+    CheckSessions(Rules),
+    /// Audit the history on standard input, of version 2.
+    Audit,
+    /// Write the history on standard input, of version 1, as version 2.
+    Migrate(Config),
+    /// Write the curve of a run of the script on standard input.
+    Curve(CurveOptions),
+    /// Write the curve of the history on standard input, of version 2.
+    CurveHistory(CurveForm),
+    /// Write the random script that is asked for.
+    Generate(Options),
+    /// Write how large a heap has to be for what its intervals ask for.
+    Size(HeapOptions),
+    /// Write which quantum keeps a share of the mutator.
+    SizeTarget(TargetOptions),
+    /// Write what the sessions of the script on standard input need under these rules.
+    SizeScript(Rules),
+    /// Write the version of the program.
+    Version,
+}
+
+/// An option that gives a number of a configuration, with its limits.
+#[derive(Clone, Copy, Debug, PartialEq, Eq, Error)]
+pub enum ConfigOption {
+    #[error("--pages goes from 1 to 4096")]
+    Pages,
+    #[error("--quantum goes from 209 to 1000000")]
+    Quantum,
+    #[error("--trigger goes from 0 to the number of pages")]
+    Trigger,
+    #[error("--every goes from 0 to 1000000")]
+    Every,
+}

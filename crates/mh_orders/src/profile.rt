@@ -1,0 +1,50 @@
+use std::str::FromStr;
+use thiserror::Error;
+
+/// Which mix of events a script has.
+#[derive(Clone, Copy, Debug, PartialEq, Eq)]
+pub enum Profile {
+    /// Small objects of all kinds, most of which live shortly.
+    Churn,
+    /// Long lists that are built, walked and cut.
+    Lists,
+    /// Trees that are joined, walked and pruned.
+    Trees,
+    /// Objects of many references.
+    Wide,
+    /// Objects of many blocks, with sizes at and beside the limits of blocks and spines.
+    Large,
+    /// Objects of all classes, of which few are kept, so that pages become sparse.
+    Fragments,
+    /// Commands that are refused, for each reason.
+    Refusals,
+    /// The others in turn.
+    Mixed,
+}
+
+/// A text that names no profile.
+#[derive(Clone, Copy, Debug, PartialEq, Eq, Error)]
+#[error("not churn, lists, trees, wide, large, frag, refusals or mixed")]
+pub struct UnknownProfile;
+
+impl FromStr for Profile {
+    ghost use Rattle.mh_orders.specs.Profiles.{NamesProfile};
+
+    type Err = UnknownProfile;
+
+    ghost from_str_gives = { NamesProfile };
+
+    fn from_str(text: &str) -> Result<Profile, UnknownProfile> {
+        match text {
+            "churn" => Ok(Profile::Churn),
+            "lists" => Ok(Profile::Lists),
+            "trees" => Ok(Profile::Trees),
+            "wide" => Ok(Profile::Wide),
+            "large" => Ok(Profile::Large),
+            "frag" => Ok(Profile::Fragments),
+            "refusals" => Ok(Profile::Refusals),
+            "mixed" => Ok(Profile::Mixed),
+            _ => Err(UnknownProfile),
+        }
+    }
+}

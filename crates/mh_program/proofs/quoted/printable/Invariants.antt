@@ -1,5 +1,0 @@
-use Rattle.mh_program.specs.Printable.{IsPrintable}
-use Rattle.mh_program.proofs.quoted.printable.Given as goal
-
-abbrev pub invariant-loop-byte : goal.invariant-loop-byte
-invariant-loop-byte l = IsPrintable l.bytes.items

@@ -1,0 +1,129 @@
+//! The sizes that the program writes.
+ghost use Rattle.std.specs.Prelude.{◌<◌, ◌^◌};
+ghost use Rattle.mh_program.specs.Program.{Obeys, WritesSize};
+ghost use Rattle.mh_program.specs.Status.{status_of};
+ghost use Rattle.mh_program.specs.Telling.{TellsEnd, TellsFault, TellsRun};
+ghost use Rattle.mh_script.specs.Run.{device};
+ghost use Rattle.mh_size.specs.Heaps.{IsHeapText};
+ghost use Rattle.mh_size.specs.Scripts.{IsSizing};
+ghost use Rattle.mh_size.specs.Targets.{IsTargetText};
+
+use crate::errors::Errors;
+use crate::status::status;
+use mh_model::config::Rules;
+use mh_model::memory::NoMemory;
+use mh_orders::heap_options::HeapOptions;
+use mh_orders::target_options::TargetOptions;
+use mh_script::end::End;
+use mh_script::fault::ScriptFault;
+use mh_size::heap::heap_text;
+use mh_size::sized::size_script;
+use mh_size::target::target_text;
+use mh_text::sink::Sink;
+use mh_text::source::Source;
+use mh_text::stream::write_text;
+use std::alloc::Global;
+
+fn written_heap<W: Sink>(
+    alloc: Global,
+    options: &HeapOptions,
+    sink: &mut W,
+) -> Result<End, ScriptFault>
+    requires { W.failures sink.old < 2 ^ 62 }
+    ensures { WritesSize (IsHeapText options.now) (device (W.written sink.old) (W.failures sink.old)) (device (W.written sink.new) (W.failures sink.new)) result }
+{
+    let text = match heap_text(alloc, options) {
+        Ok(text) => text,
+        Err(NoMemory) => return Err(ScriptFault::NoMemory),
+    };
+    match write_text(sink, text.as_bytes()) {
+        Ok(()) => Ok(End::Done),
+        Err(_) => Err(ScriptFault::Write),
+    }
+}
+
+/// Writes how large a heap has to be, and reports a fault of that.
+pub(crate) fn size_heap<W: Sink, E: Sink>(
+    alloc: Global,
+    options: HeapOptions,
+    sink: &mut W,
+    errors: &mut Errors<E>,
+) -> u8
+    requires sink_count { W.failures sink.old < 2 ^ 62 }
+    ensures { Obeys (WritesSize (IsHeapText options) (device (W.written sink.old) (W.failures sink.old)) (device (W.written sink.new) (W.failures sink.new))) TellsFault status_of
+        errors.old errors.new result }
+{
+    let ended = written_heap(alloc, &options, sink);
+    errors.tell_fault(&ended);
+    status(&ended)
+}
+
+fn written_target<W: Sink>(
+    alloc: Global,
+    options: &TargetOptions,
+    sink: &mut W,
+) -> Result<End, ScriptFault>
+    requires { W.failures sink.old < 2 ^ 62 }
+    ensures { WritesSize (IsTargetText options.now) (device (W.written sink.old) (W.failures sink.old)) (device (W.written sink.new) (W.failures sink.new)) result }
+{
+    let text = match target_text(alloc, options) {
+        Ok(text) => text,
+        Err(NoMemory) => return Err(ScriptFault::NoMemory),
+    };
+    match write_text(sink, text.as_bytes()) {
+        Ok(()) => Ok(End::Done),
+        Err(_) => Err(ScriptFault::Write),
+    }
+}
+
+/// Writes which quantum keeps a share, and reports a fault of that.
+pub(crate) fn size_target<W: Sink, E: Sink>(
+    alloc: Global,
+    options: TargetOptions,
+    sink: &mut W,
+    errors: &mut Errors<E>,
+) -> u8
+    requires sink_count { W.failures sink.old < 2 ^ 62 }
+    ensures { Obeys (WritesSize (IsTargetText options) (device (W.written sink.old) (W.failures sink.old)) (device (W.written sink.new) (W.failures sink.new))) TellsFault status_of
+        errors.old errors.new result }
+{
+    let ended = written_target(alloc, &options, sink);
+    errors.tell_fault(&ended);
+    status(&ended)
+}
+
+/// The sizing of a script.
+fn written_needs<S: Source, W: Sink>(
+    alloc: Global,
+    rules: Rules,
+    source: &mut S,
+    sink: &mut W,
+) -> Result<End, ScriptFault>
+    requires source_count { S.failures source.old < 2 ^ 62 }
+    requires sink_count { W.failures sink.old < 2 ^ 62 }
+    ensures { IsSizing rules
+        (device (S.rest source.old) (S.failures source.old)) (device (S.rest source.new) (S.failures source.new))
+        (device (W.written sink.old) (W.failures sink.old)) (device (W.written sink.new) (W.failures sink.new)) result }
+{
+    size_script(alloc, source, sink, rules)
+}
+
+/// Writes what the sessions of a script need, and reports how that ended if not well.
+pub(crate) fn size_needs<S: Source, W: Sink, E: Sink>(
+    alloc: Global,
+    rules: Rules,
+    source: &mut S,
+    sink: &mut W,
+    errors: &mut Errors<E>,
+) -> u8
+    requires source_count { S.failures source.old < 2 ^ 62 }
+    requires sink_count { W.failures sink.old < 2 ^ 62 }
+    ensures { Obeys (IsSizing rules
+        (device (S.rest source.old) (S.failures source.old)) (device (S.rest source.new) (S.failures source.new))
+        (device (W.written sink.old) (W.failures sink.old)) (device (W.written sink.new) (W.failures sink.new))) (TellsRun TellsEnd) status_of
+        errors.old errors.new result }
+{
+    let ended = written_needs(alloc, rules, source, sink);
+    errors.tell_end(&ended);
+    status(&ended)
+}
