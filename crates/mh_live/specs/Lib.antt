@@ -3,3 +3,4 @@ pub mod Feeding
 pub mod Heard
 pub mod Laws
 pub mod OfState
+pub mod OfScript

@@ -2,32 +2,32 @@
 use Rattle.std.specs.Prelude.{◌≡◌, ℕ, ◌<◌, Result, Ok, Err, codes}
 use Rattle.std.specs.Io.KnownBytes.{Appends}
 use Rattle.mh_model.specs.Bytes.{Text, line_text}
-use Rattle.mh_script.specs.declared.fault.ScriptFault.{ScriptFault}
+use Rattle.mh_live.specs.OfScript.ScriptFault.{ScriptFault}
 use Rattle.mh_command_line.specs.declared.fault.LineFault.{LineFault}
 use Rattle.mh_orders.specs.declared.order.Order.{Order}
 use Rattle.mh_orders.specs.declared.order.Order.TheVariants.{Run, Steps, Show, Live, Race, Check, CheckSessions, Audit, Migrate, Generate, Version, Curve, CurveHistory, Size, SizeTarget, SizeScript}
 use Rattle.mh_orders.specs.declared.order.Form.{Form}
 use Rattle.mh_orders.specs.declared.order.Form.TheVariants.{Replies, History}
-use Rattle.mh_script.specs.declared.fault.ScriptFault.TheVariants.{Write, NoMemory}
+use Rattle.mh_live.specs.OfScript.ScriptFault.TheVariants.{Write, NoMemory}
 use Rattle.mh_text.specs.Stream.{AppendsBeginning}
-use Rattle.mh_script.specs.declared.end.End.{End}
-use Rattle.mh_script.specs.declared.end.End.TheVariants.{Done}
-use Rattle.mh_curve.specs.Runs.{IsDrawing, curve_output}
+use Rattle.mh_live.specs.OfScript.End.{End}
+use Rattle.mh_live.specs.OfScript.End.TheVariants.{Done}
+use Rattle.mh_show.specs.OfCurve.Runs.{IsDrawing, curve_output}
 use Rattle.mh_orders.specs.declared.generate_options.Options.{Options}
 use Rattle.mh_generate.specs.Generated.{WritesAsked}
-use Rattle.mh_judging.specs.Judged.{IsAuditing, IsChecking, IsMigrating}
+use Rattle.mh_sessions.specs.OfJudging.Judged.{IsAuditing, IsChecking, IsMigrating}
 use Rattle.mh_racing.specs.Raced.{IsRaceRun}
-use Rattle.mh_judging.specs.RunHistory.{IsHistoryRun}
+use Rattle.mh_sessions.specs.OfJudging.RunHistory.{IsHistoryRun}
 use Rattle.mh_live.specs.Feeding.{IsLiveRun}
 use Rattle.mh_model.specs.RunHistories.{output_under}
 use Rattle.mh_model.specs.declared.config.Rules.{Rules}
 use Rattle.mh_sessions.specs.Texts.{IsSessionsJudging}
-use Rattle.mh_script.specs.Run.{Device, IsRun, transcript}
+use Rattle.mh_live.specs.OfScript.Run.{Device, IsRun, transcript}
 use Rattle.mh_show.specs.Page.{page_text}
 use Rattle.mh_size.specs.Heaps.{IsHeapText}
 use Rattle.mh_size.specs.Scripts.{IsSizing}
 use Rattle.mh_size.specs.Targets.{IsTargetText}
-use Rattle.mh_telling.specs.Steps.{steps_text}
+use Rattle.mh_show.specs.OfTelling.Steps.{steps_text}
 use Rattle.mh_program.specs.Status.{judgement_status_of, line_status_of, live_status_of, status_of, curve_status_of}
 use Rattle.mh_program.specs.Telling.{ErrorStream, TellsEnd, TellsFault, TellsJudgement, TellsLine, TellsRefusals, TellsRun, TellsCurve}
 
