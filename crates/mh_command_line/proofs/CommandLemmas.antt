@@ -1,8 +1,17 @@
--- A command with its subcommands, one after another.
+-- A command with its options or its subcommands, one after another.
 use Rattle.std.proofs.Common.{◌≡◌, ◌∙◌, ap}
 use Rattle.std.specs.Prelude.{Result, Ok, Err, IfOk, IsOkAnd}
-use Rattle.clap.specs.Simple.{App, app_of, with_subcommand}
+use Rattle.clap.specs.Simple.{App, app_of, with_rule, with_subcommand}
+use Rattle.clap.specs.Walk.{Rule}
 use Rattle.clap.specs.declared.builder.command.Command.{Command}
+
+-- a command that has an option more
+pub optioned : (more a b : App) (r s : Rule) → a ≡ b → r ≡ s → more ≡ with_rule a r → more ≡ with_rule b s
+optioned more a b r s command rule has = has ∙ ap (λ a. with_rule a r) command ∙ ap (λ r. with_rule b r) rule
+
+pub IfOk-optioned : {E : Type 0} (result : Result Command E) (a b : App) (r s : Rule) → a ≡ b → r ≡ s → IfOk result (λ more. app_of more ≡ with_rule a r) → IfOk result (λ more. app_of more ≡ with_rule b s)
+IfOk-optioned (Ok more) a b r s command rule has = optioned (app_of more) a b r s command rule has
+IfOk-optioned (Err e) a b r s command rule has = tt
 
 -- the same command with the same subcommand
 pub same-with : (a b s t : App) → a ≡ b → s ≡ t → with_subcommand a s.top ≡ with_subcommand b t.top

@@ -1,8 +1,8 @@
-ghost use Rattle.std.specs.Prelude.{◌≡◌, IfOk, IsOkAnd, false, codes};
+ghost use Rattle.std.specs.Prelude.{◌≡◌, IfOk, IsOkAnd, Some, false, true, codes};
 ghost use Rattle.clap.specs.Words.{app_of, new_app, rule_of, with_rule, with_subcommand};
 ghost use Rattle.clap.specs.declared.builder.command.Command.TheViews.{out-Command};
 ghost use Rattle.clap.specs.declared.builder.value_parser.ValueParser.TheVariants.{Unsigned};
-ghost use Rattle.mh_command_line.specs.Line.{check_app, config_app, flag_rule, generate_app, metroheap, named_rule, number_rule, option_rule, optional_app, parsed_rule, profile_rule, required_rule, rules_rule, run_app, seeded_app, show_app, steps_app, versioned, workers_app, workers_rule};
+ghost use Rattle.mh_command_line.specs.Line.{check_app, config_app, flag_rule, generate_app, metroheap, named_rule, number_rule, option_rule, page_numbers, optional_app, parsed_rule, profile_rule, quantum_numbers, required_rule, rules_rule, run_app, seeded_app, show_app, step_numbers, steps_app, versioned, workers_app, workers_rule};
 
 use crate::curve::curve;
 use crate::size::size;
@@ -82,6 +82,22 @@ fn explained<'a>(option: Arg<'a>, value: &'a str, help: &'a str) -> Arg<'a>
     option.value_name(value).help(help)
 }
 
+/// The option, whose value passes this parser.
+pub(crate) fn parsed<'a>(option: Arg<'a>, parser: ValueParser<'a>) -> Arg<'a>
+    ensures rule { rule_of result ≡ record (rule_of option.entry) { parser = Some parser.entry } }
+    ensures local { result.global ≡ option.entry.global }
+{
+    option.value_parser(parser)
+}
+
+/// The option, which has to be given.
+fn wanted<'a>(option: Arg<'a>) -> Arg<'a>
+    ensures rule { rule_of result ≡ record (rule_of option.entry) { required = true } }
+    ensures local { result.global ≡ option.entry.global }
+{
+    option.required(true)
+}
+
 /// An option that is given with one value.
 pub(crate) fn option<'a>(alloc: Global, name: &'a str, value: &'a str, help: &'a str) -> Arg<'a>
     ensures rule { rule_of result ≡ option_rule name.entry.now }
@@ -95,7 +111,8 @@ fn workers<'a>(alloc: Global) -> Arg<'a>
     ensures local { result.global ≡ false }
 {
     let help = "How many threads scan at a time at most, from 1 to 64; 1 if it is not given";
-    option(alloc, "workers", "W", help).value_parser(ValueParser::unsigned(1, MOST_WORKERS))
+    let option = option(alloc, "workers", "W", help);
+    parsed(option, ValueParser::unsigned(1, MOST_WORKERS))
 }
 
 /// A subcommand with what help says of it.
@@ -113,6 +130,54 @@ pub(crate) fn subcommand<'a>(
         .about(about)
         .override_usage(usage)
         .after_help(statuses)
+}
+
+/// An option with a number within bounds that has to be given.
+fn required<'a>(
+    alloc: Global,
+    name: &'a str,
+    value: &'a str,
+    least: u64,
+    most: u64,
+    help: &'a str,
+) -> Arg<'a>
+    ensures rule { rule_of result ≡ required_rule name.entry.now (Unsigned least most) }
+    ensures local { result.global ≡ false }
+{
+    wanted(bounded(alloc, name, value, least, most, help))
+}
+
+/// The option `--pages` with a number within the limits of a configuration.
+pub(crate) fn pages<'a>(alloc: Global, help: &'a str) -> Arg<'a>
+    ensures rule { rule_of result ≡ parsed_rule (codes "pages") page_numbers }
+    ensures local { result.global ≡ false }
+{
+    bounded(alloc, "pages", "P", 1, MOST_PAGES.into(), help)
+}
+
+/// The option `--quantum` with a number within the limits of a configuration.
+pub(crate) fn quantum<'a>(alloc: Global, help: &'a str) -> Arg<'a>
+    ensures rule { rule_of result ≡ parsed_rule (codes "quantum") quantum_numbers }
+    ensures local { result.global ≡ false }
+{
+    let least = LEAST_QUANTUM.into();
+    bounded(alloc, "quantum", "K", least, MOST_QUANTUM.into(), help)
+}
+
+/// The option `--every` with a number within the limits of a configuration, and no less than this.
+pub(crate) fn every<'a>(alloc: Global, value: &'a str, least: u64, help: &'a str) -> Arg<'a>
+    ensures rule { rule_of result ≡ parsed_rule (codes "every") (Unsigned least 1000000) }
+    ensures local { result.global ≡ false }
+{
+    bounded(alloc, "every", value, least, MOST_EVERY.into(), help)
+}
+
+/// An option with the number of an event.
+fn step<'a>(alloc: Global, name: &'a str, value: &'a str, help: &'a str) -> Arg<'a>
+    ensures rule { rule_of result ≡ parsed_rule name.entry.now step_numbers }
+    ensures local { result.global ≡ false }
+{
+    bounded(alloc, name, value, 0, u32::MAX.into(), help)
 }
 
 /// The command with one option more.
@@ -146,7 +211,10 @@ pub(crate) fn rules<'a>(alloc: Global, help: &'a str) -> Arg<'a>
     ensures rule { rule_of result ≡ rules_rule }
     ensures local { result.global ≡ false }
 {
-    option(alloc, "rules", "R", help).value_parser(ValueParser::unsigned(1, 2))
+    parsed(
+        option(alloc, "rules", "R", help),
+        ValueParser::unsigned(1, 2),
+    )
 }
 
 /// An option without a value.
@@ -162,7 +230,7 @@ fn number<'a>(alloc: Global, name: &'a str, value: &'a str, help: &'a str) -> Ar
     ensures rule { rule_of result ≡ number_rule name.entry.now }
     ensures local { result.global ≡ false }
 {
-    option(alloc, name, value, help).value_parser(ValueParser::string())
+    parsed(option(alloc, name, value, help), ValueParser::string())
 }
 
 /// An option with a number within bounds.
@@ -177,7 +245,8 @@ pub(crate) fn bounded<'a>(
     ensures rule { rule_of result ≡ parsed_rule name.entry.now (Unsigned least most) }
     ensures local { result.global ≡ false }
 {
-    option(alloc, name, value, help).value_parser(ValueParser::unsigned(least, most))
+    let option = option(alloc, name, value, help);
+    parsed(option, ValueParser::unsigned(least, most))
 }
 
 /// The command with one number of a configuration more.
@@ -263,13 +332,11 @@ fn steps<'a>(alloc: Global) -> Result<Command<'a>, AllocError>
         SCRIPT_STATUSES,
     );
     let help = "The first event whose deeds are printed, counted from 1; 1 if it is not given";
-    let from = bounded(alloc, "from", "N", 0, u32::MAX.into(), help);
-    let command = with_option(command, from)?;
+    let command = with_option(command, step(alloc, "from", "N", help))?;
     let help = "The last event whose deeds are printed; the last of all if it is not given";
-    let to = bounded(alloc, "to", "M", 0, u32::MAX.into(), help);
-    let command = with_option(command, to)?;
-    let json = flag(alloc, "json", "Print one object of JSON a line");
-    let command = with_option(command, json)?;
+    let command = with_option(command, step(alloc, "to", "M", help))?;
+    let help = "Print one object of JSON a line";
+    let command = with_option(command, flag(alloc, "json", help))?;
     with_option(command, rules(alloc, RULES_OF_A_RUN))
 }
 
@@ -365,24 +432,12 @@ fn seeded<'a>(alloc: Global) -> Result<Command<'a>, AllocError>
         "metroheap generate --seed <N> --events <M> [--sessions <S>] [--pages <P>] [--quantum <K>] [--every <E>] [--profile <NAME>]",
         GENERATE_STATUSES,
     );
-    let seed = bounded(
-        alloc,
-        "seed",
-        "N",
-        0,
-        u64::MAX,
-        "What the random numbers begin with, from 0 to 18446744073709551615",
-    );
-    let command = with_option(command, seed.required(true))?;
-    let events = bounded(
-        alloc,
-        "events",
-        "M",
-        1,
-        MOST_EVENTS,
-        "How many events the script has, from 1 to 1000000",
-    );
-    let command = with_option(command, events.required(true))?;
+    let help = "What the random numbers begin with, from 0 to 18446744073709551615";
+    let seed = required(alloc, "seed", "N", 0, u64::MAX, help);
+    let command = with_option(command, seed)?;
+    let help = "How many events the script has, from 1 to 1000000";
+    let events = required(alloc, "events", "M", 1, MOST_EVENTS, help);
+    let command = with_option(command, events)?;
     let help = "How many sessions do the work, from 1 to 8; 4 if it is not given";
     let sessions = bounded(alloc, "sessions", "S", 1, SESSIONS as u64, help);
     with_option(command, sessions)
@@ -393,7 +448,8 @@ fn profile<'a>(alloc: Global) -> Arg<'a>
     ensures rule { rule_of result ≡ profile_rule }
     ensures local { result.global ≡ false }
 {
-    option(alloc, "profile", "NAME", PROFILES).value_parser(ValueParser::string())
+    let option = option(alloc, "profile", "NAME", PROFILES);
+    parsed(option, ValueParser::string())
 }
 
 fn generate<'a>(alloc: Global) -> Result<Command<'a>, AllocError>
@@ -402,16 +458,12 @@ fn generate<'a>(alloc: Global) -> Result<Command<'a>, AllocError>
 {
     let command = seeded(alloc)?;
     let help = "How many pages the heap has, from 1 to 4096; 64 if it is not given";
-    let pages = bounded(alloc, "pages", "P", 1, MOST_PAGES.into(), help);
-    let command = with_option(command, pages)?;
+    let command = with_option(command, pages(alloc, help))?;
     let help = "The most units that a quantum spends, from 209 to 1000000; 250 if it is not given";
-    let least = LEAST_QUANTUM.into();
-    let quantum = bounded(alloc, "quantum", "K", least, MOST_QUANTUM.into(), help);
-    let command = with_option(command, quantum)?;
+    let command = with_option(command, quantum(alloc, help))?;
     let help =
         "After how many units a quantum is run, from 0, for none, to 1000000; 25 if it is not given";
-    let every = bounded(alloc, "every", "E", 0, MOST_EVERY.into(), help);
-    let command = with_option(command, every)?;
+    let command = with_option(command, every(alloc, "E", 0, help))?;
     with_option(command, profile(alloc))
 }
 

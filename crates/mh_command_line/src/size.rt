@@ -1,19 +1,20 @@
 //! The subcommand that sizes a heap.
 ghost use Rattle.std.specs.Prelude.{◌≡◌, IfErr, IfOk, IfSome, IsSome, IsTrue, OnOk, None, false, true, codes, is_some};
-ghost use Rattle.clap.specs.Words.{IsUnsignedIn, app_of, found_of, one_of, rows_of};
+ghost use Rattle.clap.specs.Words.{IsUnsignedIn, app_of, found_of, one_of, rows_of, rule_of};
 ghost use Rattle.clap.specs.declared.builder.command.Command.TheViews.{out-Command};
-ghost use Rattle.mh_command_line.specs.Line.{AsksToSize, HasNumber, blocks_app, optional_number, share_app, size_app, sized_app};
+ghost use Rattle.mh_command_line.specs.Line.{AsksToSize, HasNumber, any_text, blocks_app, optional_number, parsed_rule, share_app, size_app, sized_app};
 ghost use Rattle.mh_command_line.specs.Orders.{HasFewWorkers, HasFirstRules, HasOptionFault, IsOrder};
 ghost use Rattle.mh_command_line.specs.Sizes.{AreHeapOptions, AreTargetOptions, AsksAllocations, IsApart, IsGiven, IsWanted, has_size};
 ghost use Rattle.mh_orders.specs.Given.{is_given_within};
 
 use crate::blocks::AskedAllocations;
-use crate::command::{RULES_OF_A_RUN, bounded, option, rules, subcommand, with_option};
+use crate::command::{
+    RULES_OF_A_RUN, bounded, every, option, pages, parsed, quantum, rules, subcommand, with_option,
+};
 use crate::options::{OptionFault, rules_asked};
 use clap::builder::ValueParser;
-use clap::{ArgMatches, Command};
+use clap::{Arg, ArgMatches, Command};
 use mh_model::config::Rules;
-use mh_model::limits::{LEAST_QUANTUM, MOST_EVERY, MOST_PAGES, MOST_QUANTUM};
 use mh_orders::allocations::Allocations;
 use mh_orders::heap_options::HeapOptions;
 use mh_orders::order::Order;
@@ -39,16 +40,23 @@ fn sized<'a>(alloc: Global) -> Result<Command<'a>, AllocError>
 {
     let command = subcommand(alloc, "size", ABOUT_SIZE, SIZE_USAGE, SIZE_STATUSES);
     let help = "How many pages the heap has, from 1 to 4096";
-    let pages = bounded(alloc, "pages", "P", 1, MOST_PAGES.into(), help);
-    let command = with_option(command, pages)?;
+    let command = with_option(command, pages(alloc, help))?;
     let help = "After how many units a quantum is run, from 1 to 1000000";
-    let every = bounded(alloc, "every", "M", 1, MOST_EVERY.into(), help);
-    let command = with_option(command, every)?;
+    let command = with_option(command, every(alloc, "M", 1, help))?;
     let help =
         "The most units that a quantum spends, from 209 to 1000000; if it is not given, the least that is enough, or the greatest that keeps the share";
-    let least = LEAST_QUANTUM.into();
-    let quantum = bounded(alloc, "quantum", "K", least, MOST_QUANTUM.into(), help);
-    with_option(command, quantum)
+    with_option(command, quantum(alloc, help))
+}
+
+/// The option `--allocates`, of which `clap` takes each text.
+fn allocates<'a>(alloc: Global) -> Arg<'a>
+    ensures rule { rule_of result ≡ parsed_rule (codes "allocates") any_text }
+    ensures local { result.global ≡ false }
+{
+    let help =
+        "The most blocks that an interval between two quanta asks for: words of a block with its 4 of header, from 4 to 64, and how many such, from 1 to 1048576";
+    let allocates = option(alloc, "allocates", "WORDS:COUNT,..", help);
+    parsed(allocates, ValueParser::string())
 }
 
 /// And with what sessions ask for.
@@ -56,11 +64,7 @@ fn with_blocks<'a>(alloc: Global) -> Result<Command<'a>, AllocError>
     ensures app { IfOk result (λ command. app_of command ≡ blocks_app) }
     ensures local { IfOk result (λ command. (out-Command command).has_globals ≡ false) }
 {
-    let command = sized(alloc)?;
-    let help =
-        "The most blocks that an interval between two quanta asks for: words of a block with its 4 of header, from 4 to 64, and how many such, from 1 to 1048576";
-    let allocates = option(alloc, "allocates", "WORDS:COUNT,..", help);
-    let command = with_option(command, allocates.value_parser(ValueParser::string()))?;
+    let command = with_option(sized(alloc)?, allocates(alloc))?;
     let help = "The most live blocks at a time, from 0 to 1048576";
     let live = bounded(alloc, "live", "L", 0, MOST_BLOCKS, help);
     let command = with_option(command, live)?;
