@@ -204,18 +204,28 @@ impl Batch {
     }
 }
 
+/// How many places the first batch has of which this is wrong, if one is.
+fn first_wrong<R: Threads>(
+    rt: &R,
+    alloc: Global,
+    blocks: &Blocks,
+    places: &[Place],
+) -> Result<Option<usize>, NoMemory> {
+    for batch in &BATCHES {
+        if !batch.is_right(rt, alloc, blocks, places)? {
+            return Ok(Some(batch.length));
+        }
+    }
+    Ok(None)
+}
+
 #[test]
 fn each_piece_passes_the_gate_once(rt: HostRuntime) -> Result<(), Fail> {
     let all = parts(Rules::Second, 1, 0).ok_or("too large")?;
     let _ = all.count();
     let mut blocks = Blocks::open(rt.alloc(), 4)?;
     let places = linked(rt.alloc(), &mut blocks, all.get(0))?;
-    for batch in &BATCHES {
-        assert!(rt;
-            batch.is_right(&rt, rt.alloc(), &blocks, &places)?,
-            "of {} places",
-            batch.length
-        );
-    }
+    let wrong = first_wrong(&rt, rt.alloc(), &blocks, &places)?;
+    assert_eq!(rt; wrong, None);
     Ok(())
 }
