@@ -219,13 +219,26 @@ fn first_wrong<R: Threads>(
     Ok(None)
 }
 
+/// The same of batches of linked blocks of this part.
+fn first_wrong_of<R: Threads>(
+    rt: &R,
+    alloc: Global,
+    blocks: &mut Blocks,
+    part: Part,
+) -> Result<Option<usize>, NoMemory> {
+    let places = linked(alloc, blocks, part)?;
+    first_wrong(rt, alloc, blocks, &places)
+}
+
 #[test]
 fn each_piece_passes_the_gate_once(rt: HostRuntime) -> Result<(), Fail> {
     let all = parts(Rules::Second, 1, 0).ok_or("too large")?;
     let _ = all.count();
-    let mut blocks = Blocks::open(rt.alloc(), 4)?;
-    let places = linked(rt.alloc(), &mut blocks, all.get(0))?;
-    let wrong = first_wrong(&rt, rt.alloc(), &blocks, &places)?;
-    assert_eq!(rt; wrong, None);
+    let part = all.get(0);
+    let wrong = {
+        let mut blocks = Blocks::open(rt.alloc(), 4)?;
+        first_wrong_of(&rt, rt.alloc(), &mut blocks, part)
+    };
+    assert_eq!(rt; wrong?, None);
     Ok(())
 }
