@@ -1,4 +1,5 @@
 //! Worked texts of the subcommands, short enough that devices fail at each of their calls in turn.
+use std::alloc::{AllocError, Global};
 
 /// The words of a command line and a text, what the program writes of them, and its exit status.
 #[derive(Clone, Copy)]
@@ -111,7 +112,8 @@ const FIRST_BAD: &[u8] = b"first bad 4\n";
 
 const OTHER_VERSION: &[u8] = b"refused 10 line 1\n";
 
-pub const CASES: &[Case<'static>] = &[
+/// Scripts that are run.
+const SCRIPTS: &[Case<'static>] = &[
     // A cycle over one object, shown by a report.
     Case {
         words: RUN,
@@ -140,6 +142,43 @@ pub const CASES: &[Case<'static>] = &[
         told: b"metroheap: line 2: \"walk\" is no command\n",
         status: 1,
     },
+    // A block that moves, and is found through a field that still names its old place.
+    Case {
+        words: RUN,
+        input: b"config 4 209 0 0\na new 0 1 59\na new 1 1 59\na new 2 1 59\na new 3 1 59\na new 4 1 59\na put 0 0 4\na clear 1\n* start\n* quantum\n* quantum\n* quantum\na write 4 0 7\n* quantum\n* dump\na get 5 0 0\na same 4 5\na read 5 0\n",
+        outputs: &[
+            b"ok\nok\nok\nok\nok\nok\nok\nok\nspent 208 phase roots\nspent 99 phase defrag\nspent 209 phase defrag\nok\nspent 5 phase idle\ndump P0 C64 - 0=0.0 1=4.0 2=2.0 3=3.0 P1 C64 + 0>0.1\nok\nyes\nnumber 7\n",
+        ],
+        told: NONE,
+        status: 0,
+    },
+    // A script with a bad line after lines that are answered if it stands alone.
+    Case {
+        words: RUN,
+        input: b"config 4 209 0 0\na new 0 0 1\n# a comment\n\na read 0 0\n\n\n\n\n\n\na walk\n",
+        outputs: &[b"refused 10 line 12\n"],
+        told: b"metroheap: line 12: \"walk\" is no command\n",
+        status: 1,
+    },
+    // The history of a run, under the first rules.
+    Case {
+        words: RUN_HISTORY,
+        input: b"config 4 353 0 0\na new 0 0 0\n* start\n* quantum\n* quantum\n",
+        outputs: &[RECORD],
+        told: NONE,
+        status: 0,
+    },
+    Case {
+        words: RUN,
+        input: b"config\n",
+        outputs: &[b"refused 10 line 1\n"],
+        told: b"metroheap: line 1: \"config\" takes PAGES QUANTUM TRIGGER EVERY\n",
+        status: 1,
+    },
+];
+
+/// Scripts whose sessions race.
+const RACES: &[Case<'static>] = &[
     // A cycle over one object, run by the scheduler in a race of one session.
     Case {
         words: RACE,
@@ -150,6 +189,28 @@ pub const CASES: &[Case<'static>] = &[
         told: NONE,
         status: 0,
     },
+    // Two sessions with one command each, of which either may be first.
+    Case {
+        words: RACE,
+        input: b"config 4 209 0 0\na clear 0\nb read 0 0\n",
+        outputs: &[
+            b"history 2 rules 2 4 209 0 0\ns0 clear 0 = ok units 1 0\ns1 read 0 0 = refused 2 null units 1 0\n",
+            b"history 2 rules 2 4 209 0 0\ns1 read 0 0 = refused 2 null units 1 0\ns0 clear 0 = ok units 1 0\n",
+        ],
+        told: NONE,
+        status: 0,
+    },
+    Case {
+        words: RACE,
+        input: b"config 4 209 0 0\na new 0 0 1\nb new 0 0 1\na walk\n",
+        outputs: &[b"refused 10 line 4\n"],
+        told: b"metroheap: line 4: \"walk\" is no command\n",
+        status: 1,
+    },
+];
+
+/// Histories that are judged with their units or migrated.
+const HISTORIES: &[Case<'static>] = &[
     Case {
         words: CHECK,
         input: HISTORY,
@@ -170,64 +231,6 @@ pub const CASES: &[Case<'static>] = &[
         outputs: &[RECORD],
         told: NONE,
         status: 0,
-    },
-    // A block that moves, and is found through a field that still names its old place.
-    Case {
-        words: RUN,
-        input: b"config 4 209 0 0\na new 0 1 59\na new 1 1 59\na new 2 1 59\na new 3 1 59\na new 4 1 59\na put 0 0 4\na clear 1\n* start\n* quantum\n* quantum\n* quantum\na write 4 0 7\n* quantum\n* dump\na get 5 0 0\na same 4 5\na read 5 0\n",
-        outputs: &[
-            b"ok\nok\nok\nok\nok\nok\nok\nok\nspent 208 phase roots\nspent 99 phase defrag\nspent 209 phase defrag\nok\nspent 5 phase idle\ndump P0 C64 - 0=0.0 1=4.0 2=2.0 3=3.0 P1 C64 + 0>0.1\nok\nyes\nnumber 7\n",
-        ],
-        told: NONE,
-        status: 0,
-    },
-    // Two sessions with one command each, of which either may be first.
-    Case {
-        words: RACE,
-        input: b"config 4 209 0 0\na clear 0\nb read 0 0\n",
-        outputs: &[
-            b"history 2 rules 2 4 209 0 0\ns0 clear 0 = ok units 1 0\ns1 read 0 0 = refused 2 null units 1 0\n",
-            b"history 2 rules 2 4 209 0 0\ns1 read 0 0 = refused 2 null units 1 0\ns0 clear 0 = ok units 1 0\n",
-        ],
-        told: NONE,
-        status: 0,
-    },
-    // A script with a bad line after lines that are answered if it stands alone.
-    Case {
-        words: RUN,
-        input: b"config 4 209 0 0\na new 0 0 1\n# a comment\n\na read 0 0\n\n\n\n\n\n\na walk\n",
-        outputs: &[b"refused 10 line 12\n"],
-        told: b"metroheap: line 12: \"walk\" is no command\n",
-        status: 1,
-    },
-    Case {
-        words: RACE,
-        input: b"config 4 209 0 0\na new 0 0 1\nb new 0 0 1\na walk\n",
-        outputs: &[b"refused 10 line 4\n"],
-        told: b"metroheap: line 4: \"walk\" is no command\n",
-        status: 1,
-    },
-    // Histories of the other version.
-    Case {
-        words: CHECK,
-        input: OTHER_RECORD,
-        outputs: &[OTHER_VERSION],
-        told: b"metroheap: line 1: a history of version 2: audit reads it\n",
-        status: 1,
-    },
-    Case {
-        words: AUDIT,
-        input: HISTORY,
-        outputs: &[OTHER_VERSION],
-        told: b"metroheap: line 1: a history of version 1: check reads it\n",
-        status: 1,
-    },
-    Case {
-        words: MIGRATE,
-        input: OTHER_RECORD,
-        outputs: &[OTHER_VERSION],
-        told: b"metroheap: line 1: a history of version 2: audit reads it\n",
-        status: 1,
     },
     Case {
         words: CHECK,
@@ -250,13 +253,39 @@ pub const CASES: &[Case<'static>] = &[
         told: b"metroheap: line 5, entry 4: spent 8 phase idle, and right is spent 7 phase idle\n",
         status: 4,
     },
-    // The history of a run, under the first rules.
+    // The program's name may be any bytes.
     Case {
-        words: RUN_HISTORY,
-        input: b"config 4 353 0 0\na new 0 0 0\n* start\n* quantum\n* quantum\n",
-        outputs: &[RECORD],
-        told: NONE,
-        status: 0,
+        words: &[b"\xff\xfe", b"audit"],
+        input: b"history 2 rules 2 4 209 0 0\ns0 clear 0 = no units 1 0\n",
+        outputs: &[b"first bad 1\n"],
+        told: b"metroheap: line 2, entry 1: no, and right is ok\n",
+        status: 4,
+    },
+];
+
+/// Histories of the other version, and histories by what sessions see.
+const READ_OTHERWISE: &[Case<'static>] = &[
+    // Histories of the other version.
+    Case {
+        words: CHECK,
+        input: OTHER_RECORD,
+        outputs: &[OTHER_VERSION],
+        told: b"metroheap: line 1: a history of version 2: audit reads it\n",
+        status: 1,
+    },
+    Case {
+        words: AUDIT,
+        input: HISTORY,
+        outputs: &[OTHER_VERSION],
+        told: b"metroheap: line 1: a history of version 1: check reads it\n",
+        status: 1,
+    },
+    Case {
+        words: MIGRATE,
+        input: OTHER_RECORD,
+        outputs: &[OTHER_VERSION],
+        told: b"metroheap: line 1: a history of version 2: audit reads it\n",
+        status: 1,
     },
     // What sessions see, of either version.
     Case {
@@ -280,6 +309,10 @@ pub const CASES: &[Case<'static>] = &[
         told: b"metroheap: line 4, entry 3: number 1, and right is number 0\n",
         status: 4,
     },
+];
+
+/// Curves of scripts and of histories.
+const CURVES: &[Case<'static>] = &[
     // One unit of the mutator.
     Case {
         words: CURVE,
@@ -321,21 +354,6 @@ pub const CASES: &[Case<'static>] = &[
         told: b"metroheap: line 0: a history has fewer than 4611686018427387904 units\n",
         status: 1,
     },
-    // The program's name may be any bytes.
-    Case {
-        words: &[b"\xff\xfe", b"audit"],
-        input: b"history 2 rules 2 4 209 0 0\ns0 clear 0 = no units 1 0\n",
-        outputs: &[b"first bad 1\n"],
-        told: b"metroheap: line 2, entry 1: no, and right is ok\n",
-        status: 4,
-    },
-    Case {
-        words: RUN,
-        input: b"config\n",
-        outputs: &[b"refused 10 line 1\n"],
-        told: b"metroheap: line 1: \"config\" takes PAGES QUANTUM TRIGGER EVERY\n",
-        status: 1,
-    },
 ];
 
 pub const GENERATE: &[&[u8]] = &[b"metroheap", b"generate", b"--seed=1", b"--events=12"];
@@ -366,7 +384,7 @@ pub const GENERATED: Case<'static> = Case {
 };
 
 /// Lines that are answered as they come, so that answers are written before all is read.
-pub const LIVE_CASES: &[Case<'static>] = &[
+const LIVE_CASES: &[Case<'static>] = &[
     Case {
         words: LIVE,
         input: b"a clear 0\nconfig 4 353 0 0\na new 0 0 0\n* start\n* walk\n* quantum\n* quantum\n",
@@ -385,3 +403,38 @@ pub const LIVE_CASES: &[Case<'static>] = &[
         status: 0,
     },
 ];
+
+// A function that names a table is proved with all of it at hand, so each table has one that does no more.
+
+fn scripts() -> &'static [Case<'static>] {
+    SCRIPTS
+}
+
+fn races() -> &'static [Case<'static>] {
+    RACES
+}
+
+fn histories() -> &'static [Case<'static>] {
+    HISTORIES
+}
+
+fn read_otherwise() -> &'static [Case<'static>] {
+    READ_OTHERWISE
+}
+
+fn curves() -> &'static [Case<'static>] {
+    CURVES
+}
+
+/// Texts that are read before anything is written.
+pub fn cases(alloc: Global) -> Result<Vec<Case<'static>>, AllocError> {
+    let mut cases = Vec::new(alloc);
+    for table in [scripts(), races(), histories(), read_otherwise(), curves()] {
+        cases.extend_from_slice(table)?;
+    }
+    Ok(cases)
+}
+
+pub fn live_cases() -> &'static [Case<'static>] {
+    LIVE_CASES
+}

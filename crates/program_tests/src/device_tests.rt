@@ -1,10 +1,11 @@
-use crate::cases::{CASES, Case, GENERATED, LIVE_CASES};
+use crate::cases::{Case, GENERATED, cases, live_cases};
 use crate::trial::{Device, Devices, Outcome, SOUND_DEVICES};
 use crate::trouble::{Way, trouble_each_read, trouble_each_write};
 use std::alloc::Global;
 use std::io::ErrorKind;
 use std::process::Abort;
 use std::sync::Wait;
+use std::test::Fail;
 use std::thread::Threads;
 use test_support::troubled::Trouble;
 
@@ -48,13 +49,14 @@ fn trouble_reads<R: Threads + Wait + Sync + Abort>(rt: &R, alloc: Global, case: 
 }
 
 #[test]
-fn each_read_has_trouble_in_turn(rt: HostRuntime) {
-    for case in CASES {
+fn each_read_has_trouble_in_turn(rt: HostRuntime) -> Result<(), Fail> {
+    for case in &cases(rt.alloc())? {
         trouble_reads(&rt, rt.alloc(), case);
     }
-    for case in LIVE_CASES {
+    for case in live_cases() {
         trouble_reads(&rt, rt.alloc(), case);
     }
+    Ok(())
 }
 
 const WRITES: &[Way] = &[
@@ -102,14 +104,15 @@ fn trouble_writes<R: Threads + Wait + Sync + Abort>(rt: &R, alloc: Global, case:
 }
 
 #[test]
-fn each_write_has_trouble_in_turn(rt: HostRuntime) {
-    for case in CASES {
+fn each_write_has_trouble_in_turn(rt: HostRuntime) -> Result<(), Fail> {
+    for case in &cases(rt.alloc())? {
         trouble_writes(&rt, rt.alloc(), case);
     }
-    for case in LIVE_CASES {
+    for case in live_cases() {
         trouble_writes(&rt, rt.alloc(), case);
     }
     trouble_writes(&rt, rt.alloc(), &GENERATED);
+    Ok(())
 }
 
 #[test]
@@ -173,10 +176,11 @@ fn fail_each_with_each<R: Threads + Wait + Sync + Abort>(rt: &R, alloc: Global, 
 }
 
 #[test]
-fn the_device_that_fails_first_is_blamed(rt: HostRuntime) {
-    for case in CASES {
+fn the_device_that_fails_first_is_blamed(rt: HostRuntime) -> Result<(), Fail> {
+    for case in &cases(rt.alloc())? {
         fail_each_with_each(&rt, rt.alloc(), case);
     }
+    Ok(())
 }
 
 /// Standard error fails at each write in turn, until it doesn't, while the reader fails at one call or the writer at one. Gives
@@ -205,13 +209,14 @@ fn fail_to_tell<R: Threads + Wait + Sync + Abort>(
 }
 
 #[test]
-fn the_status_is_the_same_where_standard_error_fails(rt: HostRuntime) {
-    for case in CASES {
+fn the_status_is_the_same_where_standard_error_fails(rt: HostRuntime) -> Result<(), Fail> {
+    for case in &cases(rt.alloc())? {
         let read_failed = fail_to_tell(&rt, rt.alloc(), case, 2, 0, Outcome::ReadFailed);
         assert_eq!(rt; read_failed, 23);
         let write_failed = fail_to_tell(&rt, rt.alloc(), case, 0, 2, Outcome::WriteFailed);
         assert_eq!(rt; write_failed, 24);
     }
+    Ok(())
 }
 
 /// Of the calls of devices that take or give at most so many bytes, only each such one is not interrupted.
@@ -268,11 +273,12 @@ fn interrupt_at_each_pace<R: Threads + Wait + Sync + Abort>(
 }
 
 #[test]
-fn interruptions_change_nothing(rt: HostRuntime) {
-    for case in CASES {
+fn interruptions_change_nothing(rt: HostRuntime) -> Result<(), Fail> {
+    for case in &cases(rt.alloc())? {
         interrupt_at_each_pace(&rt, rt.alloc(), case);
     }
-    for case in LIVE_CASES {
+    for case in live_cases() {
         interrupt_at_each_pace(&rt, rt.alloc(), case);
     }
+    Ok(())
 }

@@ -204,18 +204,41 @@ impl Batch {
     }
 }
 
+/// How many places the first batch has of which this is wrong, if one is.
+fn first_wrong<R: Threads>(
+    rt: &R,
+    alloc: Global,
+    blocks: &Blocks,
+    places: &[Place],
+) -> Result<Option<usize>, NoMemory> {
+    for batch in &BATCHES {
+        if !batch.is_right(rt, alloc, blocks, places)? {
+            return Ok(Some(batch.length));
+        }
+    }
+    Ok(None)
+}
+
+/// The same of batches of linked blocks of this part.
+fn first_wrong_of<R: Threads>(
+    rt: &R,
+    alloc: Global,
+    blocks: &mut Blocks,
+    part: Part,
+) -> Result<Option<usize>, NoMemory> {
+    let places = linked(alloc, blocks, part)?;
+    first_wrong(rt, alloc, blocks, &places)
+}
+
 #[test]
 fn each_piece_passes_the_gate_once(rt: HostRuntime) -> Result<(), Fail> {
     let all = parts(Rules::Second, 1, 0).ok_or("too large")?;
     let _ = all.count();
-    let mut blocks = Blocks::open(rt.alloc(), 4)?;
-    let places = linked(rt.alloc(), &mut blocks, all.get(0))?;
-    for batch in &BATCHES {
-        assert!(rt;
-            batch.is_right(&rt, rt.alloc(), &blocks, &places)?,
-            "of {} places",
-            batch.length
-        );
-    }
+    let part = all.get(0);
+    let wrong = {
+        let mut blocks = Blocks::open(rt.alloc(), 4)?;
+        first_wrong_of(&rt, rt.alloc(), &mut blocks, part)
+    };
+    assert_eq!(rt; wrong?, None);
     Ok(())
 }
