@@ -7,7 +7,7 @@ use Rattle.mh_model.specs.Classes.{slots_in}
 use Rattle.mh_model.specs.Pages.{Page, Table, page_number, slot_number, page_at, block_in, block_at, block_count, live_in, count_at, page_with, with_block, page_for, with_taken, with_released, with_flag, HasItsSlots, HaveTheirSlots, IsFreeFor}
 use Rattle.mh_model.specs.Table.{Block}
 use Rattle.mh_model.specs.Machine.{blocks_in, blocks_of}
-use Rattle.mh_classes.proofs.ClassLemmas.{class_is}
+use Rattle.mh_pages.proofs.OfClasses.ClassLemmas.{class_is}
 use Rattle.mh_table_laws.proofs.Lists.{below_length}
 use Rattle.mh_table_laws.proofs.placing.Places.{block_in-page_for}
 

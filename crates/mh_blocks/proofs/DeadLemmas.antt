@@ -9,8 +9,8 @@ use Rattle.std.proofs.lemmas.Bool.{cases_eq, false≢true}
 use Rattle.mh_model.specs.Pages.{Table, block_at}
 use Rattle.mh_model.specs.Table.{Block, is_forwarder}
 use Rattle.mh_model.specs.Collector.{is_marked}
-use Rattle.mh_bits.specs.Bits.{has_bit}
-use Rattle.mh_bits.proofs.BitLemmas.{has_bit-zero, has_bit-set_same, has_bit-set_other}
+use Rattle.mh_pages.specs.OfBits.Bits.{has_bit}
+use Rattle.mh_pages.proofs.OfBits.BitLemmas.{has_bit-zero, has_bit-set_same, has_bit-set_other}
 use Rattle.mh_blocks.specs.Marks.{Index, IsIndexOf, is_dead}
 
 -- a block, as what is asked of it says

@@ -8,8 +8,8 @@ use Rattle.mh_model.specs.declared.shape.Shape.{Shape}
 use Rattle.mh_model.specs.Classes.{Part, class_sizes, class_of, part_words}
 use Rattle.mh_model.specs.Pages.{Table, with_block, with_taken, IsFreeFor}
 use Rattle.mh_model.specs.Table.{Block, new_block}
-use Rattle.mh_classes.specs.Counts.{reference_count, number_count}
-use Rattle.mh_classes.specs.Fits.{FitsItsHeader}
+use Rattle.mh_pages.specs.OfClasses.Counts.{reference_count, number_count}
+use Rattle.mh_pages.specs.OfClasses.Fits.{FitsItsHeader}
 use Rattle.mh_pages.specs.declared.header.Header.{Header}
 use Rattle.mh_pages.specs.Words.{with_word, with_header}
 use Rattle.mh_blocks.specs.Words.{place_in, header_in, block_of, blocks_of}

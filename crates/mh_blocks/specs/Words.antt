@@ -5,7 +5,7 @@ use Rattle.std.specs.Prelude.{ℕ, zero, suc, ◌-◌, ◌/◌, ◌%◌, ◌^◌
 use Rattle.mh_model.specs.declared.shape.Shape.{Shape}
 use Rattle.mh_model.specs.Pages.{Table}
 use Rattle.mh_model.specs.Table.{Block}
-use Rattle.mh_classes.specs.Counts.{reference_count, number_count}
+use Rattle.mh_pages.specs.OfClasses.Counts.{reference_count, number_count}
 use Rattle.mh_table_laws.specs.TableMaps.{table_map}
 
 -- the place that a word stands for: none for 0

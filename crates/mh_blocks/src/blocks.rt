@@ -11,8 +11,6 @@ use crate::index::Index;
 use crate::packing::{
     header_in, new_header, number_count, part_in, place_in, place_word, reference_count,
 };
-use mh_classes::class::Class;
-use mh_classes::parts::Part;
 use mh_model::birth::Birth;
 use mh_model::limits::HEADER;
 use mh_model::memory::NoMemory;
@@ -20,6 +18,8 @@ use mh_model::place::Place;
 use mh_model::shape::Shape;
 use mh_pages::address::Address;
 use mh_pages::header::{BIRTH, COUNTS, FORWARD, STAMP};
+use mh_pages::mh_classes::class::Class;
+use mh_pages::mh_classes::parts::Part;
 use mh_pages::pages::Pages;
 use mh_pages::warmth::Warmth;
 use std::alloc::Global;

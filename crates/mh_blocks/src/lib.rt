@@ -19,6 +19,9 @@
 //! of one block compute it once.
 #![tactic(auto)]
 
+pub use mh_pages;
+pub use mh_pages::mh_classes;
+
 pub mod blocks;
 mod index;
 mod marks;

@@ -1,7 +1,7 @@
 ghost use Rattle.std.specs.Prelude.{◌≡◌, ◌≢◌, ◌==◌, ◌<◌, ◌+◌, ◌*◌, ℕ, IsSome, is_some, length};
 ghost use Rattle.mh_model.specs.Pages.{block_at};
 ghost use Rattle.mh_model.specs.Table.{stamp_at, forward_at};
-ghost use Rattle.mh_bits.specs.Bits.{has_bit};
+ghost use Rattle.mh_pages.specs.OfBits.Bits.{has_bit};
 ghost use Rattle.mh_blocks.specs.Marks.{is_dead};
 
 use crate::blocks::Blocks;

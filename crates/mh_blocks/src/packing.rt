@@ -1,6 +1,6 @@
 //! How the fields of a block are packed into words.
 ghost use Rattle.std.specs.Prelude.{◌≡◌, ◌<◌, ◌≤◌, ◌^◌, IfSome};
-ghost use Rattle.mh_classes.specs.Counts.{reference_count, number_count};
+ghost use Rattle.mh_pages.specs.OfClasses.Counts.{reference_count, number_count};
 ghost use Rattle.mh_model.specs.Classes.{run_count, child_count};
 ghost use Rattle.mh_blocks.specs.Words.{place_in, part_in, header_in};
 ghost use Rattle.mh_blocks.specs.Headers.{IsNewHeader};

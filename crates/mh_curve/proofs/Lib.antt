@@ -3,3 +3,4 @@ pub mod WindowLemmas
 pub mod TallyLemmas
 pub mod ReasonLemmas
 pub mod RunLemmas
+pub mod OfScript

@@ -8,9 +8,9 @@ use Rattle.mh_model.specs.HistoryTexts.{Recorded, recorded_reading}
 use Rattle.mh_model.specs.Script.{Reading, BadLine, Means}
 use Rattle.mh_text.specs.Stream.{AppendsBeginning}
 use Rattle.mh_history.proofs.HistoryLemmas.{record_long}
-use Rattle.mh_reasons.specs.declared.history_reason.HistoryReason.{HistoryReason}
-use Rattle.mh_reasons.specs.declared.history_reason.HistoryReason.TheVariants as history
-use Rattle.mh_reasons.specs.HistoryReasons.{IsHistoryReason}
+use Rattle.mh_script.specs.OfReasons.HistoryReason.{HistoryReason}
+use Rattle.mh_script.specs.OfReasons.HistoryReason.TheVariants as history
+use Rattle.mh_script.specs.OfReasons.HistoryReasons.{IsHistoryReason}
 use Rattle.std.specs.Prelude.{Result, Err, IsErrOf}
 use Rattle.mh_script.specs.declared.fault.ScriptFault.{ScriptFault}
 use Rattle.mh_script.specs.declared.fault.ScriptFault.TheVariants.{NoMemory, Write}

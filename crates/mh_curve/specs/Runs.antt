@@ -9,7 +9,7 @@ use Rattle.mh_model.specs.Bytes.{Text}
 use Rattle.mh_model.specs.HistoryTexts.{recorded_reading}
 use Rattle.mh_model.specs.Machine.{first_machine, machine_after}
 use Rattle.mh_model.specs.Script.{BadLine}
-use Rattle.mh_reasons.specs.HistoryReasons.{IsHistoryReason}
+use Rattle.mh_script.specs.OfReasons.HistoryReasons.{IsHistoryReason}
 use Rattle.mh_script.specs.declared.fault.ScriptFault.{ScriptFault}
 use Rattle.mh_script.specs.declared.fault.ScriptFault.TheVariants.{Read, NoMemory, HistoryFull}
 use Rattle.mh_script.specs.Run.{Device, transcript}

@@ -1,4 +1,4 @@
-use mh_reasons::history_reason::HistoryReason;
+use mh_script::mh_reasons::history_reason::HistoryReason;
 
 /// How the curve of a history ended.
 #[derive(Debug, Drop)]

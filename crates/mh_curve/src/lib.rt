@@ -1,6 +1,9 @@
 //! The minimum mutator utilisation of runs: the least share of the mutator in windows of each length, as a table and as a picture.
 #![tactic(auto)]
 
+pub use mh_script;
+pub use mh_script::{mh_scan, mh_state};
+
 mod drawing;
 pub mod end;
 pub mod form;

@@ -10,7 +10,7 @@ use Rattle.mh_model.specs.Table.{Block}
 use Rattle.mh_model.specs.Collector.{Collector, Marking, mark_cost, first_mark_cost, marking_of, with_marking, with_phase, step_cost}
 use Rattle.mh_model.specs.Batches.{NoneTwice, batch_cost, batch_marked, after_batch, longest_front}
 use Rattle.mh_laws.specs.Batches.{AnyCutIntoBatchesIsTheSame}
-use Rattle.mh_grey.specs.Queue.{Queue}
+use Rattle.mh_mark.specs.OfGrey.Queue.{Queue}
 use Rattle.mh_mark.specs.Batched.{front_of, front_marked}
 use Rattle.mh_cycle.specs.State.{IsFramed}
 use Rattle.mh_cycle.specs.Advance.{IsStride, IsRun}

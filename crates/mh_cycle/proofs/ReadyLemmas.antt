@@ -8,8 +8,8 @@ use Rattle.mh_model.specs.Mutator.{in_roots_or_mark}
 use Rattle.mh_model.specs.Invariant.{IsIn, IsPlainAt, IsSteady}
 use Rattle.mh_laws.specs.Fields.{ReferencesLeadOn}
 use Rattle.mh_laws.proofs.marking.BlockChanges.{not_sweep}
-use Rattle.mh_grey.specs.Queue.{is_in}
-use Rattle.mh_grey.specs.Shading.{AreMarked}
+use Rattle.mh_mark.specs.OfGrey.Queue.{is_in}
+use Rattle.mh_mark.specs.OfGrey.Shading.{AreMarked}
 use Rattle.mh_mark.specs.Walkable.{IsWalkable}
 
 listed : (grey : List ℕ) (place : ℕ) → is_in place grey ≡ true → IsIn place grey

@@ -1,3 +1,4 @@
 pub mod State
 pub mod Advance
 pub mod Snapshots
+pub mod OfGrey

@@ -6,7 +6,7 @@ use Rattle.mh_model.specs.declared.cycle.Phase.TheVariants.{Roots, Mark, Sweep, 
 use Rattle.mh_model.specs.Pages.{Table, page_number}
 use Rattle.mh_model.specs.Table.{Block}
 use Rattle.mh_model.specs.Collector.{Collector, first_collector, forwarded_slots, collector_step}
-use Rattle.mh_grey.specs.Queue.{Queue}
+use Rattle.mh_mark.specs.OfGrey.Queue.{Queue}
 
 pub record CycleState : Type 0 where
   pub config : Config

@@ -9,8 +9,6 @@ ghost use Rattle.mh_laws.specs.Forwarders.{MakesItsForwarders};
 ghost use Rattle.mh_cycle.specs.State.{with_collector, first_state};
 ghost use Rattle.mh_cycle.specs.Snapshots.{ContinuesEach, StartsFromTheView, KeepsEach, KeepsEachBehind};
 
-use mh_blocks::blocks::Blocks;
-use mh_grey::grey::Grey;
 use mh_laws::barriers::barriers_keep_the_snapshot;
 use mh_laws::fields::references_lead_on;
 use mh_laws::forwarders::quanta_make_their_forwarders;
@@ -18,12 +16,14 @@ use mh_laws::snapshots::{
     collectors_stay_steady, cycles_start_from_the_view, heaps_stay_kept, quanta_keep_the_snapshot,
     shading_keeps_the_snapshot,
 };
+use mh_mark::mh_blocks::blocks::Blocks;
+use mh_mark::mh_grey::grey::Grey;
+use mh_mark::mh_scan::scan::Scanner;
 use mh_model::config::Config;
 use mh_model::cycle::{Phase, Spent};
 use mh_model::memory::NoMemory;
 use mh_model::place::Place;
 use mh_roots::roots::Roots;
-use mh_scan::scan::Scanner;
 use std::alloc::Global;
 use std::marker::Model;
 

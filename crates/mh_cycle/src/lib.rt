@@ -7,6 +7,8 @@
 //! pages are evacuated.
 #![tactic(auto)]
 
+pub use mh_mark::{mh_blocks, mh_scan};
+
 pub mod cycle;
 mod grey_list;
 mod phases;

@@ -8,8 +8,8 @@ ghost use Rattle.mh_cycle.specs.Advance.{IsFrom, IsTurn, IsAdvance, IsRest};
 
 use crate::cycle::Cycle;
 use mh_laws::snapshots::collectors_stay_steady;
+use mh_mark::mh_scan::scan::Scanner;
 use mh_model::cycle::Phase;
-use mh_scan::scan::Scanner;
 
 /// What the scan of one slot costs.
 pub(crate) const ROOT_COST: u64 = 2;

@@ -12,15 +12,15 @@ ghost use Rattle.mh_cycle.specs.Advance.{IsRun, IsStride};
 use crate::cycle::Cycle;
 use mh_defrag::defrag;
 use mh_defrag::defrag::Still;
-use mh_grey::grey::Grey;
 use mh_laws::batches::any_cut_into_batches_is_the_same;
 use mh_laws::fields::references_lead_on;
 use mh_mark::batch::{front_guess, mark_batch};
 use mh_mark::mark::{FirstGrey, first_grey, mark_step};
+use mh_mark::mh_grey::grey::Grey;
+use mh_mark::mh_scan::scan::Scanner;
 use mh_model::cycle::Phase;
 use mh_model::limits::ROOT_SLOTS;
 use mh_model::place::Place;
-use mh_scan::scan::Scanner;
 use mh_sweep::sweep;
 /// The phase in which blocks are marked while some are grey, and then the sweep.
 fn after_mark(grey: &Grey) -> Phase

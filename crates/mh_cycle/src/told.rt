@@ -14,13 +14,13 @@ ghost use Rattle.mh_cycle.specs.Snapshots.{ContinuesEach, StartsFromTheView};
 
 use crate::cycle::Cycle;
 use crate::phases::ROOT_COST;
-use mh_blocks::blocks::Blocks;
 use mh_deeds::log::Deeds;
 use mh_laws::fields::references_lead_on;
 use mh_laws::forwarders::quanta_make_their_forwarders;
 use mh_laws::snapshots::{
     collectors_stay_steady, cycles_start_from_the_view, quanta_keep_the_snapshot,
 };
+use mh_mark::mh_blocks::blocks::Blocks;
 use mh_mark::told::{mark_told, name_of};
 use mh_model::cycle::{Phase, Spent};
 use mh_model::deed::{Deed, Edge, Fate};

@@ -9,7 +9,7 @@ use Rattle.mh_model.specs.Classes.{slots_in}
 use Rattle.mh_model.specs.Pages.{Page, Table, page_number, slot_number, page_at, block_in, block_at, class_at, flag_at, least_dense_place, HaveTheirSlots}
 use Rattle.mh_model.specs.Table.{Block, is_forwarder}
 use Rattle.mh_model.specs.Collector.{Move, if_flagged, move_of, next_move, next_page, next_place, flagged_page}
-use Rattle.mh_bits.specs.Bits.{has_bit}
+use Rattle.mh_blocks.specs.OfBits.Bits.{has_bit}
 use Rattle.mh_defrag.specs.Moves.{AreUnflagged, AreStill, place_after}
 
 -- No step is still

@@ -9,10 +9,10 @@ use crate::order::Order;
 use arrayvec::ArrayVec;
 use circular_buffer::HeapCircularBuffer;
 use mh_blocks::blocks::Blocks;
+use mh_blocks::mh_pages::address::Address;
 use mh_model::limits::PLACES;
 use mh_model::memory::NoMemory;
 use mh_model::place::Place;
-use mh_pages::address::Address;
 use std::alloc::Global;
 use std::marker::Model;
 /// The grey places in the order in which they were shaded, with room for one entry a place.

@@ -3,15 +3,15 @@ ghost use Rattle.std.specs.Prelude.{◌≡◌, ◌<◌, ◌≤◌, ◌^◌, ◌&
 ghost use Rattle.mh_model.specs.Deeds.{make_deeds, Adds};
 ghost use Rattle.mh_model.specs.Pages.{page_number, block_at};
 ghost use Rattle.mh_model.specs.Table.{references_at, with_block_change, made_parts, linked_parts, made_group};
-ghost use Rattle.mh_classes.specs.Fits.{AreParts};
-ghost use Rattle.mh_pages.specs.FreePlaces.{free_places};
+ghost use Rattle.mh_blocks.specs.OfClasses.Fits.{AreParts};
+ghost use Rattle.mh_blocks.specs.OfPages.FreePlaces.{free_places};
 ghost use Rattle.mh_groups.specs.Making.{HaveTheirChildren, without_parts, AllCanBeUnmade, AreUnlinked};
 ghost use Rattle.mh_groups.specs.Placed.{tier_at, part_deed, placed_deeds};
 ghost use Rattle.mh_groups.specs.Room.{full_count};
 
 use mh_blocks::blocks::{Blocks, Full};
-use mh_classes::class::Class;
-use mh_classes::parts::{Part, Parts};
+use mh_blocks::mh_classes::class::Class;
+use mh_blocks::mh_classes::parts::{Part, Parts};
 use mh_deeds::log::Deeds;
 use mh_model::birth::Birth;
 use mh_model::deed::{Deed, PartName, Tier};

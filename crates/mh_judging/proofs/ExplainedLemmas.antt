@@ -19,10 +19,10 @@ use Rattle.mh_model.specs.Bytes.{Text}
 use Rattle.mh_model.specs.History.{IsFirstBadOf, IsLegal}
 use Rattle.mh_model.specs.HistoryTexts.{IsAudited, IsChecked, IsLegalRecord, Recorded, entries_from, history_reading, recorded_reading}
 use Rattle.mh_model.specs.Script.{Reading, BadLine, Means, reading_map}
-use Rattle.mh_reasons.specs.declared.history_reason.HistoryReason.{HistoryReason}
-use Rattle.mh_reasons.specs.declared.history_reason.HistoryReason.TheVariants as history
-use Rattle.mh_reasons.specs.HistoryReasons.{IsHistoryReason, most_bytes}
-use Rattle.mh_reasons.proofs.HistoryLemmas.{long_bad}
+use Rattle.mh_script.specs.OfReasons.HistoryReason.{HistoryReason}
+use Rattle.mh_script.specs.OfReasons.HistoryReason.TheVariants as history
+use Rattle.mh_script.specs.OfReasons.HistoryReasons.{IsHistoryReason, most_bytes}
+use Rattle.mh_script.proofs.OfReasons.HistoryLemmas.{long_bad}
 use Rattle.mh_judging.specs.Judged.{Explains}
 use Rattle.mh_text.specs.Pieces.{Lines}
 

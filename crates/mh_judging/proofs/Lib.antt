@@ -6,3 +6,4 @@ pub mod RunHistoryLemmas
 pub mod ShownLemmas
 pub mod ExplainedLemmas
 pub mod ReplayLemmas
+pub mod OfScript

@@ -9,7 +9,7 @@ use Rattle.mh_model.specs.Bytes.{Text}
 use Rattle.mh_model.specs.HistoryTexts.{recorded_text}
 use Rattle.mh_model.specs.RunHistories.{recorded_run}
 use Rattle.mh_text.specs.Stream.{AppendsBeginning}
-use Rattle.mh_state.specs.Running.{Running}
+use Rattle.mh_script.specs.OfState.Running.{Running}
 use Rattle.mh_script.specs.Texts.{Buffers}
 use Rattle.mh_script.proofs.AddedLines.{HasAdded, added_all, added_begins, added_fails, added_more, added_none, added_written}
 use Rattle.mh_script.proofs.MachineLemmas.{machine_after-none, machine_of, record_of, record_of-none, records_add}

@@ -10,9 +10,9 @@ use Rattle.mh_model.specs.History.{IsFirstBadOf}
 use Rattle.mh_model.specs.Limits.{most_entries}
 use Rattle.mh_model.specs.Machine.{Machine, event_step, first_machine}
 use Rattle.mh_model.specs.Script.{Reading, BadLine, Means}
-use Rattle.mh_promise.specs.Runs.{machine_at}
-use Rattle.mh_promise.proofs.RunsByEvents.{after_more, no-events}
-use Rattle.mh_state.specs.Running.{Running, first_running}
+use Rattle.mh_script.specs.OfPromise.Runs.{machine_at}
+use Rattle.mh_script.proofs.OfPromise.RunsByEvents.{after_more, no-events}
+use Rattle.mh_script.specs.OfState.Running.{Running, first_running}
 use Rattle.mh_text.specs.Pieces.{Lines}
 use Rattle.mh_judging.specs.declared.entry_fault.EntryFault.{EntryFault}
 use Rattle.mh_judging.specs.Faults.{HasFault, IsFaultAfter, IsWrongAfter}

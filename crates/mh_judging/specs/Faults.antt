@@ -10,7 +10,7 @@ use Rattle.mh_model.specs.declared.reply.Reply.TheVariants as reply
 use Rattle.mh_model.specs.HistoryTexts.{measured_step}
 use Rattle.mh_model.specs.Limits.{most_entries}
 use Rattle.mh_model.specs.Machine.{Machine, event_step}
-use Rattle.mh_promise.specs.Runs.{machine_at}
+use Rattle.mh_script.specs.OfPromise.Runs.{machine_at}
 use Rattle.mh_judging.specs.declared.entry_fault.EntryFault.{EntryFault}
 use Rattle.mh_judging.specs.declared.entry_fault.EntryFault.TheVariants as fault
 use Rattle.mh_judging.specs.declared.entry_fault.Units.{Units}

@@ -10,7 +10,7 @@ use Rattle.mh_model.specs.Bytes.{Text, line_text}
 use Rattle.mh_model.specs.History.{IsLegal}
 use Rattle.mh_model.specs.HistoryTexts.{IsAudited, IsChecked, IsJudged, IsLegalRecord, IsMigratedTo, history_reading, migration_text, verdict_text}
 use Rattle.mh_model.specs.Script.{Reading, BadLine, Means}
-use Rattle.mh_state.specs.Judging.{HasSeenEntries, HasSeenMeasured, Judging}
+use Rattle.mh_script.specs.OfState.Judging.{HasSeenEntries, HasSeenMeasured, Judging}
 use Rattle.mh_text.specs.Stream.{AppendsBeginning}
 use Rattle.mh_history.specs.Beginnings.{BeginsWithEntry, BeginsWithMeasured}
 use Rattle.mh_judging.specs.declared.judgement.Judgement.{Judgement}

@@ -9,8 +9,8 @@ use Rattle.mh_model.specs.declared.history.Version.TheVariants.{One, Two}
 use Rattle.mh_model.specs.Bytes.{Text}
 use Rattle.mh_model.specs.HistoryTexts.{Recorded, history_reading, recorded_reading}
 use Rattle.mh_model.specs.Script.{Means}
-use Rattle.mh_reasons.specs.declared.history_reason.HistoryReason.{HistoryReason}
-use Rattle.mh_reasons.specs.HistoryReasons.{IsHistoryReason}
+use Rattle.mh_script.specs.OfReasons.HistoryReason.{HistoryReason}
+use Rattle.mh_script.specs.OfReasons.HistoryReasons.{IsHistoryReason}
 use Rattle.mh_judging.specs.declared.entry_fault.EntryFault.{EntryFault}
 use Rattle.mh_judging.specs.declared.judgement.Judgement.{Judgement}
 use Rattle.mh_judging.specs.declared.judgement.Judgement.TheVariants.{Legal, Refused, FirstBad}

@@ -10,7 +10,7 @@ use Rattle.mh_model.specs.HistoryTexts.{header_words, measured_step, measured_wo
 use Rattle.mh_model.specs.Machine.{Machine, event_step}
 use Rattle.mh_model.specs.RunHistories.{recorded_run}
 use Rattle.mh_model.specs.Script.{Reading, Means}
-use Rattle.mh_state.specs.Running.{first_running}
+use Rattle.mh_script.specs.OfState.Running.{first_running}
 use Rattle.mh_judging.specs.declared.recording.Recording.{Recording}
 
 -- the record of no entry under a configuration: its machine has done no event, and the first line waits

@@ -1,11 +1,11 @@
 ghost use Rattle.std.specs.Prelude.{◌≡◌};
 ghost use Rattle.mh_judging.specs.Judgements.{IsRefusal, verdict_of};
-ghost use Rattle.mh_reasons.specs.HistoryReasons.{IsRefusedAt};
+ghost use Rattle.mh_script.specs.OfReasons.HistoryReasons.{IsRefusedAt};
 
 use crate::entry_fault::EntryFault;
 use mh_model::history::{Verdict, Version};
-use mh_reasons::history::history_reason;
-use mh_reasons::history_reason::HistoryReason;
+use mh_script::mh_reasons::history::history_reason;
+use mh_script::mh_reasons::history_reason::HistoryReason;
 
 /// A verdict on a history, with what is wrong with it.
 #[derive(Debug, Drop)]

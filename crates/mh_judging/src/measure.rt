@@ -7,8 +7,8 @@ ghost use Rattle.mh_model.specs.Machine.{event_step};
 use mh_model::command::Event;
 use mh_model::history::{Entry, Measured};
 use mh_model::memory::NoMemory;
-use mh_scan::scan::Scanner;
-use mh_state::machine::{Machine, Stop};
+use mh_script::mh_scan::scan::Scanner;
+use mh_script::mh_state::machine::{Machine, Stop};
 
 /// Does an event, and gives the entry that a history has of it.
 pub fn measure<C: Scanner>(

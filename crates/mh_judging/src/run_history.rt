@@ -10,10 +10,10 @@ ghost use Rattle.mh_judging.specs.RunHistory.{IsLegalEnd, WritesLegal, history_r
 use crate::record::write_run;
 use mh_model::command::Event;
 use mh_model::config::{Config, Rules};
-use mh_scan::crew_scan::{CrewGate, CrewScan};
-use mh_scan::scan::Scanner;
 use mh_script::end::End;
 use mh_script::fault::{ScriptFault, WriteError};
+use mh_script::mh_scan::crew_scan::{CrewGate, CrewScan};
+use mh_script::mh_scan::scan::Scanner;
 use mh_script::transcript::{Transcript, transcribe};
 use mh_text::script::SCRIPT_BYTES;
 use mh_text::sink::Sink;

@@ -7,7 +7,7 @@ use Rattle.std.specs.Option.{option_to_list}
 use Rattle.mh_model.specs.Bytes.{Text, Cut, cut_after}
 use Rattle.mh_text.specs.Stream.{AppendsBeginning}
 use Rattle.mh_model.specs.Live.{Live, Turn, Waits, IsTurn, IsLive, Taken, turn, unended_text}
-use Rattle.mh_reasons.specs.declared.reason.LineReason.{LineReason}
+use Rattle.mh_script.specs.OfReasons.LineReason.{LineReason}
 use Rattle.mh_script.specs.declared.end.Refusal.{Refusal}
 use Rattle.mh_script.specs.declared.fault.ScriptFault.{ScriptFault}
 use Rattle.mh_script.specs.declared.fault.WriteError.{WriteError}

@@ -18,16 +18,16 @@ use Rattle.mh_model.specs.Limits.{most_entries}
 use Rattle.mh_model.specs.declared.command.Control.TheVariants as control
 use Rattle.mh_model.specs.declared.reply.Reply.{Reply}
 use Rattle.mh_model.specs.declared.reply.Reply.TheVariants as reply
-use Rattle.mh_state.specs.declared.machine.Stop.{Stop}
+use Rattle.mh_script.specs.OfState.Stop.{Stop}
 use Rattle.mh_model.specs.World.{says}
 use Rattle.mh_model.specs.Machine.{Machine, control_step, dump_pages, event_step, first_machine}
 use Rattle.mh_model.specs.Replies.{bad_line_text, reply_text}
 use Rattle.mh_model.specs.Script.{Line, Blank, Calls, Asks, Wrong, asks, calls, config_words, is_blank, line_of, line_words, session_number, with_name}
-use Rattle.mh_state.specs.Running.{Running, Does, MayAskForMemory, first_running}
+use Rattle.mh_script.specs.OfState.Running.{Running, Does, MayAskForMemory, first_running}
 use Rattle.mh_live.specs.Answers.{Done, Full, IsAnswered, Starved, starved_line}
 use Rattle.mh_model.specs.Live.{Live, IsTurn, Runs, Taken, Turn, Waits, event_turn, needs_memory, line_turn, turn}
 use Rattle.mh_model.specs.Live.{Starved as starved}
-use Rattle.mh_reasons.specs.Reasons.{IsWrong}
+use Rattle.mh_script.specs.OfReasons.Reasons.{IsWrong}
 use Rattle.mh_live.specs.Heard.{is_configured}
 
 -- a turn, in other words

@@ -5,7 +5,7 @@ use Rattle.std.specs.Option.{option_to_list}
 use Rattle.mh_model.specs.Bytes.{Text}
 use Rattle.mh_model.specs.Live.{Live, Turn, IsTurn, AreTurns}
 use Rattle.mh_model.specs.Live as model
-use Rattle.mh_reasons.specs.declared.reason.LineReason.{LineReason}
+use Rattle.mh_script.specs.OfReasons.LineReason.{LineReason}
 use Rattle.mh_script.specs.declared.end.Refusal.{Refusal}
 use Rattle.mh_live.specs.Heard.{AreHeard, Ended, IsHeard, IsTold, IsWhy, Turned, is_configured, refusal_of}
 

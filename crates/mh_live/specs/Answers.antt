@@ -5,7 +5,7 @@ use Rattle.mh_model.specs.declared.reply.Reply.{Reply}
 use Rattle.mh_model.specs.Bytes.{Text, line_text}
 use Rattle.mh_model.specs.Limits.{most_entries}
 use Rattle.mh_model.specs.Replies.{reply_text}
-use Rattle.mh_state.specs.Running.{Running, Does, MayAskForMemory}
+use Rattle.mh_script.specs.OfState.Running.{Running, Does, MayAskForMemory}
 use Rattle.mh_model.specs.Live.{Live, Waits, Runs}
 use Rattle.mh_live.specs.declared.live.Attended.{Attended}
 

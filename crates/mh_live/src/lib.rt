@@ -1,6 +1,10 @@
 //! Scripts whose lines are answered one by one, as they come.
 #![tactic(auto)]
 
+pub use mh_script;
+pub use mh_script::{mh_scan, mh_state};
+pub use mh_text;
+
 mod answer;
 pub mod feed;
 pub mod laws;

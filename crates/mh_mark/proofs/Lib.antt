@@ -3,3 +3,4 @@ pub mod MarkLemmas
 pub mod KeptLemmas
 pub mod FrontLemmas
 pub mod ToldLemmas
+pub mod OfGrey

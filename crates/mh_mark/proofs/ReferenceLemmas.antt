@@ -5,7 +5,7 @@ use Rattle.std.proofs.lemmas.List.{set-get_or}
 use Rattle.mh_model.specs.Pages.{Table, page_number, slot_number, page_at, block_in, block_at, class_at, page_with, with_block}
 use Rattle.mh_model.specs.Table.{Block, resolve, target_of, references_at, reference_at, with_reference_at, forward_at, LeadsOn, LeadsHome}
 use Rattle.mh_model.specs.Collector.{Marking, shade_place, shade, mark_reference}
-use Rattle.mh_pages.specs.Addresses.{address_in}
+use Rattle.mh_grey.specs.OfPages.Addresses.{address_in}
 use Rattle.mh_table_laws.proofs.marking.BatchMarking.{there_before}
 use Rattle.mh_table_laws.proofs.placing.Places.{block_at-with_block_there}
 use Rattle.mh_grey.specs.Queue.{is_in}

@@ -10,9 +10,9 @@ ghost use Rattle.mh_mark.specs.Batched.{AreMarkable, blocks_marked, front_of, fr
 
 use crate::mark::mark_block;
 use arrayvec::ArrayVec;
-use mh_blocks::blocks::Blocks;
 use mh_grey::grey::Grey;
 use mh_model::place::Place;
+use mh_scan::mh_blocks::blocks::Blocks;
 use mh_scan::scan::Scanner;
 
 /// Marks through the blocks of a batch, one after the other.

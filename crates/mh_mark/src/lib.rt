@@ -5,6 +5,10 @@
 //! grey block is resolved and written back, so that no marked block refers to a forwarder once marking has ended.
 #![tactic(auto)]
 
+pub use mh_grey;
+pub use mh_scan;
+pub use mh_scan::mh_blocks;
+
 pub mod batch;
 pub mod mark;
 pub mod told;

@@ -2,17 +2,17 @@ ghost use Rattle.std.specs.Prelude.{◌≡◌, ℕ, ◌<◌, true, IsSome, lengt
 ghost use Rattle.mh_model.specs.Pages.{block_at};
 ghost use Rattle.mh_model.specs.Table.{references_at, reference_at, LeadsHome};
 ghost use Rattle.mh_model.specs.Collector.{mark_reference, mark_references, mark_step};
-ghost use Rattle.mh_pages.specs.Addresses.{address_in};
+ghost use Rattle.mh_grey.specs.OfPages.Addresses.{address_in};
 ghost use Rattle.mh_grey.specs.Queue.{is_in};
 ghost use Rattle.mh_grey.specs.Shading.{marking, AreMarked};
 ghost use Rattle.mh_mark.specs.First.{IsFirstGrey};
 ghost use Rattle.mh_mark.specs.Kept.{KeepsMarking};
 ghost use Rattle.mh_mark.specs.Walkable.{LeadHome, IsWalkable};
 
-use mh_blocks::blocks::Blocks;
 use mh_grey::grey::Grey;
+use mh_grey::mh_pages::address::Address;
 use mh_model::place::Place;
-use mh_pages::address::Address;
+use mh_scan::mh_blocks::blocks::Blocks;
 use std::marker::Model;
 
 /// Where the first grey block stands, and how many references it has.

@@ -7,11 +7,11 @@ ghost use Rattle.mh_model.specs.Deeds.{name_at, edge_of, reference_deeds, mark_d
 ghost use Rattle.mh_grey.specs.Shading.{marking, AreMarked};
 ghost use Rattle.mh_mark.specs.Walkable.{LeadHome, IsWalkable};
 
-use mh_blocks::blocks::Blocks;
 use mh_deeds::log::Deeds;
 use mh_grey::grey::Grey;
 use mh_model::deed::{Deed, Edge, PartName};
 use mh_model::place::Place;
+use mh_scan::mh_blocks::blocks::Blocks;
 
 /// Which part of which object the block at a place is.
 pub fn name_of(blocks: &Blocks, place: Place) -> PartName

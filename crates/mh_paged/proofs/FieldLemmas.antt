@@ -8,7 +8,7 @@ use Rattle.mh_model.specs.Mutator.{in_roots_or_mark, before_field}
 use Rattle.mh_model.specs.Invariant.{HasField, IsSteady}
 use Rattle.mh_laws.specs.Fields.{ReferencesLeadOn}
 use Rattle.mh_table_laws.proofs.marking.BatchMarking.{leads_of}
-use Rattle.mh_grey.proofs.StampLemmas.{change-view}
+use Rattle.mh_cycle.proofs.OfGrey.StampLemmas.{change-view}
 
 -- blocks are if they were, with the references that they had
 pub record StaysLaid (old new : Table Block) : Type 0 where

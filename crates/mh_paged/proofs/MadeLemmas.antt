@@ -5,7 +5,7 @@ use Rattle.mh_model.specs.declared.cycle.Phase.{Phase}
 use Rattle.mh_model.specs.Classes.{Part, parts}
 use Rattle.mh_model.specs.Pages.{Table}
 use Rattle.mh_model.specs.Table.{Block, made_group}
-use Rattle.mh_grey.specs.Queue.{Queue}
+use Rattle.mh_cycle.specs.OfGrey.Queue.{Queue}
 use Rattle.mh_laws.specs.Tables.{MakingKeepsThePages}
 use Rattle.mh_cycle.specs.State.{IsFramed}
 use Rattle.mh_cycle.proofs.FrameLemmas.{framed-long}

@@ -15,6 +15,7 @@ ghost use Rattle.mh_paged.specs.Told.{IsTold};
 use crate::lent::{dump_table, forwarder_count, free_pages, live_count, root, shape_of};
 use mh_classes::parts::{Parts, parts};
 use mh_cycle::cycle::Cycle;
+use mh_cycle::mh_scan::scan::Scanner;
 use mh_groups::group::PartPlaces;
 use mh_laws::bounds::{collectors_stay_in_bounds, quantum_starts_one_cycle_at_most};
 use mh_laws::commands::command_keeps_the_course;
@@ -34,7 +35,6 @@ use mh_run_laws::following::commands_follow;
 use mh_run_laws::showing::{
     kept_views_agree_with_themselves, kept_views_are_closed, quanta_keep_the_view,
 };
-use mh_scan::scan::Scanner;
 use std::alloc::Global;
 use std::marker::Model;
 /// The heap of pages with its collector and its sessions.

@@ -12,9 +12,9 @@ ghost use Rattle.mh_model.specs.Invariant.{IsFindable, IsSteady};
 ghost use Rattle.mh_cycle.specs.State.{with_collector};
 
 use crate::table::dump;
-use mh_blocks::blocks::Full;
 use mh_classes::parts::Parts;
 use mh_cycle::cycle::Cycle;
+use mh_cycle::mh_blocks::blocks::Full;
 use mh_groups::field::{Position, load_int, load_ref, position, store_int};
 use mh_groups::group::{PartPlaces, make_group};
 use mh_laws::barriers::roots_written_keep_the_snapshot;

@@ -4,6 +4,9 @@
 //! same heap in terms of what sessions see, as the trait `Heap` asks.
 #![tactic(auto)]
 
+pub use mh_cycle::mh_scan;
+pub use mh_heap;
+
 mod commands;
 pub mod kept;
 mod lent;

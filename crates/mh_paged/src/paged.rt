@@ -9,6 +9,7 @@ ghost use Rattle.mh_model.specs.Mutator.{first_heap};
 ghost use Rattle.mh_paged.specs.Told.{IsTold};
 
 use crate::kept::KeptHeap;
+use mh_cycle::mh_scan::scan::Scanner;
 use mh_heap::heap::Heap;
 use mh_model::config::Config;
 use mh_model::cycle::{Phase, Spent};
@@ -17,7 +18,6 @@ use mh_model::memory::NoMemory;
 use mh_model::reply::Refusal;
 use mh_model::shape::Shape;
 use mh_model::stat::Stat;
-use mh_scan::scan::Scanner;
 use std::alloc::Global;
 
 /// The heap of pages, with what the laws say of it at each moment.

@@ -13,3 +13,5 @@ pub mod KeptLemmas
 pub mod TakenLemmas
 pub mod CopyLemmas
 pub mod HeaderLemmas
+pub mod OfBits
+pub mod OfClasses

@@ -4,3 +4,5 @@ pub mod Shown
 pub mod Indexed
 pub mod Kept
 pub mod FreePlaces
+pub mod OfBits
+pub mod OfClasses

@@ -2,38 +2,38 @@
 use Rattle.std.specs.Prelude.{◌≡◌, ℕ, ◌<◌, Result, Ok, Err, codes}
 use Rattle.std.specs.Io.KnownBytes.{Appends}
 use Rattle.mh_model.specs.Bytes.{Text, line_text}
-use Rattle.mh_script.specs.declared.fault.ScriptFault.{ScriptFault}
+use Rattle.mh_live.specs.OfScript.ScriptFault.{ScriptFault}
 use Rattle.mh_command_line.specs.declared.fault.LineFault.{LineFault}
 use Rattle.mh_orders.specs.declared.order.Order.{Order}
 use Rattle.mh_orders.specs.declared.order.Order.TheVariants.{Run, Steps, Show, Live, Race, Check, CheckSessions, Audit, Migrate, Generate, Version, Curve, CurveHistory, Size, SizeTarget, SizeScript}
 use Rattle.mh_orders.specs.declared.order.Form.{Form}
 use Rattle.mh_orders.specs.declared.order.Form.TheVariants.{Replies, History}
-use Rattle.mh_script.specs.declared.fault.ScriptFault.TheVariants.{Write, NoMemory}
+use Rattle.mh_live.specs.OfScript.ScriptFault.TheVariants.{Write, NoMemory}
 use Rattle.mh_text.specs.Stream.{AppendsBeginning}
-use Rattle.mh_script.specs.declared.end.End.{End}
-use Rattle.mh_script.specs.declared.end.End.TheVariants.{Done}
-use Rattle.mh_curve.specs.Runs.{IsDrawing, curve_output}
+use Rattle.mh_live.specs.OfScript.End.{End}
+use Rattle.mh_live.specs.OfScript.End.TheVariants.{Done}
+use Rattle.mh_show.specs.OfCurve.Runs.{IsDrawing, curve_output}
 use Rattle.mh_orders.specs.declared.generate_options.Options.{Options}
 use Rattle.mh_generate.specs.Generated.{WritesAsked}
-use Rattle.mh_judging.specs.Judged.{IsAuditing, IsChecking, IsMigrating}
+use Rattle.mh_sessions.specs.OfJudging.Judged.{IsAuditing, IsChecking, IsMigrating}
 use Rattle.mh_racing.specs.Raced.{IsRaceRun}
-use Rattle.mh_judging.specs.RunHistory.{IsHistoryRun}
+use Rattle.mh_sessions.specs.OfJudging.RunHistory.{IsHistoryRun}
 use Rattle.mh_live.specs.Feeding.{IsLiveRun}
 use Rattle.mh_model.specs.RunHistories.{output_under}
 use Rattle.mh_model.specs.declared.config.Rules.{Rules}
 use Rattle.mh_sessions.specs.Texts.{IsSessionsJudging}
-use Rattle.mh_script.specs.Run.{Device, IsRun, transcript}
+use Rattle.mh_live.specs.OfScript.Run.{Device, IsRun, transcript}
 use Rattle.mh_show.specs.Page.{page_text}
 use Rattle.mh_size.specs.Heaps.{IsHeapText}
 use Rattle.mh_size.specs.Scripts.{IsSizing}
 use Rattle.mh_size.specs.Targets.{IsTargetText}
-use Rattle.mh_telling.specs.Steps.{steps_text}
+use Rattle.mh_show.specs.OfTelling.Steps.{steps_text}
 use Rattle.mh_program.specs.Status.{judgement_status_of, line_status_of, live_status_of, status_of, curve_status_of}
 use Rattle.mh_program.specs.Telling.{ErrorStream, TellsEnd, TellsFault, TellsJudgement, TellsLine, TellsRefusals, TellsRun, TellsCurve}
 
 -- the line that names the version, the rules and the versions of histories, and what proved them
 abbrev pub version_text : Text
-version_text = line_text (codes "metroheap 1.0.0: rules 1 and 2, histories 1 and 2, proved by rattle-kit-13f logic dac8208d650f15bf")
+version_text = line_text (codes "metroheap 1.0.0: rules 1 and 2, histories 1 and 2, proved by Rattle logic dac8208d650f15bf")
 
 -- an order was carried out: its run ended so, what is to be said of that was reported, and the status is the end's
 pub record Obeys {T : Type 0} (Ends : Result T ScriptFault → Type 0) (Tells_end : ErrorStream → ErrorStream → Result T ScriptFault → Type 0) (status_by : Result T ScriptFault → ℕ) (errors errors' : ErrorStream) (status : ℕ) : Type 0 where

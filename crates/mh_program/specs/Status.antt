@@ -1,14 +1,14 @@
 -- Exit statuses.
 use Rattle.std.specs.Prelude.{ℕ, Result, Ok, Err}
-use Rattle.mh_curve.specs.declared.end.CurveEnd.{CurveEnd}
-use Rattle.mh_curve.specs.declared.end.CurveEnd.TheVariants as curve
-use Rattle.mh_judging.specs.declared.judgement.Judgement.{Judgement}
-use Rattle.mh_judging.specs.declared.judgement.Judgement.TheVariants as judgement
-use Rattle.mh_script.specs.declared.end.End.{End}
-use Rattle.mh_script.specs.declared.end.End.TheVariants.{Done, Refused}
+use Rattle.mh_show.specs.OfCurve.CurveEnd.{CurveEnd}
+use Rattle.mh_show.specs.OfCurve.CurveEnd.TheVariants as curve
+use Rattle.mh_sessions.specs.OfJudging.Judgement.{Judgement}
+use Rattle.mh_sessions.specs.OfJudging.Judgement.TheVariants as judgement
+use Rattle.mh_live.specs.OfScript.End.{End}
+use Rattle.mh_live.specs.OfScript.End.TheVariants.{Done, Refused}
 use Rattle.mh_command_line.specs.declared.fault.LineFault.{LineFault}
 use Rattle.mh_command_line.specs.declared.fault.LineFault.TheVariants.{Words, NotText, Configuration, NoMemory}
-use Rattle.mh_script.specs.declared.fault.ScriptFault.{ScriptFault}
+use Rattle.mh_live.specs.OfScript.ScriptFault.{ScriptFault}
 
 -- 0 for a script that was run, 1 for one that was refused, 3 for a fault of memory or of a device, and for a full history
 abbrev pub status_of : Result End ScriptFault → ℕ

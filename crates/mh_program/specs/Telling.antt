@@ -2,22 +2,22 @@
 use Rattle.std.specs.Prelude.{◌≡◌, ℕ, ◌+◌, ◌<◌, Bool, true, false, List, [], ◌∷◌, ◌++◌, Result, Ok, Err, codes, decimal}
 use Rattle.std.specs.Io.KnownBytes.{Appends}
 use Rattle.std.specs.List.{All}
-use Rattle.mh_curve.specs.declared.end.CurveEnd.{CurveEnd}
-use Rattle.mh_curve.specs.declared.end.CurveEnd.TheVariants as curve
-use Rattle.mh_judging.specs.declared.judgement.Judgement.{Judgement}
-use Rattle.mh_judging.specs.declared.judgement.Judgement.TheVariants as judgement
+use Rattle.mh_show.specs.OfCurve.CurveEnd.{CurveEnd}
+use Rattle.mh_show.specs.OfCurve.CurveEnd.TheVariants as curve
+use Rattle.mh_sessions.specs.OfJudging.Judgement.{Judgement}
+use Rattle.mh_sessions.specs.OfJudging.Judgement.TheVariants as judgement
 use Rattle.mh_model.specs.Bytes.{Text, line_text}
 use Rattle.mh_command_line.specs.declared.fault.LineFault.{LineFault}
 use Rattle.mh_command_line.specs.declared.fault.LineFault.TheVariants as line
 use Rattle.mh_orders.specs.declared.order.ConfigOption.{ConfigOption}
 use Rattle.mh_orders.specs.declared.order.ConfigOption.TheVariants.{Pages, Quantum, Trigger, Every}
 use Rattle.mh_command_line.specs.Printable.{IsPrintable, IsSign}
-use Rattle.mh_script.specs.declared.end.End.{End}
-use Rattle.mh_script.specs.declared.end.End.TheVariants.{Done, Refused}
-use Rattle.mh_script.specs.declared.end.Refusal.{Refusal}
-use Rattle.mh_script.specs.declared.fault.ScriptFault.{ScriptFault}
-use Rattle.mh_script.specs.declared.fault.ScriptFault.TheVariants.{Read, Write, NoMemory, HistoryFull}
-use Rattle.mh_script.specs.Run.{Device}
+use Rattle.mh_live.specs.OfScript.End.{End}
+use Rattle.mh_live.specs.OfScript.End.TheVariants.{Done, Refused}
+use Rattle.mh_live.specs.OfScript.Refusal.{Refusal}
+use Rattle.mh_live.specs.OfScript.ScriptFault.{ScriptFault}
+use Rattle.mh_live.specs.OfScript.ScriptFault.TheVariants.{Read, Write, NoMemory, HistoryFull}
+use Rattle.mh_live.specs.OfScript.Run.{Device}
 use Rattle.mh_text.specs.Stream.{AppendsBeginning}
 
 -- The stream -------------------------------------------------------------------------------------

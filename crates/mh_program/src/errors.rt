@@ -1,7 +1,7 @@
 //! Standard error.
 ghost use Rattle.std.specs.Prelude.{◌≡◌, ◌<◌, ◌^◌, false};
 ghost use Rattle.mh_program.specs.Telling.{Tells, fresh};
-ghost use Rattle.mh_script.specs.Run.{device};
+ghost use Rattle.mh_live.specs.OfScript.Run.{device};
 
 use mh_text::sink::Sink;
 use mh_text::stream::write_text;
@@ -19,7 +19,7 @@ pub struct Errors<E: Sink> {
 impl<E: Sink> Model for Errors<E> {
     ghost use Rattle.std.specs.Prelude.{◌≡◌, ◌<◌, ◌^◌, false};
     ghost use Rattle.mh_program.specs.Telling.{ErrorStream};
-    ghost use Rattle.mh_script.specs.Run.{device};
+    ghost use Rattle.mh_live.specs.OfScript.Run.{device};
 
     ghost Value = { ErrorStream };
 

@@ -1,7 +1,7 @@
 use crate::errors::Errors;
 use crate::program::program;
 use mh_command_line::words::words;
-use mh_scan::gate::Open;
+use mh_live::mh_scan::gate::Open;
 use mh_text::sink::StdSink;
 use mh_text::source::StdSource;
 use std::alloc::Global;

@@ -1,17 +1,17 @@
 //! The curves that the program draws.
 ghost use Rattle.std.specs.Prelude.{◌<◌, ◌^◌};
-ghost use Rattle.mh_curve.specs.Runs.{IsDrawing, curve_output};
+ghost use Rattle.mh_show.specs.OfCurve.Runs.{IsDrawing, curve_output};
 ghost use Rattle.mh_program.specs.Program.{Obeys};
 ghost use Rattle.mh_program.specs.Status.{curve_status_of, status_of};
 ghost use Rattle.mh_program.specs.Telling.{TellsCurve, TellsEnd, TellsRun};
-ghost use Rattle.mh_script.specs.Run.{IsRun, device};
+ghost use Rattle.mh_live.specs.OfScript.Run.{IsRun, device};
 
 use crate::errors::Errors;
 use crate::status::{curve_status, status};
-use mh_curve::history::curve_history;
-use mh_curve::script::curve_script;
+use mh_live::mh_scan::crew_scan::CrewGate;
 use mh_orders::curve::{CurveForm, CurveOptions};
-use mh_scan::crew_scan::CrewGate;
+use mh_show::mh_curve::history::curve_history;
+use mh_show::mh_curve::script::curve_script;
 use mh_text::sink::Sink;
 use mh_text::source::Source;
 use std::alloc::Global;

@@ -2,10 +2,10 @@ ghost use Rattle.std.specs.Prelude.{◌≡◌};
 ghost use Rattle.mh_program.specs.Status.{curve_status_of, judgement_status_of, line_status_of, live_status_of, status_of};
 
 use mh_command_line::fault::LineFault;
-use mh_curve::end::CurveEnd;
-use mh_judging::judgement::Judgement;
-use mh_script::end::End;
-use mh_script::fault::ScriptFault;
+use mh_live::mh_script::end::End;
+use mh_live::mh_script::fault::ScriptFault;
+use mh_sessions::mh_judging::judgement::Judgement;
+use mh_show::mh_curve::end::CurveEnd;
 
 /// The exit status that a run of a script gives the program.
 pub fn status(ended: &Result<End, ScriptFault>) -> u8

@@ -8,12 +8,12 @@ ghost use Rattle.mh_program.specs.Telling.{IsComplaint, More, None, Tells, Tells
 use crate::errors::Errors;
 use mh_command_line::fault::LineFault;
 use mh_command_line::quoted::{printable, signs};
-use mh_curve::end::CurveEnd;
-use mh_judging::judgement::Judgement;
 use mh_live::listener::Listener;
+use mh_live::mh_script::end::{End, Refusal};
+use mh_live::mh_script::fault::{HISTORY_FULL, NO_MEMORY, READ_FAILED, ScriptFault, WRITE_FAILED};
 use mh_orders::order::ConfigOption;
-use mh_script::end::{End, Refusal};
-use mh_script::fault::{HISTORY_FULL, NO_MEMORY, READ_FAILED, ScriptFault, WRITE_FAILED};
+use mh_sessions::mh_judging::judgement::Judgement;
+use mh_show::mh_curve::end::CurveEnd;
 use mh_text::sink::Sink;
 use std::alloc::{AllocError, Global};
 use std::fmt;

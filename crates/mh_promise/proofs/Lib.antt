@@ -1,3 +1,4 @@
 pub mod RunsByEvents
 pub mod AnsweredEvents
 pub mod SpentUnits
+pub mod OfLaws

@@ -1,3 +1,4 @@
 pub mod Runs
 pub mod Promise
 pub mod Replays
+pub mod OfRunLaws

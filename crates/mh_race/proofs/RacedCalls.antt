@@ -4,11 +4,11 @@ use Rattle.std.proofs.lemmas.Bool.{eqb-true}
 use Rattle.std.proofs.lemmas.Bool.Decides.{leb_tells}
 use Rattle.std.proofs.lemmas.List.Elements.{All-head, All-tail}
 use Rattle.std.proofs.lemmas.List.Sums.{sum_by-cons}
-use Rattle.mh_lock.specs.Seats.{LockSeatView}
+use Rattle.mh_service.specs.OfLock.Seats.{LockSeatView}
 use Rattle.mh_model.specs.declared.command.Event.{Event}
 use Rattle.mh_model.specs.declared.history.Entry.{Entry}
 use Rattle.mh_model.specs.History.{owner_of, owned_by, events_of}
-use Rattle.mh_state.specs.declared.machine.Stop.{Stop}
+use Rattle.mh_service.specs.OfState.Stop.{Stop}
 use Rattle.mh_race.specs.Racing.{HasRun}
 
 -- an element that a test finds

@@ -3,11 +3,11 @@ use Rattle.std.proofs.Common.{◌≡◌, ◌==◌, ℕ, List, ◌++◌, Option, 
 use Rattle.std.proofs.lemmas.List.{take-append-drop}
 use Rattle.std.proofs.lemmas.List.Elements.{All-map, filter-append}
 use Rattle.std.proofs.lemmas.Option.{none-some}
-use Rattle.mh_lock.specs.Seats.{LockSeatView}
+use Rattle.mh_service.specs.OfLock.Seats.{LockSeatView}
 use Rattle.mh_model.specs.declared.command.Event.{Event}
 use Rattle.mh_model.specs.declared.history.Entry.{Entry}
 use Rattle.mh_model.specs.History.{owner_of, owned_by, events_of}
-use Rattle.mh_state.specs.declared.machine.Stop.{Stop}
+use Rattle.mh_service.specs.OfState.Stop.{Stop}
 use Rattle.mh_race.specs.Racing.{HasRun, HasRunIn}
 use Rattle.mh_race.specs.declared.racer.Racer.{Racer}
 use Rattle.mh_service.specs.Services.{ServiceView, IsOf}

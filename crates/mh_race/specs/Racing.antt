@@ -2,11 +2,11 @@
 use Rattle.std.specs.Prelude.{◌≡◌, ℕ, List, [], ◌++◌, Option, None}
 use Rattle.mh_model.specs.declared.command.Event.{Event}
 use Rattle.mh_model.specs.History.{owner_of, owned_by, events_of}
-use Rattle.mh_lock.specs.Seats.{LockSeatView}
+use Rattle.mh_service.specs.OfLock.Seats.{LockSeatView}
 use Rattle.mh_model.specs.declared.history.Entry.{Entry}
 use Rattle.mh_race.specs.declared.racer.Racer.{Racer}
 use Rattle.mh_service.specs.Services.{ServiceView, IsOf}
-use Rattle.mh_state.specs.declared.machine.Stop.{Stop}
+use Rattle.mh_service.specs.OfState.Stop.{Stop}
 
 -- a seat of this service, before its first call
 abbrev pub IsNew : ServiceView → LockSeatView Entry → Type 0

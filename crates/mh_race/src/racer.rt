@@ -3,10 +3,10 @@ ghost use Rattle.std.specs.Prelude.{◌≡◌, None};
 ghost use Rattle.mh_race.specs.Racing.{IsFresh, HasRunIn};
 
 use mh_model::command::Event;
-use mh_scan::crew_scan::CrewGate;
+use mh_service::mh_scan::crew_scan::CrewGate;
+use mh_service::mh_state::machine::Stop;
 use mh_service::seat::Seat;
 use mh_service::service::Service;
-use mh_state::machine::Stop;
 use std::sync::Wait;
 use std::thread::Threads;
 

@@ -19,9 +19,9 @@ use Rattle.mh_race.specs.Racing.{BeginsTheCalls, MakesTheCalls}
 use Rattle.mh_text.specs.Stream.{AppendsBeginning}
 use Rattle.mh_text_laws.proofs.migration.MigratedRecords.{record_events, record_length}
 use Rattle.mh_racing.specs.Raced.{BeginsRaceOf, BeginsToRace, Races, RefusesScript}
-use Rattle.mh_script.specs.Texts.{Writes}
-use Rattle.mh_script.proofs.AddedLines.{AppendsBeginning-nothing}
-use Rattle.mh_script.proofs.SourceLemmas.{Reads, some_text}
+use Rattle.mh_judging.specs.OfScript.Texts.{Writes}
+use Rattle.mh_judging.proofs.OfScript.AddedLines.{AppendsBeginning-nothing}
+use Rattle.mh_judging.proofs.OfScript.SourceLemmas.{Reads, some_text}
 
 -- Records ----------------------------------------------------------------------------------------
 

@@ -6,12 +6,12 @@ use Rattle.mh_model.specs.Races.{IsRaced, IsRacedFull, IsRaceBegun}
 use Rattle.mh_model.specs.Replies.{bad_line_text}
 use Rattle.mh_model.specs.Script.{Meaning, Reading, BadLine, Means, reading}
 use Rattle.mh_text.specs.Stream.{AppendsBeginning}
-use Rattle.mh_script.specs.declared.end.End.{End}
-use Rattle.mh_script.specs.declared.end.End.TheVariants.{Done, Refused}
-use Rattle.mh_script.specs.declared.fault.ScriptFault.{ScriptFault}
-use Rattle.mh_script.specs.declared.fault.ScriptFault.TheVariants.{Read, NoMemory, HistoryFull}
-use Rattle.mh_script.specs.Run.{Device, HasReason, TakesToRun}
-use Rattle.mh_script.specs.Texts.{Blames, IsTextOf, LeavesSource, WantsMemory, Writes}
+use Rattle.mh_judging.specs.OfScript.End.{End}
+use Rattle.mh_judging.specs.OfScript.End.TheVariants.{Done, Refused}
+use Rattle.mh_judging.specs.OfScript.ScriptFault.{ScriptFault}
+use Rattle.mh_judging.specs.OfScript.ScriptFault.TheVariants.{Read, NoMemory, HistoryFull}
+use Rattle.mh_judging.specs.OfScript.Run.{Device, HasReason, TakesToRun}
+use Rattle.mh_judging.specs.OfScript.Texts.{Blames, IsTextOf, LeavesSource, WantsMemory, Writes}
 
 -- the text of a source means a script, and what a race of it leaves was written, and nothing else
 pub record Races (Raced : Meaning → Text → Type 0) (known old new : Option Text) : Type 0 where

@@ -3,16 +3,16 @@ ghost use Rattle.std.specs.Prelude.{◌≡◌, ◌≢◌, ◌<◌, ◌≤◌, �
 ghost use Rattle.std.specs.Io.KnownBytes.{Keeps};
 ghost use Rattle.mh_model.specs.Races.{IsRaced, IsRacedFull, IsRaceBegun};
 ghost use Rattle.mh_racing.specs.Raced.{BeginsToRace, RaceEndsAs, Races};
-ghost use Rattle.mh_script.specs.Run.{HasReason, TakesToRun};
-ghost use Rattle.mh_script.specs.Texts.{Blames, BlamesSink, LeavesSource, WantsMemory, Writes};
+ghost use Rattle.mh_judging.specs.OfScript.Run.{HasReason, TakesToRun};
+ghost use Rattle.mh_judging.specs.OfScript.Texts.{Blames, BlamesSink, LeavesSource, WantsMemory, Writes};
 
+use mh_judging::mh_script::end::{End, Refusal};
+use mh_judging::mh_script::fault::ScriptFault;
+use mh_judging::mh_script::texts::{read_whole, write_verdict};
 use mh_judging::record::write_record;
 use mh_model::history::Verdict;
+use mh_race::mh_scan::crew_scan::CrewGate;
 use mh_race::race::race;
-use mh_scan::crew_scan::CrewGate;
-use mh_script::end::{End, Refusal};
-use mh_script::fault::ScriptFault;
-use mh_script::texts::{read_whole, write_verdict};
 use mh_text::device::DeviceFailed;
 use mh_text::script::{SCRIPT_BYTES, Script, parse};
 use mh_text::sink::Sink;

@@ -8,7 +8,7 @@ use Rattle.mh_model.specs.Machine.{first_machine, half_step, machine_after}
 use Rattle.mh_model.specs.Batches.{NoneTwice}
 use Rattle.mh_model.specs.CycleBounds.{IsMarkedIn, IsInBounds}
 use Rattle.mh_model.specs.Mutator.{HeapState}
-use Rattle.mh_table_laws.specs.Marking.{IsSettled}
+use Rattle.mh_laws.specs.OfTableLaws.Marking.{IsSettled}
 use Rattle.mh_laws.specs.Deeds.{Deed, heap_after, heap_at, with_cycle}
 
 -- no place stands twice in the grey list, each holds a marked block, and they are no more than the places of the table

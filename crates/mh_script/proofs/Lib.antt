@@ -4,3 +4,6 @@ pub mod FaultLemmas
 pub mod MachineLemmas
 pub mod RunLemmas
 pub mod SourceLemmas
+pub mod OfState
+pub mod OfPromise
+pub mod OfReasons

@@ -1,2 +1,5 @@
 pub mod Texts
 pub mod Run
+pub mod OfState
+pub mod OfReasons
+pub mod OfPromise

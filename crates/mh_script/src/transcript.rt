@@ -18,7 +18,7 @@ use mh_model::command::Event;
 use mh_model::config::{Config, Rules};
 use mh_model::history::Verdict;
 use mh_model::limits;
-use mh_scan::scan::Scanner;
+use mh_state::mh_scan::scan::Scanner;
 use mh_text::device::DeviceFailed;
 use mh_text::script::{SCRIPT_BYTES, Script, parse};
 use mh_text::sink::Sink;

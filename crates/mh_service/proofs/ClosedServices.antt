@@ -6,7 +6,7 @@ use Rattle.mh_model.specs.declared.history.Entry.{Entry}
 use Rattle.mh_model.specs.Pages.{free_pages}
 use Rattle.mh_model.specs.Mutator.{HeapState}
 use Rattle.mh_model.specs.Trace.{TraceState}
-use Rattle.mh_promise.specs.Runs.{IsTheMachines}
+use Rattle.mh_state.specs.OfPromise.Runs.{IsTheMachines}
 use Rattle.mh_state.specs.Storing.{Stored, IsTheReplay}
 
 pub closed-machine : (config : Config) (state : Stored) (history : List Entry) (heap : HeapState) (free : ℕ) (trace : TraceState)

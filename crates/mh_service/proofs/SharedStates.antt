@@ -10,7 +10,7 @@ use Rattle.mh_model.specs.History.{IsLegal, AreLogs, owner_of, owned_by, events_
 use Rattle.mh_model.specs.Limits.{most_entries}
 use Rattle.mh_model.specs.World.{says}
 use Rattle.mh_model.specs.Machine.{event_step}
-use Rattle.mh_promise.specs.Replays.{EventsKeepTheReplay, IsReplay}
+use Rattle.mh_state.specs.OfPromise.Replays.{EventsKeepTheReplay, IsReplay}
 use Rattle.mh_seat_laws.specs.Laws.{LogsMergeToTheHistory}
 use Rattle.mh_service.specs.Services.{ServiceView, IsServed, AreMerged}
 use Rattle.mh_service.specs.Sharing.{IsReplayed, IsReplayOf, IsDone, IsRefused}

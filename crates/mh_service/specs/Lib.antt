@@ -1,2 +1,4 @@
 pub mod Services
 pub mod Sharing
+pub mod OfState
+pub mod OfLock

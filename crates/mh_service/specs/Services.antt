@@ -8,7 +8,7 @@ use Rattle.mh_model.specs.declared.history.Entry.{Entry}
 use Rattle.mh_model.specs.declared.reply.Reply.{Reply}
 use Rattle.mh_model.specs.History.{owner_of, owned_by, replies_of}
 use Rattle.mh_model.specs.Limits.{most_entries}
-use Rattle.mh_promise.specs.Runs.{Outcome}
+use Rattle.mh_state.specs.OfPromise.Runs.{Outcome}
 use Rattle.mh_seat_laws.specs.Merges.{IsMerge}
 use Rattle.mh_service.specs.declared.service.Closed.{Closed}
 use Rattle.mh_service.specs.Sharing.{IsReplayOf, IsDone, IsRefused}

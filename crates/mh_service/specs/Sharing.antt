@@ -7,7 +7,7 @@ use Rattle.mh_model.specs.History.{IsLegal, events_of, replies_of}
 use Rattle.mh_model.specs.Limits.{most_entries}
 use Rattle.mh_model.specs.Machine.{event_step}
 use Rattle.mh_model.specs.World.{says}
-use Rattle.mh_promise.specs.Replays.{IsReplay}
+use Rattle.mh_state.specs.OfPromise.Replays.{IsReplay}
 use Rattle.mh_state.specs.Storing.{Stored, KeepsState, MayWantMemory, with_entry, IsTheReplay, KeepsItsPromise}
 use Rattle.mh_state.specs.declared.machine.Stop.{Stop}
 use Rattle.mh_state.specs.declared.machine.Stop.TheVariants as stop

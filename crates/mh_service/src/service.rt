@@ -3,8 +3,8 @@ ghost use Rattle.std.specs.Prelude.{◌≡◌, ◌≢◌, ◌<◌, ◌≤◌, �
 ghost use Rattle.mh_lock.specs.Seats.{LockSeatView};
 ghost use Rattle.mh_model.specs.History.{IsLegal, owner_of, owned_by, events_of};
 ghost use Rattle.mh_model.specs.declared.history.Entry.{Entry};
-ghost use Rattle.mh_promise.specs.Runs.{IsTheMachines};
-ghost use Rattle.mh_promise.specs.Promise.{IsPromised};
+ghost use Rattle.mh_state.specs.OfPromise.Runs.{IsTheMachines};
+ghost use Rattle.mh_state.specs.OfPromise.Promise.{IsPromised};
 ghost use Rattle.mh_service.specs.Services.{IsOf, new_seat, Owns, IsServed, AreMerged, shown};
 
 use crate::job::{Job, Shared};
@@ -16,11 +16,11 @@ use mh_model::config::Config;
 use mh_model::history::Entry;
 use mh_model::memory::NoMemory;
 use mh_model::reply::Reply;
-use mh_paged::paged::PagedHeap;
-use mh_report::trace::Trace;
-use mh_scan::crew_scan::{CrewGate, CrewScan};
 use mh_seat_laws::lock::logs_merge_to_the_history;
 use mh_state::machine::Stop;
+use mh_state::mh_paged::paged::PagedHeap;
+use mh_state::mh_report::trace::Trace;
+use mh_state::mh_scan::crew_scan::{CrewGate, CrewScan};
 use std::alloc::Global;
 use std::marker::Model;
 use std::sync::Wait;

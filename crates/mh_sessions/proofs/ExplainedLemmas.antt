@@ -18,8 +18,8 @@ use Rattle.mh_model.specs.Bytes.{Text, cut_after}
 use Rattle.mh_model.specs.HistoryTexts.{history_reading, recorded_reading}
 use Rattle.mh_model.specs.Script.{Reading, BadLine, Means, reading_map}
 use Rattle.mh_model.specs.Sessions.{IsLegalForSessions, IsSeenThrough, entries_reading, entries_recorded, is_of_version_one}
-use Rattle.mh_reasons.specs.declared.history_reason.HistoryReason.{HistoryReason}
-use Rattle.mh_reasons.specs.HistoryReasons.{IsHistoryReason, most_bytes}
+use Rattle.mh_judging.specs.OfReasons.HistoryReason.{HistoryReason}
+use Rattle.mh_judging.specs.OfReasons.HistoryReasons.{IsHistoryReason, most_bytes}
 use Rattle.mh_judging.specs.Judged.{Explains}
 use Rattle.mh_judging.proofs.ExplainedLemmas.{BadOf, explains, means_short, nothing_more, reason-long}
 use Rattle.mh_sessions.specs.Texts.{IsReasonOf, IsSeenExplained, IsSeenFault, version_of}

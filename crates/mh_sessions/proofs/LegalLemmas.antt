@@ -14,8 +14,8 @@ use Rattle.mh_model.specs.History.{events_of, replies_of}
 use Rattle.mh_model.specs.Sessions.{IsSeen, lacks_room}
 use Rattle.mh_model.specs.Snapshot.{is_heap_full, world_beside}
 use Rattle.mh_model.specs.World.{IsNew, World, first_world, world_step}
-use Rattle.mh_promise.specs.Promise.{IsPromised, RunsKeepTheirPromise}
-use Rattle.mh_promise.specs.Runs.{IsAnswered, machine_at, outcome_of}
+use Rattle.mh_judging.specs.OfPromise.Promise.{IsPromised, RunsKeepTheirPromise}
+use Rattle.mh_judging.specs.OfPromise.Runs.{IsAnswered, machine_at, outcome_of}
 use Rattle.mh_run_laws.specs.Worlds.{WorldIsNeverFull}
 use Rattle.mh_sessions.specs.Laws.{IsOfSession, LegalHistoriesAreLegalForSessions, OnlyTheRulesMatter, SessionsSeeTheWorld}
 use Rattle.mh_sessions.proofs.RulesLemmas.{some_config}

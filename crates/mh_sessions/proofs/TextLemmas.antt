@@ -17,7 +17,7 @@ use Rattle.mh_history.proofs.HistoryLemmas.{history_long, record_long}
 use Rattle.mh_history.proofs.LineLemmas.{Walked, walked_end, walked_more, walked_start, walked_whole, with_entries}
 use Rattle.mh_judging.specs.Judged.{IsVerdictOn}
 use Rattle.mh_judging.proofs.JudgedLemmas.{GoesBy}
-use Rattle.mh_script.proofs.SourceLemmas.{IsBounded}
+use Rattle.mh_judging.proofs.OfScript.SourceLemmas.{IsBounded}
 use Rattle.mh_sessions.specs.Judging.{HasSeenSessions, SessionsJudging}
 use Rattle.mh_sessions.specs.Texts.{BeginsWithEither}
 

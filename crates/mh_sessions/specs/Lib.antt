@@ -2,3 +2,4 @@ pub mod Faults
 pub mod Judging
 pub mod Laws
 pub mod Texts
+pub mod OfJudging

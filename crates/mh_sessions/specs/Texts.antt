@@ -7,16 +7,16 @@ use Rattle.mh_model.specs.declared.history.Version.TheVariants.{One, Two}
 use Rattle.mh_model.specs.Bytes.{Text, cut_after}
 use Rattle.mh_model.specs.Script.{Means}
 use Rattle.mh_model.specs.Sessions.{IsSeenThrough, entries_reading, is_of_version_one}
-use Rattle.mh_reasons.specs.declared.history_reason.HistoryReason.{HistoryReason}
-use Rattle.mh_reasons.specs.HistoryReasons.{IsHistoryReason}
+use Rattle.mh_judging.specs.OfReasons.HistoryReason.{HistoryReason}
+use Rattle.mh_judging.specs.OfReasons.HistoryReasons.{IsHistoryReason}
 use Rattle.mh_history.specs.Beginnings.{BeginsWithEntry, BeginsWithMeasured}
 use Rattle.mh_judging.specs.declared.entry_fault.EntryFault.{EntryFault}
 use Rattle.mh_judging.specs.declared.judgement.Judgement.{Judgement}
 use Rattle.mh_judging.specs.Faults.{HasFault}
 use Rattle.mh_judging.specs.Judgements.{IsExplained}
 use Rattle.mh_judging.specs.Judged.{IsJudging}
-use Rattle.mh_script.specs.declared.fault.ScriptFault.{ScriptFault}
-use Rattle.mh_script.specs.Run.{Device}
+use Rattle.mh_judging.specs.OfScript.ScriptFault.{ScriptFault}
+use Rattle.mh_judging.specs.OfScript.Run.{Device}
 use Rattle.mh_sessions.specs.Faults.{IsUnseenAfter}
 
 -- a text of either version that begins with an entry

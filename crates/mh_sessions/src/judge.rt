@@ -13,13 +13,13 @@ ghost use Rattle.mh_sessions.specs.Judging.{HasSeenSessions, IsFollowed, IsTried
 
 use mh_heap::perform::perform;
 use mh_heap::plain::PlainHeap;
+use mh_judging::mh_state::same::is_same;
 use mh_model::command::{Command, Event};
 use mh_model::config::{Config, Rules};
 use mh_model::history::{Entry, Verdict};
 use mh_model::limits::{LEAST_QUANTUM, MOST_EVENTS};
 use mh_model::memory::NoMemory;
 use mh_model::reply::{Refusal, Reply};
-use mh_state::same::is_same;
 use std::alloc::Global;
 use std::marker::Model;
 

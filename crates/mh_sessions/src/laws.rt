@@ -1,7 +1,7 @@
 //! Laws of histories that are judged by what their sessions see.
 ghost use Rattle.mh_sessions.specs.Laws.{LegalHistoriesAreLegalForSessions, OnlyTheRulesMatter, SessionsSeeTheWorld, TextsAreSeenThrough};
 
-use mh_promise::promise::runs_keep_their_promise;
+use mh_judging::mh_promise::promise::runs_keep_their_promise;
 use mh_run_laws::worlds::world_is_never_full;
 
 /// Of a configuration only the rules matter to what sessions see.

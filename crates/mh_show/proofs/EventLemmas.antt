@@ -5,7 +5,7 @@ use Rattle.mh_model.specs.declared.command.Event.{Event}
 use Rattle.mh_model.specs.Bytes.{Text}
 use Rattle.mh_model.specs.Deeds.{account_of}
 use Rattle.mh_model.specs.Machine.{Machine, event_step, machine_after}
-use Rattle.mh_script.proofs.AddedLines.{AddsLines, HasAdded, added_more, added_none}
+use Rattle.mh_curve.proofs.OfScript.AddedLines.{AddsLines, HasAdded, added_more, added_none}
 use Rattle.mh_show.specs.Page.{deed_count, events_text, most_deeds, shown_of, shown_text}
 
 -- the machine, and how many deeds were written

@@ -3,7 +3,7 @@ use Rattle.std.proofs.Common.{◌≡◌, ◌∙◌, [], ◌++◌, Option, refl, 
 use Rattle.std.proofs.KnownBytes.{Appends-trans}
 use Rattle.std.specs.Io.KnownBytes.{Appends}
 use Rattle.mh_model.specs.Bytes.{Text}
-use Rattle.mh_script.proofs.BufferLemmas.{AppendsBeginning-after}
+use Rattle.mh_curve.proofs.OfScript.BufferLemmas.{AppendsBeginning-after}
 use Rattle.mh_text.specs.Stream.{AppendsBeginning}
 
 -- pieces were written whole, and nothing after them

@@ -1,3 +1,5 @@
 pub mod Rows
 pub mod Page
 pub mod LeftOut
+pub mod OfCurve
+pub mod OfTelling

@@ -11,15 +11,15 @@ ghost use Rattle.mh_show.specs.Page.{deed_count, events_text, most_deeds, shown_
 ghost use Rattle.mh_text.specs.Stream.{AppendsBeginning};
 
 use crate::event::push_shown;
+use mh_curve::mh_script::fault::WriteError;
+use mh_curve::mh_script::texts::{flush, flush_full};
+use mh_curve::mh_state::machine::Machine;
 use mh_deeds::account::Account;
 use mh_model::command::Event;
 use mh_model::history::{Entry, Measured};
 use mh_model::limits::ROOT_SLOTS;
 use mh_model::memory::NoMemory;
 use mh_model::place::Place;
-use mh_script::fault::WriteError;
-use mh_script::texts::{flush, flush_full};
-use mh_state::machine::Machine;
 use mh_telling::run::answer_told;
 use mh_text::sink::Sink;
 use std::alloc::Global;

@@ -1,6 +1,9 @@
 //! The page that shows a run in a browser: its numbers, between the texts that draw them.
 #![tactic(auto)]
 
+pub use mh_curve;
+pub use mh_telling;
+
 pub mod drawing;
 pub mod event;
 mod events;

@@ -9,7 +9,7 @@ use Rattle.std.proofs.lemmas.List.{get_or_past}
 use Rattle.std.proofs.lemmas.List.Sums.{sum_by-le}
 use Rattle.std.proofs.lemmas.List.Elements.{All-get_or, All-map, All-from_get_or, All-weaker}
 use Rattle.mh_model.specs.Classes.{class_sizes}
-use Rattle.mh_classes.specs.Numbers.{class_number}
+use Rattle.mh_sizing.specs.OfClasses.Numbers.{class_number}
 use Rattle.mh_sizing.specs.declared.openings.ClassParts.{ClassParts}
 use Rattle.mh_sizing.specs.Openings.{parts_of_counts}
 use Rattle.mh_sizing.specs.Choices.{least_from}

@@ -1,7 +1,7 @@
 -- The blocks that an interval between two quanta asks for, by their classes.
 use Rattle.std.specs.Prelude.{ℕ, List, map, slice_index}
 use Rattle.mh_model.specs.Classes.{class_sizes}
-use Rattle.mh_classes.specs.Numbers.{class_number}
+use Rattle.mh_sizing.specs.OfClasses.Numbers.{class_number}
 use Rattle.mh_sizing.specs.declared.openings.ClassParts.{ClassParts}
 
 -- the counts with the classes

@@ -4,7 +4,7 @@ use Rattle.mh_model.specs.declared.config.Config.{Config}
 use Rattle.mh_model.specs.declared.needs.Needs.{Needs}
 use Rattle.mh_model.specs.Bound.{most_quanta, most_units}
 use Rattle.mh_model.specs.Needs.{HasEnoughFor, quanta_needed, units_needed}
-use Rattle.mh_sizing_laws.specs.SharpNeeds.{HasSharpEnoughFor}
+use Rattle.mh_sizing.specs.OfSizingLaws.SharpNeeds.{HasSharpEnoughFor}
 use Rattle.mh_sizing.specs.Needs.{enough_pages, enough_trigger, least_quantum_of}
 use Rattle.mh_sizing.specs.Shared.{enough_shared_pages, least_quantum_shared_of}
 use Rattle.mh_size.specs.declared.demand.Demand.{Demand}

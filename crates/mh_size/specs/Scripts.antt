@@ -14,8 +14,8 @@ use Rattle.mh_model.specs.Output.{Ending, ending}
 use Rattle.mh_model.specs.Replies.{bad_line_text}
 use Rattle.mh_model.specs.Script.{BadLine, Meaning, Means, Reading, reading}
 use Rattle.mh_sizing.specs.Needed.{AreTheNeeds, IsTooLarge}
-use Rattle.mh_sizing_laws.specs.SharpNeeds.{AskOfClasses}
-use Rattle.mh_sizing_laws.specs.SharpPages.{all_asked, fewest_slots, occurring}
+use Rattle.mh_sizing.specs.OfSizingLaws.SharpNeeds.{AskOfClasses}
+use Rattle.mh_sizing.specs.OfSizingLaws.SharpPages.{all_asked, fewest_slots, occurring}
 use Rattle.mh_sizing.specs.declared.kinds.Kinds.{Kinds}
 use Rattle.mh_size.specs.declared.demand.Demand.{Demand}
 use Rattle.mh_script.specs.declared.end.End.{End}

@@ -3,7 +3,7 @@ ghost use Rattle.std.specs.Prelude.{◌≡◌, length, IsTrue};
 ghost use Rattle.mh_model.specs.Classes.{is_class_size};
 ghost use Rattle.mh_size.specs.Blocks.{count_of, counts_of};
 
-use mh_classes::class::Class;
+use mh_sizing::mh_classes::class::Class;
 use mh_sizing::openings::ClassParts;
 
 /// How many blocks of a class there are.

@@ -5,7 +5,7 @@ ghost use Rattle.mh_model.specs.Bytes.{lines_text};
 ghost use Rattle.mh_size.specs.Floors.{floor_line, floors_text, next_window, percent_text, share_of};
 
 use mh_model::memory::NoMemory;
-use mh_report::floor::floor;
+use mh_sizing::mh_report::floor::floor;
 use std::fmt;
 use std::fmt::Write;
 

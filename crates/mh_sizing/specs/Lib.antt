@@ -17,3 +17,5 @@ pub mod Steps
 pub mod Units
 pub mod Walk
 pub mod Worlds
+pub mod OfSizingLaws
+pub mod OfClasses

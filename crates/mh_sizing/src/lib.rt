@@ -3,6 +3,9 @@
 //! sessions of a run need is found by the ever-growing world alone, so that a heap can be sized before the run.
 #![tactic(auto)]
 
+pub use mh_classes;
+pub use mh_report;
+
 mod asked;
 mod births;
 mod classes;

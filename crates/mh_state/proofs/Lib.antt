@@ -4,3 +4,4 @@ pub mod PlainReplies
 pub mod RunLemmas
 pub mod RunningLemmas
 pub mod StoringLemmas
+pub mod OfPromise

@@ -5,8 +5,8 @@ use Rattle.mh_model.specs.declared.command.Event.{Event}
 use Rattle.mh_model.specs.declared.config.Config.{Config}
 use Rattle.mh_model.specs.Limits.{most_entries}
 use Rattle.mh_model.specs.Machine.{Machine, first_machine, half_step, machine_after}
-use Rattle.mh_run_laws.specs.Bounds.{most_letters, IsWithinItsEvents, RunsStayWithinTheirEvents}
-use Rattle.mh_laws.proofs.bounds.CyclesInTime.{run-stays}
+use Rattle.mh_promise.specs.OfRunLaws.Bounds.{most_letters, IsWithinItsEvents, RunsStayWithinTheirEvents}
+use Rattle.mh_promise.proofs.OfLaws.CyclesInTime.{run-stays}
 use Rattle.mh_state.specs.Engines.{IsShort}
 use Rattle.mh_state.specs.Running.{Running, IsRunning}
 

@@ -8,7 +8,7 @@ use Rattle.mh_model.specs.declared.history.Entry.{Entry}
 use Rattle.mh_model.specs.declared.reply.Reply.{Reply}
 use Rattle.mh_model.specs.Limits.{most_entries}
 use Rattle.mh_model.specs.Machine.{Machine, first_machine}
-use Rattle.mh_laws.proofs.bounds.CyclesInTime.{run-stays}
+use Rattle.mh_promise.proofs.OfLaws.CyclesInTime.{run-stays}
 use Rattle.mh_promise.specs.Replays.{EventsKeepTheReplay, IsReplay}
 use Rattle.mh_state.specs.Running.{Running, Does}
 use Rattle.mh_state.specs.Storing.{IsStored, with_entry, IsTheReplay, KeepsItsPromise}

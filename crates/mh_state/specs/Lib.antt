@@ -5,3 +5,4 @@ pub mod Running
 pub mod Storing
 pub mod Telling
 pub mod Whole
+pub mod OfPromise

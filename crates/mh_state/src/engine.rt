@@ -14,17 +14,17 @@ ghost use Rattle.mh_state.specs.Running.{MayAskForMemory};
 mod told;
 
 use mh_classes::parts::parts;
-use mh_heap::heap::Heap;
-use mh_heap::perform::perform;
 use mh_model::command::{Command, Control, Event};
 use mh_model::config::{Config, Rules};
 use mh_model::cycle::Spent;
 use mh_model::memory::NoMemory;
 use mh_model::reply::Reply;
+use mh_paged::mh_heap::heap::Heap;
+use mh_paged::mh_heap::perform::perform;
+use mh_paged::mh_scan::scan::Scanner;
 use mh_paged::paged::PagedHeap;
 use mh_report::report::report;
 use mh_report::trace::Trace;
-use mh_scan::scan::Scanner;
 use std::alloc::Global;
 
 /// The part of the machine that events change.

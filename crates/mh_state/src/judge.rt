@@ -14,7 +14,7 @@ use crate::same::is_same;
 use mh_model::config::Config;
 use mh_model::history::{Entry, Measured, Verdict};
 use mh_model::memory::NoMemory;
-use mh_scan::scan::OneScan;
+use mh_paged::mh_scan::scan::OneScan;
 use std::alloc::Global;
 use std::marker::Model;
 use thiserror::Error;

@@ -19,10 +19,10 @@ use mh_model::history::Entry;
 use mh_model::limits::MOST_EVENTS;
 use mh_model::memory::NoMemory;
 use mh_model::reply::Reply;
+use mh_paged::mh_scan::scan::Scanner;
 use mh_paged::paged::PagedHeap;
 use mh_promise::replays::events_keep_the_replay;
 use mh_report::trace::Trace;
-use mh_scan::scan::Scanner;
 use std::alloc::Global;
 use std::marker::Model;
 

@@ -10,8 +10,8 @@ use Rattle.mh_model.specs.Pages.{Table, page_number, slot_number, block_at, with
 use Rattle.mh_model.specs.Table.{Block}
 use Rattle.mh_model.specs.Collector.{survivor}
 use Rattle.mh_table_laws.proofs.placing.Places.{block_at-with_block_other, with_block-self}
-use Rattle.mh_bits.specs.Bits.{has_bit}
-use Rattle.mh_bits.proofs.BitLemmas.{IsLowest, lowest_bit, has_bit-zero, has_bit-clear_same, has_bit-clear_other}
+use Rattle.mh_blocks.specs.OfBits.Bits.{has_bit}
+use Rattle.mh_blocks.proofs.OfBits.BitLemmas.{IsLowest, lowest_bit, has_bit-zero, has_bit-clear_same, has_bit-clear_other}
 use Rattle.mh_blocks.specs.Marks.{is_dead}
 use Rattle.mh_sweep.specs.Swept.{slot_swept, slots_swept, is_between}
 

@@ -6,7 +6,7 @@ ghost use Rattle.mh_sweep.specs.Swept.{slot_swept, stretch_end, judged, AreFree,
 
 use crate::slots::sweep_slots;
 use mh_blocks::blocks::Blocks;
-use mh_classes::class::Class;
+use mh_blocks::mh_classes::class::Class;
 use mh_model::limits::PLACES;
 use mh_model::place::Place;
 /// How far a sweep came: the place of its next step, and the steps that it took.

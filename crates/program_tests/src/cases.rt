@@ -1,4 +1,4 @@
-//! Worked texts of the subcommands.
+//! Worked texts of the subcommands, short enough that devices fail at each of their calls in turn.
 
 /// The words of a command line and a text, what the program writes of them, and its exit status.
 #[derive(Clone, Copy)]
@@ -51,19 +51,19 @@ pub const NONE: &[u8] = b"";
 
 pub const RUN: &[&[u8]] = &[b"metroheap", b"run"];
 
-const RUN_HISTORY: &[&[u8]] = &[b"metroheap", b"run", b"--history", b"--rules=1"];
+pub const RUN_HISTORY: &[&[u8]] = &[b"metroheap", b"run", b"--history", b"--rules=1"];
 
 const STEPS: &[&[u8]] = &[b"metroheap", b"steps", b"--json", b"--to=1"];
 
 const SHOW: &[&[u8]] = &[b"metroheap", b"show"];
 
-const LIVE: &[&[u8]] = &[b"metroheap", b"live"];
+pub const LIVE: &[&[u8]] = &[b"metroheap", b"live"];
 
-const CHECK_SESSIONS: &[&[u8]] = &[b"metroheap", b"check", b"--sessions"];
+pub const CHECK_SESSIONS: &[&[u8]] = &[b"metroheap", b"check", b"--sessions"];
 
 pub const RACE: &[&[u8]] = &[b"metroheap", b"race"];
 
-const CHECK: &[&[u8]] = &[
+pub const CHECK: &[&[u8]] = &[
     b"metroheap",
     b"check",
     b"--pages=4",
@@ -72,7 +72,7 @@ const CHECK: &[&[u8]] = &[
     b"--every=0",
 ];
 
-const AUDIT: &[&[u8]] = &[b"metroheap", b"audit"];
+pub const AUDIT: &[&[u8]] = &[b"metroheap", b"audit"];
 
 const CURVE: &[&[u8]] = &[b"metroheap", b"curve"];
 
@@ -338,13 +338,29 @@ pub const CASES: &[Case<'static>] = &[
     },
 ];
 
+pub const GENERATE: &[&[u8]] = &[b"metroheap", b"generate", b"--seed=1", b"--events=12"];
+
+/// The random script that these words ask for.
+pub const RANDOM_SCRIPT: &[u8] = b"config 64 250 32 25
+s0 new 0 16 0
+s0 new 1 2 4
+s0 put 1 0 0
+s0 put 1 1 4
+s0 copy 0 1
+s1 put 3 0 9
+s0 write 13 0 12816369009886135965
+s1 new 0 16 0
+s0 new 1 2 3
+s0 put 1 0 0
+s2 new 1 2 2
+s0 put 1 1 4
+";
+
 /// A random script, for which nothing is read.
 pub const GENERATED: Case<'static> = Case {
-    words: &[b"metroheap", b"generate", b"--seed=1", b"--events=12"],
+    words: GENERATE,
     input: b"config 4 209 0 0\n",
-    outputs: &[
-        b"config 64 250 32 25\ns0 new 0 16 0\ns0 new 1 2 4\ns0 put 1 0 0\ns0 put 1 1 4\ns0 copy 0 1\ns1 put 3 0 9\ns0 write 13 0 12816369009886135965\ns1 new 0 16 0\ns0 new 1 2 3\ns0 put 1 0 0\ns2 new 1 2 2\ns0 put 1 1 4\n",
-    ],
+    outputs: &[RANDOM_SCRIPT],
     told: NONE,
     status: 0,
 };

@@ -1,6 +1,5 @@
 //! How many workers a command line asks for, which what is written doesn't show.
-use mh_command_line::order::order;
-use mh_orders::order::Order;
+use crate::program::{Order, order};
 use std::alloc::Global;
 
 /// The words of a command line, and the number of workers that they ask for.

@@ -1,5 +1,5 @@
 //! What a reader says before the first read from a terminal.
-use mh_program::prompt::Prompting;
+use crate::program::Prompting;
 use std::alloc::Global;
 use std::io;
 use std::io::{IsTerminal, Read};

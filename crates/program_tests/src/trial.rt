@@ -1,6 +1,6 @@
 //! The program over devices that have troubles.
 use crate::cases::Case;
-use mh_program::launch::launch;
+use crate::program::launch;
 use std::alloc::Global;
 use std::sync::Wait;
 use std::thread::Threads;

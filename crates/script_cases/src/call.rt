@@ -5,9 +5,10 @@ use std::sync::Wait;
 use std::thread::Threads;
 use test_support::environment::Words;
 
-/// What the program wrote and reported, and its status.
+/// What the program wrote and reported, whether it read, and its status.
 pub struct Written {
     pub status: u8,
+    pub is_read: bool,
     pub output: Vec<u8>,
     pub errors: Vec<u8>,
 }
@@ -16,6 +17,7 @@ impl Drop for Written {
     fn drop(self) {
         let Written {
             status: _,
+            is_read: _,
             output: _,
             errors: _,
         } = self;
@@ -39,7 +41,7 @@ pub fn call<R: Threads + Wait + Sync>(
     rt: &R,
     alloc: Global,
     line: &[u8],
-    input: Input<'_>,
+    mut input: Input<'_>,
 ) -> Result<Written, AllocError> {
     let words = words_of(alloc, line)?;
     let mut output = Vec::new(alloc);
@@ -48,12 +50,13 @@ pub fn call<R: Threads + Wait + Sync>(
         rt,
         alloc,
         &Words(words.as_slice()),
-        input,
+        &mut input,
         &mut output,
         &mut errors,
     );
     Ok(Written {
         status,
+        is_read: input.is_read(),
         output,
         errors,
     })

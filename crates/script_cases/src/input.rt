@@ -10,6 +10,7 @@ pub struct Input<'a> {
     byte: u8,
     times: usize,
     last: &'a [u8],
+    is_read: bool,
 }
 
 impl<'a> Input<'a> {
@@ -19,11 +20,17 @@ impl<'a> Input<'a> {
             byte,
             times,
             last,
+            is_read: false,
         }
     }
 
     pub fn bytes(bytes: &'a [u8]) -> Input<'a> {
         Input::new(bytes, 0, 0, b"")
+    }
+
+    /// Whether any bytes were asked for.
+    pub fn is_read(&self) -> bool {
+        self.is_read
     }
 }
 
@@ -40,6 +47,7 @@ fn take_front(text: &mut &[u8], buffer: &mut [u8]) -> usize
 
 impl Read for Input<'_> {
     fn read(&mut self, buffer: &mut [u8]) -> io::Result<usize> {
+        self.is_read = true;
         if !self.first.is_empty() {
             return Ok(take_front(&mut self.first, buffer));
         }

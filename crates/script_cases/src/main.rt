@@ -19,7 +19,7 @@
 //! | `% times N` | these lines are added N times to the text or the output above |
 //! | `% filled N` | the byte below is added so often that the text has N bytes |
 //! | `% then` | these lines are added after that |
-//! | `% answer STATUS` | the status, and the output |
+//! | `% answer STATUS` | the status, and the output; of status 2 nothing is read |
 //! | `% audited` | the status is 0, and these lines are what `audit` writes of the output |
 //! | `% holds` | a line that the output has |
 //! | `% errors`, `% errors begin` | what standard error gets, or how that begins; if neither stands, a line for each refused line and for a bad entry, which names it |

@@ -79,6 +79,11 @@ fn are_errors(alloc: Global, written: &Written, answer: &Answer) -> Result<bool>
     }
 }
 
+/// Whether the status is right. If words are refused, nothing may have been read.
+fn is_status(written: &Written, status: u8) -> bool {
+    written.status == status && !(status == 2 && written.is_read)
+}
+
 /// Makes the call on a text, and counts it.
 fn try_input<R: Threads + Wait + Sync>(
     rt: &R,
@@ -89,7 +94,7 @@ fn try_input<R: Threads + Wait + Sync>(
 ) -> Result<()> {
     let written = call(rt, trial.alloc, trial.line.as_slice(), input)?;
     let output = written.output.as_slice();
-    let is_right = written.status == answer.status
+    let is_right = is_status(&written, answer.status)
         && are_errors(trial.alloc, &written, answer)?
         && is_held(trial.alloc, output, answer.held.as_slice())?
         && is_output(rt, trial.alloc, output, answer)?;

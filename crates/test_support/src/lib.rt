@@ -1,7 +1,8 @@
-//! What tests share: gates that hold and count, devices that fail, the words of a command line, and a process without memory.
+//! What tests share: gates that hold and count, graphs to mark, devices that fail, the words of a command line, and a process without memory.
 #![tactic(auto)]
 
 pub mod environment;
 pub mod famine;
 pub mod gates;
+pub mod graph;
 pub mod troubled;

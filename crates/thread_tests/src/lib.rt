@@ -1,4 +1,4 @@
-//! Tests of crews, locks, services and races in several threads.
+//! Tests of draws, crews, locks and services in several threads.
 #![tactic(auto)]
 
 #[cfg(test)]
@@ -6,17 +6,9 @@ mod callers;
 #[cfg(test)]
 mod claim_tests;
 #[cfg(test)]
-mod crew_tests;
-#[cfg(test)]
-mod graph;
-#[cfg(test)]
 mod lock_tests;
 #[cfg(test)]
 mod marks;
-#[cfg(test)]
-mod race_tests;
-#[cfg(test)]
-mod runs;
 #[cfg(test)]
 mod scan_tests;
 #[cfg(test)]

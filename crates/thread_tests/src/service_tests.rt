@@ -2,8 +2,6 @@
 ghost use Rattle.std.specs.Prelude.{◌<◌, ◌≤◌};
 
 use crate::callers::Callers;
-use crate::crew_tests::CYCLES_SEEN;
-use crate::graph::{cycles_output, cycles_script};
 use mh_model::command::Event;
 use mh_model::reply::Reply;
 use mh_scan::crew_scan::CrewGate;
@@ -14,6 +12,7 @@ use std::sync::Wait;
 use std::test::Fail;
 use std::thread::Threads;
 use test_support::gates::{Eager, Watch};
+use test_support::graph::{CYCLES_SEEN, cycles_output, cycles_script};
 
 /// The lines of the answers to the calls of a script.
 fn answers_of<R: Threads + Wait, G: CrewGate>(

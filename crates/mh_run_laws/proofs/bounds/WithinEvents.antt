@@ -23,7 +23,7 @@ use Rattle.mh_model.specs.Collector.{quantum}
 use Rattle.mh_model.specs.Mutator.{HeapState, heap_sight, new_group, with_born, heap_effect, mutator_step}
 use Rattle.mh_model.specs.Machine.{Machine, new_units, command_units, first_machine, is_quantum_due, quantum_run, command_step, control_step, half_step, event_step, machine_after}
 use Rattle.mh_run_laws.specs.Bounds.{most_blocks, most_letters, IsWithinItsEvents, RunsStayWithinTheirEvents}
-use Rattle.mh_table_laws.proofs.objects.Parts.{parts_fit}
+use Rattle.mh_laws.proofs.OfTableLaws.Parts.{parts_fit}
 use Rattle.mh_laws.proofs.costs.Quanta.{units-quantum}
 use Rattle.mh_laws.proofs.commands.CommandAnswers.{new-done}
 use Rattle.mh_laws.proofs.commands.LeftUnchanged.{made_group-fields, mutator_step-course}

@@ -16,16 +16,16 @@ use Rattle.mh_run_laws.specs.Following.{Follows}
 use Rattle.mh_laws.proofs.showing.ObjectsShown.{Has, field_block-back}
 use Rattle.mh_laws.proofs.marking.BlockChanges.{resolve-live}
 use Rattle.mh_laws.proofs.objects.NewbornBlocks.{IsNewborn, IsObjectBorn, made_group-born}
-use Rattle.mh_table_laws.proofs.objects.Parts.{first_part}
+use Rattle.mh_laws.proofs.OfTableLaws.Parts.{first_part}
 use Rattle.mh_laws.proofs.snapshots.NewObjects.{borne, either, new_at, resolve-borne, plain_forth, plain_new, plain_old, sound-borne, snapshot-borne, newborn_root}
 use Rattle.mh_laws.proofs.showing.FoundBlocks.{found-first, first-found}
 use Rattle.mh_laws.proofs.showing.SamePlainBlocks.{plain-held, held-plain, object-same, roots-same}
-use Rattle.mh_table_laws.proofs.objects.JoinedFields.{shape_is, by_header, has_none, an_arraylet, arraylet_count}
+use Rattle.mh_laws.proofs.OfTableLaws.JoinedFields.{shape_is, by_header, has_none, an_arraylet, arraylet_count}
 use Rattle.mh_laws.proofs.snapshots.Barriers.{IsWritable}
 use Rattle.mh_laws.proofs.snapshots.SessionCommands.{each_fails}
 use Rattle.mh_run_laws.proofs.following.SlotCommands.{births_at, shows_root, follows, refused_alike, own_tests}
 use Rattle.mh_model.proofs.TabulateLemmas.{length-tabulate}
-use Rattle.mh_table_laws.proofs.Lists.{below_length}
+use Rattle.mh_laws.proofs.OfTableLaws.Lists.{below_length}
 
 -- Lists ------------------------------------------------------------------------------------------
 

@@ -17,7 +17,7 @@ use Rattle.mh_model.specs.View.{birth_named, object_of, object_shown, heap_view}
 use Rattle.mh_model.specs.Invariant.{IsPlainAt, IsSound, KeepsSnapshot, IsKeeping}
 use Rattle.mh_run_laws.specs.Following.{has_no_place, Follows}
 use Rattle.mh_model.proofs.TabulateLemmas.{get_or-tabulate}
-use Rattle.mh_table_laws.proofs.objects.JoinedFields.{shape_is, laid, number_read, reference_read}
+use Rattle.mh_laws.proofs.OfTableLaws.JoinedFields.{shape_is, laid, number_read, reference_read}
 use Rattle.mh_laws.proofs.marking.BlockChanges.{resolve-live, roots_mark, no_sweep}
 use Rattle.mh_laws.proofs.snapshots.SessionCommands.{each_fails, not_null, has_reference, loaded_writable, field_held}
 use Rattle.mh_laws.proofs.snapshots.Barriers.{IsWritable, nothing_writable, root_writable, snapshot-with_root}

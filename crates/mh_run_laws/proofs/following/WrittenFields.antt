@@ -16,14 +16,14 @@ use Rattle.mh_model.specs.Snapshot.{IsKept}
 use Rattle.mh_model.specs.View.{in_sweep, block_named, blocks_named, birth_named, arraylet_words, field_blocks, object_of, object_shown, heap_view}
 use Rattle.mh_model.specs.Invariant.{IsPlainAt, HasFieldsAt, first_child, IsSound, IsKeeping}
 use Rattle.mh_run_laws.specs.Following.{Follows}
-use Rattle.mh_table_laws.proofs.placing.Places.{block_at-with_block_same, block_at-with_block_other, block-slot}
+use Rattle.mh_laws.proofs.OfTableLaws.Places.{block_at-with_block_same, block_at-with_block_other, block-slot}
 use Rattle.mh_laws.proofs.marking.BlockChanges.{resolve-live, no_sweep}
 use Rattle.mh_laws.proofs.snapshots.SessionCommands.{each_fails, not_null, has_reference, field_held}
 use Rattle.mh_laws.proofs.snapshots.Barriers.{HasFields, root_writable, snapshot-with_number_stored, snapshot-with_reference_stored}
 use Rattle.mh_laws.proofs.marking.MarkSteps.{IsGuarded, guarded, leads}
 use Rattle.mh_laws.proofs.showing.SamePlainBlocks.{plain-held, held-plain}
-use Rattle.mh_table_laws.proofs.objects.JoinedFields.{AreSameBut, SetsNumber, SetsReference, a_middle, IsArraylet, an_arraylet, arraylet_count, IsLaid, are_runs, laid, has_fields, named_at, write_numbers, write_references}
-use Rattle.mh_table_laws.proofs.objects.Headers.{flat_of}
+use Rattle.mh_laws.proofs.OfTableLaws.JoinedFields.{AreSameBut, SetsNumber, SetsReference, a_middle, IsArraylet, an_arraylet, arraylet_count, IsLaid, are_runs, laid, has_fields, named_at, write_numbers, write_references}
+use Rattle.mh_laws.proofs.OfTableLaws.Headers.{flat_of}
 use Rattle.mh_laws.proofs.showing.FoundBlocks.{shown-changed, shown-same}
 use Rattle.mh_run_laws.proofs.showing.AlikeTables.{IsAlike, position-same, birth-same, with_shade-alike}
 use Rattle.mh_run_laws.proofs.following.SlotCommands.{map-put, slot_shown, follows, own_tests, has_number, number_place, object_view, object_at_root, refused_alike}

@@ -11,7 +11,7 @@ use Rattle.mh_model.specs.Collector.{Collector}
 use Rattle.mh_model.specs.CycleBounds.{IsMarkedIn, IsInBounds}
 use Rattle.mh_run_laws.specs.GreyRoom.{HasGreyRoom, GreyListHasRoom}
 use Rattle.mh_laws.proofs.bounds.CyclesInTime.{run-stays, half-stays}
-use Rattle.mh_table_laws.proofs.Lists.{below_length}
+use Rattle.mh_laws.proofs.OfTableLaws.Lists.{below_length}
 
 -- a place with a marked block is a place of the table
 marked-below : (table : Table Block) (cycle place : ℕ) → IsMarkedIn table cycle place → place < 64 * length table

@@ -9,9 +9,9 @@ use Rattle.mh_model.specs.Mutator.{HeapState, in_roots_or_mark, mutator_step}
 use Rattle.mh_model.specs.CycleBounds.{count_at, IsGreySound, StageOf, IsUnderway}
 use Rattle.mh_laws.specs.Deeds.{Deed, Step, Perform, with_step, heap_after}
 use Rattle.mh_run_laws.specs.GreyRoom.{StaysOut, NoPlaceTurnsGreyAgain}
-use Rattle.mh_table_laws.specs.Marking.{IsSettled}
+use Rattle.mh_laws.specs.OfTableLaws.Marking.{IsSettled}
 use Rattle.mh_laws.proofs.commands.LeftUnchanged.{mutator_step-course}
-use Rattle.mh_table_laws.proofs.marking.GreyList.{MarksThrough, mark_first-pays, cycle-mark_first}
+use Rattle.mh_laws.proofs.OfTableLaws.GreyList.{MarksThrough, mark_first-pays, cycle-mark_first}
 use Rattle.mh_laws.proofs.bounds.CommandsKeepBounds.{with_shade-carries, mutator_step-carried}
 use Rattle.mh_laws.proofs.bounds.CycleBounds.{carried-leaves}
 use Rattle.mh_laws.proofs.bounds.StepsOfACycle.{step-under, deeds-took}

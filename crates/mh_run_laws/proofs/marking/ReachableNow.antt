@@ -12,9 +12,9 @@ use Rattle.mh_model.specs.Invariant.{HeapKeeps}
 use Rattle.mh_run_laws.proofs.worlds.Agreement.{Reachable-in}
 use Rattle.mh_laws.proofs.marking.MarkSteps.{runs}
 use Rattle.mh_laws.proofs.showing.ObjectsShown.{named-back, refers-back}
-use Rattle.mh_table_laws.proofs.objects.JoinedFields.{an_arraylet, arraylet_count}
+use Rattle.mh_laws.proofs.OfTableLaws.JoinedFields.{an_arraylet, arraylet_count}
 use Rattle.mh_laws.proofs.snapshots.CycleStarts.{slot-view, shown_object}
-use Rattle.mh_table_laws.proofs.Lists.{below_length}
+use Rattle.mh_laws.proofs.OfTableLaws.Lists.{below_length}
 use Rattle.mh_laws.proofs.marking.BlockChanges.{no_sweep}
 
 pub reachable_is_kept : (snapshot : World) (heap : HeapState) → in_roots_or_mark heap.collector.phase ≡ true → HeapKeeps snapshot heap → (birth : ℕ) → Reachable (heap_view heap) birth → IsKept snapshot heap.next_birth birth

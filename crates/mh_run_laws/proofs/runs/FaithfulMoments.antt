@@ -18,7 +18,7 @@ use Rattle.mh_model.specs.Snapshot.{Moment, first_moment, half_moment, next_mome
 use Rattle.mh_model.specs.Invariant.{HeapKeeps, IsKeeping, IsFinished}
 use Rattle.mh_run_laws.specs.BesideTheWorld.{IsFaithful, MomentsAreFaithful, RepliesAreTheWorlds, IsInCycle, FinishedCyclesAreExact}
 use Rattle.mh_run_laws.specs.Following.{Follows, has_no_place}
-use Rattle.mh_table_laws.proofs.Lists.{none_at}
+use Rattle.mh_laws.proofs.OfTableLaws.Lists.{none_at}
 use Rattle.mh_run_laws.proofs.worlds.FullHeaps.{heap_step-beside, heap_step-answers}
 use Rattle.mh_run_laws.proofs.showing.QuantaShow.{agrees-quantum}
 use Rattle.mh_laws.proofs.snapshots.CycleSteps.{continues-quantum}

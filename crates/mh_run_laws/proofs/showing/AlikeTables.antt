@@ -12,7 +12,7 @@ use Rattle.mh_model.specs.View.{in_sweep, block_named, blocks_named, birth_named
 use Rattle.mh_model.specs.Invariant.{IsSound}
 use Rattle.mh_laws.proofs.marking.MarkSteps.{shade_place-is}
 use Rattle.mh_laws.proofs.showing.FoundBlocks.{IsShownAs, IsHeldIn, held_live, live_held, shown-same}
-use Rattle.mh_table_laws.proofs.placing.Places.{block_at-with_block_same, block_at-with_block_other, block-slot}
+use Rattle.mh_laws.proofs.OfTableLaws.Places.{block_at-with_block_same, block_at-with_block_other, block-slot}
 
 -- The table that is compared with
 module _ (first : Table Block) where

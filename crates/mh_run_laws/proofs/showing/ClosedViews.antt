@@ -10,10 +10,10 @@ use Rattle.mh_model.specs.Collector.{Collector}
 use Rattle.mh_model.specs.Mutator.{HeapState}
 use Rattle.mh_model.specs.View.{block_of_birth, object_of, heap_view}
 use Rattle.mh_model.specs.Invariant.{IsPlainAt, IsSound, IsKeeping}
-use Rattle.mh_table_laws.proofs.Lists.{below_length}
+use Rattle.mh_laws.proofs.OfTableLaws.Lists.{below_length}
 use Rattle.mh_laws.proofs.marking.BlockChanges.{resolve-live}
-use Rattle.mh_table_laws.proofs.objects.Headers.{flat_of}
-use Rattle.mh_table_laws.proofs.objects.JoinedFields.{shape_is, laid, has_fields, reference_read}
+use Rattle.mh_laws.proofs.OfTableLaws.Headers.{flat_of}
+use Rattle.mh_laws.proofs.OfTableLaws.JoinedFields.{shape_is, laid, has_fields, reference_read}
 use Rattle.mh_laws.proofs.showing.ObjectsShown.{named-back}
 use Rattle.mh_laws.proofs.showing.FoundBlocks.{found-first}
 use Rattle.mh_laws.proofs.showing.SamePlainBlocks.{plain-held, held-plain}

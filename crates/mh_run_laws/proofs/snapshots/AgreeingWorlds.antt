@@ -2,7 +2,7 @@
 use Rattle.std.proofs.Common.{◌≡◌, ℕ, ◌≤◌, ◌==◌, if◌then◌else◌, Bool, true, false, inl, inr, List, [], ◌∷◌, Option, Some, None, get_or, refl, sym, ap, ◌∙◌, subst}
 use Rattle.std.proofs.lemmas.Bool.{and_parts, cases_Bool}
 use Rattle.std.proofs.lemmas.Option.{none-some}
-use Rattle.mh_table_laws.proofs.Lists.{from_some}
+use Rattle.mh_laws.proofs.OfTableLaws.Lists.{from_some}
 use Rattle.mh_model.specs.declared.cycle.Phase.TheVariants.{Idle}
 use Rattle.mh_model.specs.declared.command.Control.TheVariants as control
 use Rattle.mh_model.specs.declared.command.Event.{Event}

@@ -20,7 +20,7 @@ use Rattle.mh_model.specs.Mutator.{mutator_step}
 use Rattle.mh_model.specs.Machine.{Machine, command_units, first_machine, with_collector, is_quantum_due, quantum_run, command_step, control_step, half_step, event_step, machine_after}
 use Rattle.mh_run_laws.specs.Utilisation.{QuantaStayWithinTheirBound, HasShare, MutatorHasItsShare}
 use Rattle.mh_laws.proofs.costs.Quanta.{units-quantum}
-use Rattle.mh_table_laws.proofs.marking.GreyList.{all-snoc}
+use Rattle.mh_laws.proofs.OfTableLaws.GreyList.{all-snoc}
 use Rattle.mh_laws.proofs.runs.EveryMoment.{config-mutator_step, machine_after-keeps}
 use Rattle.mh_laws.proofs.bounds.CyclesInTime.{quantum-in_bounds, run-stays, half-stays}
 use Rattle.mh_run_laws.proofs.trace.MutatorShares.{Round, letters_of, rounds, IsRound, rounds-share}

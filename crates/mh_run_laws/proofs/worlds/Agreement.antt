@@ -10,7 +10,7 @@ use Rattle.mh_model.specs.declared.reply.Refusal.{Refusal}
 use Rattle.mh_model.specs.declared.reply.Reply.TheVariants as reply
 use Rattle.mh_model.specs.World.{Object, World, most_fields, own_slot, board_slot, object_at, slot_at, object_named, object_in, shape_of, reference_of, number_of, refusal, blank, with_reference, with_number, with_slot, with_change, with_object, cleared, yes_or_no, names_same, shape_reply, effect, unless_refused, sight_of, heap_step}
 use Rattle.mh_model.specs.Paths.{Refers, IsPath, Reachable, Agrees}
-use Rattle.mh_table_laws.proofs.Lists.{from_some, to_some, below_length, get_or-set_either}
+use Rattle.mh_laws.proofs.OfTableLaws.Lists.{from_some, to_some, below_length, get_or-set_either}
 
 -- what holds of the births that slots name, and goes along references, holds of all that is reached
 pub Reachable-in : (world : World) (P : ℕ → Type 0) → ((slot birth : ℕ) → slot_at world slot ≡ Some birth → P birth)

@@ -19,7 +19,7 @@ use mh_model::cycle::Spent;
 use mh_model::deed::QuantumEnd;
 use mh_model::memory::NoMemory;
 use mh_model::reply::Reply;
-use mh_scan::scan::OneScan;
+use mh_paged::mh_scan::scan::OneScan;
 use std::alloc::Global;
 
 impl Engine {

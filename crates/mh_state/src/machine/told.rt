@@ -11,8 +11,8 @@ use mh_model::command::Event;
 use mh_model::limits::MOST_EVENTS;
 use mh_model::memory::NoMemory;
 use mh_model::reply::Reply;
+use mh_promise::mh_run_laws::bounds::runs_stay_within_their_events;
 use mh_promise::replays::machine_after_more;
-use mh_run_laws::bounds::runs_stay_within_their_events;
 
 impl Machine {
     /// Does an event as `step` does, and tells what its command and its quantum did. Memory that is refused for a deed

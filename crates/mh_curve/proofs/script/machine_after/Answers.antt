@@ -1,5 +1,5 @@
 use Rattle.std.proofs.Common.{◌∙◌, ap, arith}
-use Rattle.mh_state.specs.Running.{Running}
+use Rattle.mh_script.specs.OfState.Running.{Running}
 use Rattle.mh_curve.proofs.RunLemmas.{after_all, after_none, after_one}
 use Rattle.mh_curve.proofs.script.machine_after.Goals as goal
 

@@ -1,5 +1,5 @@
 use Rattle.std.proofs.Common.{sym, subst}
-use Rattle.mh_script.specs.Run.{device}
+use Rattle.mh_live.specs.OfScript.Run.{device}
 use Rattle.mh_program.specs.Program.{IsRunBy}
 use Rattle.mh_orders.specs.declared.order.Form.{Form}
 use Rattle.mh_program.proofs.program.ran.Goals as goal

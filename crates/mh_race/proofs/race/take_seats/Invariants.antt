@@ -1,5 +1,5 @@
 use Rattle.std.proofs.Common.{◌≡◌, ◌≢◌, ◌++◌, None, Some, All, map, vec_capacity}
-use Rattle.mh_state.specs.declared.machine.Stop.TheVariants.{HistoryFull, NoMemory}
+use Rattle.mh_service.specs.OfState.Stop.TheVariants.{HistoryFull, NoMemory}
 use Rattle.mh_race.proofs.race.take_seats.Given as goal
 
 abbrev pub invariant-loop-seat : goal.invariant-loop-seat

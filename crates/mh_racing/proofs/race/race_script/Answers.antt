@@ -2,13 +2,13 @@ use Rattle.std.proofs.Common.{sym, ap, ◌∙◌}
 use Rattle.std.proofs.lemmas.Result.{err_from_is_err_and}
 use Rattle.std.specs.Prelude.{Err}
 use Rattle.mh_text.proofs.ErrorLemmas.{same_error}
-use Rattle.mh_script.specs.Texts.{ForBytes}
-use Rattle.mh_script.proofs.FaultLemmas.{passed_on}
+use Rattle.mh_judging.specs.OfScript.Texts.{ForBytes}
+use Rattle.mh_judging.proofs.OfScript.FaultLemmas.{passed_on}
 use Rattle.mh_model.specs.Races.{IsRaced, IsRacedFull}
 use Rattle.mh_model.specs.Script.{BadLine, Means}
-use Rattle.mh_script.proofs.AddedLines.{on_err}
+use Rattle.mh_judging.proofs.OfScript.AddedLines.{on_err}
 use Rattle.mh_racing.proofs.RacedLemmas.{begins_to_race_nothing, begins_to_race_reads, races_reads, refuses_reads}
-use Rattle.mh_script.proofs.SourceLemmas.{reads_slice, refused_reason, script_bounded, wants_event, wants_script}
+use Rattle.mh_judging.proofs.OfScript.SourceLemmas.{reads_slice, refused_reason, script_bounded, wants_event, wants_script}
 use Rattle.mh_racing.proofs.race.race_script.Goals as goal
 
 pub returns-in_err-text-clause-begun : goal.returns-in_err-text-clause-begun

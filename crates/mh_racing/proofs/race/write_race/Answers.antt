@@ -1,9 +1,9 @@
 use Rattle.std.proofs.Common.{◌≡◌, ◌∙◌, Some, ap, length, arith}
 use Rattle.mh_model.specs.Limits.{most_entries}
-use Rattle.mh_script.proofs.AddedLines.{on_err}
-use Rattle.mh_script.proofs.FaultLemmas.{stop_full}
+use Rattle.mh_judging.proofs.OfScript.AddedLines.{on_err}
+use Rattle.mh_judging.proofs.OfScript.FaultLemmas.{stop_full}
 use Rattle.mh_racing.proofs.RacedLemmas.{has_raced, raced_begun, raced_done, raced_full, raced_nothing}
-use Rattle.mh_script.proofs.SourceLemmas.{beginning_of}
+use Rattle.mh_judging.proofs.OfScript.SourceLemmas.{beginning_of}
 use Rattle.mh_racing.proofs.race.write_race.Goals as goal
 
 pub returns-in_err-raced-clause-begun : goal.returns-in_err-raced-clause-begun

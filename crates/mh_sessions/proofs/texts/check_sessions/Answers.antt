@@ -1,9 +1,9 @@
 use Rattle.std.proofs.lemmas.Result.{err_from_is_err_and}
 use Rattle.mh_text.proofs.ErrorLemmas.{same_error}
-use Rattle.mh_script.specs.Texts.{ForBytes}
-use Rattle.mh_script.proofs.AddedLines.{on_err}
+use Rattle.mh_judging.specs.OfScript.Texts.{ForBytes}
+use Rattle.mh_judging.proofs.OfScript.AddedLines.{on_err}
 use Rattle.mh_judging.proofs.JudgedLemmas.{begins_to_judge_nothing, begins_to_judge_reads, judges_reads}
-use Rattle.mh_script.proofs.SourceLemmas.{reads_slice, wants_text}
+use Rattle.mh_judging.proofs.OfScript.SourceLemmas.{reads_slice, wants_text}
 use Rattle.mh_sessions.proofs.ExplainedLemmas.{seen_explains}
 use Rattle.mh_sessions.proofs.TextLemmas.{either_short, seen_bounded, seen_by}
 use Rattle.mh_sessions.proofs.texts.check_sessions.Goals as goal

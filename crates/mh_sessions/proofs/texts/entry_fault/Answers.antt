@@ -1,6 +1,6 @@
 use Rattle.std.proofs.Common.{◌∙◌, inl, inr, sym}
 use Rattle.std.proofs.lemmas.Result.{IfOk-weaker}
-use Rattle.mh_script.proofs.AddedLines.{on_err}
+use Rattle.mh_judging.proofs.OfScript.AddedLines.{on_err}
 use Rattle.mh_sessions.proofs.ExplainedLemmas.{read_one, read_two, seen_first_bad}
 use Rattle.mh_sessions.proofs.FaultLemmas.{some_line}
 use Rattle.mh_sessions.proofs.texts.entry_fault.Goals as goal

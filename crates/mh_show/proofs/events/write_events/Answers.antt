@@ -1,6 +1,6 @@
 use Rattle.std.proofs.Common.{◌∙◌, ap, refl, arith}
 use Rattle.std.proofs.lemmas.List.{take_all}
-use Rattle.mh_script.proofs.AddedLines.{added_all, added_begins, added_fails, added_written, on_err}
+use Rattle.mh_curve.proofs.OfScript.AddedLines.{added_all, added_begins, added_fails, added_written, on_err}
 use Rattle.mh_show.proofs.EventLemmas.{lines_add, shown_more, shown_none, stage, stage_after, stage_machine}
 use Rattle.mh_show.proofs.events.write_events.Goals as goal
 

@@ -1,4 +1,4 @@
-use Rattle.mh_script.proofs.AddedLines.{on_err}
+use Rattle.mh_curve.proofs.OfScript.AddedLines.{on_err}
 use Rattle.mh_show.specs.declared.drawing.TheConstants.{DRAWING}
 use Rattle.mh_show.specs.declared.hands.TheConstants.{HANDS}
 use Rattle.mh_show.specs.declared.page.TheConstants.{HEAD}

@@ -1,5 +1,5 @@
 use Rattle.std.proofs.Common.{refl}
-use Rattle.mh_grey.proofs.ShadeLemmas.{marked-apart}
+use Rattle.mh_mark.proofs.OfGrey.ShadeLemmas.{marked-apart}
 use Rattle.mh_cycle.proofs.FrameLemmas.{length-shade, framed-roots, framed-next}
 use Rattle.mh_cycle.proofs.ReadyLemmas.{are-marked}
 use Rattle.mh_cycle.proofs.StepLemmas.{roots-stay, roots-after}

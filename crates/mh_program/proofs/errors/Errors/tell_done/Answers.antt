@@ -1,6 +1,6 @@
 use Rattle.std.proofs.Common.{sym, subst}
 use Rattle.mh_program.specs.Telling.{TellsEnd}
-use Rattle.mh_script.specs.declared.end.End.{End}
+use Rattle.mh_live.specs.OfScript.End.{End}
 use Rattle.mh_program.proofs.errors.Errors.tell_done.Goals as goal
 
 pub returns-in-Refused : goal.returns-in-Refused

@@ -1,5 +1,5 @@
 use Rattle.std.proofs.Common.{sym, subst}
-use Rattle.mh_curve.specs.declared.end.CurveEnd.{CurveEnd}
+use Rattle.mh_show.specs.OfCurve.CurveEnd.{CurveEnd}
 use Rattle.mh_program.specs.Telling.{TellsCurve}
 use Rattle.mh_program.proofs.TellingLemmas.{quotes}
 use Rattle.mh_program.proofs.errors.Errors.tell_drawn.Goals as goal

@@ -1,5 +1,5 @@
 use Rattle.std.proofs.Common.{sym, subst}
-use Rattle.mh_judging.specs.declared.judgement.Judgement.{Judgement}
+use Rattle.mh_sessions.specs.OfJudging.Judgement.{Judgement}
 use Rattle.mh_program.specs.Telling.{TellsJudgement}
 use Rattle.mh_program.proofs.TellingLemmas.{quotes}
 use Rattle.mh_program.proofs.errors.Errors.tell_found.Goals as goal

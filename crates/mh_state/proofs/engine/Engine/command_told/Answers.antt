@@ -2,8 +2,8 @@ use Rattle.std.proofs.Common.{◌≡◌, sym, ap, ◌∙◌}
 use Rattle.mh_model.specs.declared.command.Command.TheVariants as commands
 use Rattle.mh_model.specs.declared.reply.Reply.TheVariants as replies
 use Rattle.mh_model.specs.Mutator.{HeapState, mutator_step}
-use Rattle.mh_laws.proofs.commands.CommandAnswers.{new-done}
-use Rattle.mh_laws.proofs.commands.LeftUnchanged.{made_group-fields}
+use Rattle.mh_promise.proofs.OfLaws.CommandAnswers.{new-done}
+use Rattle.mh_promise.proofs.OfLaws.LeftUnchanged.{made_group-fields}
 use Rattle.mh_state.proofs.engine.Engine.command_told.Goals as goal
 
 pub units_of-units-requires : goal.units_of-units-requires

@@ -1,0 +1,3 @@
+-- Modules of mh_pages that crates above name, so that they list this one alone.
+pub use Rattle.mh_pages.specs.FreePlaces
+pub use Rattle.mh_pages.specs.Addresses

@@ -1,0 +1,4 @@
+-- Modules of mh_judging that crates above name, so that they list this one alone.
+pub use Rattle.mh_judging.specs.Judged
+pub use Rattle.mh_judging.specs.declared.judgement.Judgement
+pub use Rattle.mh_judging.specs.RunHistory

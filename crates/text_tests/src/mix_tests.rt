@@ -1,0 +1,108 @@
+//! What scripts make the collector do, and how it answers them.
+
+use crate::random_scripts::{EVENTS, PROFILES, script};
+use mh_model::cycle::Phase;
+use mh_model::reply::{Refusal, Reply};
+use mh_orders::profile::Profile;
+use mh_scan::scan::OneScan;
+use mh_state::machine::Machine;
+use mh_text::script::parse;
+use std::alloc::Global;
+use std::test::Fail;
+
+/// What was seen while a script was run.
+#[derive(Clone, Copy, Debug)]
+struct Seen {
+    /// The phases in which events came.
+    phases: [bool; 5],
+    /// The reasons for which commands were refused.
+    refusals: [bool; 7],
+    /// How many events came while there were copies of blocks.
+    moved: u32,
+    cycles: u64,
+}
+
+fn phase_number(phase: Phase) -> usize {
+    match phase {
+        Phase::Idle => 0,
+        Phase::Roots => 1,
+        Phase::Mark => 2,
+        Phase::Sweep => 3,
+        Phase::Defrag => 4,
+    }
+}
+
+fn refusal_number(refusal: Refusal) -> usize {
+    match refusal {
+        Refusal::BadSlot => 0,
+        Refusal::Null => 1,
+        Refusal::NoField => 2,
+        Refusal::TooLarge => 3,
+        Refusal::HeapFull => 4,
+        Refusal::Ended => 5,
+        Refusal::TooManySessions => 6,
+    }
+}
+
+impl Seen {
+    fn look(&mut self, machine: &Machine) {
+        if let Some(phase) = self.phases.get_mut(phase_number(machine.heap().phase())) {
+            *phase = true;
+        }
+        let stat = machine.heap().stat();
+        if stat.old > 0 {
+            self.moved = self.moved.saturating_add(1);
+        }
+        self.cycles = stat.cycle;
+    }
+
+    fn hear(&mut self, reply: &Reply) {
+        if let Reply::Refused(refusal) = reply {
+            if let Some(heard) = self.refusals.get_mut(refusal_number(*refusal)) {
+                *heard = true;
+            }
+        }
+    }
+}
+
+/// What is seen of a script of a profile, and how many events it has.
+fn run(alloc: Global, profile: Profile) -> Result<(Seen, usize), Fail> {
+    let text = script(alloc, profile, 1)?;
+    let script = parse(alloc, &text)?;
+    let mut machine = Machine::open(alloc, script.config())?;
+    let mut scanner = OneScan::new(alloc);
+    let mut seen = Seen {
+        phases: [false; 5],
+        refusals: [false; 7],
+        moved: 0,
+        cycles: 0,
+    };
+    for event in script.events() {
+        seen.look(&machine);
+        seen.hear(&machine.step(*event, &mut scanner)?);
+    }
+    Ok((seen, script.events().len()))
+}
+
+#[test]
+fn each_profile_has_many_cycles_with_moves_and_events_in_all_phases(
+    rt: HostRuntime,
+) -> Result<(), Fail> {
+    for profile in PROFILES {
+        let (seen, events) = run(rt.alloc(), profile)?;
+        assert_eq!(rt; events, EVENTS as usize);
+        assert_eq!(rt; seen.phases, [true; 5], "{profile:?} has {seen:?}");
+        assert!(rt; seen.cycles >= 20, "{profile:?} has {seen:?}");
+        assert!(rt; seen.moved >= 1_000, "{profile:?} has {seen:?}");
+    }
+    Ok(())
+}
+
+#[test]
+fn commands_are_refused_for_each_reason(rt: HostRuntime) -> Result<(), Fail> {
+    for profile in [Profile::Refusals, Profile::Mixed] {
+        let (seen, _) = run(rt.alloc(), profile)?;
+        assert_eq!(rt; seen.refusals, [true; 7]);
+    }
+    Ok(())
+}
