@@ -28,13 +28,13 @@ impl KeptHeap {
         requires { self.old.next_birth < LIFE }
         ensures { Steps self.old who (command.New slot references numbers) (done_or result) self.new }
     {
+        let session = self.session(who)?;
+        let slot = own_slot(session, slot)?;
+        let all = parts_of(self.cycle.config(), references, numbers)?;
         heaps_stay_kept();
         collectors_stay_in_bounds();
         commands_are_answered();
         objects_made_keep_the_snapshot();
-        let session = self.session(who)?;
-        let slot = own_slot(session, slot)?;
-        let all = parts_of(self.cycle.config(), references, numbers)?;
         let shape = Shape {
             references,
             numbers,
@@ -54,17 +54,17 @@ impl KeptHeap {
     pub fn get(&mut self, who: u8, slot: u32, source: u32, field: u32) -> Result<(), Refusal>
         ensures { Steps self.old who (command.Get slot source field) (done_or result) self.new }
     {
+        let session = self.session(who)?;
+        let slot = own_slot(session, slot)?;
+        let source = own_slot(session, source)?;
+        let found = self.object_in(source)?;
+        let field = field_below(found.shape.references, field)?;
         heaps_stay_kept();
         collectors_stay_in_bounds();
         commands_are_answered();
         collectors_stay_steady();
         fields_are_found();
         references_lead_on();
-        let session = self.session(who)?;
-        let slot = own_slot(session, slot)?;
-        let source = own_slot(session, source)?;
-        let found = self.object_in(source)?;
-        let field = field_below(found.shape.references, field)?;
         let reference = loaded(&self.cycle, found.place, field);
         write_root(&mut self.cycle, slot, reference);
         Ok(())
@@ -74,17 +74,17 @@ impl KeptHeap {
     pub fn put(&mut self, who: u8, slot: u32, field: u32, value: u32) -> Result<(), Refusal>
         ensures { Steps self.old who (command.Put slot field value) (done_or result) self.new }
     {
+        let session = self.session(who)?;
+        let slot = own_slot(session, slot)?;
+        let value = own_slot(session, value)?;
+        let found = self.object_in(slot)?;
+        let field = field_below(found.shape.references, field)?;
         heaps_stay_kept();
         collectors_stay_in_bounds();
         commands_are_answered();
         collectors_stay_steady();
         fields_are_found();
         references_lead_on();
-        let session = self.session(who)?;
-        let slot = own_slot(session, slot)?;
-        let value = own_slot(session, value)?;
-        let found = self.object_in(slot)?;
-        let field = field_below(found.shape.references, field)?;
         let at = place_of(&self.cycle, found.place, field);
         let reference = root(&self.cycle, value);
         write_reference(&mut self.cycle, at, reference);
@@ -95,13 +95,13 @@ impl KeptHeap {
     pub fn copy(&mut self, who: u8, slot: u32, source: u32) -> Result<(), Refusal>
         ensures { Steps self.old who (command.Copy slot source) (done_or result) self.new }
     {
+        let session = self.session(who)?;
+        let slot = own_slot(session, slot)?;
+        let source = own_slot(session, source)?;
         heaps_stay_kept();
         collectors_stay_in_bounds();
         commands_are_answered();
         collectors_stay_steady();
-        let session = self.session(who)?;
-        let slot = own_slot(session, slot)?;
-        let source = own_slot(session, source)?;
         let reference = root(&self.cycle, source);
         write_root(&mut self.cycle, slot, reference);
         Ok(())
@@ -111,12 +111,12 @@ impl KeptHeap {
     pub fn clear(&mut self, who: u8, slot: u32) -> Result<(), Refusal>
         ensures { Steps self.old who (command.Clear slot) (done_or result) self.new }
     {
+        let session = self.session(who)?;
+        let slot = own_slot(session, slot)?;
         heaps_stay_kept();
         collectors_stay_in_bounds();
         commands_are_answered();
         collectors_stay_steady();
-        let session = self.session(who)?;
-        let slot = own_slot(session, slot)?;
         write_root(&mut self.cycle, slot, None);
         Ok(())
     }
@@ -125,12 +125,12 @@ impl KeptHeap {
     pub fn read(&self, who: u8, slot: u32, index: u32) -> Result<u64, Refusal>
         ensures { Steps self.now who (command.Read slot index) (number_or result) self.now }
     {
-        collectors_stay_steady();
-        fields_are_found();
         let session = self.session(who)?;
         let slot = own_slot(session, slot)?;
         let found = self.object_in(slot)?;
         let index = field_below(found.shape.numbers, index)?;
+        collectors_stay_steady();
+        fields_are_found();
         let field = found.shape.references as usize + index;
         Ok(number(&self.cycle, found.place, field))
     }
@@ -139,15 +139,15 @@ impl KeptHeap {
     pub fn write(&mut self, who: u8, slot: u32, index: u32, number: u64) -> Result<(), Refusal>
         ensures { Steps self.old who (command.Write slot index number) (done_or result) self.new }
     {
+        let session = self.session(who)?;
+        let slot = own_slot(session, slot)?;
+        let found = self.object_in(slot)?;
+        let index = field_below(found.shape.numbers, index)?;
         heaps_stay_kept();
         collectors_stay_in_bounds();
         commands_are_answered();
         collectors_stay_steady();
         fields_are_found();
-        let session = self.session(who)?;
-        let slot = own_slot(session, slot)?;
-        let found = self.object_in(slot)?;
-        let index = field_below(found.shape.numbers, index)?;
         let field = found.shape.references as usize + index;
         write_number(&mut self.cycle, found.place, field, number);
         Ok(())
@@ -176,13 +176,13 @@ impl KeptHeap {
     pub fn post(&mut self, who: u8, board: u32, slot: u32) -> Result<(), Refusal>
         ensures { Steps self.old who (command.Post board slot) (done_or result) self.new }
     {
+        let session = self.session(who)?;
+        let board = board_slot(board)?;
+        let slot = own_slot(session, slot)?;
         heaps_stay_kept();
         collectors_stay_in_bounds();
         commands_are_answered();
         collectors_stay_steady();
-        let session = self.session(who)?;
-        let board = board_slot(board)?;
-        let slot = own_slot(session, slot)?;
         let reference = root(&self.cycle, slot);
         write_root(&mut self.cycle, board, reference);
         Ok(())
@@ -192,13 +192,13 @@ impl KeptHeap {
     pub fn take(&mut self, who: u8, slot: u32, board: u32) -> Result<(), Refusal>
         ensures { Steps self.old who (command.Take slot board) (done_or result) self.new }
     {
+        let session = self.session(who)?;
+        let slot = own_slot(session, slot)?;
+        let board = board_slot(board)?;
         heaps_stay_kept();
         collectors_stay_in_bounds();
         commands_are_answered();
         collectors_stay_steady();
-        let session = self.session(who)?;
-        let slot = own_slot(session, slot)?;
-        let board = board_slot(board)?;
         let reference = root(&self.cycle, board);
         write_root(&mut self.cycle, slot, reference);
         Ok(())
@@ -208,11 +208,11 @@ impl KeptHeap {
     pub fn end(&mut self, who: u8) -> Result<(), Refusal>
         ensures { Steps self.old who command.End (done_or result) self.new }
     {
+        let session = self.session(who)?;
         heaps_stay_kept();
         collectors_stay_in_bounds();
         commands_are_answered();
         collectors_stay_steady();
-        let session = self.session(who)?;
         clear_roots(&mut self.cycle, session * SESSION_SLOTS);
         self.ended[session] = true;
         Ok(())

@@ -241,8 +241,8 @@ impl KeptHeap {
             (λ found. (root_at self.now slot ≡ Some found.place) × (shape_at self.now slot ≡ Some found.shape) × IsObjectAt self.now.collector found.place found.shape)
             (λ refusal. (shape_at self.now slot ≡ None) × (refusal ≡ Null)) }
     {
-        slots_hold_objects();
         let place = root(&self.cycle, slot).ok_or(Refusal::Null)?;
+        slots_hold_objects();
         let shape = shape_of(&self.cycle, place);
         Ok(Found { place, shape })
     }

@@ -73,13 +73,13 @@ impl KeptHeap {
         ensures step { Steps self.old who (command.New slot references numbers) (done_or result) self.new }
         ensures told { Adds deeds.old (new_deeds self.old (command.New slot references numbers) (done_or result)) deeds.new }
     {
+        let session = self.session(who)?;
+        let slot = own_slot(session, slot)?;
+        let all = parts_of(self.cycle.config(), references, numbers)?;
         heaps_stay_kept();
         collectors_stay_in_bounds();
         commands_are_answered();
         objects_made_keep_the_snapshot();
-        let session = self.session(who)?;
-        let slot = own_slot(session, slot)?;
-        let all = parts_of(self.cycle.config(), references, numbers)?;
         let shape = Shape {
             references,
             numbers,
