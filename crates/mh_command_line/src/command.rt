@@ -180,17 +180,17 @@ fn step<'a>(alloc: Global, name: &'a str, value: &'a str, help: &'a str) -> Arg<
     bounded(alloc, name, value, 0, u32::MAX.into(), help)
 }
 
-/// The command with one option more.
+/// The command with one option more, if it was made. So a chain of options has one way out.
 pub(crate) fn with_option<'a>(
-    command: Command<'a>,
+    command: Result<Command<'a>, AllocError>,
     option: Arg<'a>,
 ) -> Result<Command<'a>, AllocError>
-    requires command { (out-Command command).has_globals ≡ false }
+    requires command { IfOk command (λ made. (out-Command made).has_globals ≡ false) }
     requires option { option.global ≡ false }
-    ensures app { IfOk result (λ more. app_of more ≡ with_rule (app_of command.entry) (rule_of option.entry)) }
+    ensures app { IfOk result (λ more. IsOkAnd command.entry (λ made. app_of more ≡ with_rule (app_of made) (rule_of option.entry))) }
     ensures local { IfOk result (λ more. (out-Command more).has_globals ≡ false) }
 {
-    command.arg(option)
+    command?.arg(option)
 }
 
 /// A subcommand with a number of workers.
@@ -204,7 +204,7 @@ fn with_workers<'a>(
     ensures local { IfOk result (λ command. (out-Command command).has_globals ≡ false) }
 {
     let command = subcommand(alloc, name, about, usage, SCRIPT_STATUSES);
-    with_option(command, workers(alloc))
+    with_option(Ok(command), workers(alloc))
 }
 
 pub(crate) fn rules<'a>(alloc: Global, help: &'a str) -> Arg<'a>
@@ -249,21 +249,6 @@ pub(crate) fn bounded<'a>(
     parsed(option, ValueParser::unsigned(least, most))
 }
 
-/// The command with one number of a configuration more.
-fn with_number<'a>(
-    command: Command<'a>,
-    alloc: Global,
-    name: &'a str,
-    value: &'a str,
-    help: &'a str,
-) -> Result<Command<'a>, AllocError>
-    requires { (out-Command command).has_globals ≡ false }
-    ensures app { IfOk result (λ more. app_of more ≡ with_rule (app_of command.entry) (number_rule name.entry.now)) }
-    ensures local { IfOk result (λ more. (out-Command more).has_globals ≡ false) }
-{
-    with_option(command, number(alloc, name, value, help))
-}
-
 /// A subcommand with the numbers of a configuration.
 fn with_config<'a>(
     alloc: Global,
@@ -275,34 +260,14 @@ fn with_config<'a>(
     ensures local { IfOk result (λ command. (out-Command command).has_globals ≡ false) }
 {
     let command = subcommand(alloc, name, about, usage, HISTORY_STATUSES);
-    let command = with_number(
-        command,
-        alloc,
-        "pages",
-        "P",
-        "How many pages the heap has, from 1 to 4096",
-    )?;
-    let command = with_number(
-        command,
-        alloc,
-        "quantum",
-        "K",
-        "The most units that a quantum spends, from 209 to 1000000",
-    )?;
-    let command = with_number(
-        command,
-        alloc,
-        "trigger",
-        "T",
-        "A quantum starts a cycle if no more pages than these are free, from 0 to P",
-    )?;
-    with_number(
-        command,
-        alloc,
-        "every",
-        "E",
-        "After how many units a quantum is run, from 0, for none, to 1000000",
-    )
+    let help = "How many pages the heap has, from 1 to 4096";
+    let command = with_option(Ok(command), number(alloc, "pages", "P", help));
+    let help = "The most units that a quantum spends, from 209 to 1000000";
+    let command = with_option(command, number(alloc, "quantum", "K", help));
+    let help = "A quantum starts a cycle if no more pages than these are free, from 0 to P";
+    let command = with_option(command, number(alloc, "trigger", "T", help));
+    let help = "After how many units a quantum is run, from 0, for none, to 1000000";
+    with_option(command, number(alloc, "every", "E", help))
 }
 
 fn run<'a>(alloc: Global) -> Result<Command<'a>, AllocError>
@@ -314,8 +279,8 @@ fn run<'a>(alloc: Global) -> Result<Command<'a>, AllocError>
         "run",
         ABOUT_RUN,
         "metroheap run [--workers <W>] [--rules <R>] [--history] < SCRIPT",
-    )?;
-    let command = with_option(command, rules(alloc, RULES_OF_A_RUN))?;
+    );
+    let command = with_option(command, rules(alloc, RULES_OF_A_RUN));
     let help = "Print the history of the run, of version 2, in place of its replies";
     with_option(command, flag(alloc, "history", help))
 }
@@ -332,11 +297,11 @@ fn steps<'a>(alloc: Global) -> Result<Command<'a>, AllocError>
         SCRIPT_STATUSES,
     );
     let help = "The first event whose deeds are printed, counted from 1; 1 if it is not given";
-    let command = with_option(command, step(alloc, "from", "N", help))?;
+    let command = with_option(Ok(command), step(alloc, "from", "N", help));
     let help = "The last event whose deeds are printed; the last of all if it is not given";
-    let command = with_option(command, step(alloc, "to", "M", help))?;
+    let command = with_option(command, step(alloc, "to", "M", help));
     let help = "Print one object of JSON a line";
-    let command = with_option(command, flag(alloc, "json", help))?;
+    let command = with_option(command, flag(alloc, "json", help));
     with_option(command, rules(alloc, RULES_OF_A_RUN))
 }
 
@@ -351,7 +316,7 @@ fn show<'a>(alloc: Global) -> Result<Command<'a>, AllocError>
         "metroheap show [--rules <R>] < SCRIPT > PAGE",
         SCRIPT_STATUSES,
     );
-    with_option(command, rules(alloc, RULES_OF_A_RUN))
+    with_option(Ok(command), rules(alloc, RULES_OF_A_RUN))
 }
 
 fn live<'a>(alloc: Global) -> Result<Command<'a>, AllocError>
@@ -365,7 +330,7 @@ fn live<'a>(alloc: Global) -> Result<Command<'a>, AllocError>
         "metroheap live [--workers <W>] < LINES",
         LIVE_STATUSES,
     );
-    with_option(command, workers(alloc))
+    with_option(Ok(command), workers(alloc))
 }
 
 fn race<'a>(alloc: Global) -> Result<Command<'a>, AllocError>
@@ -389,8 +354,8 @@ fn check<'a>(alloc: Global) -> Result<Command<'a>, AllocError>
         "check",
         ABOUT_CHECK,
         "metroheap check --pages <P> --quantum <K> --trigger <T> --every <E> [--rules <R>] < HISTORY\n       metroheap check --sessions [--rules <R>] < HISTORY",
-    )?;
-    let command = with_option(command, rules(alloc, RULES_OF_A_CHECK))?;
+    );
+    let command = with_option(command, rules(alloc, RULES_OF_A_CHECK));
     let help = "Judge only what sessions see, of any collector's history";
     with_option(command, flag(alloc, "sessions", help))
 }
@@ -434,10 +399,10 @@ fn seeded<'a>(alloc: Global) -> Result<Command<'a>, AllocError>
     );
     let help = "What the random numbers begin with, from 0 to 18446744073709551615";
     let seed = required(alloc, "seed", "N", 0, u64::MAX, help);
-    let command = with_option(command, seed)?;
+    let command = with_option(Ok(command), seed);
     let help = "How many events the script has, from 1 to 1000000";
     let events = required(alloc, "events", "M", 1, MOST_EVENTS, help);
-    let command = with_option(command, events)?;
+    let command = with_option(command, events);
     let help = "How many sessions do the work, from 1 to 8; 4 if it is not given";
     let sessions = bounded(alloc, "sessions", "S", 1, SESSIONS as u64, help);
     with_option(command, sessions)
@@ -456,43 +421,42 @@ fn generate<'a>(alloc: Global) -> Result<Command<'a>, AllocError>
     ensures app { IfOk result (λ command. app_of command ≡ generate_app) }
     ensures local { IfOk result (λ command. (out-Command command).has_globals ≡ false) }
 {
-    let command = seeded(alloc)?;
+    let command = seeded(alloc);
     let help = "How many pages the heap has, from 1 to 4096; 64 if it is not given";
-    let command = with_option(command, pages(alloc, help))?;
+    let command = with_option(command, pages(alloc, help));
     let help = "The most units that a quantum spends, from 209 to 1000000; 250 if it is not given";
-    let command = with_option(command, quantum(alloc, help))?;
+    let command = with_option(command, quantum(alloc, help));
     let help =
         "After how many units a quantum is run, from 0, for none, to 1000000; 25 if it is not given";
-    let command = with_option(command, every(alloc, "E", 0, help))?;
+    let command = with_option(command, every(alloc, "E", 0, help));
     with_option(command, profile(alloc))
 }
 
-/// The command with a subcommand more, if that one was made.
+/// The command with a subcommand more, if both were made.
 fn with_subcommand<'a>(
-    command: Command<'a>,
+    command: Result<Command<'a>, AllocError>,
     subcommand: Result<Command<'a>, AllocError>,
 ) -> Result<Command<'a>, AllocError>
     requires { IfOk subcommand (λ made. (out-Command made).has_globals ≡ false) }
-    ensures { IfOk result (λ more. IsOkAnd subcommand.entry (λ made. app_of more ≡ with_subcommand (app_of command.entry) (app_of made).top)) }
+    ensures { IfOk result (λ more. IsOkAnd command.entry (λ command. IsOkAnd subcommand.entry (λ made. app_of more ≡ with_subcommand (app_of command) (app_of made).top))) }
 {
-    command.subcommand(subcommand?)
+    command?.subcommand(subcommand?)
 }
 
-// One command is at hand at a time: each that were there at a `?` would have to be dropped there.
 fn optional<'a>(alloc: Global) -> Result<Command<'a>, AllocError>
     ensures { IfOk result (λ command. app_of command ≡ optional_app) }
 {
-    let app = Command::new(alloc, "metroheap");
-    let app = with_subcommand(app, run(alloc))?;
-    let app = with_subcommand(app, steps(alloc))?;
-    let app = with_subcommand(app, show(alloc))?;
-    let app = with_subcommand(app, live(alloc))?;
-    let app = with_subcommand(app, race(alloc))?;
-    let app = with_subcommand(app, check(alloc))?;
-    let app = with_subcommand(app, Ok(audit(alloc)))?;
-    let app = with_subcommand(app, migrate(alloc))?;
-    let app = with_subcommand(app, generate(alloc))?;
-    let app = with_subcommand(app, curve(alloc))?;
+    let app = Ok(Command::new(alloc, "metroheap"));
+    let app = with_subcommand(app, run(alloc));
+    let app = with_subcommand(app, steps(alloc));
+    let app = with_subcommand(app, show(alloc));
+    let app = with_subcommand(app, live(alloc));
+    let app = with_subcommand(app, race(alloc));
+    let app = with_subcommand(app, check(alloc));
+    let app = with_subcommand(app, Ok(audit(alloc)));
+    let app = with_subcommand(app, migrate(alloc));
+    let app = with_subcommand(app, generate(alloc));
+    let app = with_subcommand(app, curve(alloc));
     with_subcommand(app, size(alloc))
 }
 

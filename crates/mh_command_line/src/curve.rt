@@ -30,10 +30,10 @@ pub(crate) fn curve<'a>(alloc: Global) -> Result<Command<'a>, AllocError>
         "metroheap curve [--svg] [--rules <R>] < SCRIPT\n       metroheap curve --history [--svg] < HISTORY",
         CURVE_STATUSES,
     );
-    let command = with_option(command, rules(alloc, RULES_OF_A_RUN))?;
+    let command = with_option(Ok(command), rules(alloc, RULES_OF_A_RUN));
     let help =
         "Read a history of version 2, whose first line has the rules and the configuration; nothing is replayed";
-    let command = with_option(command, flag(alloc, "history", help))?;
+    let command = with_option(command, flag(alloc, "history", help));
     let help = "Print a picture in SVG in place of a table";
     with_option(command, flag(alloc, "svg", help))
 }

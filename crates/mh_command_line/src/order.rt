@@ -136,14 +136,6 @@ fn refusal<T: AsStr>(alloc: Global, words: &[T]) -> Result<Option<clap::Error>, 
     Ok(command.try_get_matches_from(words).err())
 }
 
-/// A refusal that quotes nothing.
-fn unquoted(alloc: Global, kind: ErrorKind) -> Result<clap::Error, AllocError>
-    ensures { IfOk result (λ error. kind_of error ≡ kind) }
-{
-    let mut command = command(alloc)?;
-    command.error(kind, "a word is not as it should be")
-}
-
 /// The refusal of words with all that it quotes as it can be printed, which is that of the words as they are quoted. If that
 /// is another, a refusal that quotes nothing.
 fn quoted_refusal<T: AsStr>(
@@ -162,7 +154,7 @@ fn quoted_refusal<T: AsStr>(
             return Ok(told);
         }
     }
-    unquoted(alloc, error.kind())
+    refused(alloc, error.kind(), "a word is not as it should be")
 }
 
 fn refused_words<T: AsStr>(alloc: Global, words: &[T], error: clap::Error) -> LineFault

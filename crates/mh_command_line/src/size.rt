@@ -40,9 +40,9 @@ fn sized<'a>(alloc: Global) -> Result<Command<'a>, AllocError>
 {
     let command = subcommand(alloc, "size", ABOUT_SIZE, SIZE_USAGE, SIZE_STATUSES);
     let help = "How many pages the heap has, from 1 to 4096";
-    let command = with_option(command, pages(alloc, help))?;
+    let command = with_option(Ok(command), pages(alloc, help));
     let help = "After how many units a quantum is run, from 1 to 1000000";
-    let command = with_option(command, every(alloc, "M", 1, help))?;
+    let command = with_option(command, every(alloc, "M", 1, help));
     let help =
         "The most units that a quantum spends, from 209 to 1000000; if it is not given, the least that is enough, or the greatest that keeps the share";
     with_option(command, quantum(alloc, help))
@@ -64,10 +64,10 @@ fn with_blocks<'a>(alloc: Global) -> Result<Command<'a>, AllocError>
     ensures app { IfOk result (λ command. app_of command ≡ blocks_app) }
     ensures local { IfOk result (λ command. (out-Command command).has_globals ≡ false) }
 {
-    let command = with_option(sized(alloc)?, allocates(alloc))?;
+    let command = with_option(sized(alloc), allocates(alloc));
     let help = "The most live blocks at a time, from 0 to 1048576";
     let live = bounded(alloc, "live", "L", 0, MOST_BLOCKS, help);
-    let command = with_option(command, live)?;
+    let command = with_option(command, live);
     let help =
         "The most references in these, from 0 to 1048576; if it is not given, as many as the greatest WORDS have room for";
     let references = bounded(alloc, "references", "R", 0, MOST_BLOCKS, help);
@@ -79,10 +79,10 @@ fn with_share<'a>(alloc: Global) -> Result<Command<'a>, AllocError>
     ensures app { IfOk result (λ command. app_of command ≡ share_app) }
     ensures local { IfOk result (λ command. (out-Command command).has_globals ≡ false) }
 {
-    let command = with_blocks(alloc)?;
+    let command = with_blocks(alloc);
     let help = "The share that the mutator is to have of each window, in per cent, from 1 to 100";
     let target = bounded(alloc, "target", "U", 1, 100, help);
-    let command = with_option(command, target)?;
+    let command = with_option(command, target);
     let help = "The length of these windows in units, from 1 to 18446744073709551615";
     let window = bounded(alloc, "window", "D", 1, u64::MAX, help);
     with_option(command, window)
@@ -92,7 +92,7 @@ pub(crate) fn size<'a>(alloc: Global) -> Result<Command<'a>, AllocError>
     ensures app { IfOk result (λ command. app_of command ≡ size_app) }
     ensures local { IfOk result (λ command. (out-Command command).has_globals ≡ false) }
 {
-    with_option(with_share(alloc)?, rules(alloc, RULES_OF_A_RUN))
+    with_option(with_share(alloc), rules(alloc, RULES_OF_A_RUN))
 }
 
 /// The number of an option, if it is given.

@@ -1,9 +1,9 @@
-use Rattle.mh_command_line.proofs.CommandLemmas.{IfOk-optioned, optioned}
+use Rattle.mh_command_line.proofs.CommandLemmas.{first-option, next-option}
 use Rattle.mh_command_line.proofs.command.steps.Goals as goal
 
 pub returns-clause-app : goal.returns-clause-app
 returns-clause-app c =
-    let first = optioned _ _ _ _ _ c.subcommand-command.ensures.app c.step.ensures.rule c.in_ok-command.ensures.app in
-    let second = optioned _ _ _ _ _ first c.step-2.ensures.rule c.in_ok-command-2.ensures.app in
-    let third = optioned _ _ _ _ _ second c.flag.ensures.rule c.in_ok-command-3.ensures.app in
-    IfOk-optioned c.with_option-4.result _ _ _ _ third c.rules.ensures.rule c.with_option-4.ensures.app
+    let first = first-option c.with_option-command.result _ _ _ _ c.subcommand-command.ensures.app c.step.ensures.rule c.with_option-command.ensures.app in
+    let second = next-option c.with_option-command-2.result c.with_option-command.result _ _ _ first c.step-2.ensures.rule c.with_option-command-2.ensures.app in
+    let third = next-option c.with_option-command-3.result c.with_option-command-2.result _ _ _ second c.flag.ensures.rule c.with_option-command-3.ensures.app in
+    next-option c.with_option.result c.with_option-command-3.result _ _ _ third c.rules.ensures.rule c.with_option.ensures.app
