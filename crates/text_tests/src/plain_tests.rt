@@ -59,33 +59,53 @@ fn answer(
     add_line(alloc, lines, &reply)
 }
 
-/// The lines of the replies to the commands of a script, and how many objects were made.
-fn answers_of(alloc: Global, script: &[u8]) -> Result<(String, u64), Fail> {
-    let script = parse(alloc, script)?;
-    let mut heap = PlainHeap::open(alloc, script.config());
+/// The lines of the replies to these commands.
+fn answers_to(alloc: Global, heap: &mut PlainHeap, events: &[Event]) -> Result<String, Fail> {
     let mut lines = String::new(alloc);
-    for event in script.events() {
-        answer(alloc, &mut heap, &mut lines, event)?;
+    for event in events {
+        answer(alloc, heap, &mut lines, event)?;
     }
-    Ok((lines, heap.births()))
+    Ok(lines)
+}
+
+impl Row {
+    /// Whether these commands are answered so, and make so many objects.
+    fn is_answered(
+        &self,
+        alloc: Global,
+        heap: &mut PlainHeap,
+        events: &[Event],
+    ) -> Result<bool, Fail> {
+        let lines = answers_to(alloc, heap, events)?;
+        Ok(lines.as_str() == self.answers && heap.births() == self.births)
+    }
+
+    /// The same of the commands of the script.
+    fn is_right(&self, alloc: Global) -> Result<bool, Fail> {
+        let script = parse(alloc, self.script)?;
+        let mut heap = PlainHeap::open(alloc, script.config());
+        self.is_answered(alloc, &mut heap, script.events())
+    }
 }
 
 #[test]
 fn performs_commands(rt: HostRuntime) -> Result<(), Fail> {
     for row in ROWS {
-        let (answers, births) = answers_of(rt.alloc(), row.script)?;
-        assert_eq!(rt; answers.as_str(), row.answers);
-        assert_eq!(rt; births, row.births);
+        assert!(rt; row.is_right(rt.alloc())?, "{:?}", row.answers);
     }
     Ok(())
+}
+
+/// What a quantum of one thread spends, and the number of the cycle and the limit then.
+fn quantum_of(alloc: Global, heap: &mut PlainHeap) -> (Spent, u64, u64) {
+    let spent = heap.quantum(&mut OneScan::new(alloc));
+    (spent, heap.cycle_number(), heap.limit())
 }
 
 #[test]
 fn never_collects(rt: HostRuntime) -> Result<(), Fail> {
     let config = Config::new(4, 209, 0, 0).ok_or("no configuration")?;
-    let mut heap = PlainHeap::open(rt.alloc(), config);
-    let mut scanner = OneScan::new(rt.alloc());
-    assert_eq!(rt; heap.quantum(&mut scanner), Spent(0));
-    assert_eq!(rt; (heap.cycle_number(), heap.limit()), (0, 0));
+    let found = quantum_of(rt.alloc(), &mut PlainHeap::open(rt.alloc(), config));
+    assert_eq!(rt; found, (Spent(0), 0, 0));
     Ok(())
 }
