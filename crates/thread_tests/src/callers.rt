@@ -11,7 +11,7 @@ use mh_service::seat::Seat;
 use mh_service::service::Service;
 use mh_state::machine::Stop;
 use mh_text::reply_text::ReplyText;
-use std::alloc::Global;
+use std::alloc::{AllocError, Global};
 use std::sync::Wait;
 use std::test::Fail;
 use std::thread::Threads;
@@ -69,14 +69,28 @@ impl<'a, R: Threads + Wait, G: CrewGate> Callers<'a, R, G> {
         answer(self.rt, &self.service, &mut self.seats, event)
     }
 
-    /// The lines of the answers to these calls, none of which is refused.
-    pub fn answers_to(&mut self, alloc: Global, events: &[Event]) -> Result<String, Fail> {
-        let mut answers = String::new(alloc);
-        for event in events {
-            let reply = self.call(*event).ok_or("no seat")??;
-            let line = format!(in alloc; "{}\n", ReplyText(&reply))?;
-            answers.push_str(&line)?;
-        }
-        Ok(answers)
+    /// Adds the line of the answer to a call, which is not refused.
+    fn add_answer(&mut self, alloc: Global, lines: &mut String, event: Event) -> Result<(), Fail> {
+        let reply = self.call(event).ok_or("no seat")??;
+        Ok(add_line(alloc, lines, &reply)?)
     }
+
+    /// Whether these are the lines of the answers to these calls, none of which is refused.
+    pub fn answers_are(
+        &mut self,
+        alloc: Global,
+        events: &[Event],
+        wanted: &[u8],
+    ) -> Result<bool, Fail> {
+        let mut lines = String::new(alloc);
+        for event in events {
+            self.add_answer(alloc, &mut lines, *event)?;
+        }
+        Ok(lines.as_bytes() == wanted)
+    }
+}
+
+fn add_line(alloc: Global, lines: &mut String, reply: &Reply) -> Result<(), AllocError> {
+    let line = format!(in alloc; "{}\n", ReplyText(reply))?;
+    lines.push_str(&line)
 }
