@@ -4,6 +4,7 @@ ghost use Rattle.mh_model.specs.Invariant.{IsSteady};
 use mh_cycle::cycle::Cycle;
 use mh_model::config::Config;
 use mh_model::cycle::Spent;
+use mh_model::memory::NoMemory;
 use mh_scan::scan::OneScan;
 use std::alloc::Global;
 use std::test::Fail;
@@ -19,13 +20,15 @@ fn run_quantum(alloc: Global, cycle: &mut Cycle) -> (Spent, u64)
     (spent, cycle.quanta_run())
 }
 
+/// The same of the first quantum.
+fn first_quantum(alloc: Global, config: Config) -> Result<(Spent, u64), NoMemory> {
+    let mut cycle = Cycle::open(alloc, config)?;
+    Ok(run_quantum(alloc, &mut cycle))
+}
+
 #[test]
 fn a_cycle_counts_its_quanta(rt: HostRuntime) -> Result<(), Fail> {
     let config = Config::new(4, 209, 0, 0).ok_or("no configuration")?;
-    let first = {
-        let mut cycle = Cycle::open(rt.alloc(), config)?;
-        run_quantum(rt.alloc(), &mut cycle)
-    };
-    assert_eq!(rt; first, (Spent(208), 1));
+    assert_eq!(rt; first_quantum(rt.alloc(), config)?, (Spent(208), 1));
     Ok(())
 }

@@ -2,7 +2,6 @@
 
 use crate::random_scripts::{EVENTS, PROFILES, script};
 use mh_model::command::Event;
-use mh_model::config::Config;
 use mh_model::cycle::Phase;
 use mh_model::reply::{Refusal, Reply};
 use mh_orders::profile::Profile;
@@ -47,20 +46,6 @@ fn refusal_number(refusal: Refusal) -> usize {
 }
 
 impl Seen {
-    fn new() -> Seen {
-        Seen {
-            phases: [false; 5],
-            refusals: [false; 7],
-            moved: 0,
-            cycles: 0,
-        }
-    }
-
-    /// Whether events came in all phases, and there were many cycles with moves.
-    fn has_much(&self) -> bool {
-        self.phases == [true; 5] && self.cycles >= 20 && self.moved >= 1_000
-    }
-
     fn look(&mut self, machine: &Machine) {
         if let Some(phase) = self.phases.get_mut(phase_number(machine.heap().phase())) {
             *phase = true;
@@ -84,7 +69,12 @@ impl Seen {
 /// What is seen while one thread does these events.
 fn seen_by(alloc: Global, machine: &mut Machine, events: &[Event]) -> Result<Seen, Stop> {
     let mut scanner = OneScan::new(alloc);
-    let mut seen = Seen::new();
+    let mut seen = Seen {
+        phases: [false; 5],
+        refusals: [false; 7],
+        moved: 0,
+        cycles: 0,
+    };
     for event in events {
         seen.look(machine);
         seen.hear(&machine.step(*event, &mut scanner)?);
@@ -92,16 +82,11 @@ fn seen_by(alloc: Global, machine: &mut Machine, events: &[Event]) -> Result<See
     Ok(seen)
 }
 
-/// The same in a machine of its own.
-fn seen_of(alloc: Global, config: Config, events: &[Event]) -> Result<Seen, Fail> {
-    let mut machine = Machine::open(alloc, config)?;
-    Ok(seen_by(alloc, &mut machine, events)?)
-}
-
 /// What is seen of a script of a profile, and how many events it has.
 fn run(alloc: Global, profile: Profile) -> Result<(Seen, usize), Fail> {
     let script = parse(alloc, &script(alloc, profile, 1)?)?;
-    let seen = seen_of(alloc, script.config(), script.events())?;
+    let mut machine = Machine::open(alloc, script.config())?;
+    let seen = seen_by(alloc, &mut machine, script.events())?;
     Ok((seen, script.events().len()))
 }
 
@@ -111,8 +96,12 @@ fn each_profile_has_many_cycles_with_moves_and_events_in_all_phases(
 ) -> Result<(), Fail> {
     for profile in PROFILES {
         let (seen, events) = run(rt.alloc(), profile)?;
-        let is_right = events == EVENTS as usize && seen.has_much();
-        assert!(rt; is_right, "{profile:?} has {events} events and {seen:?}");
+        let has_all = events == EVENTS as usize && seen.phases == [true; 5];
+        let has_much = seen.cycles >= 20 && seen.moved >= 1_000;
+        assert!(rt;
+            has_all && has_much,
+            "{profile:?} has {events} events and {seen:?}"
+        );
     }
     Ok(())
 }

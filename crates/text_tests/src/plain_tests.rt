@@ -43,12 +43,7 @@ const ROWS: [Row; 3] = [
 ];
 
 /// Adds the answer to a command, unless births are close to their end.
-fn answer(
-    alloc: Global,
-    heap: &mut PlainHeap,
-    lines: &mut String,
-    event: &Event,
-) -> Result<(), Fail> {
+fn answer(heap: &mut PlainHeap, lines: &mut String, event: &Event) -> Result<(), Fail> {
     let Event::Session(who, command) = event else {
         return Err("a control")?;
     };
@@ -56,35 +51,25 @@ fn answer(
         return Err("no birth left")?;
     }
     let reply = perform(heap, *who, command)?;
-    add_line(alloc, lines, &reply)
+    Ok(add_line(lines, &reply)?)
 }
 
 /// The lines of the replies to these commands.
 fn answers_to(alloc: Global, heap: &mut PlainHeap, events: &[Event]) -> Result<String, Fail> {
     let mut lines = String::new(alloc);
     for event in events {
-        answer(alloc, heap, &mut lines, event)?;
+        answer(heap, &mut lines, event)?;
     }
     Ok(lines)
 }
 
 impl Row {
-    /// Whether these commands are answered so, and make so many objects.
-    fn is_answered(
-        &self,
-        alloc: Global,
-        heap: &mut PlainHeap,
-        events: &[Event],
-    ) -> Result<bool, Fail> {
-        let lines = answers_to(alloc, heap, events)?;
-        Ok(lines.as_str() == self.answers && heap.births() == self.births)
-    }
-
-    /// The same of the commands of the script.
+    /// Whether the script is answered so, and makes so many objects.
     fn is_right(&self, alloc: Global) -> Result<bool, Fail> {
         let script = parse(alloc, self.script)?;
         let mut heap = PlainHeap::open(alloc, script.config());
-        self.is_answered(alloc, &mut heap, script.events())
+        let lines = answers_to(alloc, &mut heap, script.events())?;
+        Ok(lines.as_str() == self.answers && heap.births() == self.births)
     }
 }
 

@@ -2,12 +2,9 @@ use mh_reasons::quoted::quote;
 use std::alloc::{AllocError, Global};
 use std::test::Fail;
 
-fn quotation(alloc: Global, word: &[u8]) -> Result<String, AllocError> {
-    format!(in alloc; "{}", quote(word))
-}
-
 fn is_quoted_as(alloc: Global, word: &[u8], wanted: &str) -> Result<bool, AllocError> {
-    Ok(quotation(alloc, word)?.as_str() == wanted)
+    let told = format!(in alloc; "{}", quote(word))?;
+    Ok(told.as_str() == wanted)
 }
 
 #[test]
@@ -29,7 +26,7 @@ fn bytes_are_escaped(rt: HostRuntime) -> Result<(), Fail> {
 
 /// How long a quotation is, and whether it ends so.
 fn length_and_end(alloc: Global, word: &[u8], end: &str) -> Result<(usize, bool), AllocError> {
-    let told = quotation(alloc, word)?;
+    let told = format!(in alloc; "{}", quote(word))?;
     Ok((told.len(), told.ends_with(end)))
 }
 

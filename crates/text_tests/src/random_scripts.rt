@@ -21,27 +21,17 @@ pub const PROFILES: [Profile; 8] = [
     Profile::Mixed,
 ];
 
-/// What is asked for, with the program's defaults.
-fn options(profile: Profile, seed: u64) -> Option<Options> {
-    let config = Config::new(64, 250, 32, 25)?;
-    Some(Options {
+/// A script of a profile, with the program's defaults.
+pub fn script(alloc: Global, profile: Profile, seed: u64) -> Result<Vec<u8>, Fail> {
+    let config = Config::new(64, 250, 32, 25).ok_or("no configuration")?;
+    let options = Options {
         config: config.with_rules(Rules::Second),
         seed,
         events: EVENTS,
         sessions: 4,
         profile,
-    })
-}
-
-/// Appends the script that is asked for.
-fn append(alloc: Global, options: &Options, text: &mut Vec<u8>) -> Result<(), Fail> {
-    Ok(generate(alloc, options, &mut StdSink::new(text))?)
-}
-
-/// A script of a profile.
-pub fn script(alloc: Global, profile: Profile, seed: u64) -> Result<Vec<u8>, Fail> {
-    let options = options(profile, seed).ok_or("no configuration")?;
+    };
     let mut text = Vec::new(alloc);
-    append(alloc, &options, &mut text)?;
+    generate(alloc, &options, &mut StdSink::new(&mut text))?;
     Ok(text)
 }
