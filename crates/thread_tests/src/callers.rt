@@ -11,7 +11,8 @@ use mh_service::seat::Seat;
 use mh_service::service::Service;
 use mh_state::machine::Stop;
 use mh_text::reply_text::ReplyText;
-use std::alloc::{AllocError, Global};
+use std::alloc::Global;
+use std::fmt::Write;
 use std::sync::Wait;
 use std::test::Fail;
 use std::thread::Threads;
@@ -70,9 +71,10 @@ impl<'a, R: Threads + Wait, G: CrewGate> Callers<'a, R, G> {
     }
 
     /// Adds the line of the answer to a call, which is not refused.
-    fn add_answer(&mut self, alloc: Global, lines: &mut String, event: Event) -> Result<(), Fail> {
+    fn add_answer(&mut self, lines: &mut String, event: Event) -> Result<(), Fail> {
         let reply = self.call(event).ok_or("no seat")??;
-        Ok(add_line(alloc, lines, &reply)?)
+        writeln!(lines, "{}", ReplyText(&reply))?;
+        Ok(())
     }
 
     /// Whether these are the lines of the answers to these calls, none of which is refused.
@@ -84,13 +86,8 @@ impl<'a, R: Threads + Wait, G: CrewGate> Callers<'a, R, G> {
     ) -> Result<bool, Fail> {
         let mut lines = String::new(alloc);
         for event in events {
-            self.add_answer(alloc, &mut lines, *event)?;
+            self.add_answer(&mut lines, *event)?;
         }
         Ok(lines.as_bytes() == wanted)
     }
-}
-
-fn add_line(alloc: Global, lines: &mut String, reply: &Reply) -> Result<(), AllocError> {
-    let line = format!(in alloc; "{}\n", ReplyText(reply))?;
-    lines.push_str(&line)
 }

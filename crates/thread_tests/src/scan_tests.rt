@@ -82,32 +82,6 @@ fn batch_of(alloc: Global, places: &[Place], length: usize) -> Result<Vec<Place>
     Ok(batch)
 }
 
-/// Whether two scanners find the same lists.
-fn lists_are_same<S: Scanner, T: Scanner>(
-    one: &mut S,
-    other: &mut T,
-    blocks: &Blocks,
-    batch: &[Place],
-) -> Result<bool, NoMemory>
-    requires { AreScannable blocks.now batch.now }
-{
-    let found = one.scan(blocks, batch)?;
-    Ok(found == other.scan(blocks, batch)?)
-}
-
-/// Whether two scanners find the same blocks settled.
-fn settled_are_same<S: Scanner, T: Scanner>(
-    one: &mut S,
-    other: &mut T,
-    blocks: &Blocks,
-    batch: &[Place],
-) -> Result<bool, NoMemory>
-    requires { AreScannable blocks.now batch.now }
-{
-    let found = one.settled(blocks, 1, batch)?;
-    Ok(found == other.settled(blocks, 1, batch)?)
-}
-
 /// Whether two scanners find the same: lists, and which are settled.
 fn find_the_same<S: Scanner, T: Scanner>(
     one: &mut S,
@@ -117,8 +91,10 @@ fn find_the_same<S: Scanner, T: Scanner>(
 ) -> Result<bool, NoMemory>
     requires { AreScannable blocks.now batch.now }
 {
-    let has_lists = lists_are_same(one, other, blocks, batch)?;
-    Ok(settled_are_same(one, other, blocks, batch)? && has_lists)
+    let lists = one.scan(blocks, batch)?;
+    let are_same = lists == other.scan(blocks, batch)?;
+    let settled = one.settled(blocks, 1, batch)?;
+    Ok(are_same && settled == other.settled(blocks, 1, batch)?)
 }
 
 /// Whether a crew, which is alone only if it is of one, finds what one thread finds.

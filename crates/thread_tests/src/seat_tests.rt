@@ -10,6 +10,7 @@ use mh_service::seat::Seat;
 use mh_service::service::Service;
 use mh_text::script::{Script, parse};
 use std::alloc::{AllocError, Global};
+use std::fmt::Write;
 use std::sync::Wait;
 use std::sync::atomic::AtomicU64;
 use std::sync::atomic::Ordering::SeqCst;
@@ -92,16 +93,11 @@ fn call_by_threads<R: Threads + Wait + Sync>(
     thread::for_each_mut(rt, seats.as_mut_slice(), 9, &one);
 }
 
-fn add_log(alloc: Global, logs: &mut String, seat: &Seat) -> Result<(), AllocError> {
-    let log = format!(in alloc; "{:?}\n", seat.log())?;
-    logs.push_str(&log)
-}
-
 /// The text of the logs of all seats.
 fn logs_of(alloc: Global, seats: &[Seat]) -> Result<String, AllocError> {
     let mut logs = String::new(alloc);
     for seat in seats {
-        add_log(alloc, &mut logs, seat)?;
+        writeln!(logs, "{:?}", seat.log())?;
     }
     Ok(logs)
 }
@@ -117,16 +113,11 @@ fn share_of(alloc: Global, history: &[Entry], number: usize) -> Result<Vec<&Entr
     Ok(share)
 }
 
-fn add_share(alloc: Global, shares: &mut String, share: &[&Entry]) -> Result<(), AllocError> {
-    let text = format!(in alloc; "{share:?}\n")?;
-    shares.push_str(&text)
-}
-
 /// The text of what the logs of all seats have to be.
 fn shares_of(alloc: Global, history: &[Entry]) -> Result<String, AllocError> {
     let mut shares = String::new(alloc);
     for number in 0..9 {
-        add_share(alloc, &mut shares, &share_of(alloc, history, number)?)?;
+        writeln!(shares, "{:?}", share_of(alloc, history, number)?)?;
     }
     Ok(shares)
 }
@@ -144,21 +135,6 @@ fn is_round(round: &[Entry]) -> bool {
 fn is_shared(alloc: Global, history: &[Entry], logs: &str) -> Result<bool, AllocError> {
     let is_whole = history.len() as u64 == 9 * ROUNDS && history.chunks(9).all(is_round);
     Ok(is_whole && shares_of(alloc, history)?.as_str() == logs)
-}
-
-/// The logs of the seats, each of which calls in a thread of its own.
-fn logs_by_threads<R: Threads + Wait + Sync>(
-    rt: &R,
-    alloc: Global,
-    service: &Service<'_, Eager>,
-    seats: &mut Vec<Seat>,
-    rounds: &Rounds<'_>,
-) -> Result<String, AllocError>
-    requires { All (IsOf service.now) seats.old.items }
-    ensures { All (IsOf service.now) seats.new.items }
-{
-    call_by_threads(rt, service, seats, rounds);
-    logs_of(alloc, seats)
 }
 
 /// The history that a service leaves, which is empty if it doesn't close.
@@ -179,7 +155,8 @@ fn is_left_by_threads<R: Threads + Wait + Sync>(
     rounds: &Rounds<'_>,
 ) -> Result<bool, Fail> {
     let (service, mut seats) = Service::open(alloc, config, 2, &Eager)?;
-    let logs = logs_by_threads(rt, alloc, &service, &mut seats, rounds);
+    call_by_threads(rt, &service, &mut seats, rounds);
+    let logs = logs_of(alloc, &seats);
     let history = history_left(alloc, service, seats);
     Ok(is_shared(alloc, &history, &logs?)?)
 }

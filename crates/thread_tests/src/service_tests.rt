@@ -3,12 +3,12 @@ ghost use Rattle.std.specs.Prelude.{◌<◌, ◌≤◌};
 
 use crate::callers::Callers;
 use mh_model::command::Event;
-use mh_model::memory::NoMemory;
 use mh_model::reply::Reply;
 use mh_scan::crew_scan::CrewGate;
 use mh_state::machine::Stop;
 use mh_text::script::{Script, parse};
 use std::alloc::{AllocError, Global};
+use std::fmt::Write;
 use std::sync::Wait;
 use std::test::Fail;
 use std::thread::Threads;
@@ -30,28 +30,15 @@ fn answers_are<R: Threads + Wait, G: CrewGate>(
     callers.answers_are(alloc, script.events(), wanted)
 }
 
-/// The same, and what the gate sees that wants two workers.
-fn answers_and_seen<R: Threads + Wait>(
-    rt: &R,
-    alloc: Global,
-    script: &Script,
-    workers: usize,
-    wanted: &[u8],
-) -> Result<(bool, Seen), Fail>
-    requires { (0 < workers) × (workers ≤ 64) }
-{
-    let gate = Watch::new(2);
-    let is_right = answers_are(rt, alloc, script, workers, &gate, wanted)?;
-    Ok((is_right, gate.seen()))
-}
-
-/// The same of the script of three cycles.
+/// Whether so many workers answer the script of three cycles, and what the gate sees that wants two of them.
 fn cycles_by<R: Threads + Wait>(rt: &R, alloc: Global, workers: usize) -> Result<(bool, Seen), Fail>
     requires { (0 < workers) × (workers ≤ 64) }
 {
     let script = parse(alloc, &cycles_script(alloc)?)?;
     let output = cycles_output(alloc)?;
-    answers_and_seen(rt, alloc, &script, workers, &output)
+    let gate = Watch::new(2);
+    let is_right = answers_are(rt, alloc, &script, workers, &gate, &output)?;
+    Ok((is_right, gate.seen()))
 }
 
 #[test]
@@ -75,20 +62,16 @@ fn desk_script(alloc: Global) -> Result<Vec<u8>, AllocError> {
     Ok(script)
 }
 
-/// Adds what it is given in a cycle.
-fn add_cycle(alloc: Global, output: &mut String, cycle: u64) -> Result<(), AllocError> {
-    let lines = format!(in alloc;
-        "ok\nspent 360 phase idle\nleft 0\nfree 3 live 1 old 0 phase idle cycle {cycle}\n"
-    )?;
-    output.push_str(&lines)
-}
-
 /// What it is given.
 fn desk_output(alloc: Global) -> Result<String, AllocError> {
     let mut output = String::new(alloc);
     output.push_str("ok\n")?;
     for cycle in 1..=CYCLES {
-        add_cycle(alloc, &mut output, cycle)?;
+        let first = "ok\nspent 360 phase idle\nleft 0";
+        writeln!(
+            output,
+            "{first}\nfree 3 live 1 old 0 phase idle cycle {cycle}"
+        )?;
     }
     Ok(output)
 }
@@ -143,22 +126,15 @@ fn fills_and_stops<R: Threads + Wait, G: CrewGate>(
     Some([is_filled, are_stopped(callers, events)])
 }
 
-/// The same of a service that is opened for a script.
-fn of_script<R: Threads + Wait>(
-    rt: &R,
-    alloc: Global,
-    script: &Script,
-) -> Result<Option<[bool; 2]>, NoMemory> {
+/// The same of a service of its own, by an event of each seat.
+fn fill_and_stop<R: Threads + Wait>(rt: &R, alloc: Global) -> Result<Option<[bool; 2]>, Fail> {
+    let script = parse(alloc, EACH_SEAT)?;
     let mut callers = Callers::new(rt, alloc, script.config(), 2, &Eager)?;
     Ok(fills_and_stops(&mut callers, script.events()))
 }
 
 #[test]
 fn a_full_history_stops_every_seat(rt: HostRuntime) -> Result<(), Fail> {
-    let found = {
-        let script = parse(rt.alloc(), EACH_SEAT)?;
-        of_script(&rt, rt.alloc(), &script)
-    };
-    assert_eq!(rt; found?, Some([true, true]));
+    assert_eq!(rt; fill_and_stop(&rt, rt.alloc())?, Some([true, true]));
     Ok(())
 }
