@@ -25,33 +25,28 @@ fn is_emptied(grey: &mut Grey) -> bool {
     grey.is_empty()
 }
 
-/// Whether a block is marked before it is shaded, and then; and whether it is alone on the grey list, which is empty once
-/// it is taken off.
-fn shading(alloc: Global, blocks: &mut Blocks, place: Place) -> Result<[bool; 4], NoMemory> {
-    let mut grey = Grey::open(alloc, 1)?;
+/// Whether a new block is marked before it is shaded, and then; and whether it is alone on the grey list, which is empty
+/// once it is taken off.
+fn shading(alloc: Global, blocks: &mut Blocks) -> Result<Option<[bool; 4]>, NoMemory> {
+    let Some(place) = make_block(blocks) else {
+        return Ok(None);
+    };
     if blocks.len() != 1 || !blocks.is_taken(place) {
-        return Ok([false; 4]);
+        return Ok(None);
     }
     let was_marked = blocks.is_marked(place, CYCLE);
+    let mut grey = Grey::open(alloc, 1)?;
     grey.shade_place(blocks, CYCLE, place);
     let is_marked = blocks.is_taken(place) && blocks.is_marked(place, CYCLE);
     let is_alone = has_alone(&grey, place);
-    Ok([was_marked, is_marked, is_alone, is_emptied(&mut grey)])
-}
-
-/// The same of a new block, if there is room for it.
-fn shading_of_new(alloc: Global, blocks: &mut Blocks) -> Result<Option<[bool; 4]>, NoMemory> {
-    match make_block(blocks) {
-        None => Ok(None),
-        Some(place) => Ok(Some(shading(alloc, blocks, place)?)),
-    }
+    Ok(Some([was_marked, is_marked, is_alone, is_emptied(&mut grey)]))
 }
 
 #[test]
 fn a_block_is_shaded(rt: HostRuntime) -> Result<(), Fail> {
     let seen = {
         let mut blocks = Blocks::open(rt.alloc(), 1)?;
-        shading_of_new(rt.alloc(), &mut blocks)
+        shading(rt.alloc(), &mut blocks)
     };
     assert_eq!(rt; seen?, Some([false, true, true, true]));
     Ok(())
