@@ -9,7 +9,8 @@ use mh_scan::scan::{OneScan, Scanner};
 use mh_state::state::State;
 use mh_text::reply_text::ReplyText;
 use mh_text::script::Script;
-use std::alloc::Global;
+use std::alloc::{AllocError, Global};
+use std::fmt::Write;
 use std::test::Fail;
 
 /// Whether a state answers an event. No clause speaks of it: what that of `apply` leads to is long.
@@ -80,33 +81,33 @@ impl<'a> Asked<'a> {
     pub fn replies(&self) -> Result<String, Fail> {
         let mut lines = String::new(self.alloc);
         for entry in self.state.history() {
-            push_line(self.alloc, &mut lines, &entry.reply)?;
+            push_line(&mut lines, &entry.reply)?;
         }
         Ok(lines)
     }
 
-    /// The text of the table.
-    fn table(&self) -> Result<String, Fail> {
+    /// Adds the text of the table.
+    fn push_table(&self, told: &mut String) -> Result<(), Fail> {
         let dump = self.state.machine().heap().dump(self.alloc)?;
-        Ok(format!(in self.alloc; "{:?}", dump.items())?)
+        write!(told, "{:?}", dump.items())?;
+        Ok(())
     }
 
-    /// The text of the counts that the heap keeps, and of those of the trace.
-    fn counts(&self) -> Result<String, Fail> {
+    /// Adds the text of the counts that the heap keeps, and of those of the trace.
+    fn push_counts(&self, told: &mut String) -> Result<(), AllocError> {
         let heap = self.state.machine().heap();
         let trace = self.state.machine().trace();
-        let counts = format!(in self.alloc;
-            "{:?} {} {} {} {} {} {} {:?}",
-            heap.stat(),
+        let numbers = [
             heap.quanta_left(),
             heap.births(),
             trace.mutator_count(),
             trace.collector_count(),
             trace.quanta(),
             trace.greatest(),
-            trace.least_mutator(5)
-        )?;
-        Ok(counts)
+        ];
+        let least = trace.least_mutator(5);
+        write!(told, "{:?} {numbers:?} {least:?}", heap.stat())?;
+        Ok(())
     }
 }
 
@@ -117,22 +118,23 @@ impl Attempt for Asked<'_> {
 
     /// The text of the history, the table and the counts.
     fn told(&self) -> Result<String, Fail> {
-        let table = self.table()?;
-        let counts = self.counts()?;
-        Ok(format!(in self.alloc; "{:?} {table} {counts}", self.state.history())?)
+        let mut told = format!(in self.alloc; "{:?}", self.state.history())?;
+        self.push_table(&mut told)?;
+        self.push_counts(&mut told)?;
+        Ok(told)
     }
 }
 
-fn push_line(alloc: Global, lines: &mut String, reply: &Reply) -> Result<(), Fail> {
-    let line = format!(in alloc; "{}\n", ReplyText(reply))?;
-    Ok(lines.push_str(&line)?)
+fn push_line(lines: &mut String, reply: &Reply) -> Result<(), AllocError> {
+    writeln!(lines, "{}", ReplyText(reply))?;
+    Ok(())
 }
 
 /// The lines of replies.
-pub fn lines_of(alloc: Global, replies: &[Reply]) -> Result<String, Fail> {
+pub fn lines_of(alloc: Global, replies: &[Reply]) -> Result<String, AllocError> {
     let mut lines = String::new(alloc);
     for reply in replies {
-        push_line(alloc, &mut lines, reply)?;
+        push_line(&mut lines, reply)?;
     }
     Ok(lines)
 }

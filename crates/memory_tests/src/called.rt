@@ -10,6 +10,7 @@ use mh_service::seat::Seat;
 use mh_service::service::Service;
 use mh_text::script::Script;
 use std::alloc::Global;
+use std::fmt::Write;
 use std::sync::Wait;
 use std::test::Fail;
 use std::thread::Threads;
@@ -81,8 +82,7 @@ impl<R: Threads + Wait> Attempt for Called<'_, R> {
     fn told(&self) -> Result<String, Fail> {
         let mut logs = String::new(self.alloc);
         for seat in &self.seats {
-            let log = format!(in self.alloc; "{:?}\n", seat.log())?;
-            logs.push_str(&log)?;
+            writeln!(logs, "{:?}", seat.log())?;
         }
         Ok(logs)
     }

@@ -1,6 +1,6 @@
 use crate::asked::{Asked, Course, told_by};
 use crate::scripts::{chain, wide};
-use crate::sweep::PLENTY;
+use crate::sweep::{PLENTY, begin_with_plenty};
 use mh_blocks::blocks::Blocks;
 use mh_model::memory::NoMemory;
 use mh_model::place::Place;
@@ -170,33 +170,47 @@ impl<'a, R: Threads> Steps<'a, R> {
     }
 
     /// How many pieces it begins without memory, and with the most that is left.
-    fn least_and_most(&self) -> Result<(u64, u64), Fail> {
-        let mut famine = Famine::begin(self.alloc)?;
-        famine.leave(PLENTY)?;
-        let least = self.pieces_with(&mut famine, 0)?;
+    fn least_and_most(&self, famine: &mut Famine) -> Result<(u64, u64), Fail> {
+        let least = self.pieces_with(famine, 0)?;
         let mut most = least;
         for range in &RANGES {
-            most = self.pieces_at_last(&mut famine, range)?;
+            most = self.pieces_at_last(famine, range)?;
         }
         Ok((least, most))
     }
 }
 
+/// The same of a script, in a famine of its own.
+fn least_and_most<R: Threads>(
+    rt: &R,
+    alloc: Global,
+    script: &Script,
+    quanta: Quanta,
+) -> Result<(u64, u64), Fail> {
+    let steps = Steps::new(rt, alloc, script, quanta)?;
+    let mut famine = begin_with_plenty(alloc)?;
+    steps.least_and_most(&mut famine)
+}
+
 /// The batches have 1, 25 and 35 places, so they are 6 pieces.
 #[test]
 fn quanta_of_a_wide_object_are_the_same_without_memory(rt: HostRuntime) -> Result<(), Fail> {
-    let script = wide(rt.alloc())?;
-    let steps = Steps::new(&rt, rt.alloc(), &script, OF_WIDE)?;
-    assert!(rt; steps.least_and_most()? == (0, 6));
+    let pieces = {
+        let script = wide(rt.alloc())?;
+        least_and_most(&rt, rt.alloc(), &script, OF_WIDE)
+    };
+    assert!(rt; pieces? == (0, 6));
     Ok(())
 }
 
 /// Each batch has one place.
 #[test]
 fn quanta_of_a_chain_are_the_same_without_memory(rt: HostRuntime) -> Result<(), Fail> {
-    let script = chain(rt.alloc())?;
-    let steps = Steps::new(&rt, rt.alloc(), &script, OF_CHAIN)?;
-    assert!(rt; steps.least_and_most()? == (0, 300));
+    let pieces = {
+        let script = chain(rt.alloc())?;
+        least_and_most(&rt, rt.alloc(), &script, OF_CHAIN)
+    };
+    assert!(rt; pieces? == (0, 300));
     Ok(())
 }
 
@@ -275,16 +289,24 @@ impl<R: Threads> Course for WhereMemoryEnds<'_, R> {
     }
 }
 
+/// Whether the quanta of a script are the same where its memory ends.
+fn are_same_where_memory_ends<R: Threads>(
+    rt: &R,
+    alloc: Global,
+    script: &Script,
+    mut quanta: Quanta,
+) -> Result<bool, Fail> {
+    let wanted = told_by(alloc, script, &mut quanta)?;
+    let mut course = WhereMemoryEnds { rt, alloc, quanta };
+    Ok(told_by(alloc, script, &mut course)? == wanted)
+}
+
 #[test]
 fn quanta_are_the_same_where_memory_ends_within_a_batch(rt: HostRuntime) -> Result<(), Fail> {
-    let script = wide(rt.alloc())?;
-    let wanted = told_by(rt.alloc(), &script, &mut OF_WIDE)?;
-    let mut course = WhereMemoryEnds {
-        rt: &rt,
-        alloc: rt.alloc(),
-        quanta: OF_WIDE,
+    let are_same = {
+        let script = wide(rt.alloc())?;
+        are_same_where_memory_ends(&rt, rt.alloc(), &script, OF_WIDE)
     };
-    let found = told_by(rt.alloc(), &script, &mut course)?;
-    assert!(rt; found == wanted);
+    assert!(rt; are_same?);
     Ok(())
 }

@@ -1,13 +1,12 @@
 use crate::asked::Asked;
 use crate::called::Called;
 use crate::scripts::every_kind;
-use crate::sweep::{Attempt, PLENTY, refusals};
+use crate::sweep::{Attempt, begin_with_plenty, refusals};
 use mh_text::script::Script;
 use std::alloc::Global;
 use std::sync::Wait;
 use std::test::Fail;
 use std::thread::Threads;
-use test_support::famine::Famine;
 
 /// A state that is opened.
 #[derive(Clone, Copy)]
@@ -46,32 +45,35 @@ impl<R: Threads + Wait> Attempt for OpenService<'_, R> {
 
 /// How often an opening is refused before there is memory for it.
 fn refusals_of<A: Attempt>(alloc: Global, opening: &mut A) -> Result<usize, Fail> {
-    let mut famine = Famine::begin(alloc)?;
-    famine.leave(PLENTY)?;
+    let mut famine = begin_with_plenty(alloc)?;
     refusals(&mut famine, opening)
 }
 
 #[test]
 fn a_state_opens_or_tells_of_no_memory(rt: HostRuntime) -> Result<(), Fail> {
-    let script = every_kind(rt.alloc(), b"config 8 209 0 0\n", 0)?;
-    let mut opening = OpenState {
-        alloc: rt.alloc(),
-        script: &script,
+    let refused = {
+        let script = every_kind(rt.alloc(), b"config 8 209 0 0\n", 0)?;
+        let mut opening = OpenState {
+            alloc: rt.alloc(),
+            script: &script,
+        };
+        refusals_of(rt.alloc(), &mut opening)
     };
-    let refused = refusals_of(rt.alloc(), &mut opening)?;
-    assert!(rt; refused > 0);
+    assert!(rt; refused? > 0);
     Ok(())
 }
 
 #[test]
 fn a_service_opens_or_tells_of_no_memory(rt: HostRuntime) -> Result<(), Fail> {
-    let script = every_kind(rt.alloc(), b"config 8 209 8 3\n", 0)?;
-    let mut opening = OpenService {
-        rt: &rt,
-        alloc: rt.alloc(),
-        script: &script,
+    let refused = {
+        let script = every_kind(rt.alloc(), b"config 8 209 8 3\n", 0)?;
+        let mut opening = OpenService {
+            rt: &rt,
+            alloc: rt.alloc(),
+            script: &script,
+        };
+        refusals_of(rt.alloc(), &mut opening)
     };
-    let refused = refusals_of(rt.alloc(), &mut opening)?;
-    assert!(rt; refused > 0);
+    assert!(rt; refused? > 0);
     Ok(())
 }

@@ -2,6 +2,7 @@
 
 use mh_text::script::{Script, parse};
 use std::alloc::Global;
+use std::fmt::Write;
 use std::test::Fail;
 
 /// How many events of every kind there are.
@@ -34,17 +35,16 @@ pub fn every_kind(alloc: Global, config: &[u8], stats: usize) -> Result<Script, 
 
 /// An object with 60 others in its fields, and a cycle of two quanta.
 pub fn wide(alloc: Global) -> Result<Script, Fail> {
-    let mut text = Vec::from_slice(alloc, b"config 8 400 0 0\na new 0 60 0\n")?;
-    for field in 0..60 {
-        let lines = format!(in alloc; "a new 1 1 0\na put 0 {field} 1\n")?;
-        text.extend_from_slice(lines.as_bytes())?;
+    let mut text = "config 8 400 0 0\na new 0 60 0\n".to_string(alloc)?;
+    for field in 0..60u32 {
+        write!(text, "a new 1 1 0\na put 0 {field} 1\n")?;
     }
-    text.extend_from_slice(WIDE_CYCLE)?;
-    Ok(parse(alloc, &text)?)
+    text.push_str(WIDE_CYCLE)?;
+    Ok(parse(alloc, text.as_bytes())?)
 }
 
-const WIDE_CYCLE: &[u8] =
-    b"a clear 1\n* start\n* quantum\n* quantum\n* stat\n* dump\na get 2 0 0\na new 3 0 2\n* dump\n";
+const WIDE_CYCLE: &str =
+    "a clear 1\n* start\n* quantum\n* quantum\n* stat\n* dump\na get 2 0 0\na new 3 0 2\n* dump\n";
 
 /// A chain of 300 objects, and a cycle of six quanta.
 pub fn chain(alloc: Global) -> Result<Script, Fail> {

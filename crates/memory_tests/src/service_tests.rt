@@ -1,6 +1,6 @@
 use crate::called::Called;
 use crate::scripts::{KINDS, every_kind};
-use crate::sweep::{Attempt, PLENTY, are_all_done, refusals_of_last};
+use crate::sweep::{Attempt, are_all_done, begin_with_plenty, refusals_of_last};
 use mh_text::script::Script;
 use std::alloc::Global;
 use std::sync::Wait;
@@ -39,14 +39,23 @@ fn logs_after<R: Threads + Wait>(
     told_after(Called::new(rt, alloc, script)?, famine)
 }
 
-/// A quantum is run after each third unit, and a cycle is always due.
+/// Whether they are the same as with memory at hand. A quantum is run after each third unit, and a cycle is always due.
+fn logs_are_same<R: Threads + Wait>(
+    rt: &R,
+    alloc: Global,
+    famine: &mut Famine,
+) -> Result<bool, Fail> {
+    let script = every_kind(alloc, b"config 8 209 8 3\n", 0)?;
+    let found = logs_after(rt, alloc, Some(famine), &script)?;
+    Ok(logs_after(rt, alloc, None, &script)? == found)
+}
+
 #[test]
 fn each_call_is_refused_in_turn(rt: HostRuntime) -> Result<(), Fail> {
-    let mut famine = Famine::begin(rt.alloc())?;
-    famine.leave(PLENTY)?;
-    let script = every_kind(rt.alloc(), b"config 8 209 8 3\n", 0)?;
-    let found = logs_after(&rt, rt.alloc(), Some(&mut famine), &script)?;
-    let wanted = logs_after(&rt, rt.alloc(), None, &script)?;
-    assert!(rt; found == wanted);
+    let is_right = {
+        let mut famine = begin_with_plenty(rt.alloc())?;
+        logs_are_same(&rt, rt.alloc(), &mut famine)
+    };
+    assert!(rt; is_right?);
     Ok(())
 }

@@ -1,6 +1,6 @@
 use crate::asked::{Asked, Course, ToTheEnd, told_by};
 use crate::scripts::{KINDS, every_kind};
-use crate::sweep::{Attempt, PLENTY, refusals_of_last};
+use crate::sweep::{Attempt, PLENTY, begin_with_plenty, refusals_of_last};
 use mh_text::script::Script;
 use std::alloc::Global;
 use std::test::Fail;
@@ -38,18 +38,30 @@ const CONFIGS: [&[u8]; 3] = [
     b"config 8 209 8 3\n",
 ];
 
+/// Whether a state comes there by events of every kind after so many stats, if the first events, so many, are answered with
+/// memory at hand, and the next, so many, with more and more.
+fn ends_alike_when_refused(
+    alloc: Global,
+    famine: &mut Famine,
+    config: &[u8],
+    stats: usize,
+    first: usize,
+    count: usize,
+) -> Result<bool, Fail> {
+    let script = every_kind(alloc, config, stats)?;
+    let mut course = Refused {
+        famine,
+        first,
+        count,
+    };
+    ends_alike(alloc, &script, &mut course)
+}
+
 #[test]
 fn each_event_is_refused_in_turn(rt: HostRuntime) -> Result<(), Fail> {
-    let mut famine = Famine::begin(rt.alloc())?;
-    famine.leave(PLENTY)?;
+    let mut famine = begin_with_plenty(rt.alloc())?;
     for config in CONFIGS {
-        let script = every_kind(rt.alloc(), config, 0)?;
-        let mut course = Refused {
-            famine: &mut famine,
-            first: 0,
-            count: KINDS,
-        };
-        assert!(rt; ends_alike(rt.alloc(), &script, &mut course)?);
+        assert!(rt; ends_alike_when_refused(rt.alloc(), &mut famine, config, 0, 0, KINDS)?);
     }
     Ok(())
 }
@@ -57,16 +69,10 @@ fn each_event_is_refused_in_turn(rt: HostRuntime) -> Result<(), Fail> {
 /// A history of 32 entries grows by the next.
 #[test]
 fn each_event_is_refused_where_the_history_grows(rt: HostRuntime) -> Result<(), Fail> {
-    let mut famine = Famine::begin(rt.alloc())?;
-    famine.leave(PLENTY)?;
+    let mut famine = begin_with_plenty(rt.alloc())?;
     for before in 0..KINDS {
-        let script = every_kind(rt.alloc(), CONFIGS[0], 32 - before)?;
-        let mut course = Refused {
-            famine: &mut famine,
-            first: 32,
-            count: 1,
-        };
-        assert!(rt; ends_alike(rt.alloc(), &script, &mut course)?);
+        let stats = 32 - before;
+        assert!(rt; ends_alike_when_refused(rt.alloc(), &mut famine, CONFIGS[0], stats, 32, 1)?);
     }
     Ok(())
 }
@@ -91,14 +97,18 @@ impl Course for WithRoom<'_> {
     }
 }
 
-#[test]
-fn an_event_with_room_asks_for_no_memory(rt: HostRuntime) -> Result<(), Fail> {
-    let mut famine = Famine::begin(rt.alloc())?;
-    famine.leave(PLENTY)?;
-    let script = every_kind(rt.alloc(), CONFIGS[0], 0)?;
+/// Whether a state comes there if events that have room are asked for in a famine.
+fn ends_alike_with_room(alloc: Global) -> Result<bool, Fail> {
+    let mut famine = begin_with_plenty(alloc)?;
+    let script = every_kind(alloc, CONFIGS[0], 0)?;
     let mut course = WithRoom {
         famine: &mut famine,
     };
-    assert!(rt; ends_alike(rt.alloc(), &script, &mut course)?);
+    ends_alike(alloc, &script, &mut course)
+}
+
+#[test]
+fn an_event_with_room_asks_for_no_memory(rt: HostRuntime) -> Result<(), Fail> {
+    assert!(rt; ends_alike_with_room(rt.alloc())?);
     Ok(())
 }

@@ -1,6 +1,6 @@
 //! Work that is tried with more and more memory.
 
-use std::alloc::AllocError;
+use std::alloc::{AllocError, Global};
 use std::test::Fail;
 use test_support::famine::Famine;
 
@@ -12,6 +12,13 @@ pub const STEP: usize = 64;
 
 /// The most steps that are tried.
 pub const MOST_STEPS: usize = 2_000;
+
+/// Takes all memory but plenty.
+pub fn begin_with_plenty(alloc: Global) -> Result<Famine, AllocError> {
+    let mut famine = Famine::begin(alloc)?;
+    famine.leave(PLENTY)?;
+    Ok(famine)
+}
 
 /// Work that can be tried again if memory was refused to it.
 pub trait Attempt {
@@ -34,19 +41,28 @@ fn is_done_with<A: Attempt>(
     Ok(is_done)
 }
 
-/// Tries the next piece of work with more and more memory until it is done, and gives how often it was not. What is refused
-/// has to leave all that is shown as it was.
-pub fn refusals<A: Attempt>(famine: &mut Famine, attempt: &mut A) -> Result<usize, Fail> {
-    let before = attempt.told()?;
+/// How many tries with more and more memory are refused before one is not. What is refused has to leave all that is shown as
+/// it was.
+fn refusals_from<A: Attempt>(
+    famine: &mut Famine,
+    attempt: &mut A,
+    before: &str,
+) -> Result<usize, Fail> {
     for step in 0..MOST_STEPS {
         if is_done_with(famine, attempt, STEP * step)? {
             return Ok(step);
         }
-        if attempt.told()? != before {
+        if attempt.told()?.as_str() != before {
             return Err(Fail::from("changed by what was refused"));
         }
     }
     Err(Fail::from("refused with memory at hand"))
+}
+
+/// Tries the next piece of work with more and more memory until it is done, and gives how often it was not.
+pub fn refusals<A: Attempt>(famine: &mut Famine, attempt: &mut A) -> Result<usize, Fail> {
+    let before = attempt.told()?;
+    refusals_from(famine, attempt, &before)
 }
 
 /// Whether so many pieces of work are done, each at its first try.

@@ -1,13 +1,7 @@
-use crate::table::one_block;
+use crate::table::make_block;
 use mh_blocks::blocks::Blocks;
 use mh_model::place::Place;
 use std::test::Fail;
-
-fn set_stamp(blocks: &mut Blocks, place: Place, stamp: u64) {
-    if blocks.is_taken(place) {
-        blocks.set_stamp(place, stamp);
-    }
-}
 
 /// The stamp of a block, and how many numbers it has.
 fn about(blocks: &Blocks, place: Place) -> Option<(u64, usize)> {
@@ -17,10 +11,21 @@ fn about(blocks: &Blocks, place: Place) -> Option<(u64, usize)> {
     Some((blocks.stamp(place), blocks.number_count(place)))
 }
 
+/// The same of a new block that is stamped.
+fn stamped(blocks: &mut Blocks, stamp: u64) -> Option<(u64, usize)> {
+    let place = make_block(blocks)?;
+    if blocks.is_taken(place) {
+        blocks.set_stamp(place, stamp);
+    }
+    about(blocks, place)
+}
+
 #[test]
 fn a_block_is_stamped(rt: HostRuntime) -> Result<(), Fail> {
-    let (mut blocks, place) = one_block(rt.alloc())?;
-    set_stamp(&mut blocks, place, 9);
-    assert_eq!(rt; about(&blocks, place), Some((9, 3)));
+    let found = {
+        let mut blocks = Blocks::open(rt.alloc(), 1)?;
+        stamped(&mut blocks, 9)
+    };
+    assert_eq!(rt; found, Some((9, 3)));
     Ok(())
 }

@@ -1,7 +1,8 @@
-use crate::table::{STAMP, one_block};
+use crate::table::{STAMP, make_block};
 use arrayvec::ArrayVec;
 use mh_blocks::blocks::Blocks;
 use mh_grey::grey::Grey;
+use mh_model::memory::NoMemory;
 use mh_model::place::Place;
 use mh_sweep::sweep::sweep_step;
 use std::alloc::Global;
@@ -10,59 +11,63 @@ use std::test::Fail;
 /// The cycle that marks the block.
 const CYCLE: u64 = STAMP + 1;
 
-fn is_marked_at(blocks: &Blocks, place: Place) -> bool {
-    if !blocks.is_taken(place) {
-        return false;
-    }
-    blocks.is_marked(place, CYCLE)
-}
-
-/// A grey list in which the block at a place was shaded alone.
-fn shaded(alloc: Global, blocks: &mut Blocks, place: Place) -> Result<Grey, Fail> {
-    let mut grey = Grey::open(alloc, 1)?;
-    if blocks.len() != 1 || !blocks.is_taken(place) {
-        return Err("no block")?;
-    }
-    grey.shade_place(blocks, CYCLE, place);
-    Ok(grey)
-}
-
-/// The places of a grey list, up to 1,024.
-fn front(grey: &Grey) -> ArrayVec<Place, 1024> {
-    let mut batch = ArrayVec::new();
+/// Whether a grey list has this place and no other.
+fn has_alone(grey: &Grey, place: Place) -> bool {
+    let mut batch = ArrayVec::<Place, 1024>::new();
     grey.front(grey.len().min(1024), &mut batch);
-    batch
+    batch.as_slice() == [place].as_slice()
 }
 
-/// Takes all places off.
-fn empty(grey: &mut Grey) {
+/// Whether a grey list is empty once all its places are taken off.
+fn is_emptied(grey: &mut Grey) -> bool {
     let count = grey.len();
     grey.pop(count);
+    grey.is_empty()
+}
+
+/// Whether a new block is marked before it is shaded, and then; and whether it is alone on the grey list, which is empty
+/// once it is taken off.
+fn shading(alloc: Global, blocks: &mut Blocks) -> Result<Option<[bool; 4]>, NoMemory> {
+    let Some(place) = make_block(blocks) else {
+        return Ok(None);
+    };
+    if blocks.len() != 1 || !blocks.is_taken(place) {
+        return Ok(None);
+    }
+    let was_marked = blocks.is_marked(place, CYCLE);
+    let mut grey = Grey::open(alloc, 1)?;
+    grey.shade_place(blocks, CYCLE, place);
+    let is_marked = blocks.is_taken(place) && blocks.is_marked(place, CYCLE);
+    let is_alone = has_alone(&grey, place);
+    Ok(Some([was_marked, is_marked, is_alone, is_emptied(&mut grey)]))
 }
 
 #[test]
 fn a_block_is_shaded(rt: HostRuntime) -> Result<(), Fail> {
-    let (mut blocks, place) = one_block(rt.alloc())?;
-    assert!(rt; !is_marked_at(&blocks, place));
-    let mut grey = shaded(rt.alloc(), &mut blocks, place)?;
-    assert!(rt; is_marked_at(&blocks, place));
-    assert_eq!(rt; front(&grey).as_slice(), [place].as_slice());
-    empty(&mut grey);
-    assert!(rt; grey.is_empty());
+    let seen = {
+        let mut blocks = Blocks::open(rt.alloc(), 1)?;
+        shading(rt.alloc(), &mut blocks)
+    };
+    assert_eq!(rt; seen?, Some([false, true, true, true]));
     Ok(())
 }
 
-fn sweep(blocks: &mut Blocks, place: Place) -> Option<Place> {
+/// Where the sweep goes on after a new block, and whether the block is still there.
+fn sweeping(blocks: &mut Blocks) -> Option<(Place, bool)> {
+    let place = make_block(blocks)?;
     if place.page() >= blocks.len() {
         return None;
     }
-    Some(sweep_step(blocks, CYCLE, place))
+    let next = sweep_step(blocks, CYCLE, place);
+    Some((next, blocks.is_taken(place)))
 }
 
 #[test]
 fn a_block_is_swept(rt: HostRuntime) -> Result<(), Fail> {
-    let (mut blocks, place) = one_block(rt.alloc())?;
-    assert_eq!(rt; sweep(&mut blocks, place), Some(Place(1)));
-    assert!(rt; !blocks.is_taken(place));
+    let seen = {
+        let mut blocks = Blocks::open(rt.alloc(), 1)?;
+        sweeping(&mut blocks)
+    };
+    assert_eq!(rt; seen, Some((Place(1), false)));
     Ok(())
 }

@@ -1,6 +1,8 @@
 use mh_model::command::{Command, Control, Event};
 use mh_model::config::Config;
+use mh_model::memory::NoMemory;
 use mh_model::needs::Needs;
+use mh_sizing::kinds::Kinds;
 use mh_sizing::walk::{Walk, needs_of};
 use std::test::Fail;
 
@@ -53,16 +55,23 @@ fn sessions_need_what_they_reach_and_ask_for(rt: HostRuntime) -> Result<(), Fail
     Ok(())
 }
 
+/// What a walk knows of the kinds of blocks after these events.
+fn kinds_after(walk: &mut Walk, events: &[Event]) -> Result<Kinds, NoMemory> {
+    for event in events {
+        walk.event(event)?;
+    }
+    Ok(walk.kinds())
+}
+
 /// Blocks of 5, 6, 7, 15 and 64 words are asked for; a page has four of the last.
 #[test]
 fn a_walk_knows_its_kinds(rt: HostRuntime) -> Result<(), Fail> {
     let config = Config::new(100, 1000, 10, 4).ok_or("a configuration")?;
-    let mut walk = Walk::open(rt.alloc(), config);
-    for event in &events() {
-        walk.event(event)?;
-    }
-    let kinds = walk.kinds();
-    assert_eq!(rt; kinds.kinds, 5);
-    assert_eq!(rt; kinds.least, 4);
+    let kinds = {
+        let mut walk = Walk::open(rt.alloc(), config);
+        kinds_after(&mut walk, &events())
+    };
+    let Kinds { kinds, least } = kinds?;
+    assert_eq!(rt; (kinds, least), (5, 4));
     Ok(())
 }

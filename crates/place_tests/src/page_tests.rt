@@ -2,7 +2,6 @@ use mh_classes::class::{Class, class_of};
 use mh_model::place::Place;
 use mh_pages::header::STAMP;
 use mh_pages::pages::Pages;
-use std::alloc::Global;
 use std::test::Fail;
 
 /// Takes the least place of a class and writes the stamp of its block. Answers what stood there before.
@@ -15,24 +14,24 @@ fn take_stamped(pages: &mut Pages, class: Class, stamp: u64) -> Option<u64> {
     Some(before)
 }
 
-/// What stood where the stamp of the only block was written, and the table with it.
-fn one_block(alloc: Global, stamp: u64) -> Result<(Option<u64>, Pages), Fail> {
-    let class = class_of(10).ok_or("a class")?;
-    let mut pages = Pages::open(alloc, 1)?;
-    let before = take_stamped(&mut pages, class, stamp);
-    Ok((before, pages))
-}
-
 /// The stamp of the block at a place, as its header has it.
 fn stamp(pages: &Pages, place: Place) -> Option<u64> {
     Some(pages.header(place)?.stamp)
 }
 
+/// What stood where the stamp of the only block is written, and the stamps of the first two places then.
+fn stamps(pages: &mut Pages) -> Option<[Option<u64>; 3]> {
+    let before = take_stamped(pages, class_of(10)?, 7);
+    Some([before, stamp(pages, Place(0)), stamp(pages, Place(1))])
+}
+
 #[test]
 fn words_are_written(rt: HostRuntime) -> Result<(), Fail> {
-    let (before, pages) = one_block(rt.alloc(), 7)?;
-    let stamps = [before, stamp(&pages, Place(0)), stamp(&pages, Place(1))];
-    assert_eq!(rt; stamps, [Some(0), Some(7), None]);
+    let found = {
+        let mut pages = Pages::open(rt.alloc(), 1)?;
+        stamps(&mut pages)
+    };
+    assert_eq!(rt; found, Some([Some(0), Some(7), None]));
     Ok(())
 }
 
@@ -43,13 +42,22 @@ fn flag(pages: &mut Pages) {
     }
 }
 
+/// Where a search finds room beside the only block and how many words it reads, with the page unflagged and flagged.
+fn searches(pages: &mut Pages) -> Option<[(Option<Place>, u64); 2]> {
+    let class = class_of(10)?;
+    let _ = take_stamped(pages, class, 7)?;
+    let unflagged = pages.place_counted(class);
+    flag(pages);
+    Some([unflagged, pages.place_counted(class)])
+}
+
 /// One word shows that a set has no page, two words its least page, and one the free places of a page.
 #[test]
 fn a_search_reads_few_words(rt: HostRuntime) -> Result<(), Fail> {
-    let class = class_of(10).ok_or("a class")?;
-    let (_, mut pages) = one_block(rt.alloc(), 7)?;
-    assert_eq!(rt; pages.place_counted(class), (Some(Place(1)), 3));
-    flag(&mut pages);
-    assert_eq!(rt; pages.place_counted(class), (Some(Place(1)), 5));
+    let found = {
+        let mut pages = Pages::open(rt.alloc(), 1)?;
+        searches(&mut pages)
+    };
+    assert_eq!(rt; found, Some([(Some(Place(1)), 3), (Some(Place(1)), 5)]));
     Ok(())
 }

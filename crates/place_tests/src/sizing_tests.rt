@@ -41,10 +41,15 @@ fn two_counts(classes: [Class; 2]) -> [ClassParts; 2]
 fn parts_open_pages(rt: HostRuntime) -> Result<(), Fail> {
     let classes = two_classes().ok_or("classes")?;
     let [_, eight] = classes;
-    assert_eq!(rt; pages_opened(&two_counts(classes)), 7);
-    assert_eq!(rt; pages_opened_at_most(200, &classes), 8);
-    assert_eq!(rt; pages_opened_at_most(200, &[eight]), 7);
-    assert_eq!(rt; pages_opened_at_most(1, &classes), 1);
+    let at_most = [
+        pages_opened_at_most(200, &classes),
+        pages_opened_at_most(200, &[eight]),
+        pages_opened_at_most(1, &classes),
+    ];
+    assert_eq!(rt;
+        (pages_opened(&two_counts(classes)), at_most),
+        (7, [8, 7, 1])
+    );
     Ok(())
 }
 
@@ -62,8 +67,8 @@ fn needs() -> Needs {
 #[test]
 fn cycles_take_quanta(rt: HostRuntime) -> Result<(), Fail> {
     let config = Config::new(4096, 8099, 503, 1000).ok_or("a configuration")?;
-    assert_eq!(rt; quanta_of_cycle(&config), 339);
-    assert_eq!(rt; quanta_needed(&config, &needs()), 103);
+    let quanta = [quanta_of_cycle(&config), quanta_needed(&config, &needs())];
+    assert_eq!(rt; quanta, [339, 103]);
     Ok(())
 }
 
@@ -74,10 +79,13 @@ fn pages_cost_units(rt: HostRuntime) -> Result<(), Fail> {
     let [seven, eight] = two_classes().ok_or("classes")?;
     let least = class_of(64).ok_or("a class")?;
     let most = class_of(4).ok_or("a class")?;
-    assert_eq!(rt; page_units(&[seven, eight]), 135);
-    assert_eq!(rt; page_units(&[eight]), 128);
-    assert_eq!(rt; page_units(&[least]), 72);
-    assert_eq!(rt; page_units(&[eight, most]), 192);
+    let units = [
+        page_units(&[seven, eight]),
+        page_units(&[eight]),
+        page_units(&[least]),
+        page_units(&[eight, most]),
+    ];
+    assert_eq!(rt; units, [135, 128, 72, 192]);
     Ok(())
 }
 
@@ -91,21 +99,25 @@ fn counts_are_needs(rt: HostRuntime) -> Result<(), Fail> {
         page: 135,
         ..needs()
     };
-    assert_eq!(rt; counted, expected);
-    assert_eq!(rt; quanta_needed(&config, &counted), 72);
-    assert_eq!(rt; least_quantum(4096, &counted), Some(43_256));
+    let quanta = quanta_needed(&config, &counted);
+    let least = least_quantum(4096, &counted);
+    assert_eq!(rt; (counted, quanta, least), (expected, 72, Some(43_256)));
     Ok(())
 }
 
 /// Thirteen quanta have pages enough, and so 791,220 units are to be at most 12 times the quantum's less 352, and a rest.
 #[test]
 fn a_heap_has_enough(rt: HostRuntime) -> Result<(), Fail> {
-    assert_eq!(rt; enough_trigger(&needs(), 72), 503);
-    assert_eq!(rt; enough_pages(&needs(), 13), 3991);
-    assert_eq!(rt; enough_pages(&needs(), 14), 4198);
-    assert_eq!(rt; least_quantum(4096, &needs()), Some(61_216));
-    assert_eq!(rt; least_quantum(1507, &needs()), Some(294_485));
-    assert_eq!(rt; least_quantum(1506, &needs()), None);
+    let needs = needs();
+    let trigger = enough_trigger(&needs, 72);
+    let pages = [enough_pages(&needs, 13), enough_pages(&needs, 14)];
+    let quanta = [
+        least_quantum(4096, &needs),
+        least_quantum(1507, &needs),
+        least_quantum(1506, &needs),
+    ];
+    assert_eq!(rt; (trigger, pages), (503, [3991, 4198]));
+    assert_eq!(rt; quanta, [Some(61_216), Some(294_485), None]);
     Ok(())
 }
 
@@ -116,9 +128,12 @@ fn small_parts_share_pages(rt: HostRuntime) -> Result<(), Fail> {
     let classes = two_classes().ok_or("classes")?;
     let counted = needs_of(&two_counts(classes), 1500, 3000);
     let kinds = kinds_of(&classes);
-    assert_eq!(rt; enough_shared_pages(&counted, &kinds, 88), 4078);
-    assert_eq!(rt; enough_shared_pages(&counted, &kinds, 89), 4107);
-    assert_eq!(rt; least_quantum_shared(4096, &counted, &kinds), Some(6691));
+    let pages = [
+        enough_shared_pages(&counted, &kinds, 88),
+        enough_shared_pages(&counted, &kinds, 89),
+    ];
+    let quantum = least_quantum_shared(4096, &counted, &kinds);
+    assert_eq!(rt; (pages, quantum), ([4078, 4107], Some(6691)));
     Ok(())
 }
 
@@ -133,9 +148,11 @@ fn targets_are_met(rt: HostRuntime) -> Result<(), Fail> {
         percent: 100,
         window: 2000,
     };
-    assert_eq!(rt; greatest_quantum_for(&half, 1000), Some(1000));
-    assert_eq!(rt; least_every_for(&half, 1000), Some(1000));
-    assert_eq!(rt; greatest_quantum_for(&whole, 1000), None);
-    assert_eq!(rt; least_every_for(&whole, 1000), None);
+    let quanta = [
+        greatest_quantum_for(&half, 1000),
+        greatest_quantum_for(&whole, 1000),
+    ];
+    let every = [least_every_for(&half, 1000), least_every_for(&whole, 1000)];
+    assert_eq!(rt; (quanta, every), ([Some(1000), None], [Some(1000), None]));
     Ok(())
 }

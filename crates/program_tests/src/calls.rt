@@ -147,6 +147,22 @@ fn answered(ending: Ending, answers: &[u8], count: usize) -> Outcome {
     }
 }
 
+/// What the program wrote, and what it told.
+#[derive(Drop)]
+struct Written {
+    output: Vec<u8>,
+    told: Vec<u8>,
+}
+
+impl Written {
+    fn with_room(alloc: Global) -> Result<Written, AllocError> {
+        Ok(Written {
+            output: Vec::with_capacity(alloc, MOST_BYTES)?,
+            told: Vec::with_capacity(alloc, MOST_BYTES)?,
+        })
+    }
+}
+
 impl<'a> Call<'a> {
     /// A call of which this is written, and nothing is reported.
     pub fn known(words: &'a [&'a [u8]], text: &'a [u8], output: &'a [u8]) -> Call<'a> {
@@ -220,6 +236,21 @@ impl<'a> Call<'a> {
         })
     }
 
+    /// The program with so many bytes left, and with enough again at its end.
+    fn write_into<R: Threads + Wait + Sync>(
+        &self,
+        rt: &R,
+        alloc: Global,
+        famine: &mut Famine,
+        left: usize,
+        written: &mut Written,
+    ) -> Result<Ending, AllocError> {
+        let Written { output, told } = written;
+        let ending = self.carry_out(rt, alloc, famine, left, output, told)?;
+        famine.leave(ENOUGH)?;
+        Ok(ending)
+    }
+
     /// A call whose history is judged when there is memory again: it has all entries, or for refused memory some or none.
     fn judge<R: Threads + Wait + Sync>(
         &self,
@@ -230,21 +261,38 @@ impl<'a> Call<'a> {
         entries: u64,
     ) -> Result<Outcome, AllocError> {
         famine.leave(ENOUGH)?;
-        let mut history = Vec::with_capacity(alloc, MOST_BYTES)?;
-        let mut told = Vec::with_capacity(alloc, MOST_BYTES)?;
-        let ending = self.carry_out(rt, alloc, famine, left, &mut history, &mut told)?;
-        famine.leave(ENOUGH)?;
-        let legal = legal_entries(rt, alloc, history.as_slice());
+        let mut written = Written::with_room(alloc)?;
+        let ending = self.write_into(rt, alloc, famine, left, &mut written)?;
+        let legal = legal_entries(rt, alloc, written.output.as_slice());
         Ok(match (ending, legal) {
             (Ending::Quiet(status), Some(count)) if status == self.status && count == entries => {
                 Outcome::Right
             }
             (Ending::NoMemory, Some(count)) if count <= entries => {
-                Outcome::Refused(history.len())
+                Outcome::Refused(written.output.len())
             }
-            (Ending::NoMemory, None) if history.is_empty() => Outcome::Refused(0),
+            (Ending::NoMemory, None) if written.output.is_empty() => Outcome::Refused(0),
             _ => Outcome::Wrong,
         })
+    }
+
+    /// How a call came out that is to give so many answers.
+    fn followed<R: Threads + Wait + Sync>(
+        &self,
+        rt: &R,
+        alloc: Global,
+        ending: Ending,
+        written: &Written,
+        count: usize,
+    ) -> Result<Outcome, AllocError> {
+        let answers = written.output.as_slice();
+        let is_right = are_right(rt, alloc, self.text, answers, true)?
+            || are_right(rt, alloc, self.text, answers, false)?;
+        if is_right && is_told(answers, written.told.as_slice(), ending) {
+            Ok(answered(ending, answers, count))
+        } else {
+            Ok(Outcome::Wrong)
+        }
     }
 
     /// A call whose answers are judged when there is memory again.
@@ -257,18 +305,9 @@ impl<'a> Call<'a> {
         count: usize,
     ) -> Result<Outcome, AllocError> {
         famine.leave(ENOUGH)?;
-        let mut answers = Vec::with_capacity(alloc, MOST_BYTES)?;
-        let mut told = Vec::with_capacity(alloc, MOST_BYTES)?;
-        let ending = self.carry_out(rt, alloc, famine, left, &mut answers, &mut told)?;
-        famine.leave(ENOUGH)?;
-        let answers = answers.as_slice();
-        let is_right = are_right(rt, alloc, self.text, answers, true)?
-            || are_right(rt, alloc, self.text, answers, false)?;
-        if is_right && is_told(answers, told.as_slice(), ending) {
-            Ok(answered(ending, answers, count))
-        } else {
-            Ok(Outcome::Wrong)
-        }
+        let mut written = Written::with_room(alloc)?;
+        let ending = self.write_into(rt, alloc, famine, left, &mut written)?;
+        self.followed(rt, alloc, ending, &written, count)
     }
 
     /// Makes the call with so many bytes left.

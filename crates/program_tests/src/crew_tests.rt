@@ -9,34 +9,40 @@ use std::thread::Threads;
 use test_support::gates::{Hold, Seen, Watch};
 use test_support::graph::{CYCLES_SEEN, cycles_output, cycles_script};
 
-/// What a gate sees of a run of the graph's cycles whose batches are each shared by so many workers at least.
+/// Whether a run of the graph's cycles prints what it has to, and what a gate sees of it if each batch is shared by so many
+/// workers at least.
 fn seen_of_cycles<R: Threads + Wait + Sync>(
     rt: &R,
     alloc: Global,
     workers: &str,
     wanted: u32,
-) -> Result<Seen, Fail> {
+) -> Result<(bool, Seen), Fail> {
+    let script = cycles_script(alloc)?;
+    let replies = cycles_output(alloc)?;
     let gate = Watch::new(wanted);
-    let output = printed(rt, alloc, "run", workers, &cycles_script(alloc)?, &gate)?;
-    if output.as_slice() != cycles_output(alloc)?.as_slice() {
-        return Err(Fail::from("other replies"));
-    }
-    Ok(gate.seen())
+    let output = printed(rt, alloc, "run", workers, &script, &gate)?;
+    Ok((output.as_slice() == replies.as_slice(), gate.seen()))
 }
 
 #[test]
 fn two_workers_share_each_batch_of_a_run(rt: HostRuntime) -> Result<(), Fail> {
     for workers in ["2", "7", "64"] {
-        let seen = seen_of_cycles(&rt, rt.alloc(), workers, 2)?;
-        assert!(rt; seen == CYCLES_SEEN, "with {workers} workers");
+        let (is_right, seen) = seen_of_cycles(&rt, rt.alloc(), workers, 2)?;
+        assert!(rt; is_right && seen == CYCLES_SEEN, "with {workers} workers");
     }
     Ok(())
 }
 
+const NOTHING_SEEN: Seen = Seen {
+    passed: 0,
+    cut: 0,
+    faults: 0,
+};
+
 #[test]
 fn one_worker_calls_no_gate(rt: HostRuntime) -> Result<(), Fail> {
-    let seen = seen_of_cycles(&rt, rt.alloc(), "1", 1)?;
-    assert!(rt; seen.passed == 0 && seen.cut == 0 && seen.faults == 0);
+    let (is_right, seen) = seen_of_cycles(&rt, rt.alloc(), "1", 1)?;
+    assert!(rt; is_right && seen == NOTHING_SEEN);
     Ok(())
 }
 

@@ -118,8 +118,7 @@ fn each_write_has_trouble_in_turn(rt: HostRuntime) -> Result<(), Fail> {
 #[test]
 fn nothing_is_read_for_a_random_script(rt: HostRuntime) {
     let trial = SOUND_DEVICES.run(&rt, rt.alloc(), &GENERATED);
-    assert_eq!(rt; trial.outcome, Outcome::Right);
-    assert_eq!(rt; trial.reads, 0);
+    assert_eq!(rt; (trial.outcome, trial.reads), (Outcome::Right, 0));
 }
 
 const FAILURE: Trouble = Trouble::Error(ErrorKind::BrokenPipe);
@@ -208,13 +207,18 @@ fn fail_to_tell<R: Threads + Wait + Sync + Abort>(
     0
 }
 
+fn fail_to_tell_each<R: Threads + Wait + Sync + Abort>(rt: &R, alloc: Global, case: &Case<'_>) {
+    let writes = [
+        fail_to_tell(rt, alloc, case, 2, 0, Outcome::ReadFailed),
+        fail_to_tell(rt, alloc, case, 0, 2, Outcome::WriteFailed),
+    ];
+    assert_eq!(rt; writes, [23, 24]);
+}
+
 #[test]
 fn the_status_is_the_same_where_standard_error_fails(rt: HostRuntime) -> Result<(), Fail> {
     for case in &cases(rt.alloc())? {
-        let read_failed = fail_to_tell(&rt, rt.alloc(), case, 2, 0, Outcome::ReadFailed);
-        assert_eq!(rt; read_failed, 23);
-        let write_failed = fail_to_tell(&rt, rt.alloc(), case, 0, 2, Outcome::WriteFailed);
-        assert_eq!(rt; write_failed, 24);
+        fail_to_tell_each(&rt, rt.alloc(), case);
     }
     Ok(())
 }
@@ -258,8 +262,8 @@ fn interrupt<R: Threads + Wait + Sync + Abort>(
         errors: device,
     };
     let trial = devices.run(rt, alloc, case);
-    assert_eq!(rt; trial.outcome, Outcome::Right);
-    assert!(rt; trial.reads > pace.every && trial.writes >= pace.every);
+    let is_interrupted = trial.reads > pace.every && trial.writes >= pace.every;
+    assert_eq!(rt; (trial.outcome, is_interrupted), (Outcome::Right, true));
 }
 
 fn interrupt_at_each_pace<R: Threads + Wait + Sync + Abort>(

@@ -107,21 +107,29 @@ const AFTER_A_PIECE: Devices = Devices {
     ..SOUND_DEVICES
 };
 
-#[test]
-fn a_writer_fails_after_a_piece(rt: HostRuntime) -> Result<(), Fail> {
-    let first = RUN_OF_MANY.first;
-    let input = long_text(rt.alloc(), first, RUN_OF_MANY.line, RUN_OF_MANY.times)?;
-    let output = long_text(rt.alloc(), b"", b"ok\n", RUN_OF_MANY.times)?;
+fn run_long<R: Threads + Wait + Sync>(
+    rt: &R,
+    alloc: Global,
+    long: &LongCase<'_>,
+    devices: &Devices,
+) -> Result<Trial, AllocError> {
+    let input = long_text(alloc, long.first, long.line, long.times)?;
+    let output = long_text(alloc, long.first_output, long.line_output, long.times)?;
     let case = Case {
-        words: RUN,
+        words: long.words,
         input: input.as_slice(),
         outputs: &[output.as_slice()],
         told: NONE,
         status: 0,
     };
-    let trial = AFTER_A_PIECE.run(&rt, rt.alloc(), &case);
-    assert_eq!(rt; trial.outcome, Outcome::WriteFailed);
-    assert_eq!(rt; trial.written, 65_538);
+    Ok(devices.run(rt, alloc, &case))
+}
+
+#[test]
+fn a_writer_fails_after_a_piece(rt: HostRuntime) -> Result<(), Fail> {
+    let trial = run_long(&rt, rt.alloc(), &RUN_OF_MANY, &AFTER_A_PIECE)?;
+    let found = (trial.outcome, trial.written);
+    assert_eq!(rt; found, (Outcome::WriteFailed, 65_538));
     Ok(())
 }
 
@@ -162,12 +170,13 @@ fn expect_an_end<R: Threads + Wait + Sync + Abort>(
     text: &[u8],
 ) {
     let sound = read_too_much(rt, alloc, words, text, 0);
-    assert_eq!(rt; sound.outcome, Outcome::Right);
-    assert!(rt; sound.unread > 0);
     let last = read_too_much(rt, alloc, words, text, sound.reads);
-    assert_eq!(rt; last.outcome, Outcome::ReadFailed);
     let next = read_too_much(rt, alloc, words, text, sound.reads.wrapping_add(1));
-    assert_eq!(rt; next.outcome, Outcome::Right);
+    assert!(rt; sound.unread > 0);
+    assert_eq!(rt;
+        [sound.outcome, last.outcome, next.outcome],
+        [Outcome::Right, Outcome::ReadFailed, Outcome::Right]
+    );
 }
 
 #[test]

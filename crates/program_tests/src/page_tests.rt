@@ -19,10 +19,10 @@ const NUMBERS: &[u8] = b"{\"config\":[2,4,353,0,0],\"events\":[
 
 /// The page with these numbers.
 fn page(alloc: Global, numbers: &[u8]) -> Result<Vec<u8>, AllocError> {
-    let mut page = Vec::from_slice(alloc, HEAD)?;
-    page.extend_from_slice(numbers)?;
-    page.extend_from_slice(DRAWING)?;
-    page.extend_from_slice(HANDS)?;
+    let mut page = Vec::new(alloc);
+    for piece in [HEAD, numbers, DRAWING, HANDS] {
+        page.extend_from_slice(piece)?;
+    }
     Ok(page)
 }
 

@@ -5,7 +5,7 @@ use std::alloc::Global;
 use std::sync::Wait;
 use std::test::Fail;
 use std::thread::Threads;
-use test_support::gates::{Arrivals, Watch};
+use test_support::gates::{Arrivals, Seen, Watch};
 
 /// Whether so many sessions of a script, the desk among them, are in the race at once. Each is held until all have come.
 fn run_at_once<R: Threads + Wait + Sync>(
@@ -31,10 +31,13 @@ const NINE: &[u8] =
 
 #[test]
 fn all_sessions_run_at_once(rt: HostRuntime) -> Result<(), Fail> {
-    assert!(rt; run_at_once(&rt, rt.alloc(), NONE, 0)?);
-    assert!(rt; run_at_once(&rt, rt.alloc(), TWO, 2)?);
-    assert!(rt; run_at_once(&rt, rt.alloc(), THREE, 3)?);
-    assert!(rt; run_at_once(&rt, rt.alloc(), NINE, 9)?);
+    let at_once = [
+        run_at_once(&rt, rt.alloc(), NONE, 0)?,
+        run_at_once(&rt, rt.alloc(), TWO, 2)?,
+        run_at_once(&rt, rt.alloc(), THREE, 3)?,
+        run_at_once(&rt, rt.alloc(), NINE, 9)?,
+    ];
+    assert_eq!(rt; at_once, [true; 4]);
     Ok(())
 }
 
@@ -59,26 +62,27 @@ fn quanta_of(alloc: Global, history: &[u8]) -> Result<Vec<u8>, Fail> {
     Ok(quanta)
 }
 
-/// The lines that speak of quanta in the history of a race.
-fn quanta_of_race<R: Threads + Wait + Sync>(
+/// Whether the history of a race has the lines that speak of quanta, and what a gate sees of it that wants two workers.
+fn seen_of_quanta<R: Threads + Wait + Sync>(
     rt: &R,
     alloc: Global,
-    script: &[u8],
     workers: &str,
-    gate: &Watch,
-) -> Result<Vec<u8>, Fail> {
-    let history = printed(rt, alloc, "race", workers, script, gate)?;
-    quanta_of(alloc, &history)
+) -> Result<(bool, Seen), Fail> {
+    let script = scheduled_script(alloc)?;
+    let gate = Watch::new(2);
+    let history = printed(rt, alloc, "race", workers, &script, &gate)?;
+    let quanta = quanta_of(alloc, &history)?;
+    Ok((quanta.as_slice() == SCHEDULED_QUANTA, gate.seen()))
 }
 
 #[test]
 fn two_workers_share_each_batch_of_a_race(rt: HostRuntime) -> Result<(), Fail> {
-    let script = scheduled_script(rt.alloc())?;
     for workers in ["2", "7", "64"] {
-        let gate = Watch::new(2);
-        let quanta = quanta_of_race(&rt, rt.alloc(), &script, workers, &gate)?;
-        assert!(rt; quanta.as_slice() == SCHEDULED_QUANTA);
-        assert!(rt; gate.seen() == SCHEDULED_SEEN, "with {workers} workers");
+        let (has_quanta, seen) = seen_of_quanta(&rt, rt.alloc(), workers)?;
+        assert!(rt;
+            has_quanta && seen == SCHEDULED_SEEN,
+            "with {workers} workers"
+        );
     }
     Ok(())
 }

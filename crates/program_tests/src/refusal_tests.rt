@@ -27,8 +27,8 @@ fn fail_to_refuse<R: Threads + Wait + Sync + Abort>(rt: &R, alloc: Global, at: u
         ..SOUND_DEVICES
     };
     let trial = devices.run(rt, alloc, &UNKNOWN);
-    assert_eq!(rt; trial.outcome, Outcome::WordsRefused);
-    assert_eq!(rt; trial.tellings, at);
+    let found = (trial.outcome, trial.tellings);
+    assert_eq!(rt; found, (Outcome::WordsRefused, at));
 }
 
 #[test]

@@ -139,6 +139,22 @@ impl<'a> Sweep<'a> {
     }
 }
 
+/// What is seen of a call in so many sweeps, and whether it is right with plenty of memory after each.
+fn seen_in<R: Threads + Wait + Sync>(
+    rt: &R,
+    alloc: Global,
+    call: Call<'_>,
+    times: usize,
+) -> Result<(bool, Seen), AllocError> {
+    let mut sweep = Sweep::new(alloc, call)?;
+    let mut is_right = true;
+    for _ in 0..times {
+        sweep.refuse_each(rt, alloc)?;
+        is_right = sweep.attempt(rt, alloc, PLENTY)? && is_right;
+    }
+    Ok((is_right, sweep.seen))
+}
+
 /// Refuses the requests for memory that a call makes in turn, and then grants all, so many times over. The C library keeps the
 /// stack of a thread that has ended for the next one, so from the second time on threads have stacks.
 pub fn check<R: Threads + Wait + Sync + Abort>(
@@ -147,13 +163,8 @@ pub fn check<R: Threads + Wait + Sync + Abort>(
     call: Call<'_>,
     times: usize,
 ) -> Result<Seen, AllocError> {
-    let mut sweep = Sweep::new(alloc, call)?;
-    for _ in 0..times {
-        sweep.refuse_each(rt, alloc)?;
-        assert!(rt; sweep.attempt(rt, alloc, PLENTY)?);
-    }
-    let seen = sweep.seen;
-    assert_eq!(rt; seen.wrong, None);
-    assert!(rt; seen.refused > 0);
+    let (is_right, seen) = seen_in(rt, alloc, call, times)?;
+    let found = (is_right, seen.wrong, seen.refused > 0);
+    assert_eq!(rt; found, (true, None, true));
     Ok(seen)
 }

@@ -224,10 +224,24 @@ pub fn crowded(alloc: Global) -> Result<Vec<u8>, AllocError> {
 
 pub fn crowded_output(alloc: Global) -> Result<String, AllocError> {
     let mut output = String::new(alloc);
-    for _ in 0..1_800 {
-        writeln!(output, "free 64 live 0 old 0 phase idle cycle 0")?;
+    add_lines(
+        &mut output,
+        "free 64 live 0 old 0 phase idle cycle 0\n",
+        1_800,
+    )?;
+    add_lines(&mut output, "ok\n", 4_096)?;
+    add_dump(&mut output)?;
+    Ok(output)
+}
+
+fn add_lines(output: &mut String, line: &str, count: usize) -> Result<(), AllocError> {
+    for _ in 0..count {
+        output.push_str(line)?;
     }
-    add_oks(&mut output)?;
+    Ok(())
+}
+
+fn add_dump(output: &mut String) -> Result<(), AllocError> {
     write!(output, "dump")?;
     for place in 0..4_096u32 {
         let slot = place % 64;
@@ -237,13 +251,6 @@ pub fn crowded_output(alloc: Global) -> Result<String, AllocError> {
         write!(output, " {slot}={place}.0")?;
     }
     writeln!(output, "")?;
-    Ok(output)
-}
-
-fn add_oks(output: &mut String) -> Result<(), AllocError> {
-    for _ in 0..4_096 {
-        output.push_str("ok\n")?;
-    }
     Ok(())
 }
 

@@ -43,15 +43,17 @@ pub fn trouble_each_read<R: Threads + Wait + Sync + Abort>(
             ..SOUND_DEVICES
         };
         let trial = devices.run(rt, alloc, case);
-        if trial.reads < at {
-            assert_eq!(rt; trial.outcome, Outcome::Right);
-            assert_eq!(rt;
-                trial.reads,
-                way.calls_for(case.input.len()).wrapping_add(1)
-            );
+        let is_last = trial.reads < at;
+        let wanted = if is_last {
+            let reads = way.calls_for(case.input.len()).wrapping_add(1);
+            (Outcome::Right, reads)
+        } else {
+            (way.outcome, trial.reads)
+        };
+        assert_eq!(rt; (trial.outcome, trial.reads), wanted);
+        if is_last {
             break;
         }
-        assert_eq!(rt; trial.outcome, way.outcome);
     }
 }
 
@@ -68,11 +70,12 @@ pub fn trouble_each_write<R: Threads + Wait + Sync + Abort>(
             ..SOUND_DEVICES
         };
         let trial = devices.run(rt, alloc, case);
-        if trial.writes < at {
-            assert_eq!(rt; trial.outcome, Outcome::Right);
-            assert!(rt; trial.writes >= way.calls_for(trial.written));
+        let is_last = trial.writes < at;
+        let wanted = if is_last { Outcome::Right } else { way.outcome };
+        let has_all = !is_last || trial.writes >= way.calls_for(trial.written);
+        assert_eq!(rt; (trial.outcome, has_all), (wanted, true));
+        if is_last {
             break;
         }
-        assert_eq!(rt; trial.outcome, way.outcome);
     }
 }

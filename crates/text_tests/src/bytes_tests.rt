@@ -1,24 +1,34 @@
 use crate::random_scripts::{PROFILES, script};
+use mh_orders::profile::Profile;
+use std::alloc::Global;
 use std::test::Fail;
+
+/// Whether the scripts of two profiles and seeds are the same.
+fn are_same(alloc: Global, one: (Profile, u64), other: (Profile, u64)) -> Result<bool, Fail> {
+    let one = script(alloc, one.0, one.1)?;
+    let other = script(alloc, other.0, other.1)?;
+    Ok(one.as_slice() == other.as_slice())
+}
 
 #[test]
 fn the_same_options_give_the_same_bytes(rt: HostRuntime) -> Result<(), Fail> {
     for profile in PROFILES {
-        let one = script(rt.alloc(), profile, 7)?;
-        let again = script(rt.alloc(), profile, 7)?;
-        assert_eq!(rt; one.as_slice(), again.as_slice());
+        let one = (profile, 7);
+        assert!(rt; are_same(rt.alloc(), one, one)?, "{profile:?}");
     }
     Ok(())
 }
 
 #[test]
 fn other_seeds_and_profiles_give_other_bytes(rt: HostRuntime) -> Result<(), Fail> {
-    let mut before = script(rt.alloc(), PROFILES[0], 8)?;
+    let mut before = (PROFILES[0], 8);
     for profile in PROFILES {
-        let one = script(rt.alloc(), profile, 7)?;
-        let other = script(rt.alloc(), profile, 8)?;
-        assert_ne!(rt; one.as_slice(), other.as_slice());
-        assert_ne!(rt; one.as_slice(), before.as_slice());
+        let one = (profile, 7);
+        let is_same = [
+            are_same(rt.alloc(), one, (profile, 8))?,
+            are_same(rt.alloc(), one, before)?,
+        ];
+        assert_eq!(rt; is_same, [false, false], "{profile:?}");
         before = one;
     }
     Ok(())

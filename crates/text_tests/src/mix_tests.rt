@@ -1,11 +1,12 @@
 //! What scripts make the collector do, and how it answers them.
 
 use crate::random_scripts::{EVENTS, PROFILES, script};
+use mh_model::command::Event;
 use mh_model::cycle::Phase;
 use mh_model::reply::{Refusal, Reply};
 use mh_orders::profile::Profile;
 use mh_scan::scan::OneScan;
-use mh_state::machine::Machine;
+use mh_state::machine::{Machine, Stop};
 use mh_text::script::parse;
 use std::alloc::Global;
 use std::test::Fail;
@@ -65,11 +66,8 @@ impl Seen {
     }
 }
 
-/// What is seen of a script of a profile, and how many events it has.
-fn run(alloc: Global, profile: Profile) -> Result<(Seen, usize), Fail> {
-    let text = script(alloc, profile, 1)?;
-    let script = parse(alloc, &text)?;
-    let mut machine = Machine::open(alloc, script.config())?;
+/// What is seen while one thread does these events.
+fn seen_by(alloc: Global, machine: &mut Machine, events: &[Event]) -> Result<Seen, Stop> {
     let mut scanner = OneScan::new(alloc);
     let mut seen = Seen {
         phases: [false; 5],
@@ -77,10 +75,18 @@ fn run(alloc: Global, profile: Profile) -> Result<(Seen, usize), Fail> {
         moved: 0,
         cycles: 0,
     };
-    for event in script.events() {
-        seen.look(&machine);
+    for event in events {
+        seen.look(machine);
         seen.hear(&machine.step(*event, &mut scanner)?);
     }
+    Ok(seen)
+}
+
+/// What is seen of a script of a profile, and how many events it has.
+fn run(alloc: Global, profile: Profile) -> Result<(Seen, usize), Fail> {
+    let script = parse(alloc, &script(alloc, profile, 1)?)?;
+    let mut machine = Machine::open(alloc, script.config())?;
+    let seen = seen_by(alloc, &mut machine, script.events())?;
     Ok((seen, script.events().len()))
 }
 
@@ -90,10 +96,12 @@ fn each_profile_has_many_cycles_with_moves_and_events_in_all_phases(
 ) -> Result<(), Fail> {
     for profile in PROFILES {
         let (seen, events) = run(rt.alloc(), profile)?;
-        assert_eq!(rt; events, EVENTS as usize);
-        assert_eq!(rt; seen.phases, [true; 5], "{profile:?} has {seen:?}");
-        assert!(rt; seen.cycles >= 20, "{profile:?} has {seen:?}");
-        assert!(rt; seen.moved >= 1_000, "{profile:?} has {seen:?}");
+        let has_all = events == EVENTS as usize && seen.phases == [true; 5];
+        let has_much = seen.cycles >= 20 && seen.moved >= 1_000;
+        assert!(rt;
+            has_all && has_much,
+            "{profile:?} has {events} events and {seen:?}"
+        );
     }
     Ok(())
 }

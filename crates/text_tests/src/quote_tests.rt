@@ -1,9 +1,10 @@
 use mh_reasons::quoted::quote;
-use std::alloc::Global;
+use std::alloc::{AllocError, Global};
 use std::test::Fail;
 
-fn quotation(alloc: Global, word: &[u8]) -> Result<String, Fail> {
-    Ok(format!(in alloc; "{}", quote(word))?)
+fn is_quoted_as(alloc: Global, word: &[u8], wanted: &str) -> Result<bool, AllocError> {
+    let told = format!(in alloc; "{}", quote(word))?;
+    Ok(told.as_str() == wanted)
 }
 
 #[test]
@@ -18,20 +19,22 @@ fn bytes_are_escaped(rt: HostRuntime) -> Result<(), Fail> {
         ),
     ];
     for (word, wanted) in cases {
-        let told = quotation(rt.alloc(), word)?;
-        assert_eq!(rt; told.as_str(), wanted);
+        assert!(rt; is_quoted_as(rt.alloc(), word, wanted)?, "{wanted}");
     }
     Ok(())
+}
+
+/// How long a quotation is, and whether it ends so.
+fn length_and_end(alloc: Global, word: &[u8], end: &str) -> Result<(usize, bool), AllocError> {
+    let told = format!(in alloc; "{}", quote(word))?;
+    Ok((told.len(), told.ends_with(end)))
 }
 
 #[test]
 fn eighty_bytes_are_quoted(rt: HostRuntime) -> Result<(), Fail> {
     let bytes = [b'a'; 81];
-    let whole = quotation(rt.alloc(), &bytes[..80])?;
-    assert_eq!(rt; whole.len(), 82);
-    assert!(rt; whole.ends_with("a\""));
-    let cut = quotation(rt.alloc(), &bytes)?;
-    assert_eq!(rt; cut.len(), 85);
-    assert!(rt; cut.ends_with("a\"..."));
+    let whole = length_and_end(rt.alloc(), &bytes[..80], "a\"")?;
+    let cut = length_and_end(rt.alloc(), &bytes, "a\"...")?;
+    assert_eq!(rt; (whole, cut), ((82, true), (85, true)));
     Ok(())
 }

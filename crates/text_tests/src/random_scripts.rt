@@ -31,11 +31,7 @@ pub fn script(alloc: Global, profile: Profile, seed: u64) -> Result<Vec<u8>, Fai
         sessions: 4,
         profile,
     };
-    let mut sink = StdSink::new(Vec::new(alloc));
-    generate(alloc, &options, &mut sink)?;
-    let StdSink {
-        writer,
-        failures: _,
-    } = sink;
-    Ok(writer)
+    let mut text = Vec::new(alloc);
+    generate(alloc, &options, &mut StdSink::new(&mut text))?;
+    Ok(text)
 }

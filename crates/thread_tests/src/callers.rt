@@ -12,6 +12,7 @@ use mh_service::service::Service;
 use mh_state::machine::Stop;
 use mh_text::reply_text::ReplyText;
 use std::alloc::Global;
+use std::fmt::Write;
 use std::sync::Wait;
 use std::test::Fail;
 use std::thread::Threads;
@@ -69,14 +70,24 @@ impl<'a, R: Threads + Wait, G: CrewGate> Callers<'a, R, G> {
         answer(self.rt, &self.service, &mut self.seats, event)
     }
 
-    /// The lines of the answers to these calls, none of which is refused.
-    pub fn answers_to(&mut self, alloc: Global, events: &[Event]) -> Result<String, Fail> {
-        let mut answers = String::new(alloc);
+    /// Adds the line of the answer to a call, which is not refused.
+    fn add_answer(&mut self, lines: &mut String, event: Event) -> Result<(), Fail> {
+        let reply = self.call(event).ok_or("no seat")??;
+        writeln!(lines, "{}", ReplyText(&reply))?;
+        Ok(())
+    }
+
+    /// Whether these are the lines of the answers to these calls, none of which is refused.
+    pub fn answers_are(
+        &mut self,
+        alloc: Global,
+        events: &[Event],
+        wanted: &[u8],
+    ) -> Result<bool, Fail> {
+        let mut lines = String::new(alloc);
         for event in events {
-            let reply = self.call(*event).ok_or("no seat")??;
-            let line = format!(in alloc; "{}\n", ReplyText(&reply))?;
-            answers.push_str(&line)?;
+            self.add_answer(&mut lines, *event)?;
         }
-        Ok(answers)
+        Ok(lines.as_bytes() == wanted)
     }
 }

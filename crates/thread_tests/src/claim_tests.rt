@@ -48,13 +48,25 @@ fn drawn(
     drawn_by(alloc, &claims, &mut seats, order)
 }
 
+/// Whether they draw this.
+fn draws_are(
+    alloc: Global,
+    bound: u64,
+    count: usize,
+    order: &[usize],
+    wanted: &[Option<u64>],
+) -> Result<bool, NoMemory>
+    requires some { (0 < count) × (count ≤ 64) }
+    requires room { bound + count < 2 ^ 64 }
+{
+    Ok(drawn(alloc, bound, count, order)?.as_slice() == wanted)
+}
+
 #[test]
 fn each_number_is_drawn_once(rt: HostRuntime) -> Result<(), Fail> {
-    let by_two = drawn(rt.alloc(), 3, 2, &[1, 0, 1, 1, 0])?;
-    assert!(rt; by_two.as_slice() == [Some(0), Some(1), Some(2), None, None].as_slice());
-    let of_one = drawn(rt.alloc(), 1, 64, &[63, 0])?;
-    assert!(rt; of_one.as_slice() == [Some(0), None].as_slice());
-    let of_none = drawn(rt.alloc(), 0, 1, &[0])?;
-    assert!(rt; of_none.as_slice() == [None].as_slice());
+    let by_two = [Some(0), Some(1), Some(2), None, None];
+    assert!(rt; draws_are(rt.alloc(), 3, 2, &[1, 0, 1, 1, 0], &by_two)?);
+    assert!(rt; draws_are(rt.alloc(), 1, 64, &[63, 0], &[Some(0), None])?);
+    assert!(rt; draws_are(rt.alloc(), 0, 1, &[0], &[None])?);
     Ok(())
 }

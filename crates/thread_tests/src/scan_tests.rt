@@ -82,7 +82,22 @@ fn batch_of(alloc: Global, places: &[Place], length: usize) -> Result<Vec<Place>
     Ok(batch)
 }
 
-/// Whether a crew, which is alone only if it is of one, finds what one thread finds: lists, and which are settled.
+/// Whether two scanners find the same: lists, and which are settled.
+fn find_the_same<S: Scanner, T: Scanner>(
+    one: &mut S,
+    other: &mut T,
+    blocks: &Blocks,
+    batch: &[Place],
+) -> Result<bool, NoMemory>
+    requires { AreScannable blocks.now batch.now }
+{
+    let lists = one.scan(blocks, batch)?;
+    let are_same = lists == other.scan(blocks, batch)?;
+    let settled = one.settled(blocks, 1, batch)?;
+    Ok(are_same && settled == other.settled(blocks, 1, batch)?)
+}
+
+/// Whether a crew, which is alone only if it is of one, finds what one thread finds.
 fn finds_the_same<R: Threads, G: CrewGate>(
     rt: &R,
     alloc: Global,
@@ -95,14 +110,10 @@ fn finds_the_same<R: Threads, G: CrewGate>(
     requires scannable { AreScannable blocks.now batch.now }
 {
     let mut crew = CrewScan::new(rt, alloc, workers, gate);
-    let mut one = OneScan::new(alloc);
-    let found = crew.scan(blocks, batch)?;
-    let wanted = one.scan(blocks, batch)?;
-    let settled = crew.settled(blocks, 1, batch)?;
-    let wanted_settled = one.settled(blocks, 1, batch)?;
     let is_crew = workers > 1;
     let is_called = crew.is_alone() != is_crew && crew.pays(0) == is_crew;
-    Ok(is_called && found == wanted && settled == wanted_settled)
+    let is_same = find_the_same(&mut crew, &mut OneScan::new(alloc), blocks, batch)?;
+    Ok(is_called && is_same)
 }
 
 /// How many places a batch has, how many pieces, and by how many workers at most it is shared.

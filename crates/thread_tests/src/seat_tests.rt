@@ -4,11 +4,13 @@ ghost use Rattle.mh_service.specs.Services.{IsOf};
 
 use crate::callers::owner_of;
 use mh_model::command::Event;
+use mh_model::config::Config;
 use mh_model::history::Entry;
 use mh_service::seat::Seat;
 use mh_service::service::Service;
 use mh_text::script::{Script, parse};
 use std::alloc::{AllocError, Global};
+use std::fmt::Write;
 use std::sync::Wait;
 use std::sync::atomic::AtomicU64;
 use std::sync::atomic::Ordering::SeqCst;
@@ -95,8 +97,7 @@ fn call_by_threads<R: Threads + Wait + Sync>(
 fn logs_of(alloc: Global, seats: &[Seat]) -> Result<String, AllocError> {
     let mut logs = String::new(alloc);
     for seat in seats {
-        let log = format!(in alloc; "{:?}\n", seat.log())?;
-        logs.push_str(&log)?;
+        writeln!(logs, "{:?}", seat.log())?;
     }
     Ok(logs)
 }
@@ -116,30 +117,9 @@ fn share_of(alloc: Global, history: &[Entry], number: usize) -> Result<Vec<&Entr
 fn shares_of(alloc: Global, history: &[Entry]) -> Result<String, AllocError> {
     let mut shares = String::new(alloc);
     for number in 0..9 {
-        let share = format!(in alloc; "{:?}\n", share_of(alloc, history, number)?)?;
-        shares.push_str(&share)?;
+        writeln!(shares, "{:?}", share_of(alloc, history, number)?)?;
     }
     Ok(shares)
-}
-
-/// How many calls were answered of nine seats that call at once, their logs, and the history that they leave.
-fn left_by_threads<R: Threads + Wait + Sync>(
-    rt: &R,
-    alloc: Global,
-    script: &Script,
-) -> Result<(u64, String, Vec<Entry>), Fail> {
-    let rounds = Rounds {
-        events: script.events(),
-        arrived: AtomicU64::new(0),
-        answered: AtomicU64::new(0),
-    };
-    let (service, mut seats) = Service::open(alloc, script.config(), 2, &Eager)?;
-    call_by_threads(rt, &service, &mut seats, &rounds);
-    let logs = logs_of(alloc, &seats);
-    match service.close(seats) {
-        Ok(closed) => Ok((rounds.answered.load(SeqCst), logs?, closed.history)),
-        Err(_) => Err(Fail::from("not closed")),
-    }
 }
 
 /// Whether each seat has one entry of a round.
@@ -151,13 +131,57 @@ fn is_round(round: &[Entry]) -> bool {
     owners.is_each_once(9)
 }
 
+/// Whether a history has an entry of each seat for each round, and the logs are these.
+fn is_shared(alloc: Global, history: &[Entry], logs: &str) -> Result<bool, AllocError> {
+    let is_whole = history.len() as u64 == 9 * ROUNDS && history.chunks(9).all(is_round);
+    Ok(is_whole && shares_of(alloc, history)?.as_str() == logs)
+}
+
+/// The history that a service leaves, which is empty if it doesn't close.
+fn history_left(alloc: Global, service: Service<'_, Eager>, seats: Vec<Seat>) -> Vec<Entry>
+    requires { All (IsOf service) seats.items }
+{
+    match service.close(seats) {
+        Ok(closed) => closed.history,
+        Err(_) => Vec::new(alloc),
+    }
+}
+
+/// Whether nine seats that call at once leave a history that is shared so.
+fn is_left_by_threads<R: Threads + Wait + Sync>(
+    rt: &R,
+    alloc: Global,
+    config: Config,
+    rounds: &Rounds<'_>,
+) -> Result<bool, Fail> {
+    let (service, mut seats) = Service::open(alloc, config, 2, &Eager)?;
+    call_by_threads(rt, &service, &mut seats, rounds);
+    let logs = logs_of(alloc, &seats);
+    let history = history_left(alloc, service, seats);
+    Ok(is_shared(alloc, &history, &logs?)?)
+}
+
+/// The same with the events of a script, and how many calls were answered.
+fn run_rounds<R: Threads + Wait + Sync>(
+    rt: &R,
+    alloc: Global,
+    script: &Script,
+) -> Result<(bool, u64), Fail> {
+    let rounds = Rounds {
+        events: script.events(),
+        arrived: AtomicU64::new(0),
+        answered: AtomicU64::new(0),
+    };
+    let is_left = is_left_by_threads(rt, alloc, script.config(), &rounds)?;
+    Ok((is_left, rounds.answered.load(SeqCst)))
+}
+
 #[test]
 fn nine_seats_call_at_once(rt: HostRuntime) -> Result<(), Fail> {
-    let script = parse(rt.alloc(), FOUR_ROUNDS)?;
-    let (answered, logs, history) = left_by_threads(&rt, rt.alloc(), &script)?;
-    assert!(rt; answered == 9 * ROUNDS);
-    assert!(rt; logs == shares_of(rt.alloc(), &history)?);
-    assert!(rt; history.len() as u64 == answered);
-    assert!(rt; history.chunks(9).all(is_round));
+    let found = {
+        let script = parse(rt.alloc(), FOUR_ROUNDS)?;
+        run_rounds(&rt, rt.alloc(), &script)
+    };
+    assert_eq!(rt; found?, (true, 9 * ROUNDS));
     Ok(())
 }

@@ -6,38 +6,46 @@ use mh_model::command::Event;
 use mh_model::reply::Reply;
 use mh_scan::crew_scan::CrewGate;
 use mh_state::machine::Stop;
-use mh_text::script::parse;
-use std::alloc::Global;
+use mh_text::script::{Script, parse};
+use std::alloc::{AllocError, Global};
+use std::fmt::Write;
 use std::sync::Wait;
 use std::test::Fail;
 use std::thread::Threads;
-use test_support::gates::{Eager, Watch};
+use test_support::gates::{Eager, Seen, Watch};
 use test_support::graph::{CYCLES_SEEN, cycles_output, cycles_script};
 
-/// The lines of the answers to the calls of a script.
-fn answers_of<R: Threads + Wait, G: CrewGate>(
+/// Whether these are the lines of the answers to the calls of a script.
+fn answers_are<R: Threads + Wait, G: CrewGate>(
     rt: &R,
     alloc: Global,
-    script: &[u8],
+    script: &Script,
     workers: usize,
     gate: &G,
-) -> Result<String, Fail>
+    wanted: &[u8],
+) -> Result<bool, Fail>
     requires { (0 < workers) × (workers ≤ 64) }
 {
-    let script = parse(alloc, script)?;
     let mut callers = Callers::new(rt, alloc, script.config(), workers, gate)?;
-    callers.answers_to(alloc, script.events())
+    callers.answers_are(alloc, script.events(), wanted)
+}
+
+/// Whether so many workers answer the script of three cycles, and what the gate sees that wants two of them.
+fn cycles_by<R: Threads + Wait>(rt: &R, alloc: Global, workers: usize) -> Result<(bool, Seen), Fail>
+    requires { (0 < workers) × (workers ≤ 64) }
+{
+    let script = parse(alloc, &cycles_script(alloc)?)?;
+    let output = cycles_output(alloc)?;
+    let gate = Watch::new(2);
+    let is_right = answers_are(rt, alloc, &script, workers, &gate, &output)?;
+    Ok((is_right, gate.seen()))
 }
 
 #[test]
 fn two_workers_share_each_batch_of_a_service(rt: HostRuntime) -> Result<(), Fail> {
-    let script = cycles_script(rt.alloc())?;
-    let output = cycles_output(rt.alloc())?;
     for workers in [2, 7, 64] {
-        let gate = Watch::new(2);
-        let answers = answers_of(&rt, rt.alloc(), &script, workers, &gate)?;
-        assert!(rt; answers.as_bytes() == output.as_slice());
-        assert!(rt; gate.seen() == CYCLES_SEEN, "with {workers} workers");
+        let (is_right, seen) = cycles_by(&rt, rt.alloc(), workers)?;
+        assert!(rt; is_right && seen == CYCLES_SEEN, "with {workers} workers");
     }
     Ok(())
 }
@@ -46,7 +54,7 @@ fn two_workers_share_each_batch_of_a_service(rt: HostRuntime) -> Result<(), Fail
 const CYCLES: u64 = 250;
 
 /// An object of a session, and then cycles that the desk asks for.
-fn desk_script(alloc: Global) -> Result<Vec<u8>, Fail> {
+fn desk_script(alloc: Global) -> Result<Vec<u8>, AllocError> {
     let mut script = Vec::from_slice(alloc, b"config 4 400 0 0\na new 0 0 0\n")?;
     for _ in 0..CYCLES {
         script.extend_from_slice(b"* start\n* quantum\n* left\n* stat\n")?;
@@ -55,23 +63,29 @@ fn desk_script(alloc: Global) -> Result<Vec<u8>, Fail> {
 }
 
 /// What it is given.
-fn desk_output(alloc: Global) -> Result<String, Fail> {
+fn desk_output(alloc: Global) -> Result<String, AllocError> {
     let mut output = String::new(alloc);
     output.push_str("ok\n")?;
     for cycle in 1..=CYCLES {
-        let lines = format!(in alloc;
-            "ok\nspent 360 phase idle\nleft 0\nfree 3 live 1 old 0 phase idle cycle {cycle}\n"
+        let first = "ok\nspent 360 phase idle\nleft 0";
+        writeln!(
+            output,
+            "{first}\nfree 3 live 1 old 0 phase idle cycle {cycle}"
         )?;
-        output.push_str(&lines)?;
     }
     Ok(output)
 }
 
+/// Whether it is given this.
+fn desk_is_answered<R: Threads + Wait>(rt: &R, alloc: Global) -> Result<bool, Fail> {
+    let script = parse(alloc, &desk_script(alloc)?)?;
+    let output = desk_output(alloc)?;
+    answers_are(rt, alloc, &script, 2, &Eager, output.as_bytes())
+}
+
 #[test]
 fn a_desk_makes_a_thousand_calls(rt: HostRuntime) -> Result<(), Fail> {
-    let script = desk_script(rt.alloc())?;
-    let answers = answers_of(&rt, rt.alloc(), &script, 2, &Eager)?;
-    assert!(rt; answers == desk_output(rt.alloc())?);
+    assert!(rt; desk_is_answered(&rt, rt.alloc())?);
     Ok(())
 }
 
@@ -102,13 +116,25 @@ fn are_stopped<R: Threads + Wait, G: CrewGate>(
 const EACH_SEAT: &[u8] =
     b"config 4 209 0 0\na clear 0\nb clear 0\nc clear 0\nd clear 0\ne clear 0\nf clear 0\ng clear 0\nh clear 0\n* dump\n";
 
+/// Whether calls of a first event fill the history, and whether each of these calls is stopped then.
+fn fills_and_stops<R: Threads + Wait, G: CrewGate>(
+    callers: &mut Callers<'_, R, G>,
+    events: &[Event],
+) -> Option<[bool; 2]> {
+    let first = *events.first()?;
+    let is_filled = fills(callers, first);
+    Some([is_filled, are_stopped(callers, events)])
+}
+
+/// The same of a service of its own, by an event of each seat.
+fn fill_and_stop<R: Threads + Wait>(rt: &R, alloc: Global) -> Result<Option<[bool; 2]>, Fail> {
+    let script = parse(alloc, EACH_SEAT)?;
+    let mut callers = Callers::new(rt, alloc, script.config(), 2, &Eager)?;
+    Ok(fills_and_stops(&mut callers, script.events()))
+}
+
 #[test]
 fn a_full_history_stops_every_seat(rt: HostRuntime) -> Result<(), Fail> {
-    let script = parse(rt.alloc(), EACH_SEAT)?;
-    let events = script.events();
-    let first = *events.first().ok_or("no event")?;
-    let mut callers = Callers::new(&rt, rt.alloc(), script.config(), 2, &Eager)?;
-    assert!(rt; fills(&mut callers, first));
-    assert!(rt; are_stopped(&mut callers, events));
+    assert_eq!(rt; fill_and_stop(&rt, rt.alloc())?, Some([true, true]));
     Ok(())
 }
