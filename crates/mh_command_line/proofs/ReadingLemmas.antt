@@ -37,11 +37,11 @@ module _ {E : Type 0} (k : ℕ) (gives : Text → Result ℕ E → Type 0) (pars
   optional-read least most None got below given none some = none refl
   optional-read least most (Some text) got below given none some = number-read text got given.0 (omega (arith, given.3, below)) (some text refl)
 
-  -- the rules by such an option, or these others if it is left out
-  pub rules-read : (other : Rules) (found : Option Text) (got : Option ℕ) → 2 < 2 ^ k → IfSome found (IsUnsignedIn 1 2) → (found ≡ None → got ≡ None) → ((t : Text) → found ≡ Some t → ReadsOne gives t got)
-      → option_map_or rules_numbered got other ≡ option_map_or (λ text. rules_numbered (number_in text)) found other
-  rules-read other None got below given none some = ap (λ o. option_map_or rules_numbered o other) (none refl)
-  rules-read other (Some text) got below given none some = ap (λ o. option_map_or rules_numbered o other) (number-read text got given.0 (omega (arith, given.3, below)) (some text refl))
+  -- the rules by such an option, if it is given
+  pub rules-read : (found : Option Text) (got : Option ℕ) → 2 < 2 ^ k → IfSome found (IsUnsignedIn 1 2) → (found ≡ None → got ≡ None) → ((t : Text) → found ≡ Some t → ReadsOne gives t got)
+      → option_map rules_numbered got ≡ option_map (λ text. rules_numbered (number_in text)) found
+  rules-read None got below given none some = ap (λ o. option_map rules_numbered o) (none refl)
+  rules-read (Some text) got below given none some = ap (λ o. option_map rules_numbered o) (number-read text got given.0 (omega (arith, given.3, below)) (some text refl))
 
 -- it is within its bounds
 pub within-bounds : (least most other : ℕ) (found : Option Text) → least ≤ other → other ≤ most → IfSome found (IsUnsignedIn least most) → (least ≤ option_map_or number_in found other) × (option_map_or number_in found other ≤ most)

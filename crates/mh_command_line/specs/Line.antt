@@ -188,9 +188,13 @@ workers_of rows = option_map_or number_in (one_of (codes "workers") rows) 1
 abbrev pub rules_numbered : ℕ → Rules
 rules_numbered number = if number == 1 then First else Second
 
--- the rules that the matches ask for, which are these if they don't say
+-- the rules that the matches ask for, if they say
+abbrev pub rules_given : List Row → Option Rules
+rules_given rows = option_map (λ text. rules_numbered (number_in text)) (one_of (codes "rules") rows)
+
+-- and these others if they don't
 abbrev pub rules_of : Rules → List Row → Rules
-rules_of other rows = option_map_or (λ text. rules_numbered (number_in text)) (one_of (codes "rules") rows) other
+rules_of other rows = option_map_or (λ rules. rules) (rules_given rows) other
 
 -- the number of an option, which is this other one if the matches don't say
 abbrev pub number_or : ℕ → Text → List Row → ℕ

@@ -29,7 +29,7 @@ use Rattle.mh_orders.specs.declared.order.ConfigOption.TheVariants.{Pages, Quant
 use Rattle.mh_command_line.specs.declared.options.OptionFault.{OptionFault}
 use Rattle.mh_command_line.specs.declared.options.OptionFault.TheVariants.{NoNumber, NoProfile, NoBlocks, Missing, Lacking, Unwanted, Beside, Outside}
 use Rattle.mh_command_line.specs.Sizes.{AreHeapOptions, AreTargetOptions, IsApart, IsWanted, LacksAllocations, has_size}
-use Rattle.mh_command_line.specs.Line.{HasNumber, IsConfigOption, LacksNumber, WantsConfig, is_flagged, metroheap, number_or, rules_of, workers_of}
+use Rattle.mh_command_line.specs.Line.{HasNumber, IsConfigOption, LacksNumber, WantsConfig, is_flagged, metroheap, number_or, rules_given, rules_of, workers_of}
 
 -- Orders -----------------------------------------------------------------------------------------
 
@@ -118,7 +118,7 @@ IsOrder name rows (Show rules) = (name ≡ codes "show") × (rules ≡ rules_of 
 IsOrder name rows (Live workers) = (name ≡ codes "live") × (workers ≡ workers_of rows)
 IsOrder name rows (Race workers) = (name ≡ codes "race") × (workers ≡ workers_of rows)
 IsOrder name rows (Check config) = (name ≡ codes "check") × (is_flagged (codes "sessions") rows ≡ false) × MakesConfig (rules_of First rows) rows config
-IsOrder name rows (CheckSessions rules) = (name ≡ codes "check") × (is_flagged (codes "sessions") rows ≡ true) × HasNoConfig rows × (rules ≡ rules_of Second rows)
+IsOrder name rows (CheckSessions asked) = (name ≡ codes "check") × (is_flagged (codes "sessions") rows ≡ true) × HasNoConfig rows × (asked ≡ rules_given rows)
 IsOrder name rows Audit = name ≡ codes "audit"
 IsOrder name rows (Migrate config) = (name ≡ codes "migrate") × MakesConfig First rows config
 IsOrder name rows (Curve options) = (name ≡ codes "curve") × (is_flagged (codes "history") rows ≡ false) × AreCurveOptions rows options

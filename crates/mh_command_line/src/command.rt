@@ -52,7 +52,7 @@ pub(crate) const RULES_OF_A_RUN: &str =
     "The rules of large objects and of units, 1 or 2; 2 if it is not given";
 
 const RULES_OF_A_CHECK: &str =
-    "The rules of large objects and of units, 1 or 2; if it is not given 1, and 2 with --sessions";
+    "The rules of large objects and of units, 1 or 2; if it is not given 1, and with --sessions those that the history names";
 
 const SCRIPT_STATUSES: &str =
     "Exit status: 0 if all events were answered, 1 if the script was refused, 2 if the command line was, 3 if memory was refused, a device failed or the history was full";
@@ -464,7 +464,7 @@ fn optional<'a>(alloc: Global) -> Result<Command<'a>, AllocError>
 fn described<'a>(command: Command<'a>) -> Command<'a>
     ensures { app_of result ≡ versioned (app_of command.entry) }
 {
-    command.about(ABOUT).after_help(MANUAL).version("1.0.0")
+    command.about(ABOUT).after_help(MANUAL).version("1.1.0")
 }
 
 /// The program's command line, which has to name a subcommand.
@@ -477,4 +477,15 @@ pub fn command<'a>(alloc: Global) -> Result<Command<'a>, AllocError>
             .subcommand_required(true)
             .disable_help_subcommand(true),
     )
+}
+
+/// The command of a subcommand by itself, if the program looks at its options after `clap` did, and else the whole.
+pub(crate) fn command_of<'a>(alloc: Global, subcommand: &str) -> Result<Command<'a>, AllocError> {
+    match subcommand {
+        "check" => check(alloc),
+        "migrate" => migrate(alloc),
+        "generate" => generate(alloc),
+        "size" => size(alloc),
+        _ => command(alloc),
+    }
 }

@@ -5,7 +5,7 @@ ghost use Rattle.std.specs.Str.Parse.{without_leading_plus};
 ghost use Rattle.clap.specs.Words.{IsUnsignedIn, found_of, one_of, rows_of};
 ghost use Rattle.mh_model.specs.Configs.{configured};
 ghost use Rattle.mh_model.specs.declared.config.Rules.TheVariants.{Second};
-ghost use Rattle.mh_command_line.specs.Line.{AsksForFew, AsksForRules, AsksToCheck, AsksToGenerate, AsksToRun, AsksToTell, HasFlag, HasNumber, HoldsNumber, IsConfigOption, IsNumber, ReadsNumber, is_flagged, number_or, rules_numbered, rules_of, workers_of};
+ghost use Rattle.mh_command_line.specs.Line.{AsksForFew, AsksForRules, AsksToCheck, AsksToGenerate, AsksToRun, AsksToTell, HasFlag, HasNumber, HoldsNumber, IsConfigOption, IsNumber, ReadsNumber, is_flagged, number_or, rules_given, rules_numbered, rules_of, workers_of};
 ghost use Rattle.mh_command_line.specs.Orders.{AreGenerateOptions, AreRunOptions, AreStepsOptions, AsksProfile, HasFewWorkers, HasFirstRules, HasOptionFault, IsBlamed, IsNumberFault, IsOrder, MakesConfig, generated_config};
 
 use clap::ArgMatches;
@@ -103,13 +103,24 @@ fn rules_numbered(number: u8) -> Rules
     }
 }
 
+/// The rules that are asked for, if any are.
+fn rules_given(matches: &ArgMatches<'_>) -> Option<Rules>
+    requires { AsksForRules (rows_of (found_of matches.now)) }
+    ensures { result ≡ rules_given (rows_of (found_of matches.now)) }
+{
+    match matches.get_one::<u8>("rules") {
+        Some(number) => Some(rules_numbered(number)),
+        None => None,
+    }
+}
+
 /// The rules that are asked for, and these others if none are.
 pub(crate) fn rules_asked(matches: &ArgMatches<'_>, other: Rules) -> Rules
     requires { AsksForRules (rows_of (found_of matches.now)) }
     ensures { result ≡ rules_of other (rows_of (found_of matches.now)) }
 {
-    match matches.get_one::<u8>("rules") {
-        Some(number) => rules_numbered(number),
+    match rules_given(matches) {
+        Some(rules) => rules,
         None => other,
     }
 }
@@ -216,7 +227,7 @@ pub(crate) fn check_asked<'a>(matches: &ArgMatches<'a>) -> Result<Order, OptionF
     unwanted(matches, "quantum")?;
     unwanted(matches, "trigger")?;
     unwanted(matches, "every")?;
-    Ok(Order::CheckSessions(rules_asked(matches, Rules::Second)))
+    Ok(Order::CheckSessions(rules_given(matches)))
 }
 
 /// The number of an option that may be left out, of 32 bits at most.

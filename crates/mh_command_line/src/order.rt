@@ -5,7 +5,7 @@ ghost use Rattle.clap.specs.declared.error.kind.ErrorKind.TheVariants.{ArgumentC
 ghost use Rattle.mh_command_line.specs.Line.{IsAsked, NamesOne};
 ghost use Rattle.mh_command_line.specs.Orders.{GivesOrder, HasFewWorkers, HasFirstRules, HasOptionFault, IsFault, IsOrder, Refuses, RefusesOptions};
 
-use crate::command::command;
+use crate::command::{command, command_of};
 use crate::curve::curve_asked;
 use crate::fault::LineFault;
 use crate::options::{
@@ -59,70 +59,84 @@ fn order_of<'a>(matches: &ArgMatches<'a>) -> Result<Order, OptionFault<'a>>
     }
 }
 
-/// `clap`'s refusal of options, with this kind of fault.
-fn refused(alloc: Global, kind: ErrorKind, message: &str) -> Result<clap::Error, AllocError>
+/// `clap`'s refusal of options, with this kind of fault and with the usage of the subcommand, if it is one whose options the
+/// program looks at itself.
+fn refused(
+    alloc: Global,
+    subcommand: &str,
+    kind: ErrorKind,
+    message: &str,
+) -> Result<clap::Error, AllocError>
     ensures { IfOk result (λ error. kind_of error ≡ kind) }
 {
-    let mut command = command(alloc)?;
+    let mut command = command_of(alloc, subcommand)?;
     command.error(kind, message)
 }
 
 /// `clap`'s refusal of an option that is no number.
-fn no_number(alloc: Global, name: &str, text: &str) -> Result<clap::Error, AllocError>
+fn no_number(alloc: Global, subcommand: &str, name: &str, text: &str) -> Result<clap::Error, AllocError>
     ensures { IfOk result (λ error. kind_of error ≡ ValueValidation) }
 {
     let text = quoted(alloc, text)?;
     let message = format!(in alloc; "invalid value '{text}' for '--{name}': not a number")?;
-    refused(alloc, ErrorKind::ValueValidation, message.as_str())
+    refused(alloc, subcommand, ErrorKind::ValueValidation, message.as_str())
 }
 
 /// `clap`'s refusal of a profile that is none.
-fn no_profile(alloc: Global, text: &str) -> Result<clap::Error, AllocError>
+fn no_profile(alloc: Global, subcommand: &str, text: &str) -> Result<clap::Error, AllocError>
     ensures { IfOk result (λ error. kind_of error ≡ ValueValidation) }
 {
     let text = quoted(alloc, text)?;
     let message = format!(in alloc; "invalid value '{text}' for '--profile': {UnknownProfile}")?;
-    refused(alloc, ErrorKind::ValueValidation, message.as_str())
+    refused(alloc, subcommand, ErrorKind::ValueValidation, message.as_str())
 }
 
 /// `clap`'s refusal of blocks that are none.
-fn no_blocks(alloc: Global, text: &str) -> Result<clap::Error, AllocError>
+fn no_blocks(alloc: Global, subcommand: &str, text: &str) -> Result<clap::Error, AllocError>
     ensures { IfOk result (λ error. kind_of error ≡ ValueValidation) }
 {
     let text = quoted(alloc, text)?;
     let message = format!(in alloc;
         "invalid value '{text}' for '--allocates': not WORDS:COUNT with 4 to 64 words and 1 to 1048576 blocks of a class"
     )?;
-    refused(alloc, ErrorKind::ValueValidation, message.as_str())
+    refused(alloc, subcommand, ErrorKind::ValueValidation, message.as_str())
 }
 
 /// `clap`'s refusal of options without this one.
-fn missing(alloc: Global, name: &str) -> Result<clap::Error, AllocError>
+fn missing(alloc: Global, subcommand: &str, name: &str) -> Result<clap::Error, AllocError>
     ensures { IfOk result (λ error. kind_of error ≡ MissingRequiredArgument) }
 {
     let message = format!(in alloc; "the argument '--{name}' was not provided")?;
-    refused(alloc, ErrorKind::MissingRequiredArgument, message.as_str())
+    refused(alloc, subcommand, ErrorKind::MissingRequiredArgument, message.as_str())
 }
 
 /// `clap`'s refusal of an option beside another.
-fn beside(alloc: Global, name: &str, other: &str) -> Result<clap::Error, AllocError>
+fn beside(alloc: Global, subcommand: &str, name: &str, other: &str) -> Result<clap::Error, AllocError>
     ensures { IfOk result (λ error. kind_of error ≡ ArgumentConflict) }
 {
     let message = format!(in alloc; "the argument '--{name}' cannot be used with '--{other}'")?;
-    refused(alloc, ErrorKind::ArgumentConflict, message.as_str())
+    refused(alloc, subcommand, ErrorKind::ArgumentConflict, message.as_str())
 }
 
-fn refused_options(alloc: Global, fault: OptionFault<'_>) -> LineFault
+/// The subcommand that `clap` found.
+fn subcommand_name<'a>(matches: &'a ArgMatches<'_>) -> &'a str {
+    match matches.subcommand() {
+        Some((name, _)) => name,
+        None => "",
+    }
+}
+
+fn refused_options(alloc: Global, subcommand: &str, fault: OptionFault<'_>) -> LineFault
     ensures { RefusesOptions fault.entry result }
 {
     let refusal = match fault {
         OptionFault::Outside(option) => return LineFault::Configuration(option),
-        OptionFault::NoNumber(name, text) => no_number(alloc, name, text),
-        OptionFault::NoProfile(text) => no_profile(alloc, text),
-        OptionFault::NoBlocks(text) => no_blocks(alloc, text),
-        OptionFault::Missing(name) | OptionFault::Lacking(name) => missing(alloc, name),
-        OptionFault::Unwanted(name) => beside(alloc, name, "sessions"),
-        OptionFault::Beside(name, other) => beside(alloc, name, other),
+        OptionFault::NoNumber(name, text) => no_number(alloc, subcommand, name, text),
+        OptionFault::NoProfile(text) => no_profile(alloc, subcommand, text),
+        OptionFault::NoBlocks(text) => no_blocks(alloc, subcommand, text),
+        OptionFault::Missing(name) | OptionFault::Lacking(name) => missing(alloc, subcommand, name),
+        OptionFault::Unwanted(name) => beside(alloc, subcommand, name, "sessions"),
+        OptionFault::Beside(name, other) => beside(alloc, subcommand, name, other),
     };
     match refusal {
         Ok(error) => LineFault::Words(error),
@@ -154,7 +168,7 @@ fn quoted_refusal<T: AsStr>(
             return Ok(told);
         }
     }
-    refused(alloc, error.kind(), "a word is not as it should be")
+    refused(alloc, "", error.kind(), "a word is not as it should be")
 }
 
 fn refused_words<T: AsStr>(alloc: Global, words: &[T], error: clap::Error) -> LineFault
@@ -180,7 +194,7 @@ pub fn order<T: AsStr>(alloc: Global, words: &[T]) -> Result<Order, LineFault>
     match command.try_get_matches_from(words) {
         Ok(matches) => match order_of(&matches) {
             Ok(order) => Ok(order),
-            Err(fault) => Err(refused_options(alloc, fault)),
+            Err(fault) => Err(refused_options(alloc, subcommand_name(&matches), fault)),
         },
         Err(error) if error.kind() == ErrorKind::DisplayVersion => Ok(Order::Version),
         Err(error) => Err(refused_words(alloc, words, error)),

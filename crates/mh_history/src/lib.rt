@@ -5,7 +5,7 @@ mod dump;
 mod entry;
 pub mod entry_text;
 pub mod event;
-mod header;
+pub mod header;
 pub mod history;
 mod keyed;
 pub mod lines;

@@ -1,17 +1,21 @@
 -- Histories of any collector, judged by what their sessions see.
-use Rattle.std.specs.Prelude.{◌≡◌, ◌≤◌, ◌⊎◌, Bool, true, false, if◌then◌else◌, List, [], ◌∷◌, length, map, codes}
+use Rattle.std.specs.Prelude.{◌≡◌, ◌≤◌, ◌⊎◌, ℕ, zero, suc, Bool, true, false, if◌then◌else◌, Option, Some, None, List, [], ◌∷◌, length, map, codes}
+use Rattle.std.specs.Option.{option_map_or}
 use Rattle.mh_model.specs.declared.command.Command.{Command}
 use Rattle.mh_model.specs.declared.command.Command.TheVariants as command
 use Rattle.mh_model.specs.declared.command.Event.{Event}
 use Rattle.mh_model.specs.declared.command.Event.TheVariants as event
 use Rattle.mh_model.specs.declared.config.Config.{Config}
 use Rattle.mh_model.specs.declared.config.Rules.{Rules}
+use Rattle.mh_model.specs.declared.config.Rules.TheVariants.{First}
 use Rattle.mh_model.specs.declared.history.Entry.{Entry}
 use Rattle.mh_model.specs.declared.history.Verdict.{Verdict}
-use Rattle.mh_model.specs.declared.history.Verdict.TheVariants.{Refused}
+use Rattle.mh_model.specs.declared.history.Verdict.TheVariants.{Refused, Legal, FirstBad}
 use Rattle.mh_model.specs.declared.reply.Reply.{Reply}
-use Rattle.mh_model.specs.Bytes.{Text, Cut, cut_after, is_text}
-use Rattle.mh_model.specs.HistoryTexts.{IsJudged, Recorded, history_reading, recorded_reading}
+use Rattle.mh_model.specs.declared.reply.Reply.TheVariants as reply
+use Rattle.mh_model.specs.Bytes.{Text, Cut, cut_after, is_text, lines_text, words}
+use Rattle.mh_model.specs.History.{IsFirstBadOf}
+use Rattle.mh_model.specs.HistoryTexts.{IsJudged, Recorded, header_of, history_reading, recorded_reading}
 use Rattle.mh_model.specs.Limits.{most_entries}
 use Rattle.mh_model.specs.Script.{Reading, BadLine, Means, reading_map}
 use Rattle.mh_model.specs.Snapshot.{is_heap_full, world_beside_event}
@@ -19,14 +23,18 @@ use Rattle.mh_model.specs.World.{World, first_world, world_step}
 
 -- What sessions see ------------------------------------------------------------------------------
 
--- a new object that is answered `heap full`, as any may be
+-- a new object that is answered `heap full`
 abbrev pub lacks_room : Command → Reply → Bool
 lacks_room (command.New slot references numbers) answer = is_heap_full answer
 lacks_room _ answer = false
 
+-- So may any be that the ever-growing world makes. What is refused for another reason is refused for that one
+abbrev pub MayLackRoom : World → ℕ → Command → Reply → Type 0
+MayLackRoom world who command answer = (lacks_room command answer ≡ true) × ((world_step world who command).reply ≡ reply.Done)
+
 -- What a correct collector may answer: to a session what the ever-growing world does, or that there is no room for a new object; to a control anything
 abbrev pub IsSeen : World → Event → Reply → Type 0
-IsSeen world (event.Session who command) answer = (answer ≡ (world_step world who command).reply) ⊎ (lacks_room command answer ≡ true)
+IsSeen world (event.Session who command) answer = (answer ≡ (world_step world who command).reply) ⊎ MayLackRoom world who command answer
 IsSeen world (event.Control control) answer = Unit {0}
 
 -- the entries in turn, with the world beside them, in which a command that was answered by a full heap changes nothing
@@ -56,9 +64,53 @@ entries_recorded recorded = map (λ measured. measured.entry) recorded.entries
 abbrev pub entries_reading : Text → Reading (List Entry)
 entries_reading text = if is_of_version_one (cut_after 10 text) then history_reading text else reading_map entries_recorded (recorded_reading text)
 
--- The verdict on a text of either version, by what its sessions see
-abbrev pub IsSeenThrough : Rules → Text → Verdict → Type 0
-IsSeenThrough rules text verdict = judged (entries_reading text) where
-  judged : Reading (List Entry) → Type 0
-  judged (BadLine line) = verdict ≡ Refused line
-  judged (Means entries) = IsJudged (IsLegalForSessions rules) entries verdict
+-- the rules that its first line names, which are the first ones in version 1
+abbrev pub rules_named : Text → Rules
+rules_named text = named (cut_after 10 text).pieces where
+  named : List Text → Rules
+  named [] = First
+  named (line ∷ lines) = option_map_or (λ config. config.rules) (header_of (words line)) First
+
+-- a text up to the end of its last line that has one
+abbrev pub whole_lines : Text → Text
+whole_lines text = lines_text (cut_after 10 text).pieces
+
+-- how a text is read for its sessions: the rules that it names, with its entries; the same of a history that was cut off within this line, of which only the lines before are entries; or its first bad line
+pub data SeenText : Type 0 where
+  Whole : Rules → List Entry → SeenText
+  CutOff : Rules → ℕ → List Entry → SeenText
+  Bad : ℕ → SeenText
+
+-- a text with this bad line, by what its whole lines are
+abbrev pub cut_off_at : Rules → ℕ → Reading (List Entry) → SeenText
+cut_off_at rules line (BadLine other) = Bad line
+cut_off_at rules line (Means entries) = CutOff rules line entries
+
+-- One that is too long is not looked into
+abbrev pub seen_text : Text → SeenText
+seen_text text = seen_as (entries_reading text) where
+  seen_as : Reading (List Entry) → SeenText
+  seen_as (Means entries) = Whole (rules_named text) entries
+  seen_as (BadLine zero) = Bad zero
+  seen_as (BadLine (suc line)) = cut_off_at (rules_named text) (suc line) (entries_reading (whole_lines text))
+
+-- the rules that are asked for, or else those that are named
+abbrev pub rules_or : Option Rules → Rules → Rules
+rules_or None named = named
+rules_or (Some asked) named = asked
+
+-- Of a history that was cut off within this line: the first bad one of the entries before, and if they are legal the line
+abbrev pub IsJudgedCutOff : Rules → ℕ → List Entry → Verdict → Type 0
+IsJudgedCutOff rules line entries (Refused refused) = (refused ≡ line) × IsLegalForSessions rules entries
+IsJudgedCutOff rules line entries (Legal count) = ⊥
+IsJudgedCutOff rules line entries (FirstBad number) = IsFirstBadOf (IsLegalForSessions rules) entries number
+
+-- the verdict on a text that is read so
+abbrev pub IsSeenAs : Option Rules → Verdict → SeenText → Type 0
+IsSeenAs asked verdict (Whole named entries) = IsJudged (IsLegalForSessions (rules_or asked named)) entries verdict
+IsSeenAs asked verdict (CutOff named line entries) = IsJudgedCutOff (rules_or asked named) line entries verdict
+IsSeenAs asked verdict (Bad line) = verdict ≡ Refused line
+
+-- The verdict on a text of either version, by what its sessions see, under the rules that are asked for or that it names
+abbrev pub IsSeenThrough : Option Rules → Text → Verdict → Type 0
+IsSeenThrough asked text verdict = IsSeenAs asked verdict (seen_text text)

@@ -47,8 +47,9 @@ pub enum Order {
     Race(usize),
     /// Check the history on standard input, of version 1, under a configuration.
     Check(Config),
-    /// Check the history on standard input, of either version, by what its sessions see under these rules.
-    CheckSessions(Rules),
+    /// Check the history on standard input, of either version, by what its sessions see, under these rules or else those that
+    /// it names.
+    CheckSessions(Option<Rules>),
     /// Audit the history on standard input, of version 2.
     Audit,
     /// Write the history on standard input, of version 1, as version 2.

@@ -33,7 +33,7 @@ use Rattle.mh_program.specs.Telling.{ErrorStream, TellsEnd, TellsFault, TellsJud
 
 -- the line that names the version, the rules and the versions of histories, and what proved them
 abbrev pub version_text : Text
-version_text = line_text (codes "metroheap 1.0.0: rules 1 and 2, histories 1 and 2, proved by Rattle logic dac8208d650f15bf")
+version_text = line_text (codes "metroheap 1.1.0: rules 1 and 2, histories 1 and 2, proved by Rattle logic dac8208d650f15bf")
 
 -- an order was carried out: its run ended so, what is to be said of that was reported, and the status is the end's
 pub record Obeys {T : Type 0} (Ends : Result T ScriptFault → Type 0) (Tells_end : ErrorStream → ErrorStream → Result T ScriptFault → Type 0) (status_by : Result T ScriptFault → ℕ) (errors errors' : ErrorStream) (status : ℕ) : Type 0 where
@@ -90,7 +90,7 @@ Serves (Ok (Show rules)) source source' sink sink' errors errors' status = Obeys
 Serves (Ok (Live workers)) source source' sink sink' errors errors' status = AnswersLines source source' sink sink' errors errors' status
 Serves (Ok (Race workers)) source source' sink sink' errors errors' status = Obeys (IsRaceRun source source' sink sink') (TellsRun TellsEnd) status_of errors errors' status
 Serves (Ok (Check config)) source source' sink sink' errors errors' status = Obeys (IsChecking config source source' sink sink') (TellsRun TellsJudgement) judgement_status_of errors errors' status
-Serves (Ok (CheckSessions rules)) source source' sink sink' errors errors' status = Obeys (IsSessionsJudging rules source source' sink sink') (TellsRun TellsJudgement) judgement_status_of errors errors' status
+Serves (Ok (CheckSessions asked)) source source' sink sink' errors errors' status = Obeys (IsSessionsJudging asked source source' sink sink') (TellsRun TellsJudgement) judgement_status_of errors errors' status
 Serves (Ok Audit) source source' sink sink' errors errors' status = Obeys (IsAuditing source source' sink sink') (TellsRun TellsJudgement) judgement_status_of errors errors' status
 Serves (Ok (Migrate config)) source source' sink sink' errors errors' status = Obeys (IsMigrating config source source' sink sink') (TellsRun TellsJudgement) judgement_status_of errors errors' status
 Serves (Ok (Curve options)) source source' sink sink' errors errors' status = Obeys (IsRun (curve_output options.form options.rules) source source' sink sink') (TellsRun TellsEnd) status_of errors errors' status

@@ -219,20 +219,20 @@ fn check<S: Source, W: Sink, E: Sink>(
 /// Checks a history by what its sessions see, and reports a fault of that.
 fn check_seen<S: Source, W: Sink, E: Sink>(
     alloc: Global,
-    rules: Rules,
+    asked: Option<Rules>,
     source: &mut S,
     sink: &mut W,
     errors: &mut Errors<E>,
 ) -> u8
     requires source_count { S.failures source.old < 2 ^ 62 }
     requires sink_count { W.failures sink.old < 2 ^ 62 }
-    ensures { Obeys (IsSessionsJudging rules
+    ensures { Obeys (IsSessionsJudging asked
         (device (S.rest source.old) (S.failures source.old)) (device (S.rest source.new) (S.failures source.new))
         (device (W.written sink.old) (W.failures sink.old)) (device (W.written sink.new) (W.failures sink.new))) (TellsRun TellsJudgement) judgement_status_of
         errors.old errors.new result }
 {
-    let ended = check_sessions(alloc, rules, source, sink);
-    errors.tell_judgement(&ended);
+    let ended = check_sessions(alloc, asked, source, sink);
+    errors.tell_seen(&ended);
     judgement_status(&ended)
 }
 
@@ -354,7 +354,7 @@ pub fn serve<R: Threads + Wait + Sync, S: Source, W: Sink, E: Sink, G: CrewGate 
         Ok(Order::Live(workers)) => live(rt, alloc, workers, source, sink, errors, gate),
         Ok(Order::Race(workers)) => race(rt, alloc, workers, source, sink, errors, gate),
         Ok(Order::Check(config)) => check(alloc, config, source, sink, errors),
-        Ok(Order::CheckSessions(rules)) => check_seen(alloc, rules, source, sink, errors),
+        Ok(Order::CheckSessions(asked)) => check_seen(alloc, asked, source, sink, errors),
         Ok(Order::Audit) => audit(alloc, source, sink, errors),
         Ok(Order::Migrate(config)) => migrate(alloc, config, source, sink, errors),
         Ok(Order::Curve(options)) => { draw_script(rt, alloc, options, source, sink, errors, gate) }

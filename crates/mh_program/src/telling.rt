@@ -11,6 +11,7 @@ use mh_command_line::quoted::{printable, signs};
 use mh_live::listener::Listener;
 use mh_live::mh_script::end::{End, Refusal};
 use mh_live::mh_script::fault::{HISTORY_FULL, NO_MEMORY, READ_FAILED, ScriptFault, WRITE_FAILED};
+use mh_live::mh_script::mh_reasons::history_reason::HistoryReason;
 use mh_orders::order::ConfigOption;
 use mh_sessions::mh_judging::judgement::Judgement;
 use mh_show::mh_curve::end::CurveEnd;
@@ -108,6 +109,23 @@ fn words_text(alloc: Global, error: &clap::Error) -> Result<Vec<u8>, AllocError>
     printable(alloc, text.as_str())
 }
 
+/// Why a history is refused that is judged by what its sessions see. The entries of one that was cut off were judged.
+struct SeenRefusal<'a> {
+    line: u64,
+    reason: &'a HistoryReason,
+}
+
+impl fmt::Display for SeenRefusal<'_> {
+    fn fmt<W: fmt::Write>(&self, f: &mut fmt::Formatter<W>) -> fmt::Result {
+        write!(f, "{}", self.reason)?;
+        if self.line > 1 && matches!(self.reason, HistoryReason::NoNewline) {
+            let legal = self.line - 2;
+            write!(f, "; legal entries before it: {legal}")?;
+        }
+        Ok(())
+    }
+}
+
 impl<E: Sink> Errors<E> {
     /// Writes a text that quotes an input, or another if there was no memory for it.
     fn tell_quoted(&mut self, text: Result<Vec<u8>, AllocError>, other: &[u8])
@@ -178,6 +196,32 @@ impl<E: Sink> Errors<E> {
                 let text = entry_complaint(self.alloc(), *number, fault);
                 self.tell_quoted(text, b"metroheap: an entry is bad\n");
             }
+        }
+    }
+
+    fn tell_seen_found(&mut self, judgement: &Judgement)
+        ensures { TellsJudgement self.old self.new judgement.now }
+    {
+        match judgement {
+            Judgement::Refused { line, reason } => {
+                let refusal = SeenRefusal {
+                    line: *line,
+                    reason,
+                };
+                let text = line_complaint(self.alloc(), *line, &refusal);
+                self.tell_quoted(text, b"metroheap: the history is outside the grammar\n");
+            }
+            _ => self.tell_found(judgement),
+        }
+    }
+
+    /// The same of a history that is judged by what its sessions see.
+    pub(crate) fn tell_seen(&mut self, ended: &Result<Judgement, ScriptFault>)
+        ensures { TellsRun TellsJudgement self.old self.new ended.now }
+    {
+        match ended {
+            Ok(judgement) => self.tell_seen_found(judgement),
+            Err(fault) => self.tell(fault_line(*fault)),
         }
     }
 

@@ -1,4 +1,5 @@
 pub mod RunsByEvents
 pub mod AnsweredEvents
 pub mod SpentUnits
+pub mod FullWorlds
 pub mod OfLaws

@@ -40,7 +40,7 @@ abbrev pub AreTheWorlds : Config → List Event → List Reply → Type 0
 AreTheWorlds config events replies = (before : List Event) (who : ℕ) (command : Command) (given : Reply) → IsAnswered events replies before (event.Session who command) given → is_heap_full given ≡ false
     → given ≡ (world_step (world_beside (first_world config) before replies) who command).reply
 
--- A full heap answers new objects alone, only if some part of the object has no place and no other test refuses it, and then always
+-- A full heap answers new objects alone, only if some part of the object has no place and no other test refuses it, and then always. So the heap that never collects or moves would make it
 pub record FullIsNoPlace (config : Config) (events : List Event) (replies : List Reply) : Type 0 where
   pub new : (before : List Event) (who : ℕ) (asked : Command) → IsAnswered events replies before (event.Session who asked) (reply.Refused HeapFull) → IsNew asked
   pub only : (before : List Event) (who slot references numbers : ℕ) → IsAnswered events replies before (event.Session who (command.New slot references numbers)) (reply.Refused HeapFull) → new_group (machine_at config before).heap references numbers ≡ None
@@ -48,6 +48,8 @@ pub record FullIsNoPlace (config : Config) (events : List Event) (replies : List
       → refusal (record (heap_sight (machine_at config before).heap) { is_full = never_full }) who (command.New slot references numbers) ≡ None
   pub each : (before : List Event) (who slot references numbers : ℕ) (given : Reply) → IsAnswered events replies before (event.Session who (command.New slot references numbers)) given
       → refusal (record (heap_sight (machine_at config before).heap) { is_full = never_full }) who (command.New slot references numbers) ≡ None → new_group (machine_at config before).heap references numbers ≡ None → given ≡ reply.Refused HeapFull
+  pub made : (before : List Event) (who slot references numbers : ℕ) → IsAnswered events replies before (event.Session who (command.New slot references numbers)) (reply.Refused HeapFull)
+      → (world_step (world_beside (first_world config) before replies) who (command.New slot references numbers)).reply ≡ reply.Done
 
 -- A command that is refused, by a full heap too, leaves the heap as it was; only the quantum that it makes due may change it. Its unit counts
 abbrev pub RefusedChangesNothing : Config → List Event → List Reply → Type 0

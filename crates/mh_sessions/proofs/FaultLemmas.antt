@@ -66,7 +66,7 @@ after-config world (entry ∷ entries) = after-config (world_beside_event world 
 unseen-under : (config : Config) (world : World) → config.rules ≡ world.config.rules → (asked : Event) (answer : Reply) (f : EntryFault) → IsUnseenReply world asked answer f → IsUnseenReply (world_under config world) asked answer f
 unseen-under config world same (event.Session who command) answer f is =
     let reply : (world_step world who command).reply ≡ (world_step (world_under config world) who command).reply = sym (ap (λ (after : Answer World). after.reply) (rules_alone.command config world same who command)) in
-    (is.0, subst (λ (right : Reply). IsReplyFault answer right f) reply is.1)
+    (λ lacks. is.0 (lacks.0, reply ∙ lacks.1), subst (λ (right : Reply). IsReplyFault answer right f) reply is.1)
 unseen-under config world same (event.Control control) answer f is = is
 
 -- Entries ----------------------------------------------------------------------------------------

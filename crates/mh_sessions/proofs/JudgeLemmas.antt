@@ -1,23 +1,26 @@
 -- A judge of what sessions see follows a history entry by entry.
-use Rattle.std.proofs.Common.{◌≡◌, ◌≢◌, ◌∙◌, ◌↔◌, ◌⊎◌, inl, inr, ℕ, ◌+◌, ◌-◌, Bool, true, false, IsTrue, Option, Some, None, is_some, List, [], ◌∷◌, ◌++◌, length, take, ap, sym, refl, subst, arith}
+use Rattle.std.proofs.Common.{◌≡◌, ◌≢◌, ◌∙◌, ◌↔◌, ◌⊎◌, inl, inr, ℕ, ◌+◌, ◌-◌, Bool, true, false, IsTrue, Option, Some, None, is_some, is_none, List, [], ◌∷◌, ◌++◌, length, take, ap, sym, refl, subst, arith}
 use Rattle.std.proofs.lemmas.Bool.{false≢true}
 use Rattle.std.proofs.lemmas.List.{length_push, take_all, take_at}
 use Rattle.mh_model.specs.declared.command.Command.{Command}
+use Rattle.mh_model.specs.declared.command.Command.TheVariants as command
 use Rattle.mh_model.specs.declared.command.Event.{Event}
 use Rattle.mh_model.specs.declared.command.Event.TheVariants as event
 use Rattle.mh_model.specs.declared.config.Config.{Config}
 use Rattle.mh_model.specs.declared.config.Rules.{Rules}
 use Rattle.mh_model.specs.declared.history.Entry.{Entry}
+use Rattle.mh_model.specs.declared.reply.Refusal.{Refusal}
 use Rattle.mh_model.specs.declared.reply.Reply.{Reply}
+use Rattle.mh_model.specs.declared.reply.Reply.TheVariants as reply
 use Rattle.mh_model.specs.History.{IsFirstBadOf}
 use Rattle.mh_model.specs.Limits.{most_entries}
 use Rattle.mh_model.specs.Sessions.{IsLegalForSessions, IsSeen, lacks_room}
 use Rattle.mh_model.specs.Snapshot.{is_heap_full, world_beside_event}
-use Rattle.mh_model.specs.World.{Answer, Performs, World, first_world, never_full, world_step}
+use Rattle.mh_model.specs.World.{Answer, Performs, World, effect, first_world, heap_step, never_full, refusal, sight_of, unless_refused, world_step}
 use Rattle.mh_run_laws.proofs.worlds.FullHeaps.{world_step-never_full}
 use Rattle.mh_sessions.specs.Judging.{HasFollowed, HasSeenSessions, IsFollowed, IsTried}
 use Rattle.mh_sessions.proofs.RulesLemmas.{beside-config, rules_alone}
-use Rattle.mh_sessions.proofs.SeenLemmas.{after_more, seen_at, seen_more, world_after}
+use Rattle.mh_sessions.proofs.SeenLemmas.{after_more, lacks_full, seen_at, seen_more, world_after}
 
 -- One entry --------------------------------------------------------------------------------------
 
@@ -34,7 +37,7 @@ module _ (old new : World) (who : ℕ) (command : Command) (answer given : Reply
       (inl (same ∙ sym (ap (λ (after : Answer World). after.reply) performs)), took-step same)
   follows false room is = λ seen. elim seen [
     | inl same ↦ false≢true (is.1 (same ∙ ap (λ (after : Answer World). after.reply) performs))
-    | inr lacks ↦ false≢true (sym room ∙ lacks)
+    | inr lacks ↦ false≢true (sym room ∙ lacks.0)
   ]
 
 -- a session's command was performed, and its reply compared with that of the entry
@@ -42,6 +45,38 @@ pub followed : (old new : World) (entry : Entry) (who : ℕ) (command : Command)
     → Performs never_full old who command given new → IsTrue right ↔ (entry.reply ≡ given) → IsFollowed old entry new right
 followed old new entry who command given right is room performs compared =
     subst (λ (asked : Event). IsFollowed old (record { event = asked; reply = entry.reply }) new right) (sym is) (follows old new who command entry.reply given performs right room compared)
+
+-- a new object that was answered by a full heap, beside what the world would answer: nothing is made
+module _ (world : World) (who : ℕ) (command : Command) (answer : Reply) (lacks : lacks_room command answer ≡ true) where
+  kept : world ≡ world_beside_event world (event.Session who command) answer
+  kept = rw (lacks_full command answer lacks) refl
+
+  full-other : ¬ (answer ≡ (world_step world who command).reply)
+  full-other same = false≢true (sym (world_step-never_full world who command) ∙ ap is_heap_full (sym same) ∙ lacks_full command answer lacks)
+
+  follows-full : (right : Bool) → IsTrue right ↔ ((world_step world who command).reply ≡ reply.Done) → IsFollowed world (record { event = event.Session who command; reply = answer }) world right
+  follows-full true is = (inr (lacks, is.0 refl), kept)
+  follows-full false is = λ seen. elim seen [
+    | inl same ↦ full-other same
+    | inr may ↦ false≢true (is.1 may.1)
+  ]
+
+pub followed_full : (world : World) (entry : Entry) (who : ℕ) (command : Command) (right : Bool) → entry.event ≡ event.Session who command → lacks_room command entry.reply ≡ true
+    → IsTrue right ↔ ((world_step world who command).reply ≡ reply.Done) → IsFollowed world entry world right
+followed_full world entry who command right is lacks made =
+    subst (λ (asked : Event). IsFollowed world (record { event = asked; reply = entry.reply }) world right) (sym is) (follows-full world who command entry.reply lacks right made)
+
+-- what the world would answer to a new object that is refused so
+pub answers_new : (refused : Option Refusal) (world : World) (who slot references numbers : ℕ) → refused ≡ refusal (sight_of never_full world) who (command.New slot references numbers)
+    → IsTrue (is_none refused) ↔ ((world_step world who (command.New slot references numbers)).reply ≡ reply.Done)
+unfolding heap_step
+answers_new refused world who slot references numbers is =
+    let asked = command.New slot references numbers in
+    subst (λ (found : Option Refusal). IsTrue (is_none refused) ↔ ((unless_refused found world (effect world who asked)).reply ≡ reply.Done)) is (by refused)
+  where
+    by : (found : Option Refusal) → IsTrue (is_none found) ↔ ((unless_refused found world (effect world who (command.New slot references numbers))).reply ≡ reply.Done)
+    by None = (λ _. refl, λ _. refl)
+    by (Some other) = (λ is. absurd (false≢true is), λ is. cc)
 
 -- an entry that isn't one too many is tried by following it
 pub tried : (old : World) (count : ℕ) (entry : Entry) (new : World) (right : Bool) → count ≢ most_entries → IsFollowed old entry new right → IsTried old count entry new right

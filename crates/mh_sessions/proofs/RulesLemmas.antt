@@ -87,7 +87,7 @@ beside-under config world same (event.Control control) answer = refl
 
 is_seen-under : (config : Config) (world : World) → config.rules ≡ world.config.rules → (event : Event) (answer : Reply) → IsSeen world event answer → IsSeen (world_under config world) event answer
 is_seen-under config world same (event.Session who command) answer (inl is) = inl (is ∙ sym (ap (λ (after : Answer World). after.reply) (step-under config world same who command)))
-is_seen-under config world same (event.Session who command) answer (inr lacks) = inr lacks
+is_seen-under config world same (event.Session who command) answer (inr lacks) = inr (lacks.0, ap (λ (after : Answer World). after.reply) (step-under config world same who command) ∙ lacks.1)
 is_seen-under config world same (event.Control control) answer seen = tt
 
 are_seen-under : (config : Config) (world : World) → config.rules ≡ world.config.rules → (history : List Entry) → AreSeen world history → AreSeen (world_under config world) history

@@ -8,7 +8,7 @@ use Rattle.mh_model.specs.declared.command.Event.TheVariants as event
 use Rattle.mh_model.specs.declared.history.Entry.{Entry}
 use Rattle.mh_model.specs.declared.reply.Reply.{Reply}
 use Rattle.mh_model.specs.History.{events_of, replies_of}
-use Rattle.mh_model.specs.Sessions.{AreSeen, IsSeen, lacks_room}
+use Rattle.mh_model.specs.Sessions.{AreSeen, IsSeen, MayLackRoom, lacks_room}
 use Rattle.mh_model.specs.Snapshot.{is_heap_full, world_beside, world_beside_event}
 use Rattle.mh_model.specs.World.{World, world_step}
 
@@ -66,9 +66,9 @@ lacks_full (command.Post board slot) answer lacks = absurd (false≢true lacks)
 lacks_full (command.Take slot board) answer lacks = absurd (false≢true lacks)
 lacks_full command.End answer lacks = absurd (false≢true lacks)
 
--- what isn't a full heap is the world's, and a full heap answers new objects alone
+-- what isn't a full heap is the world's, and a full heap answers new objects alone, which the world would make
 pub is_seen : (world : World) (asked : Event) (answer : Reply) → ((who : ℕ) (command : Command) → asked ≡ event.Session who command → is_heap_full answer ≡ false → answer ≡ (world_step world who command).reply)
-    → ((who : ℕ) (command : Command) → asked ≡ event.Session who command → is_heap_full answer ≡ true → lacks_room command answer ≡ true) → IsSeen world asked answer
+    → ((who : ℕ) (command : Command) → asked ≡ event.Session who command → is_heap_full answer ≡ true → MayLackRoom world who command answer) → IsSeen world asked answer
 is_seen world (event.Session who command) answer other full = by (is_heap_full answer) refl where
   by : (b : Bool) → is_heap_full answer ≡ b → IsSeen world (event.Session who command) answer
   by true is = inr (full who command refl is)

@@ -1,5 +1,5 @@
 -- A text has a verdict by what its sessions see.
-use Rattle.std.proofs.Common.{◌≡◌, ◌∙◌, ◌⊎◌, inl, inr, Bool, true, false, if◌then◌else◌, List, [], ◌∷◌, map, sym, refl}
+use Rattle.std.proofs.Common.{◌≡◌, ◌∙◌, ◌⊎◌, inl, inr, ℕ, zero, suc, Bool, true, false, if◌then◌else◌, List, [], ◌∷◌, map, sym, refl}
 use Rattle.std.specs.List.{list_all}
 use Rattle.std.proofs.lemmas.Bool.{and_from, and_parts, false≢true}
 use Rattle.mh_model.specs.declared.command.Event.{Event}
@@ -8,15 +8,16 @@ use Rattle.mh_model.specs.declared.config.Rules.{Rules}
 use Rattle.mh_model.specs.declared.history.Entry.{Entry}
 use Rattle.mh_model.specs.declared.history.Measured.{Measured}
 use Rattle.mh_model.specs.declared.history.Verdict.{Verdict}
-use Rattle.mh_model.specs.declared.history.Verdict.TheVariants.{Refused}
+use Rattle.mh_model.specs.declared.history.Verdict.TheVariants.{Refused, Legal, FirstBad}
 use Rattle.mh_model.specs.declared.history.Version.{Version}
 use Rattle.mh_model.specs.declared.history.Version.TheVariants.{One, Two}
 use Rattle.mh_model.specs.declared.reply.Reply.{Reply}
+use Rattle.mh_model.specs.declared.reply.Reply.TheVariants as reply
 use Rattle.mh_model.specs.Bytes.{Text, cut_after}
 use Rattle.mh_model.specs.HistoryTexts.{IsJudged, Recorded, history_reading, is_entry, is_measured, recorded_reading}
 use Rattle.mh_model.specs.Limits.{most_entries}
 use Rattle.mh_model.specs.Script.{Reading, BadLine, Means, reading_map}
-use Rattle.mh_model.specs.Sessions.{AreSeen, IsLegalForSessions, IsSeen, IsSeenThrough, entries_reading, entries_recorded, is_of_version_one, lacks_room}
+use Rattle.mh_model.specs.Sessions.{AreSeen, IsJudgedCutOff, IsLegalForSessions, IsSeen, IsSeenAs, IsSeenThrough, cut_off_at, entries_reading, entries_recorded, is_of_version_one, lacks_room, rules_named, rules_or, whole_lines}
 use Rattle.mh_model.specs.Snapshot.{world_beside_event}
 use Rattle.mh_model.specs.World.{World, first_world, world_step}
 use Rattle.mh_text_laws.proofs.rewritings.HistoriesWrittenAgain.{histories-again, records-again}
@@ -57,9 +58,12 @@ seen_or_not : (world : World) (event : Event) (answer : Reply) → ((other : Rep
 seen_or_not world (event.Session who command) answer decide = by (lacks_room command answer) refl (decide (world_step world who command).reply) where
   by : (b : Bool) → lacks_room command answer ≡ b → (answer ≡ (world_step world who command).reply) ⊎ (answer ≡ (world_step world who command).reply → ⊥)
       → IsSeen world (event.Session who command) answer ⊎ (IsSeen world (event.Session who command) answer → ⊥)
-  by true lacks found = inl (inr lacks)
-  by false lacks (inl same) = inl (inl same)
-  by false lacks (inr other) = inr (λ seen. elim seen [ inl same ↦ other same | inr room ↦ false≢true (sym lacks ∙ room) ])
+  by b lacks (inl same) = inl (inl same)
+  by false lacks (inr other) = inr (λ seen. elim seen [ inl same ↦ other same | inr room ↦ false≢true (sym lacks ∙ room.0) ])
+  by true lacks (inr other) = made (world_step world who command).reply refl where
+    made : (given : Reply) → (world_step world who command).reply ≡ given → IsSeen world (event.Session who command) answer ⊎ (IsSeen world (event.Session who command) answer → ⊥)
+    made reply.Done is = inl (inr (lacks, is))
+    made _ is = inr (λ seen. elim seen [ inl same ↦ other same | inr room ↦ (let done : reply.Done ≡ _ = sym room.1 ∙ is in cc) ])
 seen_or_not world (event.Control control) answer decide = inl tt
 
 judged : OnlyTheRulesMatter → (rules : Rules) (version : Version) (entries : List Entry) → list_all (is_entry version) entries ≡ true → (verdict : Verdict) × IsJudged (IsLegalForSessions rules) entries verdict
@@ -87,10 +91,27 @@ in_range text entries = by (is_of_version_one (cut_after 10 text)) where
   by false means = (Two, recorded-in-range text entries (recorded_reading text) refl means)
 
 pub seen_through : OnlyTheRulesMatter → TextsAreSeenThrough
-seen_through alone rules text = by (entries_reading text) refl where
-  by : (found : Reading (List Entry)) → entries_reading text ≡ found → (verdict : Verdict) × IsSeenThrough rules text verdict
-  by (BadLine line) is = (Refused line, rw is refl)
+seen_through alone asked text = by (entries_reading text) refl where
+  named : Rules
+  named = rules_named text
+
+  found : (of : Text) (entries : List Entry) → entries_reading of ≡ Means entries → (verdict : Verdict) × IsJudged (IsLegalForSessions (rules_or asked named)) entries verdict
+  found of entries is = let range = in_range of entries is in judged alone (rules_or asked named) range.0 entries range.1
+
+  cut : (line : ℕ) (entries : List Entry) → (verdict : Verdict) × IsJudged (IsLegalForSessions (rules_or asked named)) entries verdict → (verdict : Verdict) × IsJudgedCutOff (rules_or asked named) line entries verdict
+  cut line entries (Legal count, is) = (Refused line, (refl, is.0))
+  cut line entries (FirstBad number, is) = (FirstBad number, is)
+  cut line entries (Refused other, is) = absurd is
+
+  at_line : (line : ℕ) (whole : Reading (List Entry)) → entries_reading (whole_lines text) ≡ whole → (verdict : Verdict) × IsSeenAs asked verdict (cut_off_at named line whole)
+  at_line line (BadLine other) is = (Refused line, refl)
+  at_line line (Means entries) is = cut line entries (found (whole_lines text) entries is)
+
+  by : (read : Reading (List Entry)) → entries_reading text ≡ read → (verdict : Verdict) × IsSeenThrough asked text verdict
+  by (BadLine zero) is = (Refused 0, rw is refl)
+  by (BadLine (suc line)) is =
+      let there = at_line (suc line) (entries_reading (whole_lines text)) refl in
+      (there.0, rw is there.1)
   by (Means entries) is =
-      let range = in_range text entries is in
-      let found = judged alone rules range.0 entries range.1 in
-      (found.0, rw is found.1)
+      let whole = found text entries is in
+      (whole.0, rw is whole.1)

@@ -1,5 +1,5 @@
 -- What is wrong with the first entry that its session may not see.
-use Rattle.std.specs.Prelude.{◌≡◌, List, false}
+use Rattle.std.specs.Prelude.{◌≡◌, List}
 use Rattle.mh_judging.specs.declared.entry_fault.EntryFault.{EntryFault}
 use Rattle.mh_judging.specs.Faults.{IsReplyFault}
 use Rattle.mh_model.specs.declared.command.Event.{Event}
@@ -9,13 +9,13 @@ use Rattle.mh_model.specs.declared.config.Rules.{Rules}
 use Rattle.mh_model.specs.declared.history.Entry.{Entry}
 use Rattle.mh_model.specs.declared.reply.Reply.{Reply}
 use Rattle.mh_model.specs.History.{events_of, replies_of}
-use Rattle.mh_model.specs.Sessions.{lacks_room}
+use Rattle.mh_model.specs.Sessions.{MayLackRoom}
 use Rattle.mh_model.specs.Snapshot.{world_beside}
 use Rattle.mh_model.specs.World.{World, first_world, world_step}
 
 -- what a fault says of a reply to an event beside the world's: a control's is never wrong
 abbrev pub IsUnseenReply : World → Event → Reply → EntryFault → Type 0
-IsUnseenReply world (event.Session who command) answer fault = (lacks_room command answer ≡ false) × IsReplyFault answer (world_step world who command).reply fault
+IsUnseenReply world (event.Session who command) answer fault = ¬ MayLackRoom world who command answer × IsReplyFault answer (world_step world who command).reply fault
 IsUnseenReply world (event.Control control) answer fault = ⊥
 
 abbrev pub IsUnseen : World → Entry → EntryFault → Type 0

@@ -1,5 +1,5 @@
 -- Laws of histories that are judged by what their sessions see.
-use Rattle.std.specs.Prelude.{◌≡◌, ℕ, true, false, List, ◌∷◌, ◌++◌}
+use Rattle.std.specs.Prelude.{◌≡◌, ℕ, true, false, Option, List, ◌∷◌, ◌++◌}
 use Rattle.mh_model.specs.declared.command.Command.{Command}
 use Rattle.mh_model.specs.declared.command.Event.TheVariants as event
 use Rattle.mh_model.specs.declared.config.Config.{Config}
@@ -9,7 +9,7 @@ use Rattle.mh_model.specs.declared.history.Verdict.{Verdict}
 use Rattle.mh_model.specs.declared.reply.Reply.{Reply}
 use Rattle.mh_model.specs.Bytes.{Text}
 use Rattle.mh_model.specs.History.{IsLegal, events_of, replies_of}
-use Rattle.mh_model.specs.Sessions.{AreSeen, IsLegalForSessions, IsSeenThrough, lacks_room}
+use Rattle.mh_model.specs.Sessions.{AreSeen, IsLegalForSessions, IsSeenThrough, MayLackRoom}
 use Rattle.mh_model.specs.Snapshot.{is_heap_full, world_beside}
 use Rattle.mh_model.specs.World.{World, first_world, says, world_step}
 
@@ -28,11 +28,12 @@ pub record IsOfSession (history before : List Entry) (who : ℕ) (command : Comm
   pub later : List Entry
   pub split : history ≡ before ++ record { event = event.Session who command; reply = given } ∷ later
 
--- Each reply to a session but a full heap is that of the ever-growing world, under any configuration with these rules. To that world the commands that a full heap refused weren't given. A full heap answers new objects alone
+-- Each reply to a session but a full heap is that of the ever-growing world, under any configuration with these rules. To that world the commands that a full heap refused weren't given. A full heap answers new objects alone, which that world would make
 pub record AnswersItsSessions (rules : Rules) (history : List Entry) : Type 0 where
   pub reply : (config : Config) → config.rules ≡ rules → (before : List Entry) (who : ℕ) (command : Command) (given : Reply) → IsOfSession history before who command given → is_heap_full given ≡ false
       → given ≡ (world_step (world_beside (first_world config) (events_of before) (replies_of before)) who command).reply
-  pub full : (before : List Entry) (who : ℕ) (command : Command) (given : Reply) → IsOfSession history before who command given → is_heap_full given ≡ true → lacks_room command given ≡ true
+  pub full : (config : Config) → config.rules ≡ rules → (before : List Entry) (who : ℕ) (command : Command) (given : Reply) → IsOfSession history before who command given → is_heap_full given ≡ true
+      → MayLackRoom (world_beside (first_world config) (events_of before) (replies_of before)) who command given
 
 -- A history that is legal for its sessions answers them so
 abbrev pub SessionsSeeTheWorld : Type 0
@@ -44,4 +45,4 @@ LegalHistoriesAreLegalForSessions = (config : Config) (history : List Entry) →
 
 -- A text has a verdict by what its sessions see
 abbrev pub TextsAreSeenThrough : Type 0
-TextsAreSeenThrough = (rules : Rules) (text : Text) → (verdict : Verdict) × IsSeenThrough rules text verdict
+TextsAreSeenThrough = (asked : Option Rules) (text : Text) → (verdict : Verdict) × IsSeenThrough asked text verdict

@@ -1,12 +1,13 @@
 -- Texts of either version that are judged by what their sessions see.
-use Rattle.std.specs.Prelude.{◌≡◌, ◌⊎◌, ℕ, if◌then◌else◌, List, Result}
+use Rattle.std.specs.Prelude.{◌≡◌, ◌⊎◌, ℕ, if◌then◌else◌, Option, List, Result}
 use Rattle.mh_model.specs.declared.config.Rules.{Rules}
 use Rattle.mh_model.specs.declared.history.Entry.{Entry}
+use Rattle.mh_model.specs.declared.history.Verdict.{Verdict}
 use Rattle.mh_model.specs.declared.history.Version.{Version}
 use Rattle.mh_model.specs.declared.history.Version.TheVariants.{One, Two}
 use Rattle.mh_model.specs.Bytes.{Text, cut_after}
 use Rattle.mh_model.specs.Script.{Means}
-use Rattle.mh_model.specs.Sessions.{IsSeenThrough, entries_reading, is_of_version_one}
+use Rattle.mh_model.specs.Sessions.{SeenText, Whole, CutOff, Bad, IsLegalForSessions, IsSeenThrough, entries_reading, is_of_version_one, rules_or, seen_text}
 use Rattle.mh_judging.specs.OfReasons.HistoryReason.{HistoryReason}
 use Rattle.mh_judging.specs.OfReasons.HistoryReasons.{IsHistoryReason}
 use Rattle.mh_history.specs.Beginnings.{BeginsWithEntry, BeginsWithMeasured}
@@ -14,7 +15,7 @@ use Rattle.mh_judging.specs.declared.entry_fault.EntryFault.{EntryFault}
 use Rattle.mh_judging.specs.declared.judgement.Judgement.{Judgement}
 use Rattle.mh_judging.specs.Faults.{HasFault}
 use Rattle.mh_judging.specs.Judgements.{IsExplained}
-use Rattle.mh_judging.specs.Judged.{IsJudging}
+use Rattle.mh_judging.specs.Judged.{IsJudging, IsVerdictOn}
 use Rattle.mh_judging.specs.OfScript.ScriptFault.{ScriptFault}
 use Rattle.mh_judging.specs.OfScript.Run.{Device}
 use Rattle.mh_sessions.specs.Faults.{IsUnseenAfter}
@@ -31,14 +32,34 @@ version_of text = if is_of_version_one (cut_after 10 text) then One else Two
 abbrev pub IsReasonOf : Text → ℕ → HistoryReason → Type 0
 IsReasonOf text line reason = (version : Version) × ((line ≡ 0) ⊎ (version ≡ version_of text)) × IsHistoryReason version text line reason
 
--- a fault of the entry with this number
-abbrev pub IsSeenFault : Rules → Text → ℕ → EntryFault → Type 0
-IsSeenFault rules text number fault = (entries : List Entry) × (entries_reading text ≡ Means entries) × HasFault (IsUnseenAfter rules) entries number fault
+-- Whole lines ------------------------------------------------------------------------------------
+
+-- the verdict on a text all of whose lines are to be entries
+abbrev pub IsVerdictOnAll : Rules → Text → Verdict → Type 0
+IsVerdictOnAll rules text = IsVerdictOn (IsLegalForSessions rules) (entries_reading text)
+
+-- a fault of the entry of it with this number
+abbrev pub IsFaultInAll : Rules → Text → ℕ → EntryFault → Type 0
+IsFaultInAll rules text number fault = (entries : List Entry) × (entries_reading text ≡ Means entries) × HasFault (IsUnseenAfter rules) entries number fault
+
+-- what a judgement says of it beside the verdict is true
+abbrev pub IsExplainedInAll : Rules → Text → Judgement → Type 0
+IsExplainedInAll rules text = IsExplained (IsReasonOf text) (IsFaultInAll rules text)
+
+-- Texts ------------------------------------------------------------------------------------------
+
+-- A fault of the entry with this number, also of a history that was cut off, under the rules that are asked for or named
+abbrev pub IsSeenFault : Option Rules → Text → ℕ → EntryFault → Type 0
+IsSeenFault asked text number fault = wrong (seen_text text) where
+  wrong : SeenText → Type 0
+  wrong (Whole named entries) = HasFault (IsUnseenAfter (rules_or asked named)) entries number fault
+  wrong (CutOff named line entries) = HasFault (IsUnseenAfter (rules_or asked named)) entries number fault
+  wrong (Bad line) = ⊥
 
 -- What a judgement says of a text beside its verdict is true
-abbrev pub IsSeenExplained : Rules → Text → Judgement → Type 0
-IsSeenExplained rules text = IsExplained (IsReasonOf text) (IsSeenFault rules text)
+abbrev pub IsSeenExplained : Option Rules → Text → Judgement → Type 0
+IsSeenExplained asked text = IsExplained (IsReasonOf text) (IsSeenFault asked text)
 
--- A history of either version was judged by what its sessions see, under these rules, and how that ended
-abbrev pub IsSessionsJudging : Rules → (source source' sink sink' : Device) → Result Judgement ScriptFault → Type 0
-IsSessionsJudging rules = IsJudging (IsSeenThrough rules) (IsSeenExplained rules) BeginsWithEither 2147483648
+-- A history of either version was judged by what its sessions see, under the rules that are asked for or that it names, and how that ended
+abbrev pub IsSessionsJudging : Option Rules → (source source' sink sink' : Device) → Result Judgement ScriptFault → Type 0
+IsSessionsJudging asked = IsJudging (IsSeenThrough asked) (IsSeenExplained asked) BeginsWithEither 2147483648

@@ -1,5 +1,5 @@
 //! The judge of a history by what its sessions see: the heap that never collects answers each session's command once more.
-ghost use Rattle.std.specs.Prelude.{◌≡◌, ◌<◌, ◌≤◌, ◌+◌, List, [], ◌∷◌, ◌++◌, IsSome, IsOk, IsTrue, IfOk, OnOk, OnErr};
+ghost use Rattle.std.specs.Prelude.{◌≡◌, ◌<◌, ◌≤◌, ◌+◌, ◌↔◌, List, [], ◌∷◌, ◌++◌, IsSome, IsOk, IsTrue, IfOk, OnOk, OnErr};
 ghost use Rattle.mh_heap.specs.PlainHeap.{world_of};
 ghost use Rattle.mh_model.specs.declared.birth.TheConstants.{LIFE};
 ghost use Rattle.mh_model.specs.declared.config.Config.{Config};
@@ -8,7 +8,8 @@ ghost use Rattle.mh_model.specs.declared.history.Entry.{Entry};
 ghost use Rattle.mh_model.specs.HistoryTexts.{IsJudged};
 ghost use Rattle.mh_model.specs.Limits.{most_entries};
 ghost use Rattle.mh_model.specs.Sessions.{IsLegalForSessions, lacks_room};
-ghost use Rattle.mh_model.specs.World.{births, first_world};
+ghost use Rattle.mh_model.specs.declared.reply.Reply.TheVariants.{Done};
+ghost use Rattle.mh_model.specs.World.{IsNew, births, first_world, world_step};
 ghost use Rattle.mh_sessions.specs.Judging.{HasSeenSessions, IsFollowed, IsTried, MakesObject};
 
 use mh_heap::perform::perform;
@@ -30,6 +31,22 @@ fn lacks_room(command: &Command, reply: &Reply) -> bool
     matches!(command, Command::New { .. }) && matches!(reply, Reply::Refused(Refusal::HeapFull))
 }
 
+/// Whether the heap that never collects would make the new object that a command asks for.
+fn is_made(heap: &PlainHeap, who: u8, command: &Command) -> bool
+    requires { IsNew command.now }
+    ensures { IsTrue result ↔ ((world_step (world_of heap.now) who command.now).reply ≡ Done) }
+{
+    let Command::New {
+        slot,
+        references,
+        numbers,
+    } = *command
+    else {
+        unreachable!();
+    };
+    heap.refusal_of_new(who, slot, references, numbers).is_none()
+}
+
 /// Performs a session's command, if there was room for it, and reports whether the session may see the entry's reply. It
 /// passes over controls.
 pub(crate) fn follow(heap: &mut PlainHeap, entry: &Entry) -> Result<bool, NoMemory>
@@ -43,7 +60,7 @@ pub(crate) fn follow(heap: &mut PlainHeap, entry: &Entry) -> Result<bool, NoMemo
         return Ok(true);
     };
     if lacks_room(&command, &entry.reply) {
-        return Ok(true);
+        return Ok(is_made(heap, who, &command));
     }
     let reply = perform(heap, who, &command)?;
     Ok(is_same(&entry.reply, &reply))

@@ -7,27 +7,29 @@ ghost use Rattle.mh_judging.specs.Judged.{BeginsToJudge, Explains, IsVerdictOn, 
 ghost use Rattle.mh_model.specs.declared.history.Verdict.TheVariants.{FirstBad};
 ghost use Rattle.mh_model.specs.Bytes.{cut_after};
 ghost use Rattle.mh_model.specs.Script.{BadLine, reading_map};
-ghost use Rattle.mh_model.specs.Sessions.{IsLegalForSessions, IsSeenThrough, entries_reading, is_of_version_one};
+ghost use Rattle.mh_model.specs.Sessions.{IsLegalForSessions, IsSeenThrough, entries_reading, is_of_version_one, rules_named, rules_or, whole_lines};
 ghost use Rattle.mh_judging.specs.OfScript.Texts.{Blames, LeavesSource, WantsMemory};
-ghost use Rattle.mh_sessions.specs.Texts.{BeginsWithEither, IsSeenExplained, IsSeenFault, version_of};
+ghost use Rattle.mh_sessions.specs.Texts.{BeginsWithEither, IsExplainedInAll, IsFaultInAll, IsReasonOf, IsSeenExplained, IsVerdictOnAll, version_of};
 ghost use Rattle.mh_text.specs.TextErrors.{Refuses};
 
 use crate::fault::fault_in;
 use crate::judge::SessionsJudge;
 use crate::laws::texts_are_seen_through;
 use crate::lines::SeenLine;
+use mh_history::header::header_of;
 use mh_history::history::history_lines;
 use mh_history::lines::next_entry;
 use mh_history::record::{RECORD_BYTES, record_lines};
 use mh_judging::entry_fault::EntryFault;
 use mh_judging::judgement::Judgement;
 use mh_judging::mh_script::fault::ScriptFault;
+use mh_judging::mh_script::mh_reasons::history_reason::HistoryReason;
 use mh_judging::mh_script::texts::{read_whole, write_verdict};
 use mh_model::config::Rules;
 use mh_model::history::{Entry, Measured, Verdict, Version};
 use mh_model::memory::NoMemory;
 use mh_text::device::DeviceFailed;
-use mh_text::pieces::{Lines, split_at_byte};
+use mh_text::pieces::{Lines, Words, split_at_byte};
 use mh_text::sink::Sink;
 use mh_text::source::Source;
 use mh_text::text_error::TextError;
@@ -63,7 +65,7 @@ fn is_of_version_one(text: &[u8]) -> bool
 
 /// The verdict on a text, unless a line of it is bad.
 fn judge_text(alloc: Global, rules: Rules, text: &[u8]) -> Result<Verdict, TextError>
-    ensures verdict { IfOk result (IsSeenThrough rules text.now) }
+    ensures verdict { IfOk result (IsVerdictOnAll rules text.now) }
     ensures line { IfErr result (Refuses (entries_reading text.now)) }
     ensures memory { IsErrOf result TextError.NoMemory → BeginsWithEither text.now }
 {
@@ -75,10 +77,9 @@ fn judge_text(alloc: Global, rules: Rules, text: &[u8]) -> Result<Verdict, TextE
     judge_lines::<Measured>(alloc, rules, lines)
 }
 
-/// The verdict on a text of either version by what its sessions see, under these rules. Its entries are replayed in the heap
-/// that never collects and not kept.
-pub fn verdict_on_sessions(alloc: Global, rules: Rules, text: &[u8]) -> Result<Verdict, NoMemory>
-    ensures verdict { IfOk result (IsSeenThrough rules text.now) }
+/// The verdict on a text, whose first bad line is one. Its entries are replayed in the heap that never collects and not kept.
+fn verdict_on_all(alloc: Global, rules: Rules, text: &[u8]) -> Result<Verdict, NoMemory>
+    ensures verdict { IfOk result (IsVerdictOnAll rules text.now) }
     ensures memory { OnErr result (BeginsWithEither text.now) }
 {
     match judge_text(alloc, rules, text) {
@@ -95,8 +96,8 @@ fn entry_fault(
     text: &[u8],
     number: u64,
 ) -> Result<EntryFault, NoMemory>
-    requires { IsSeenThrough rules text.now (FirstBad number) }
-    ensures fault { IfOk result (IsSeenFault rules text.now number) }
+    requires { IsVerdictOnAll rules text.now (FirstBad number) }
+    ensures fault { IfOk result (IsFaultInAll rules text.now number) }
     ensures memory { OnErr result (BeginsWithEither text.now) }
 {
     if is_of_version_one(text) {
@@ -123,14 +124,14 @@ fn refused(text: &[u8], line: u64) -> Judgement
     }
 }
 
-/// The verdict on a text of either version by what its sessions see, and what is wrong with the text. Up to its first bad
-/// entry it is followed twice.
-pub fn judge_sessions(alloc: Global, rules: Rules, text: &[u8]) -> Result<Judgement, NoMemory>
-    ensures verdict { IfOk result (λ judgement. IsSeenThrough rules text.now (verdict_of judgement)) }
-    ensures explained { IfOk result (IsSeenExplained rules text.now) }
+/// The verdict on a text all of whose lines are to be entries, and what is wrong with it. Up to its first bad entry it is
+/// followed twice.
+fn judge_all(alloc: Global, rules: Rules, text: &[u8]) -> Result<Judgement, NoMemory>
+    ensures verdict { IfOk result (λ judgement. IsVerdictOnAll rules text.now (verdict_of judgement)) }
+    ensures explained { IfOk result (IsExplainedInAll rules text.now) }
     ensures memory { OnErr result (BeginsWithEither text.now) }
 {
-    match verdict_on_sessions(alloc, rules, text)? {
+    match verdict_on_all(alloc, rules, text)? {
         Verdict::Legal(count) => Ok(Judgement::Legal(count)),
         Verdict::Refused(line) => Ok(refused(text, line)),
         Verdict::FirstBad(number) => Ok(Judgement::FirstBad {
@@ -140,19 +141,95 @@ pub fn judge_sessions(alloc: Global, rules: Rules, text: &[u8]) -> Result<Judgem
     }
 }
 
-/// Reads a whole history of either version, judges it by what its sessions see under these rules, and then writes the line
-/// of its verdict, for which it takes no memory.
+/// The rules that the first line of a text names, which are the first ones in version 1.
+fn rules_named(text: &[u8]) -> Rules
+    ensures { result ≡ rules_named text.now }
+{
+    let Some((line, _)) = split_at_byte(text, b'\n') else {
+        return Rules::First;
+    };
+    match header_of(Words::new(line)) {
+        Some(config) => config.rules(),
+        None => Rules::First,
+    }
+}
+
+/// The rules that are asked for, or else those that a text names.
+fn rules_for(asked: Option<Rules>, text: &[u8]) -> Rules
+    ensures { result ≡ rules_or asked (rules_named text.now) }
+{
+    match asked {
+        Some(rules) => rules,
+        None => rules_named(text),
+    }
+}
+
+/// A text up to the end of its last line that has one.
+fn whole_lines(text: &[u8]) -> &[u8]
+    ensures { result.now ≡ whole_lines text.now }
+{
+    let mut rest = text;
+    while let Some((_, after)) = split_at_byte(rest, b'\n') {
+        rest = after;
+    }
+    &text[..text.len() - rest.len()]
+}
+
+/// The judgement on a text with a bad line. If that is its last, which has no end, the history was cut off, and the entries
+/// before are judged.
+fn judge_refused(
+    alloc: Global,
+    asked: Option<Rules>,
+    text: &[u8],
+    line: u64,
+    reason: HistoryReason,
+) -> Result<Judgement, NoMemory>
+    requires bad { entries_reading text.now ≡ BadLine line }
+    requires reason { IsReasonOf text.now line reason }
+    ensures verdict { IfOk result (λ judgement. IsSeenThrough asked text.now (verdict_of judgement)) }
+    ensures explained { IfOk result (IsSeenExplained asked text.now) }
+    ensures memory { OnErr result (BeginsWithEither text.now) }
+{
+    if line == 0 {
+        return Ok(Judgement::Refused { line, reason });
+    }
+    match judge_all(alloc, rules_for(asked, text), whole_lines(text))? {
+        Judgement::FirstBad { number, fault } => Ok(Judgement::FirstBad { number, fault }),
+        Judgement::Legal(_) | Judgement::Refused { .. } => Ok(Judgement::Refused { line, reason }),
+    }
+}
+
+/// The verdict on a text of either version by what its sessions see, under the rules that are asked for or that it names, and
+/// what is wrong with the text. Of a history that was cut off the entries before are judged.
+pub fn judge_sessions(
+    alloc: Global,
+    asked: Option<Rules>,
+    text: &[u8],
+) -> Result<Judgement, NoMemory>
+    ensures verdict { IfOk result (λ judgement. IsSeenThrough asked text.now (verdict_of judgement)) }
+    ensures explained { IfOk result (IsSeenExplained asked text.now) }
+    ensures memory { OnErr result (BeginsWithEither text.now) }
+{
+    match judge_all(alloc, rules_for(asked, text), text)? {
+        Judgement::Legal(count) => Ok(Judgement::Legal(count)),
+        Judgement::FirstBad { number, fault } => Ok(Judgement::FirstBad { number, fault }),
+        Judgement::Refused { line, reason } => judge_refused(alloc, asked, text, line, reason),
+    }
+}
+
+/// Reads a whole history of either version, judges it by what its sessions see, under the rules that are asked for or that
+/// it names, and then writes the line of its verdict, for which it takes no memory.
 pub fn check_sessions<S: Source, W: Sink>(
     alloc: Global,
-    rules: Rules,
+    asked: Option<Rules>,
     source: &mut S,
     sink: &mut W,
 ) -> Result<Judgement, ScriptFault>
     requires source_count { S.failures source.old < 2 ^ 62 }
     requires sink_count { W.failures sink.old < 2 ^ 62 }
-    ensures judged { IfOk result (λ judgement. Judges (IsSeenThrough rules) (S.rest source.old) (W.written sink.old) (W.written sink.new) (verdict_of judgement)) }
-    ensures explained { IfOk result (Explains (IsSeenExplained rules) (S.rest source.old)) }
-    ensures begun { OnErr result (BeginsToJudge (IsSeenThrough rules) (S.rest source.old) (W.written sink.old) (W.written sink.new)) }
+    ensures judged { IfOk result (λ judgement. Judges (IsSeenThrough asked) (S.rest source.old) (W.written sink.old) (W.written sink.new) (verdict_of judgement)) }
+    ensures explained { IfOk result (Explains (IsSeenExplained asked) (S.rest source.old)) }
+    ensures begun { OnErr result (BeginsToJudge (IsSeenThrough asked) (S.rest source.old) (W.written sink.old) (W.written sink.new)) }
     ensures never_full { result ≢ Err ScriptFault.HistoryFull }
     ensures unread { IsErrOf result ScriptFault.Read → Keeps (W.written sink.old) (W.written sink.new) }
     ensures unjudged { IsErrOf result ScriptFault.NoMemory → Keeps (W.written sink.old) (W.written sink.new) }
@@ -162,7 +239,7 @@ pub fn check_sessions<S: Source, W: Sink>(
 {
     texts_are_seen_through();
     let text = read_whole(alloc, source, RECORD_BYTES)?;
-    let judgement = judge_sessions(alloc, rules, text.as_slice())?;
+    let judgement = judge_sessions(alloc, asked, text.as_slice())?;
     match write_verdict(judgement.verdict(), sink) {
         Ok(()) => Ok(judgement),
         Err(DeviceFailed) => Err(ScriptFault::Write),

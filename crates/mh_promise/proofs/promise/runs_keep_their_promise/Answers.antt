@@ -12,6 +12,8 @@ use Rattle.mh_model.specs.Collector.{is_idle, quantum}
 use Rattle.mh_model.specs.Machine.{first_machine, half_step, event_step, machine_replies}
 use Rattle.mh_model.specs.Snapshot.{first_moment, half_moment, is_heap_full, snapshot_at}
 use Rattle.mh_model.specs.Invariant.{IsFinished, IsLinked}
+use Rattle.mh_model.specs.Paths.{Agrees}
+use Rattle.mh_model.specs.View.{heap_view}
 use Rattle.mh_laws.specs.Bounds.{left_of}
 use Rattle.mh_run_laws.specs.Utilisation.{HasShare}
 use Rattle.mh_laws.proofs.bounds.CyclesInTime.{run-stays}
@@ -23,6 +25,7 @@ use Rattle.mh_promise.proofs.RunsByEvents.{after_more, replies-length}
 use Rattle.mh_run_laws.proofs.forwarders.RunForwarders.{event-quantum}
 use Rattle.mh_promise.proofs.AnsweredEvents.{answered-is, beside-is, session-reply, told-left, half-heap, half-machine}
 use Rattle.mh_run_laws.proofs.worlds.FullAlone.{full-alone, new-alone}
+use Rattle.mh_promise.proofs.FullWorlds.{made_by_the_world}
 use Rattle.mh_promise.proofs.SpentUnits.{told-units}
 use Rattle.mh_promise.proofs.promise.runs_keep_their_promise.Goals as goal
 
@@ -52,6 +55,14 @@ returns c config events outcome is = record {
     each = λ before who slot references numbers given answered others none.
         let same = answered-is config events outcome.replies before (event.Session who (command.New slot references numbers)) given is.replies answered in
         same ∙ session-reply (machine_at config before) who (command.New slot references numbers) ∙ c.no_place_is_a_full_heap.ensures (machine_at config before).heap who slot references numbers others none;
+    made = λ before who slot references numbers answered.
+        let asked = command.New slot references numbers in
+        let same = answered-is config events outcome.replies before (event.Session who asked) (reply.Refused HeapFull) is.replies answered in
+        let alone = full-alone (machine_at config before).heap who slot references numbers (sym (same ∙ session-reply (machine_at config before) who asked)) in
+        let machine = c.moment_has_the_machine.ensures before (first_moment config) in
+        let world = c.moment_has_the_world.ensures before (first_moment config) ∙ sym (beside-is config events outcome.replies before (event.Session who asked) (reply.Refused HeapFull) is.replies answered (first_world config)) in
+        let agrees = subst (λ m. Agrees (heap_view m.heap) (moment_at config before).world) machine (c.moments_are_faithful.ensures.at_each config before).agrees in
+        subst (λ w. (world_step w who asked).reply ≡ reply.Done) world (made_by_the_world (machine_at config before).heap (moment_at config before).world agrees who slot references numbers alone);
   };
   refused = λ before who command refused answered.
       let same = answered-is config events outcome.replies before (event.Session who command) (reply.Refused refused) is.replies answered in

@@ -1,7 +1,8 @@
 use Rattle.std.proofs.Common.{◌∙◌, sym}
 use Rattle.mh_heap.proofs.BirthLemmas.{births_performed}
+use Rattle.mh_heap.specs.PlainHeap.{world_of}
 use Rattle.mh_model.specs.World.{never_full}
-use Rattle.mh_sessions.proofs.JudgeLemmas.{followed}
+use Rattle.mh_sessions.proofs.JudgeLemmas.{followed, followed_full}
 use Rattle.mh_sessions.proofs.judge.follow.Goals as goal
 
 pub returns-clause-followed : goal.returns-clause-followed
@@ -10,3 +11,7 @@ returns-clause-followed c =
 
 pub returns-clause-few : goal.returns-clause-few
 returns-clause-few c = births_performed never_full _ _ c.in-Session.who c.in-Session.command c.in_ok-reply.reply c.in_ok-reply.ensures.exactly
+
+pub returns-then-lacks_room-clause-followed : goal.returns-then-lacks_room-clause-followed
+returns-then-lacks_room-clause-followed c =
+    followed_full (world_of c.args.heap.now) c.args.entry.now c.in-Session.who c.in-Session.command c.is_made.result c.in-Session.is (sym c.lacks_room.ensures ∙ c.if-lacks_room.true) c.is_made.ensures

@@ -9,20 +9,20 @@ use Rattle.mh_sessions.proofs.TextLemmas.{either_short, seen_bounded, seen_by}
 use Rattle.mh_sessions.proofs.texts.check_sessions.Goals as goal
 
 pub returns-in_err-text-clause-begun : goal.returns-in_err-text-clause-begun
-returns-in_err-text-clause-begun g c = on_err _ (begins_to_judge_nothing _ (c.texts_are_seen_through.ensures c.args.rules) _ _)
+returns-in_err-text-clause-begun g c = on_err _ (begins_to_judge_nothing _ (c.texts_are_seen_through.ensures c.args.asked) _ _)
 
 pub returns-in_err-judgement-clause-begun : goal.returns-in_err-judgement-clause-begun
-returns-in_err-judgement-clause-begun g c = on_err _ (begins_to_judge_nothing _ (c.texts_are_seen_through.ensures c.args.rules) _ _)
+returns-in_err-judgement-clause-begun g c = on_err _ (begins_to_judge_nothing _ (c.texts_are_seen_through.ensures c.args.asked) _ _)
 
 pub returns-in-Ok-clause-judged : goal.returns-in-Ok-clause-judged
 returns-in-Ok-clause-judged g c =
     let reads = reads_slice _ _ seen_bounded _ _ _ _ c.as_slice.ensures.value c.in_ok-text.ensures.read c.in_ok-text.ensures.whole in
-    judges_reads reads _ (seen_by c.args.rules) _ _ _ c.in_ok-judgement.ensures.verdict (rw c.verdict.ensures at c.in-Ok.ensures.done)
+    judges_reads reads _ (seen_by c.args.asked) _ _ _ c.in_ok-judgement.ensures.verdict (rw c.verdict.ensures at c.in-Ok.ensures.done)
 
 pub returns-clause-begun : goal.returns-clause-begun
 returns-clause-begun g c =
     let reads = reads_slice _ _ seen_bounded _ _ _ _ c.as_slice.ensures.value c.in_ok-text.ensures.read c.in_ok-text.ensures.whole in
-    begins_to_judge_reads reads _ (seen_by c.args.rules) _ _ _ c.in_ok-judgement.ensures.verdict (rw c.verdict.ensures at c.in-Err.ensures.begun)
+    begins_to_judge_reads reads _ (seen_by c.args.asked) _ _ _ c.in_ok-judgement.ensures.verdict (rw c.verdict.ensures at c.in-Err.ensures.begun)
 
 pub returns-in_err-text-clause-memory : goal.returns-in_err-text-clause-memory
 returns-in_err-text-clause-memory g c =
@@ -35,4 +35,4 @@ returns-in_err-judgement-clause-memory g c =
 
 pub returns-in-Ok-clause-explained : goal.returns-in-Ok-clause-explained
 returns-in-Ok-clause-explained g c =
-    seen_explains c.args.rules _ _ _ _ _ c.as_slice.ensures.value c.in_ok-text.ensures.read c.in_ok-text.ensures.whole c.in_ok-judgement.ensures.verdict c.in_ok-judgement.ensures.explained
+    seen_explains c.args.asked _ _ _ _ _ c.as_slice.ensures.value c.in_ok-text.ensures.read c.in_ok-text.ensures.whole c.in_ok-judgement.ensures.verdict c.in_ok-judgement.ensures.explained

@@ -1,0 +1,32 @@
+-- What a full heap refuses, and no other test does, the ever-growing world makes.
+use Rattle.std.proofs.Common.{◌≡◌, ◌∙◌, ℕ, Option, None, ap, sym, refl}
+use Rattle.mh_model.specs.declared.command.Command.TheVariants as command
+use Rattle.mh_model.specs.declared.reply.Reply.TheVariants as reply
+use Rattle.mh_model.specs.World.{Sight, World, effect, heap_step, most_fields, never_full, refusal, sight_of, unless_refused, world_step}
+use Rattle.mh_model.specs.Mutator.{HeapState, heap_sight}
+use Rattle.mh_model.specs.Paths.{Agrees}
+use Rattle.mh_model.specs.View.{heap_view}
+
+-- the tests of a new object look at no slot
+refused-alike : (sight other : Sight) (who slot references numbers : ℕ) → sight.most ≡ other.most → sight.is_full ≡ other.is_full → sight.ended ≡ other.ended
+    → refusal sight who (command.New slot references numbers) ≡ refusal other who (command.New slot references numbers)
+refused-alike sight other who slot references numbers most full ended = rw (most, full, ended) refl
+
+most-shown : (heap : HeapState) → (heap_sight heap).most ≡ most_fields (heap_view heap).config
+unfolding heap_view
+most-shown heap = refl
+
+ended-shown : (heap : HeapState) → (heap_sight heap).ended ≡ (heap_view heap).ended
+unfolding heap_view
+ended-shown heap = refl
+
+made-unrefused : (world : World) (who slot references numbers : ℕ) → refusal (sight_of never_full world) who (command.New slot references numbers) ≡ None → (world_step world who (command.New slot references numbers)).reply ≡ reply.Done
+unfolding heap_step
+made-unrefused world who slot references numbers none = ap (λ refused. (unless_refused refused world (effect world who (command.New slot references numbers))).reply) none
+
+pub made_by_the_world : (heap : HeapState) (world : World) → Agrees (heap_view heap) world → (who slot references numbers : ℕ) → refusal (record (heap_sight heap) { is_full = never_full }) who (command.New slot references numbers) ≡ None
+    → (world_step world who (command.New slot references numbers)).reply ≡ reply.Done
+made_by_the_world heap world agrees who slot references numbers none =
+    let same = refused-alike (sight_of never_full world) (record (heap_sight heap) { is_full = never_full }) who slot references numbers
+        (sym (most-shown heap ∙ ap most_fields agrees.config)) refl (sym (ended-shown heap ∙ agrees.ended)) in
+    made-unrefused world who slot references numbers (same ∙ none)
