@@ -103,14 +103,16 @@ void metroheap_close(metroheap *heap);
 /*
 ** Does the event of a line of a script, given without the end of the line,
 ** and copies the text of its reply to the start of `out`. The text has no
-** end of line and no zero after it. `*written` is its length.
+** end of line and no zero after it. `*written` is its length. A line with its
+** newline is METROHEAP_WRONG; `metroheap live` says why a line is.
 **
 ** Sessions are numbered as their names are first seen in done events, from 0.
 ** An event by numbers says the number itself, and sees no name.
 **
 ** METROHEAP_DONE       the event was done; the text is in `out`
 ** METROHEAP_SHORT      the event was done; `*written` bytes are needed, `out`
-**                      is as it was; ask metroheap_last_text
+**                      is as it was; ask metroheap_last_text, since this
+**                      call would do the event once more
 ** METROHEAP_NO_TEXT    the event was done; memory was refused for its text;
 **                      ask metroheap_last_text or metroheap_last_reply
 ** METROHEAP_BLANK, METROHEAP_WRONG, METROHEAP_FULL, METROHEAP_NO_MEMORY,
@@ -128,7 +130,8 @@ int32_t metroheap_line(metroheap *heap, const uint8_t *line, size_t line_length,
 **
 ** METROHEAP_DONE       the text is in `out`
 ** METROHEAP_SHORT      `*written` bytes are needed; `out` is as it was
-** METROHEAP_NO_TEXT    memory was refused; `*written` is 0
+** METROHEAP_NO_TEXT    memory was refused, whether or not an event was done;
+**                      `*written` is 0
 ** METROHEAP_NO_REPLY   no event was done yet; `*written` is 0
 ** METROHEAP_CLOSED     `*written` is 0
 */
@@ -161,8 +164,10 @@ enum metroheap_event_kind {
 
 /*
 ** An event. What its kind doesn't have isn't read. A session of 8 or more is
-** answered METROHEAP_REFUSED_TOO_MANY_SESSIONS. The third number of `new`,
-** `get` and `put` is below 2^32: else the numbers are no event.
+** answered METROHEAP_REFUSED_TOO_MANY_SESSIONS. C cuts what is assigned to
+** `session` to 8 bits, so 256 is session 0; metroheap_command doesn't. The
+** third number of `new`, `get` and `put` is below 2^32: else the numbers are
+** no event.
 */
 typedef struct metroheap_event {
     uint32_t kind;
