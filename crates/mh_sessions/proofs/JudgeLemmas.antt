@@ -1,5 +1,5 @@
 -- A judge of what sessions see follows a history entry by entry.
-use Rattle.std.proofs.Common.{◌≡◌, ◌≢◌, ◌∙◌, ◌↔◌, ◌⊎◌, inl, inr, ℕ, ◌+◌, ◌-◌, Bool, true, false, IsTrue, Option, Some, None, is_some, is_none, List, [], ◌∷◌, ◌++◌, length, take, ap, sym, refl, subst, arith}
+use Rattle.std.proofs.Common.{◌≡◌, ◌≢◌, ◌∙◌, ◌↔◌, ◌⊎◌, inl, inr, ℕ, ◌+◌, ◌-◌, Bool, true, false, IsTrue, Option, Some, None, is_some, not, List, [], ◌∷◌, ◌++◌, length, take, ap, sym, refl, subst, arith}
 use Rattle.std.proofs.lemmas.Bool.{false≢true}
 use Rattle.std.proofs.lemmas.List.{length_push, take_all, take_at}
 use Rattle.mh_model.specs.declared.command.Command.{Command}
@@ -66,17 +66,19 @@ pub followed_full : (world : World) (entry : Entry) (who : ℕ) (command : Comma
 followed_full world entry who command right is lacks made =
     subst (λ (asked : Event). IsFollowed world (record { event = asked; reply = entry.reply }) world right) (sym is) (follows-full world who command entry.reply lacks right made)
 
--- what the world would answer to a new object that is refused so
-pub answers_new : (refused : Option Refusal) (world : World) (who slot references numbers : ℕ) → refused ≡ refusal (sight_of never_full world) who (command.New slot references numbers)
-    → IsTrue (is_none refused) ↔ ((world_step world who (command.New slot references numbers)).reply ≡ reply.Done)
+-- what the world would answer to a new object that is refused so, or is made
+pub answers_new : (refused : Option Refusal) (made : Bool) (world : World) (who slot references numbers : ℕ) → is_some refused ≡ not made → refused ≡ refusal (sight_of never_full world) who (command.New slot references numbers)
+    → IsTrue made ↔ ((world_step world who (command.New slot references numbers)).reply ≡ reply.Done)
 unfolding heap_step
-answers_new refused world who slot references numbers is =
+answers_new refused made world who slot references numbers unless is =
     let asked = command.New slot references numbers in
-    subst (λ (found : Option Refusal). IsTrue (is_none refused) ↔ ((unless_refused found world (effect world who asked)).reply ≡ reply.Done)) is (by refused)
+    subst (λ (found : Option Refusal). IsTrue made ↔ ((unless_refused found world (effect world who asked)).reply ≡ reply.Done)) is (by refused made unless)
   where
-    by : (found : Option Refusal) → IsTrue (is_none found) ↔ ((unless_refused found world (effect world who (command.New slot references numbers))).reply ≡ reply.Done)
-    by None = (λ _. refl, λ _. refl)
-    by (Some other) = (λ is. absurd (false≢true is), λ is. cc)
+    by : (found : Option Refusal) (made : Bool) → is_some found ≡ not made → IsTrue made ↔ ((unless_refused found world (effect world who (command.New slot references numbers))).reply ≡ reply.Done)
+    by None true unless = (λ _. refl, λ _. refl)
+    by None false unless = absurd (false≢true unless)
+    by (Some other) true unless = absurd (false≢true (sym unless))
+    by (Some other) false unless = (λ is. absurd (false≢true is), λ is. cc)
 
 -- an entry that isn't one too many is tried by following it
 pub tried : (old : World) (count : ℕ) (entry : Entry) (new : World) (right : Bool) → count ≢ most_entries → IsFollowed old entry new right → IsTried old count entry new right
