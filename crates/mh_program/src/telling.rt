@@ -110,6 +110,7 @@ fn words_text(alloc: Global, error: &clap::Error) -> Result<Vec<u8>, AllocError>
 }
 
 /// Why a history is refused that is judged by what its sessions see. The entries of one that was cut off were judged.
+#[derive(Clone, Copy)]
 struct SeenRefusal<'a> {
     line: u64,
     reason: &'a HistoryReason,
