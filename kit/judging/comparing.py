@@ -2,13 +2,14 @@
 from __future__ import annotations
 
 import enum
+import shutil
 import signal
 import subprocess
-import threading
+import sys
 from collections.abc import Sequence
 from dataclasses import dataclass, field
 
-from judging.programs import WELL, Answer, End, Ending, Limits, Protocol, ask
+from judging.programs import WELL, Answer, End, Ending, Limits, Patience, Protocol, ask
 from judging.scripts import CONTROL, HEAP_FULL, BadScript, Case, Event, Script, read_script
 
 # A program may write twice the bytes of the right replies, and so many more.
@@ -19,6 +20,10 @@ REFERENCE_SECONDS = 300
 
 class ReferenceFailure(Exception):
     """The reference program didn't answer as it has to."""
+
+
+class NoReference(ReferenceFailure):
+    """There is no such program, or it can't be run."""
 
 
 class Kind(enum.Enum):
@@ -38,7 +43,7 @@ class Finding:
     # The author's reply, or what happened in place of one.
     yours: str
     end: End
-    # The end of what the program wrote to standard error.
+    # The head of what the program wrote to standard error.
     errors: str = ""
     # Whether the program ended well and left events unanswered, so that a reply may be that to another event.
     is_short: bool = False
@@ -62,34 +67,42 @@ class Reference:
     def __init__(self, words: Sequence[str]) -> None:
         self.words = tuple(words)
 
-    def output(self, words: Sequence[str], text: str) -> list[str]:
+    def require(self) -> None:
+        if shutil.which(self.words[0]) is None:
+            raise NoReference(f"there is no program {self.words[0]}")
+
+    def output(self, words: Sequence[str], text: str, patience: Patience) -> list[str]:
+        """The lines that it writes."""
+        patience.require()
         command = [*self.words, *words]
         try:
-            done = subprocess.run(command, input=text.encode(), capture_output=True, timeout=REFERENCE_SECONDS,
-                                  check=False)
+            done = subprocess.run(command, input=text.encode(), capture_output=True, check=False,
+                                  timeout=min(REFERENCE_SECONDS, patience.left))
         except OSError as error:
-            raise ReferenceFailure(f"{command[0]}: {error.strerror}") from None
+            raise NoReference(f"{command[0]}: {error.strerror}") from None
         except subprocess.TimeoutExpired:
+            patience.require()
             raise ReferenceFailure(f"`{' '.join(command)}` took more than {REFERENCE_SECONDS} s") from None
         if done.returncode != 0:
             said = (done.stderr or done.stdout).decode("utf-8", "backslashreplace").strip()
             raise ReferenceFailure(f"`{' '.join(command)}` ended with status {done.returncode}: {said[-500:]}")
         return done.stdout.decode("utf-8", "backslashreplace").split("\n")[:-1]
 
-    def replies(self, script: Script) -> tuple[str, ...]:
-        replies = self.output(["run"], script.text())
+    def replies(self, script: Script, patience: Patience) -> tuple[str, ...]:
+        # Most replies are one of a few texts, of which each is kept once.
+        replies = tuple(map(sys.intern, self.output(["run"], script.text, patience)))
         if len(replies) != len(script.events):
             raise ReferenceFailure(f"{len(script.events)} events had {len(replies)} replies: {replies[:1]}")
-        return tuple(replies)
+        return replies
 
     def dump_before(self, script: Script, index: int) -> str:
         """The dump just before an event."""
         asked = script.prefix(index)
-        return self.replies(asked.with_events([*asked.events, Event(CONTROL, "dump", ())]))[-1]
+        return self.replies(asked.with_events([*asked.events, Event(CONTROL, "dump", ())]), Patience())[-1]
 
     def generated(self, options: Sequence[str]) -> Script:
         try:
-            return read_script("".join(line + "\n" for line in self.output(["generate", *options], "")))
+            return read_script("".join(line + "\n" for line in self.output(["generate", *options], "", Patience())))
         except BadScript as bad:
             raise ReferenceFailure(f"generate {' '.join(options)}: {bad}") from None
 
@@ -102,15 +115,14 @@ class Judge:
     protocol: Protocol
     is_exact: bool
     seconds: float
-    # Set when the answers to the scripts under way aren't wanted any more.
-    stop: threading.Event = field(default_factory=threading.Event)
+    patience: Patience = field(default_factory=Patience)
 
     def examine(self, case: Case, seconds: float | None = None) -> Judgement:
         """Judges a script by a run of each program, the author's of so many seconds at most."""
         script, right = self.prepared(case)
         size = 2 * sum(len(reply) + 1 for reply in right) + SPARE_BYTES
         limits = Limits(self.seconds if seconds is None else seconds, len(right), size)
-        answer = ask(self.program, self.protocol, script.lines(), limits, self.stop)
+        answer = ask(self.program, self.protocol, script.text, limits, self.patience)
         found = self.difference(script, right, answer)
         if len(answer.lines) > len(right):
             # Some event has several lines, and which line is whose is not known.
@@ -124,7 +136,7 @@ class Judge:
         are left out. And where the reference is full the script ends, since a collector may have more room.
         """
         asked = case if self.is_exact else case.plain()
-        right = self.reference.replies(asked.script)
+        right = self.reference.replies(asked.script, self.patience)
         if asked.stated:
             require_stated(asked, right)
         if not self.is_exact and HEAP_FULL in right:
@@ -148,7 +160,7 @@ def require_stated(case: Case, right: Sequence[str]) -> None:
     """The replies that a script of the folder `conformance` states are those of the reference."""
     for index, (event, stated, reply) in enumerate(zip(case.script.events, case.stated, right), 1):
         if stated != reply:
-            raise ReferenceFailure(f"event {index}, `{event.text()}`: the script states `{stated}`, "
+            raise ReferenceFailure(f"event {index}, `{event.text}`: the script states `{stated}`, "
                                    f"and the reference answers `{reply}`")
 
 

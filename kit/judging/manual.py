@@ -7,7 +7,6 @@ from dataclasses import dataclass
 from itertools import zip_longest
 
 from judging.comparing import Finding, Judge, Kind
-from judging.programs import Protocol
 from judging.scripts import HEAP_FULL, Event
 
 SENTENCE_END = re.compile(r"(?<=\.)\s+")
@@ -66,19 +65,15 @@ FLAGS = Rule("Cycles and quanta", "A page is flagged if both hold")
 MOVES = Rule("Cycles and quanta", "A block of a flagged page moves")
 STEPS = Rule("Cycles and quanta", "A quantum takes steps while")
 QUANTA_LEFT = Rule("left", "Else it is B less the quanta")
-REPLIES = {
-    Protocol.RUN: Rule("Scripts", "prints one reply line for each"),
-    Protocol.LIVE: Rule("Line by line", "An event is answered with its reply"),
-}
 
 
 def rules_of(finding: Finding, event: Event | None, right: str, judge: Judge) -> list[Rule]:
-    """The rules that a finding has to do with; the first is that of its event."""
+    """The rules that a finding has to do with; the first is that of its event. Where no reply is there is no rule."""
     yours = finding.yours
     if finding.kind is Kind.FULL:
         return [ROOM]
     if finding.kind is not Kind.DIFFERENCE or event is None:
-        return [REPLIES[judge.protocol]]
+        return []
     if not event.is_command:
         return [EVENTS[event.word], *control_rules(event.word, right.split(" "), yours.split(" "))]
     reasons = [reply for reply in (right, yours) if REFUSED.fullmatch(reply)]

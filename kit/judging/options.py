@@ -54,16 +54,16 @@ def add_judging(add: Add) -> None:
     add("--exact", action="store_true", help="compare all replies: PROGRAM has the very rules of metroheap")
     add("--protocol", choices=[protocol.value for protocol in Protocol], default=Protocol.RUN.value,
         help="run: PROGRAM gets the whole script (the default); live: it gets a line when the one before is answered")
-    add("--reference", metavar="CMD", help="metroheap with any words before the subcommand; if it isn't given, the "
-        "program that the repository has built, else the one in PATH")
+    add("--reference", metavar="CMD", help="metroheap with any words before the subcommand; if it isn't given, the one "
+        "that is built or installed beside the judge, else the one in PATH")
     add("--seconds", metavar="S", type=seconds, default=10.0, help="how long PROGRAM may take for a script (10)")
     add("--jobs", metavar="N", type=count, default=1, help="how many scripts are judged at once (1)")
     add("--progress", action="store_true", help="say on standard error what is done, also if it is no terminal")
 
 
 def add_scripts(add: Add) -> None:
-    add("--conformance", metavar="DIR", help=f"a folder of scripts with answers, or {NONE}; if it isn't given, that of "
-        "the repository")
+    add("--conformance", metavar="DIR", action="append", default=[], help="a folder of scripts with answers, or "
+        f"{NONE}; may be repeated; if it isn't given, the folder beside the judge")
     add("--seeds", metavar="A..B", type=seeds, help=f"seeds of generated scripts, or {NONE} (1..20)")
     add("--events", metavar="M", type=count, default=2000, help="how many events a generated script has (2000)")
     add("--profile", choices=PROFILES, help="what generated scripts are like; if it isn't given, all take turns")
@@ -72,7 +72,8 @@ def add_scripts(add: Add) -> None:
 
 
 def add_findings(add: Add) -> None:
-    add("--keep", metavar="FILE", default="judge-finding.script", help="where a finding is kept (judge-finding.script)")
+    add("--keep", metavar="FILE", default="judge-finding.script", help="where a finding is kept, at once and "
+        "again when it is shrunk (judge-finding.script)")
     add("--shrink-runs", metavar="R", type=count, default=4000, help="the most runs that shrinking takes (4000)")
     add("--shrink-seconds", metavar="T", type=seconds, default=120.0, help="the longest that shrinking takes (120)")
 

@@ -3,19 +3,20 @@ from __future__ import annotations
 
 import contextlib
 import enum
+import math
 import os
 import selectors
 import signal
 import subprocess
-import threading
 import time
 from collections.abc import Sequence
 from dataclasses import dataclass
 from typing import IO
 
 CHUNK = 65536
-# How much of standard error is kept: its end.
-MOST_ERRORS = 2000
+# How much of standard error is kept, in bytes and in lines: its head, where a sanitizer says what is wrong and where.
+MOST_ERRORS = 4000
+MOST_ERROR_LINES = 40
 # The first and the longest sleep while a program that has closed its output comes to its end.
 FIRST_SLEEP, LONGEST_SLEEP = 0.0005, 0.02
 # How long nothing may come before it is looked whether the run is called off.
@@ -28,6 +29,24 @@ class CannotStart(Exception):
 
 class CalledOff(Exception):
     """The answer isn't wanted any more."""
+
+
+class Patience:
+    """How long answers are wanted: until a time of the monotonic clock, or until they are called off."""
+
+    def __init__(self, until: float = math.inf) -> None:
+        self.until = until
+
+    def call_off(self) -> None:
+        self.until = -math.inf
+
+    @property
+    def left(self) -> float:
+        return self.until - time.monotonic()
+
+    def require(self) -> None:
+        if self.left <= 0:
+            raise CalledOff
 
 
 class Protocol(enum.Enum):
@@ -62,7 +81,7 @@ WELL = End(Ending.ENDED)
 
 @dataclass(frozen=True)
 class Answer:
-    """What a program wrote: its lines, what came after the last newline, and the end of its standard error."""
+    """What a program wrote: its lines, what came after the last newline, and the head of its standard error."""
     lines: tuple[str, ...]
     rest: str
     end: End
@@ -77,9 +96,9 @@ def decoded(data: bytes) -> str:
 class Child:
     """A program in a process group of its own. Its streams are read and written without waiting for one another."""
 
-    def __init__(self, words: Sequence[str], limits: Limits, stop: threading.Event) -> None:
+    def __init__(self, words: Sequence[str], limits: Limits, patience: Patience) -> None:
         self.limits = limits
-        self.stop = stop
+        self.patience = patience
         self.deadline = time.monotonic() + limits.seconds
         try:
             self.process = subprocess.Popen(words, bufsize=0, start_new_session=True, stdin=subprocess.PIPE,
@@ -89,7 +108,8 @@ class Child:
         self.unsent = bytearray()
         self.output = bytearray()
         self.lines = 0
-        self.errors = b""
+        self.errors = bytearray()
+        self.unkept_errors = 0
         self.is_open = True
         self.has_input = True
         self.will_close = False
@@ -172,7 +192,9 @@ class Child:
     def read_errors(self) -> None:
         data = self.read_some(self.process.stderr)
         if data:
-            self.errors = (self.errors + data)[-MOST_ERRORS:]
+            room = MOST_ERRORS - len(self.errors)
+            self.errors += data[:room]
+            self.unkept_errors += len(data[room:])
         elif data is not None:
             self.selector.unregister(self.process.stderr)
 
@@ -181,8 +203,7 @@ class Child:
         left = self.deadline - time.monotonic()
         if left <= 0:
             return False
-        if self.stop.is_set():
-            raise CalledOff
+        self.patience.require()
         for key, _ in self.selector.select(min(left, most)):
             key.data()
         return True
@@ -211,6 +232,12 @@ class Child:
             self.read_errors()
         return Ending.FLOODED if self.is_flooded else Ending.ENDED
 
+    def said(self) -> str:
+        """The head of standard error, and how much more there was."""
+        head = b"".join(bytes(self.errors).splitlines(keepends=True)[:MOST_ERROR_LINES])
+        left = len(self.errors) - len(head) + self.unkept_errors
+        return decoded(head).rstrip("\n") + (f"\n... and {left} bytes more" if left else "")
+
 
 def converse(child: Child, lines: Sequence[bytes]) -> None:
     """Sends the configuration, and then each event once the one before it was answered."""
@@ -220,17 +247,16 @@ def converse(child: Child, lines: Sequence[bytes]) -> None:
             return
 
 
-def ask(words: Sequence[str], protocol: Protocol, lines: Sequence[str], limits: Limits,
-        stop: threading.Event) -> Answer:
+def ask(words: Sequence[str], protocol: Protocol, text: str, limits: Limits, patience: Patience) -> Answer:
     """What the program answers to a script, of which the lines are the configuration and the events."""
-    encoded = [line.encode() + b"\n" for line in lines]
-    with Child(words, limits, stop) as child:
+    data = text.encode()
+    with Child(words, limits, patience) as child:
         if protocol is Protocol.LIVE:
-            converse(child, encoded)
+            converse(child, data.splitlines(keepends=True))
         else:
-            child.send(b"".join(encoded))
+            child.send(data)
         child.close_input()
         ending = child.await_end()
     end = End(ending, child.process.returncode if ending is Ending.ENDED else 0)
-    *complete, rest = child.output.split(b"\n")
-    return Answer(tuple(decoded(line) for line in complete), decoded(rest), end, decoded(child.errors))
+    *complete, rest = decoded(bytes(child.output)).split("\n")
+    return Answer(tuple(complete), rest, end, child.said())

@@ -2,20 +2,20 @@
 from __future__ import annotations
 
 import enum
-from collections.abc import Iterator
+from collections.abc import Iterable, Iterator
 from dataclasses import dataclass
 from itertools import zip_longest
 
 from judging.comparing import Judge, Judgement, Kind
 from judging.manual import Manual, rules_of
 from judging.programs import Protocol
-from judging.scripts import Mark
-from judging.shrinking import Shrunk
+from judging.scripts import RULE, Mark
+from judging.shrinking import Course, Shrunk
 
 # A dump that is shown beside a script is cut behind so many letters.
 MOST_LETTERS = 4000
-
-
+# Of a finding of more lines the terminal gets those above its script alone.
+MOST_LINES = 100
 HERE = "here"
 
 
@@ -25,8 +25,14 @@ class Note(enum.Enum):
             "more: give it more room, or ask for fewer events")
     SHORT = "yours gave fewer lines than there are events, so this may be its reply to a later one"
     FLUSH = "line by line, each reply has to be flushed"
-    UNSTEADY = "one more run of this script had no such finding: the program doesn't answer the same each time"
     UNFINISHED = "shrinking came to its limit (--shrink-runs, --shrink-seconds), so a smaller script may do"
+    STOPPED = "the judge was stopped while it shrank this, so a smaller script may do"
+    UNDER_WAY = "kept while the judge shrank this, so a smaller script may do"
+
+
+NOTES = {Course.SPENT: Note.UNFINISHED, Course.STOPPED: Note.STOPPED, Course.UNDER_WAY: Note.UNDER_WAY}
+UNSTEADY = ("found in {} of {} runs of this script: the program doesn't answer the same each time. If that is because "
+            "its addresses are others, `setarch -R` before the program keeps them the same")
 
 
 def shown(text: str) -> str:
@@ -48,18 +54,18 @@ def place_of(judged: Judgement, protocol: Protocol) -> int:
     return index
 
 
-def notes_of(shrunk: Shrunk, protocol: Protocol) -> Iterator[Note]:
-    finding = shrunk.judgement.finding
+def notes_of(shrunk: Shrunk, protocol: Protocol) -> Iterator[str]:
+    finding, steadiness = shrunk.judgement.finding, shrunk.steadiness
     if finding.kind is Kind.FULL:
-        yield Note.FULL
+        yield Note.FULL.value
     if finding.kind is Kind.HANG and protocol is Protocol.LIVE and finding.index == 0:
-        yield Note.FLUSH
+        yield Note.FLUSH.value
     if finding.is_short:
-        yield Note.SHORT
-    if not shrunk.is_steady:
-        yield Note.UNSTEADY
-    elif not shrunk.is_smallest:
-        yield Note.UNFINISHED
+        yield Note.SHORT.value
+    if not steadiness.is_whole:
+        yield UNSTEADY.format(steadiness.found, steadiness.asked)
+    elif shrunk.course in NOTES:
+        yield NOTES[shrunk.course].value
 
 
 def other_word(right: str, yours: str) -> str | None:
@@ -75,7 +81,11 @@ class Report:
     judge: Judge
     shrunk: Shrunk
     origin: str
+    # The rule that the script says it shows in which this was found, if it says one.
+    rule: str
     manual: Manual
+    # The reference's dump just before the event, if it is to be told.
+    before: str | None = None
 
     @property
     def judged(self) -> Judgement:
@@ -90,9 +100,10 @@ class Report:
         events, finding = self.judged.script.events, self.judged.finding
         if self.index == len(events):
             return f"{finding.kind.value} after the last of {len(events)} events"
-        return f"{finding.kind.value} at event {self.index + 1} of {len(events)}, `{events[self.index].text()}`"
+        return f"{finding.kind.value} at event {self.index + 1} of {len(events)}, `{events[self.index].text}`"
 
-    def rules(self) -> Iterator[str]:
+    def quotes(self) -> Iterator[str]:
+        """What the manual says of the event and of the two replies."""
         events, finding = self.judged.script.events, self.judged.finding
         event, right = None, ""
         if self.index < len(events):
@@ -102,7 +113,9 @@ class Report:
 
     def head(self) -> Iterator[str]:
         finding, right = self.judged.finding, self.judged.right
-        yield from (f"rule: {rule}" for rule in self.rules())
+        if self.rule:
+            yield f"{RULE}: {self.rule}"
+        yield from (f"manual: {quote}" for quote in self.quotes())
         yield f"catches: {self.summary()}"
         yield f"mark: {(Mark.EXACT if self.judge.is_exact else Mark.ANY).value}"
         yield f"from: {self.origin}, by {self.shrunk.runs} runs"
@@ -112,16 +125,34 @@ class Report:
         yield f"yours: {shortened(finding.yours)}"
         if finding.kind is Kind.DIFFERENCE and (other := other_word(right[self.index], finding.yours)):
             yield f"other: {other}"
-        yield f"before: {shortened(self.judge.reference.dump_before(self.judged.script, self.index))}"
-        yield from (f"note: {note.value}" for note in notes_of(self.shrunk, self.judge.protocol))
+        if self.before is not None:
+            yield f"before: {shortened(self.before)}"
+        yield from (f"note: {note}" for note in notes_of(self.shrunk, self.judge.protocol))
         yield from (f"standard error: {line}" for line in finding.errors.splitlines())
 
-    def text(self) -> str:
-        lines = [*(f"# {shown(line)}" for line in self.head()), "", self.judged.script.config.text()]
+    def comments(self) -> list[str]:
+        return [f"# {shown(line)}" for line in self.head()]
+
+    def body(self) -> list[str]:
+        lines = ["", self.judged.script.config.text]
         for index, (event, reply) in enumerate(zip(self.judged.script.events, self.judged.right)):
             if index == self.index:
                 lines += ["", f"# {HERE}"]
-            lines += [event.text(), f"# {reply}"]
+            lines += [event.text, f"# {reply}"]
         if self.index == len(self.judged.right):
             lines += ["", f"# {HERE}: after the last event"]
-        return "".join(line + "\n" for line in lines)
+        return lines
+
+    def text(self) -> str:
+        return text_of([*self.comments(), *self.body()])
+
+    def printed(self) -> str:
+        """What the terminal gets: all, or of a long finding what stands above its script."""
+        head, body = self.comments(), self.body()
+        if len(head) + len(body) > MOST_LINES:
+            body = ["", f"... and {len(body)} lines with the script and its replies"]
+        return text_of([*head, *body])
+
+
+def text_of(lines: Iterable[str]) -> str:
+    return "".join(line + "\n" for line in lines)

@@ -2,6 +2,8 @@
 from __future__ import annotations
 
 import enum
+import functools
+import hashlib
 import pathlib
 import re
 from collections.abc import Callable, Iterable
@@ -14,6 +16,9 @@ HEAP_FULL = "refused 5 heap full"
 CONTROLS = ("start", "quantum", "stat", "dump", "left", "report")
 # The controls that a collector is asked without --exact. It may answer any line.
 PLAIN_CONTROLS = ("start", "quantum")
+# The words with a colon that begin the comments above a configuration, in files of `conformance` and in findings.
+RULE = "rule"
+HEADS = (RULE, "manual", "catches", "mark", "from", "right", "yours", "other", "before", "note", "standard error")
 
 
 class BadScript(Exception):
@@ -63,7 +68,7 @@ class Event:
     def is_command(self) -> bool:
         return self.who != CONTROL
 
-    @property
+    @functools.cached_property
     def is_plain(self) -> bool:
         """Whether any collector can be asked it."""
         return self.is_command or self.word in PLAIN_CONTROLS
@@ -71,6 +76,7 @@ class Event:
     def roles(self) -> tuple[Role, ...]:
         return ROLES[self.word]
 
+    @functools.cached_property
     def text(self) -> str:
         return " ".join((self.who, self.word, *map(str, self.numbers)))
 
@@ -82,20 +88,26 @@ class Config:
     trigger: int
     every: int
 
+    @property
     def text(self) -> str:
         return f"config {self.pages} {self.quantum} {self.trigger} {self.every}"
 
 
 @dataclass(frozen=True)
 class Script:
+    """A configuration and events. What is made of a script is kept with it, and events are shared between scripts, so
+    that of a long one many others are soon made."""
     config: Config
     events: tuple[Event, ...]
 
+    @functools.cached_property
     def text(self) -> str:
-        return "".join(line + "\n" for line in self.lines())
+        return "\n".join([self.config.text, *[event.text for event in self.events], ""])
 
-    def lines(self) -> list[str]:
-        return [self.config.text(), *(event.text() for event in self.events)]
+    @functools.cached_property
+    def digest(self) -> bytes:
+        """A few bytes that no other script has."""
+        return hashlib.blake2b(self.text.encode(), digest_size=16).digest()
 
     def with_events(self, events: Iterable[Event]) -> Script:
         return replace(self, events=tuple(events))
@@ -124,6 +136,8 @@ class Case:
     script: Script
     stated: tuple[str, ...] = ()
     mark: Mark = Mark.ANY
+    # The rule that the script says it shows, if it says one.
+    rule: str = ""
 
     def plain(self) -> Case:
         kept = tuple(reply for event, reply in zip(self.script.events, self.stated) if event.is_plain)
@@ -189,6 +203,25 @@ def read_script(text: str) -> Script:
     return read_text(text).script
 
 
+def rule_in(head: Iterable[str]) -> str:
+    """The rule that comments say: in one line or several, up to the next word with a colon that a head has."""
+    found, is_rule = [], False
+    for line in head:
+        word, colon, rest = line.partition(":")
+        if colon and word in HEADS:
+            is_rule = word == RULE
+            line = rest.strip()
+        if is_rule:
+            found.append(line)
+    return " ".join(found)
+
+
+def read_plain(text: str) -> Case:
+    """A script alone, whatever is said of its replies."""
+    read = read_text(text)
+    return Case(read.script, rule=rule_in(read.head))
+
+
 def read_case(text: str) -> Case:
     """A script of the folder `conformance`: it has one mark, and directly below each event one line with its reply."""
     read = read_text(text)
@@ -197,8 +230,8 @@ def read_case(text: str) -> Case:
         raise BadScript("it has no line `# mark: exact` or `# mark: any`, or several")
     for event, replies in zip(read.script.events, read.below):
         if len(replies) != 1:
-            raise BadScript(f"`{event.text()}` has {len(replies)} lines of reply directly below it, and right is one")
-    return Case(read.script, tuple(reply for (reply,) in read.below), Mark(marks[0]))
+            raise BadScript(f"`{event.text}` has {len(replies)} lines of reply directly below it, and right is one")
+    return Case(read.script, tuple(reply for (reply,) in read.below), Mark(marks[0]), rule_in(read.head))
 
 
 def read_file(path: pathlib.Path, read: Callable[[str], Read]) -> Read:

@@ -1,6 +1,7 @@
 """Makes a script with a finding as small as it gets: fewer events, fewer sessions, lower numbers."""
 from __future__ import annotations
 
+import enum
 import functools
 import itertools
 import string
@@ -8,8 +9,9 @@ import time
 from collections.abc import Callable, Iterator, Mapping, Sequence
 from dataclasses import dataclass, replace
 
-from judging.comparing import Judge, Judgement, Kind
-from judging.scripts import Case, Role, Script
+from judging.comparing import Finding, Judge, Judgement, Kind
+from judging.programs import CalledOff, Patience
+from judging.scripts import Case, Event, Role, Script
 
 # A hang is waited for at each run that has it, so these runs get a part of the time.
 SHARE_OF_A_HANG = 4
@@ -23,79 +25,157 @@ FEW_EVENTS = 12
 HEADERS = (2, 1, 4, 3, 0)
 # Which number of a `new` it is.
 COUNT_OF_NUMBERS = 2
+# How often a finding that comes and goes is asked for.
+MOST_ASKED = 5
+TWICE = 2
+# So much of the time is spared for one more run of the script that is left.
+SPARE_SECONDS = 0.5
+# So many events a script may have to be kept with what was found of it.
+MOST_EVENTS_KEPT = 1000
 # An event, and which of its numbers.
 Place = tuple[int, int]
-# What is called with a line on how far shrinking has come.
-Notice = Callable[[str], None]
+# What is called with the smallest script so far, and how many runs were made.
+Notice = Callable[[Judgement, int], None]
+
+
+class Spent(Exception):
+    """The effort has come to its end."""
 
 
 @dataclass(frozen=True)
 class Effort:
-    """How many runs of the author's program shrinking may take, and how long."""
+    """How many runs of the author's program shrinking takes at most, and how long."""
     runs: int
     seconds: float
+
+
+@dataclass(frozen=True)
+class Steadiness:
+    """In how many runs of one script its finding came. The first of them is that in which it was found."""
+    found: int = 1
+    asked: int = 1
+
+    @property
+    def is_whole(self) -> bool:
+        return self.found == self.asked
+
+
+class Course(enum.Enum):
+    """How far shrinking came."""
+    WHOLE = "nothing more can be dropped or lowered"
+    UNDER_WAY = "it goes on"
+    SPENT = "it came to its limit"
+    STOPPED = "it was stopped"
+    LEFT_OUT = "the finding didn't come again"
+
+
+class Trials:
+    """Runs of the author's program for one finding: none is begun, and none goes on, beyond the effort."""
+
+    def __init__(self, judge: Judge, goal: Finding, effort: Effort) -> None:
+        self.judge, self.goal, self.most = judge, goal, effort.runs
+        self.runs = 0
+        self.deadline = time.monotonic() + effort.seconds
+        # A last run of the script that is left, which a hang makes long.
+        hang = judge.seconds if goal.kind is Kind.HANG else 0
+        self.spare = Effort(1, min(hang + SPARE_SECONDS, effort.seconds / 2))
+
+    def require(self, spare: Effort) -> float:
+        """The time at which a run has to end, if what is spared is to be left."""
+        until = self.deadline - spare.seconds
+        if self.runs + spare.runs >= self.most or time.monotonic() >= until:
+            raise Spent
+        return until
+
+    def examine(self, script: Script, seconds: float, spare: Effort = Effort(0, 0)) -> Judgement | None:
+        """The judgement of a script by one more run, if it has a finding like the first one."""
+        judge = replace(self.judge, patience=Patience(self.require(spare)))
+        self.runs += 1
+        try:
+            judged = judge.examine(Case(script), seconds)
+        except CalledOff:
+            raise Spent from None
+        return judged if judged.finding is not None and judged.finding.is_like(self.goal) else None
+
+    def again(self, found: Judgement, most: int = MOST_ASKED) -> tuple[Judgement, Steadiness]:
+        """Asks a script once more. If it has no such finding then, it is asked some more times."""
+        steadiness = Steadiness()
+        try:
+            while steadiness.asked < (TWICE if steadiness.is_whole else most):
+                judged = self.examine(found.script, self.judge.seconds)
+                steadiness = Steadiness(steadiness.found + (judged is not None), steadiness.asked + 1)
+                found = judged or found
+        except Spent:
+            pass
+        return found, steadiness
 
 
 class Shrinker:
     """Holds the smallest script so far that has a finding like the first one."""
 
-    def __init__(self, judge: Judge, found: Judgement, effort: Effort, seconds: float, notice: Notice) -> None:
-        self.judge, self.found, self.effort, self.seconds, self.notice = judge, found, effort, seconds, notice
-        self.goal = found.finding
+    def __init__(self, trials: Trials, found: Judgement, seconds: float, notice: Notice) -> None:
+        self.trials, self.found, self.seconds, self.notice = trials, found, seconds, notice
         self.best = found
-        # What was found of each script, if it is like the first finding.
-        self.tried: dict[Script, Judgement | None] = {found.script: found}
-        self.runs = 0
-        self.deadline = time.monotonic() + effort.seconds
+        # The smallest script of the other order in which events were dropped.
+        self.other: Judgement | None = None
+        # What was found of scripts, by their digests. A long one with such a finding is run again if it comes again.
+        self.tried: dict[bytes, Judgement | None] = {found.script.digest: found}
 
     @property
     def script(self) -> Script:
         return self.best.script
 
     @property
-    def is_spent(self) -> bool:
-        return self.runs >= self.effort.runs or time.monotonic() >= self.deadline
+    def smallest(self) -> Judgement:
+        judged = (self.other, self.best) if self.other else (self.best,)
+        return min(judged, key=lambda it: len(it.script.events))
 
     @property
     def has_other_config(self) -> bool:
         """Whether other configurations are tried. In a smaller heap a program may stop for that reason alone."""
-        return self.goal.kind is Kind.DIFFERENCE
+        return self.trials.goal.kind is Kind.DIFFERENCE
 
     def examine(self, script: Script) -> Judgement | None:
         """A script's judgement, if it has a finding like the first one."""
-        if script not in self.tried:
-            if self.is_spent:
-                return None
-            self.runs += 1
-            judged = self.judge.examine(Case(script), self.seconds)
-            is_like = judged.finding is not None and judged.finding.is_like(self.goal)
-            self.tried[script] = judged if is_like else None
-        return self.tried[script]
+        if script.digest in self.tried:
+            return self.tried[script.digest]
+        judged = self.trials.examine(script, self.seconds, self.trials.spare)
+        if judged is None or len(script.events) <= MOST_EVENTS_KEPT:
+            self.tried[script.digest] = judged
+        return judged
 
     def attempt(self, script: Script) -> bool:
-        """Takes another script if it has such a finding too. What is behind the finding is cut off."""
-        judged = None if script == self.script else self.examine(script)
+        """Takes another script if it has such a finding too. What is behind the finding is cut off.
+
+        Raises Spent once the effort is, also if no run is needed. So each loop ends that tries something in each turn.
+        """
+        self.trials.require(self.trials.spare)
+        judged = None if script.digest == self.script.digest else self.examine(script)
         if judged is None:
             return False
         self.best = judged
-        self.notice(f"{len(judged.script.events)} events left after {self.runs} runs")
+        self.notice(self.smallest, self.trials.runs)
         self.attempt(judged.script.prefix(judged.finding.index + 1))
         return True
 
-    def shrink(self) -> Judgement:
+    def shrink(self) -> Course:
         """Drops the last events first, which leaves in place what the others make. If much is left, begins again with
-        the first events, and takes the smaller script."""
-        best = self.shrink_by(self.drop_backward)
-        if len(best.script.events) > FEW_EVENTS:
-            self.best = self.found
-            best = min(best, self.shrink_by(self.drop_forward), key=lambda judged: len(judged.script.events))
-        return best
+        the first events, and the smaller script counts."""
+        try:
+            self.shrink_by(self.drop_backward)
+            if len(self.script.events) > FEW_EVENTS:
+                self.other = self.best
+                self.best = self.found
+                self.shrink_by(self.drop_forward)
+        except Spent:
+            return Course.SPENT
+        return Course.WHOLE
 
-    def shrink_by(self, drop_each: Callable[[int], None]) -> Judgement:
+    def shrink_by(self, drop_each: Callable[[int], None]) -> None:
         self.cut()
         self.lower_pages()
         count = None
-        while count != len(self.script.events) and not self.is_spent:
+        while count != len(self.script.events):
             count = len(self.script.events)
             self.drop(drop_each)
             self.join_objects()
@@ -106,11 +186,10 @@ class Shrinker:
             self.lower_together()
             self.lower_each()
             self.drop(drop_each)
-        return self.best
 
     def cut(self) -> None:
         """Finds a short prefix. A program that keeps its output back doesn't show how far it came."""
-        self.attempt(self.script.prefix(self.goal.index + 1))
+        self.attempt(self.script.prefix(self.trials.goal.index + 1))
         least = 0
         while len(self.script.events) - least > 1:
             middle = (least + len(self.script.events)) // 2
@@ -168,12 +247,11 @@ class Shrinker:
 
     def join_at(self, index: int, header: int) -> bool:
         """Leaves out a `new`, and has the one before it, or the one behind, make so much more."""
-        news = [place for place, event in enumerate(self.script.events) if event.word == "new"]
-        if index not in news:
+        events = self.script.events
+        if events[index].word != "new":
             return False
-        position = news.index(index)
-        room = sum(self.script.events[index].numbers[1:]) + header
-        for other in news[max(0, position - 1):position] + news[position + 1:position + 2]:
+        room = sum(events[index].numbers[1:]) + header
+        for other in nearest_news(events, index):
             larger = self.with_number([(other, COUNT_OF_NUMBERS)], self.script.events[other].numbers[-1] + room)
             if self.attempt(larger.with_events(larger.events[:index] + larger.events[index + 1:])):
                 return True
@@ -258,8 +336,16 @@ class Shrinker:
         return self.script.with_events(events)
 
 
+def nearest_news(events: Sequence[Event], index: int) -> list[int]:
+    """Where the last `new` before an event is, and the first one behind it."""
+    sides = (range(index - 1, -1, -1), range(index + 1, len(events)))
+    found = (next((place for place in side if events[place].word == "new"), None) for side in sides)
+    return [place for place in found if place is not None]
+
+
 def renamed(script: Script, names: Mapping[str, str]) -> Script:
-    return script.with_events(replace(event, who=names.get(event.who, event.who)) for event in script.events)
+    return script.with_events(replace(event, who=names[event.who]) if event.who in names else event
+                              for event in script.events)
 
 
 def short_names() -> Iterator[str]:
@@ -284,32 +370,30 @@ class Shrunk:
     """The smallest script that was found, and what is known of it."""
     judgement: Judgement
     runs: int
-    # Whether nothing more could be dropped or lowered, and whether one more run had the finding again.
-    is_smallest: bool
-    is_steady: bool
+    course: Course
+    steadiness: Steadiness = Steadiness()
+
+
+def tried_seconds(judge: Judge, goal: Finding) -> tuple[float, ...]:
+    """How long each run may take. A hang is tried with a part of the time first."""
+    return (judge.seconds / SHARE_OF_A_HANG, judge.seconds) if goal.kind is Kind.HANG else (judge.seconds,)
 
 
 def shrink(judge: Judge, found: Judgement, effort: Effort, notice: Notice) -> Shrunk:
-    """Shrinks what is found a second time. A hang that is none with all its time is shrunk again with all of it."""
-    if not recurs(judge, found):
-        return Shrunk(found, 1, is_smallest=False, is_steady=False)
-    is_hang = found.finding.kind is Kind.HANG
-    shrunk = shrink_within(judge, found, effort, judge.seconds / (SHARE_OF_A_HANG if is_hang else 1), notice)
-    runs = 1 + shrunk.runs
-    if is_hang and not shrunk.is_steady:
-        shrunk = shrink_within(judge, found, effort, judge.seconds, notice)
-        runs += shrunk.runs
-    return replace(shrunk, runs=runs)
-
-
-def shrink_within(judge: Judge, found: Judgement, effort: Effort, seconds: float, notice: Notice) -> Shrunk:
-    shrinker = Shrinker(judge, found, effort, seconds, notice)
-    best = shrinker.shrink()
-    again = recurs(judge, best)
-    return Shrunk(again or best, shrinker.runs + 1, not shrinker.is_spent, again is not None)
-
-
-def recurs(judge: Judge, found: Judgement) -> Judgement | None:
-    """One more run of a script, if it has such a finding again."""
-    again = judge.examine(Case(found.script))
-    return again if again.finding is not None and again.finding.is_like(found.finding) else None
+    """Shrinks what is found a second time. A hang that is none with all its time is shrunk again with all of it. Ends
+    with the smallest script so far once the effort is spent, or the judge is stopped."""
+    trials = Trials(judge, found.finding, effort)
+    shrinker, course = Shrinker(trials, found, judge.seconds, notice), Course.LEFT_OUT
+    try:
+        best, steadiness = trials.again(found)
+        for seconds in tried_seconds(judge, found.finding) if steadiness.is_whole else ():
+            shrinker = Shrinker(trials, found, seconds, notice)
+            course = shrinker.shrink()
+            if shrinker.smallest is found:
+                break
+            best, steadiness = trials.again(shrinker.smallest, MOST_ASKED if seconds == judge.seconds else TWICE)
+            if steadiness.is_whole:
+                break
+    except KeyboardInterrupt:
+        return Shrunk(shrinker.smallest, trials.runs, Course.STOPPED)
+    return Shrunk(best, trials.runs, course, steadiness)

@@ -4,7 +4,6 @@ from __future__ import annotations
 import argparse
 import contextlib
 import pathlib
-import threading
 from collections import deque
 from collections.abc import Callable, Iterable, Iterator, Sequence
 from concurrent.futures import Executor, Future, ThreadPoolExecutor
@@ -12,7 +11,8 @@ from dataclasses import dataclass, replace
 
 from judging.comparing import Judge, Judgement, Reference, ReferenceFailure
 from judging.options import NONE, PROFILES, Usage
-from judging.scripts import Case, Mark, read_case, read_file, read_script
+from judging.programs import Patience
+from judging.scripts import Case, Mark, read_case, read_file, read_plain
 
 DEFAULT_SEEDS = range(1, 21)
 # So large a heap is never full, or nearly never; where it is, a script ends.
@@ -30,7 +30,13 @@ class Source:
 class Outcome:
     """What came of a script. One whose replies are those of this very collector isn't judged unless it is asked for."""
     source: Source
+    # The rule that the script says it shows, if it says one.
+    rule: str
     judged: Judgement | None
+
+    @property
+    def has_finding(self) -> bool:
+        return self.judged is not None and self.judged.finding is not None
 
 
 @dataclass(frozen=True)
@@ -52,6 +58,17 @@ class Sources:
             words = ["--seed", str(seed), "--profile", profile, *self.words]
             yield generated(f"seed {seed} of profile {profile}", self.reference, words)
 
+    def require(self) -> None:
+        """What can't be asked for is known before any script is judged."""
+        if not len(self):
+            raise Usage("there is no script to judge by")
+        try:
+            if self.seeds:
+                self.reference.generated(["--seed", "1", "--events", "1"])
+        except ReferenceFailure:
+            raise Usage(f"{' '.join(self.reference.words)} makes no scripts from seeds, as `metroheap generate` does: "
+                        f"ask for none by --seeds {NONE}") from None
+
 
 def fixed(name: str, case: Case) -> Source:
     return Source(name, lambda: case)
@@ -61,15 +78,14 @@ def generated(name: str, reference: Reference, words: Sequence[str]) -> Source:
     return Source(name, lambda: Case(reference.generated(words)))
 
 
-def conformance_folder(options: argparse.Namespace, default: pathlib.Path) -> pathlib.Path | None:
-    if options.conformance is None:
-        return default if default.is_dir() and not options.script else None
-    if options.conformance == NONE:
-        return None
-    folder = pathlib.Path(options.conformance)
-    if not folder.is_dir():
-        raise Usage(f"{folder} is no folder")
-    return folder
+def conformance_folders(options: argparse.Namespace, default: pathlib.Path) -> list[pathlib.Path]:
+    if not options.conformance:
+        return [default] if default.is_dir() and not options.script else []
+    folders = [pathlib.Path(name) for name in options.conformance if name != NONE]
+    for folder in folders:
+        if not folder.is_dir():
+            raise Usage(f"{folder} is no folder")
+    return folders
 
 
 def conformance_sources(folder: pathlib.Path) -> list[Source]:
@@ -80,9 +96,9 @@ def conformance_sources(folder: pathlib.Path) -> list[Source]:
 def sources_of(options: argparse.Namespace, reference: Reference, conformance: pathlib.Path) -> Sources:
     """All scripts that are asked for. Files are read at once, so that a bad one is known before any is judged."""
     try:
-        given = [fixed(name, Case(read_file(pathlib.Path(name), read_script))) for name in options.script]
-        folder = conformance_folder(options, conformance)
-        stated = conformance_sources(folder) if folder else []
+        given = [fixed(name, read_file(pathlib.Path(name), read_plain)) for name in options.script]
+        folders = conformance_folders(options, conformance)
+        stated = [source for folder in folders for source in conformance_sources(folder)]
     except OSError as error:
         raise Usage(f"{error.filename}: {error.strerror}") from None
     seeds = options.seeds
@@ -96,7 +112,7 @@ def examine(judge: Judge, source: Source) -> Outcome:
     try:
         case = source.case()
         is_left_out = case.mark is Mark.EXACT and not judge.is_exact
-        return Outcome(source, None if is_left_out else judge.examine(case))
+        return Outcome(source, case.rule, None if is_left_out else judge.examine(case))
     except ReferenceFailure as failure:
         raise ReferenceFailure(f"{source.name}: {failure}") from None
 
@@ -112,16 +128,16 @@ def in_order(pool: Executor, judge: Judge, sources: Iterable[Source], ahead: int
         while waiting:
             yield waiting.popleft().result()
     finally:
-        judge.stop.set()
+        judge.patience.call_off()
         for later in waiting:
             later.cancel()
 
 
 def outcomes(judge: Judge, sources: Iterable[Source], jobs: int) -> Iterator[Outcome]:
     """What comes of each script, in their order, up to the first finding. Then the scripts behind it are called off."""
-    behind = replace(judge, stop=threading.Event())
+    behind = replace(judge, patience=Patience())
     with ThreadPoolExecutor(jobs) as pool, contextlib.closing(in_order(pool, behind, sources, 2 * jobs)) as judged:
         for outcome in judged:
             yield outcome
-            if outcome.judged and outcome.judged.finding:
+            if outcome.has_finding:
                 return

@@ -1,7 +1,7 @@
 """The list of wrong collectors: each breaks one rule, and a file of conformance/ catches it.
 
 A name, what the collector does wrong, the file without its ending, and the value of `Rules` that is another. From
-this list `kit/test-conformance` makes the table of conformance/README.md.
+this list `kit/wrong/collector --table` prints the table of conformance/README.md, and `kit/test-conformance` compares.
 """
 from __future__ import annotations
 

@@ -1,0 +1,22 @@
+# Completions of metroheap-judge for bash.
+_metroheap_judge() {
+    local word=${COMP_WORDS[COMP_CWORD]} it
+    # Behind `--` stands the program, with files.
+    for it in "${COMP_WORDS[@]:1:COMP_CWORD-1}"; do
+        [[ $it != -- ]] || return
+    done
+    case ${COMP_WORDS[COMP_CWORD - 1]} in
+        # A file or a folder follows.
+        --reference | --conformance | --script | --keep | --history) return ;;
+        --protocol)
+            mapfile -t COMPREPLY < <(compgen -W 'run live' -- "$word")
+            return
+            ;;
+        --profile)
+            mapfile -t COMPREPLY < <(compgen -W 'churn lists trees wide large frag refusals mixed' -- "$word")
+            return
+            ;;
+    esac
+    mapfile -t COMPREPLY < <(compgen -W '--exact --protocol --reference --seconds --jobs --progress --conformance --seeds --events --profile --script --keep --shrink-runs --shrink-seconds --history --sessions --help --' -- "$word")
+}
+complete -o default -F _metroheap_judge metroheap-judge
