@@ -3,3 +3,4 @@ pub mod PieceLemmas
 pub mod RunLemmas
 pub mod ShownLemmas
 pub mod LeftOutLemmas
+pub mod CursorLemmas

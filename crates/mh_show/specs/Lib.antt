@@ -1,3 +1,4 @@
+pub mod Cursor
 pub mod Rows
 pub mod Page
 pub mod LeftOut

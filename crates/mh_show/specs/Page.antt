@@ -15,7 +15,7 @@ use Rattle.mh_show.specs.declared.drawing.TheConstants.{DRAWING}
 use Rattle.mh_show.specs.declared.hands.TheConstants.{HANDS}
 use Rattle.mh_show.specs.Rows.{Row, row_of, phase_number, row_text, listed, deeds_text}
 
--- Past so many deeds only those are written that change what is drawn
+-- Past so many deeds only those are written that are kept of a long run
 abbrev pub most_deeds : ℕ
 most_deeds = 200000
 
@@ -52,7 +52,7 @@ pub record Shown : Type 0 where
   pub before : List (Option ℕ)
   pub after : List (Option ℕ)
 
--- `["EVENT","REPLY",UNITS,WHOLE,DEEDS,ROOTS,QUANTUM]`, with all deeds or those alone that change what is drawn. No text here has a quotation mark or a backslash
+-- `["EVENT","REPLY",UNITS,WHOLE,DEEDS,ROOTS,QUANTUM]`, with all deeds or those alone that are kept of a long run. No text here has a quotation mark or a backslash
 abbrev pub shown_text : Bool → Shown → Text
 shown_text is_whole shown =
     codes "[\"" ++ (joined (event_words shown.measured.entry.event) ++ (codes "\",\"" ++ (reply_text shown.measured.entry.reply ++ (codes "\"," ++ (decimal shown.measured.mutator ++ (codes (if is_whole then ",1," else ",0,")

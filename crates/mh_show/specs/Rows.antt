@@ -1,5 +1,5 @@
 -- Deeds as rows of numbers, of which the first is the kind of the deed.
-use Rattle.std.specs.Prelude.{ℕ, Bool, true, false, Option, Some, None, List, [], ◌∷◌, ◌++◌, filter, flat_map, codes, decimal}
+use Rattle.std.specs.Prelude.{ℕ, Bool, true, false, not, ◌&&◌, ◌||◌, if◌then◌else◌, Option, Some, None, List, [], ◌∷◌, ◌++◌, flat_map, codes, decimal}
 use Rattle.mh_model.specs.declared.cycle.Phase.{Phase}
 use Rattle.mh_model.specs.declared.cycle.Phase.TheVariants.{Idle, Roots, Mark, Sweep, Defrag}
 use Rattle.mh_model.specs.declared.deed.Deed.{Deed}
@@ -12,6 +12,7 @@ use Rattle.mh_model.specs.declared.deed.Tier.{Tier}
 use Rattle.mh_model.specs.declared.deed.Tier.TheVariants as tier
 use Rattle.mh_model.specs.declared.shape.Shape.{Shape}
 use Rattle.mh_model.specs.Bytes.{Text}
+use Rattle.mh_show.specs.Cursor.{moves_cursor, moves_next}
 
 -- A row: the kind of what it has, and its numbers, of which some may be missing
 pub record Row : Type 0 where
@@ -93,10 +94,18 @@ is_drawn (deed.Stay place) = false
 is_drawn deed.ForwardRoots = false
 is_drawn _ = true
 
--- all deeds, or those alone that change what is drawn
+-- a deed before these is kept of a long run: it changes what is drawn, or it moves the cursor and the next deed doesn't
+abbrev pub is_kept : Deed → List Deed → Bool
+is_kept deed later = is_drawn deed || (moves_cursor deed && not (moves_next later))
+
+abbrev pub kept_deeds : List Deed → List Deed
+kept_deeds [] = []
+kept_deeds (deed ∷ later) = if is_kept deed later then deed ∷ kept_deeds later else kept_deeds later
+
+-- all deeds, or those alone that are kept of a long run
 abbrev pub shown_deeds : Bool → List Deed → List Deed
 shown_deeds true deeds = deeds
-shown_deeds false deeds = filter is_drawn deeds
+shown_deeds false deeds = kept_deeds deeds
 
 -- Texts ------------------------------------------------------------------------------------------
 

@@ -94,9 +94,9 @@ function note(moment, now, d) {
     case 5: if (d[4]) shade(moment, now, d[3]); break;
     case 6: now.cursor = 64 * (d[1] + 1); break;
     case 7: now.cursor = d[1] + 1; if (d[2] > 1) addSlot(moment, d[1], { birth: -1, to: -1 }); break;
-    case 8: addPage(moment, d[1], { size: 0, flag: 0 }); break;
-    case 9: addPage(moment, d[1], { flag: 1 }); break;
-    case 10: addPage(moment, d[1], { flag: 0 }); break;
+    case 8: now.cursor = 64 * (d[1] + 1); addPage(moment, d[1], { size: 0, flag: 0 }); break;
+    case 9: now.cursor = 64 * (d[1] + 1); addPage(moment, d[1], { flag: 1 }); break;
+    case 10: now.cursor = 64 * (d[1] + 1); addPage(moment, d[1], { flag: 0 }); break;
     case 11: now.cursor = d[1] + 1; break;
     case 12: now.cursor = d[1] + 1; move(moment, d[1], d[2]); break;
     case 14: shade(moment, now, d[1]); break;
@@ -308,7 +308,7 @@ function drawMap() {
   const notes = [];
   if (box < SLOTS_SEEN) notes.push("A small page shows what share of its slots is in each state; + makes pages larger, and a chosen page is drawn below.");
   if (arrows < counts[FORWARDER]) notes.push(`Arrows of ${arrows} of ${counts[FORWARDER]} forwarders are drawn.`);
-  if (now.event && !events[now.event - 1].whole) notes.push("From here on steps that change nothing in the map are left out.");
+  if (now.event && !events[now.event - 1].whole) notes.push("From here on most steps that change nothing in the map are left out.");
   at("map-note").textContent = notes.join(" ");
 }
 

@@ -24,7 +24,7 @@ use mh_telling::run::answer_told;
 use mh_text::sink::Sink;
 use std::alloc::Global;
 
-/// Past so many deeds only those are written that change what is drawn.
+/// Past so many deeds only those are written that are kept of a long run.
 const MOST_DEEDS: u64 = 200_000;
 
 /// Does an event, tells what it does, and gives its entry with its units.
@@ -69,8 +69,8 @@ fn copied(slots: &[Option<Place>; ROOT_SLOTS]) -> [Option<Place>; ROOT_SLOTS]
     copy
 }
 
-/// Does an event, adds it to the text, and gives how many deeds are left before only those are written that change what is
-/// drawn.
+/// Does an event, adds it to the text, and gives how many deeds are left before only those are written that are kept of a
+/// long run.
 fn show_event(
     machine: &mut Machine,
     event: Event,

@@ -1,7 +1,18 @@
-//! Laws of what is written of a long run.
-ghost use Rattle.mh_show.specs.LeftOut.{LeftOutDeedsDrawNothing};
+//! Laws of what is written of a long run, and of the cursor.
+ghost use Rattle.mh_show.specs.Cursor.{QuantaTellTheCursor};
+ghost use Rattle.mh_show.specs.LeftOut.{KeptDeedsTellTheCursor, LeftOutDeedsDrawNothing};
 
 /// The deeds that are left out of a long run change no picture.
 pub fn left_out_deeds_draw_nothing()
     ensures { LeftOutDeedsDrawNothing }
+{}
+
+/// The deeds that are written of a long run leave the cursor where all of them leave it, after each of those and at last.
+pub fn kept_deeds_tell_the_cursor()
+    ensures { KeptDeedsTellTheCursor }
+{}
+
+/// The deeds of a quantum leave the cursor where the collector has it.
+pub fn quanta_tell_the_cursor()
+    ensures { QuantaTellTheCursor }
 {}

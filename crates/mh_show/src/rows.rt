@@ -1,7 +1,8 @@
 //! Deeds as rows of numbers.
 ghost use Rattle.std.specs.Prelude.{◌≡◌, ◌++◌, ◌∷◌, [], Some, OnOk};
 ghost use Rattle.std.specs.String.{string_bytes};
-ghost use Rattle.mh_show.specs.Rows.{deed_row, deeds_text, edge_numbers, is_drawn, name_numbers, number_text, phase_number, row_of, row_text, tier_number};
+ghost use Rattle.mh_show.specs.Cursor.{moves_cursor, moves_next};
+ghost use Rattle.mh_show.specs.Rows.{deed_row, deeds_text, edge_numbers, is_drawn, is_kept, name_numbers, number_text, phase_number, row_of, row_text, tier_number};
 
 use itoa::Buffer;
 use mh_model::cycle::Phase;
@@ -48,6 +49,33 @@ pub fn is_drawn(deed: &Deed) -> bool
         Deed::Pass { .. } | Deed::Stay { .. } | Deed::ForwardRoots => false,
         _ => true,
     }
+}
+
+fn moves_cursor(deed: &Deed) -> bool
+    ensures { result ≡ moves_cursor deed.now }
+{
+    match *deed {
+        Deed::Start { .. } | Deed::Mark { .. } | Deed::Reference { .. } => false,
+        Deed::ForwardRoots | Deed::Shade { .. } | Deed::Make { .. } => false,
+        _ => true,
+    }
+}
+
+fn moves_next(deeds: &[Deed]) -> bool
+    ensures { result ≡ moves_next deeds.now }
+{
+    match deeds {
+        [] => false,
+        [next, ..] => moves_cursor(next),
+    }
+}
+
+/// Whether a deed before these is kept of a long run: it changes what is drawn, or it moves the cursor and the next deed
+/// doesn't.
+fn is_kept(deed: &Deed, later: &[Deed]) -> bool
+    ensures { result ≡ is_kept deed.now later.now }
+{
+    is_drawn(deed) || moves_cursor(deed) && !moves_next(later)
 }
 
 fn push_number(text: &mut String, number: Option<u64>) -> Result<(), NoMemory>
@@ -210,13 +238,13 @@ pub fn push_deed(text: &mut String, deed: &Deed) -> Result<(), NoMemory>
     }
 }
 
-/// Adds the rows of deeds: of all, or of those alone that change what is drawn.
+/// Adds the rows of deeds: of all, or of those alone that are kept of a long run.
 pub fn push_deeds(text: &mut String, is_whole: bool, deeds: &[Deed]) -> Result<(), NoMemory>
     ensures { OnOk result (string_bytes text.new ≡ string_bytes text.old ++ deeds_text is_whole deeds.now) }
 {
     text.push_str("[")?;
-    for deed in deeds {
-        if is_whole || is_drawn(deed) {
+    for (index, deed) in deeds.iter().enumerate() {
+        if is_whole || is_kept(deed, &deeds[index + 1..]) {
             push_deed(text, deed)?;
             text.push_str(",")?;
         }

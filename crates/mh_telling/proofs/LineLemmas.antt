@@ -1,5 +1,5 @@
 -- Lines that are added to a text piece by piece.
-use Rattle.std.proofs.Common.{◌≡◌, ◌∙◌, List, ◌∷◌, ◌++◌, refl, ap, codes, decimal, append_assoc}
+use Rattle.std.proofs.Common.{◌≡◌, ◌∙◌, ℕ, List, ◌∷◌, ◌++◌, refl, ap, codes, decimal, append_assoc}
 use Rattle.mh_model.specs.declared.command.Event.{Event}
 use Rattle.mh_model.specs.declared.command.Event.TheVariants as event
 use Rattle.mh_model.specs.declared.history.Entry.{Entry}
@@ -31,10 +31,10 @@ event_part : (e : Event) (next : Text) (more : List Text) → joined (event_word
 event_part (event.Session who command) next more = joined-append (115 ∷ decimal who) (phrase_words (command_phrase command)) next more
 event_part (event.Control control) next more = joined-append (codes "*") (phrase_words (control_phrase control)) next more
 
--- what was added part by part is the entry
-pub entry_written : (old : Text) (entry : Entry)
-    → (((old ++ joined (event_words entry.event)) ++ codes " = ") ++ reply_text entry.reply) ++ codes "\n" ≡ old ++ line_text (joined (entry_words entry))
-entry_written old entry =
+-- what was added part by part is the number and the entry
+pub entry_written : (old : Text) (number : ℕ) (entry : Entry)
+    → (((((old ++ decimal number) ++ codes " ") ++ joined (event_words entry.event)) ++ codes " = ") ++ reply_text entry.reply) ++ codes "\n" ≡ old ++ (decimal number ++ 32 ∷ line_text (joined (entry_words entry)))
+entry_written old number entry =
     let parts : joined (entry_words entry) ≡ joined (event_words entry.event) ++ (codes " = " ++ reply_text entry.reply) =
     event_part entry.event (codes "=") (reply_words entry.reply) ∙ ap (λ (text : Text). joined (event_words entry.event) ++ 32 ∷ text) (reply_part entry.reply) in
     rw parts (simp append_assoc)

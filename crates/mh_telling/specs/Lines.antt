@@ -101,8 +101,8 @@ quantum_lines form number quantum (Some ran) = quantum_line form number ran.ende
 abbrev pub account_text : Form → ℕ → ℕ → Account → Text
 account_text form number quantum account = flat_map (deed_line form number) account.command ++ quantum_lines form number quantum account.quantum
 
--- An event with its reply: its entry in a history, or an object with both as texts
+-- An event with its reply: its number and its entry in a history, or an object with all three
 abbrev pub entry_line : Form → ℕ → Entry → Text
-entry_line form.Text number entry = line_text (joined (entry_words entry))
+entry_line form.Text number entry = decimal number ++ 32 ∷ line_text (joined (entry_words entry))
 entry_line form.Json number entry =
     event_key number ++ (key_text form.Json (codes "text") ++ (quoted (joined (event_words entry.event)) ++ (key_text form.Json (codes "reply") ++ (quoted (reply_text entry.reply) ++ line_end form.Json))))

@@ -3,6 +3,7 @@ ghost use Rattle.std.specs.Prelude.{◌≡◌, ◌++◌, OnOk};
 ghost use Rattle.std.specs.String.{string_bytes};
 ghost use Rattle.mh_telling.specs.Lines.{entry_line};
 
+use crate::fields::push_decimal;
 use crate::lines::push_event_key;
 use mh_history::measured_line::{push_event, push_reply};
 use mh_model::history::Entry;
@@ -21,6 +22,8 @@ pub(crate) fn push_entry_line(
 {
     match form {
         Form::Text => {
+            push_decimal(text, u128::from(number))?;
+            text.push_str(" ")?;
             push_event(text, entry.event)?;
             text.push_str(" = ")?;
             push_reply(text, &entry.reply)?;

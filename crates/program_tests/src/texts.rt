@@ -77,34 +77,34 @@ mutator 13 collector 831 quanta 6 greatest 209 window 1 least 0 floor none
 ";
 
 /// Its steps, with what the quantum did that moves the object.
-pub const COLLECTED_STEPS: &[u8] = b"s0 new 0 1 59 = ok
-s0 new 1 1 59 = ok
-s0 new 2 1 59 = ok
-s0 new 3 1 59 = ok
-s0 new 4 1 59 = ok
-s0 put 0 0 4 = ok
-s0 clear 1 = ok
-* start = ok
-* quantum = spent 208 phase roots
-* quantum = spent 99 phase defrag
-* quantum = spent 209 phase defrag
+pub const COLLECTED_STEPS: &[u8] = b"1 s0 new 0 1 59 = ok
+2 s0 new 1 1 59 = ok
+3 s0 new 2 1 59 = ok
+4 s0 new 3 1 59 = ok
+5 s0 new 4 1 59 = ok
+6 s0 put 0 0 4 = ok
+7 s0 clear 1 = ok
+8 * start = ok
+9 * quantum = spent 208 phase roots
+10 * quantum = spent 99 phase defrag
+11 * quantum = spent 209 phase defrag
   quantum spent 209 phase defrag
     move place 1.0 to 0.1 birth 4 part 0 class 64 units 65 left 144
     forward units 144 left 0
-s0 write 4 0 7 = ok
-* quantum = spent 5 phase idle
-* dump = dump P0 C64 - 0=0.0 1=4.0 2=2.0 3=3.0 P1 C64 + 0>0.1
-s0 get 5 0 0 = ok
-s0 same 4 5 = yes
-s0 read 5 0 = number 7
-* start = ok
-* quantum = spent 208 phase roots
-* quantum = spent 102 phase idle
-* stat = free 3 live 4 old 0 phase idle cycle 2
-s1 take 0 3 = ok
-s1 shape 0 = refused 2 null
-* left = left 0
-* report 1 = mutator 13 collector 831 quanta 6 greatest 209 window 1 least 0 floor none
+12 s0 write 4 0 7 = ok
+13 * quantum = spent 5 phase idle
+14 * dump = dump P0 C64 - 0=0.0 1=4.0 2=2.0 3=3.0 P1 C64 + 0>0.1
+15 s0 get 5 0 0 = ok
+16 s0 same 4 5 = yes
+17 s0 read 5 0 = number 7
+18 * start = ok
+19 * quantum = spent 208 phase roots
+20 * quantum = spent 102 phase idle
+21 * stat = free 3 live 4 old 0 phase idle cycle 2
+22 s1 take 0 3 = ok
+23 s1 shape 0 = refused 2 null
+24 * left = left 0
+25 * report 1 = mutator 13 collector 831 quanta 6 greatest 209 window 1 least 0 floor none
 ";
 
 /// Lines of which each but the first has an answer.
