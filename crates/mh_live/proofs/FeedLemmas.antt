@@ -1,20 +1,22 @@
 -- What has been answered and told after one line more, and after bytes that end no line.
-use Rattle.std.proofs.Common.{◌≡◌, ◌∙◌, ℕ, suc, List, [], ◌∷◌, ◌++◌, Option, length, length-append, take, ap, refl, sym, subst, append_assoc, arith}
+use Rattle.std.proofs.Common.{◌≡◌, ◌<◌, ◌∙◌, ℕ, suc, List, [], ◌∷◌, ◌++◌, Option, length, length-append, take, ap, refl, sym, subst, append_assoc, arith}
 use Rattle.std.proofs.lemmas.List.{append-nil}
 use Rattle.std.proofs.KnownBytes.{Appends-nil, Appends-trans, Consumes-trans}
 use Rattle.std.specs.Io.KnownBytes.{Appends, Consumes, IsAtEnd}
 use Rattle.std.specs.Option.{option_to_list}
+use Rattle.std.specs.Prelude.{Err, IsErrOf}
 use Rattle.mh_model.specs.Bytes.{Text, Cut, cut_after}
 use Rattle.mh_text.specs.Stream.{AppendsBeginning}
 use Rattle.mh_model.specs.Live.{Live, Turn, Waits, IsTurn, IsLive, Taken, turn, unended_text}
 use Rattle.mh_script.specs.OfReasons.LineReason.{LineReason}
 use Rattle.mh_script.specs.declared.end.Refusal.{Refusal}
 use Rattle.mh_script.specs.declared.fault.ScriptFault.{ScriptFault}
+use Rattle.mh_script.specs.declared.fault.ScriptFault.TheVariants.{Read, Write, NoMemory}
 use Rattle.mh_script.specs.declared.fault.WriteError.{WriteError}
 use Rattle.mh_script.specs.declared.fault.WriteError.TheVariants as cause
 use Rattle.mh_script.specs.Texts.{IsWriteFault}
 use Rattle.mh_live.specs.declared.feed.Feed.{Feed}
-use Rattle.mh_live.specs.Feeding.{AnswersAll, AnswersFront, AnswersSome, BeginsAnswer, HasAnswered, IsFed, MayBegin, MayEndWith, TakesTurn, TurnsPartly, WritesPart}
+use Rattle.mh_live.specs.Feeding.{AnswersAll, AnswersFront, AnswersSome, AnswersWhole, BeginsAnswer, HasAnswered, IsFed, MayBegin, MayEndWith, TakesTurn, TurnsPartly, WritesPart}
 use Rattle.mh_live.specs.Heard.{AreHeard, Ended, IsHeard, IsLiveHeard, IsTold, IsWhy, is_configured, refusal_of, unended_refusal}
 use Rattle.mh_live.proofs.CutLemmas.{EndsNoLine, cut_line, cut_rest, front_line, front_of, line_cut}
 use Rattle.mh_live.proofs.TurnLemmas.{are_turns, heard_more, heard_why, one_more}
@@ -195,8 +197,18 @@ may_end : (error : WriteError) (fault : ScriptFault) (begun : Text) → IsWriteF
 may_end cause.Device fault begun is may = rw is tt
 may_end cause.NoMemory fault begun is may = rw is may
 
+-- a write error is no failed read
+pub no_read : (error : WriteError) (fault : ScriptFault) → IsWriteFault error fault → IsErrOf {T = Unit {0}} (Err fault) Read → ⊥
+no_read cause.Device fault is read = let told : Write ≡ Read = cc in cc
+no_read cause.NoMemory fault is read = let told : NoMemory ≡ Read = cc in cc
+
+-- a line that has begun came of some bytes
+pub fed_some : (Hears : List Refusal → Type 0) (text : Text) (first written : Option Text) (number : ℕ) (live : Live) (begun : Text) → HasAnswered Hears text first written number live begun → 0 < length begun → 0 < length text
+fed_some Hears [] first written number live begun has some = absurd (omega (arith, some, ap length has.kept))
+fed_some Hears (byte ∷ text) first written number live begun has some = omega arith
+
 -- the source has lost these bytes, and then no more
-read_ended : (source mid source' : Option Text) (text more : Text) (count : ℕ) → Consumes source mid text → Consumes mid source' (take count more) → count ≡ 0 → Consumes source source' text
+pub read_ended : (source mid source' : Option Text) (text more : Text) (count : ℕ) → Consumes source mid text → Consumes mid source' (take count more) → count ≡ 0 → Consumes source source' text
 read_ended source mid source' text more count before last none =
     let all : Consumes source source' (text ++ take 0 more) = Consumes-trans source mid source' text (take 0 more) before (rw none at last) in
     subst (Consumes source source') (append-nil text) all
@@ -208,6 +220,10 @@ front_of_fed Hears fault source source' first written text feed may read has = r
   read = read;
   some = subst (λ t. AnswersSome Hears (MayEndWith fault) t first written) (append-nil text) (some_of_more Hears text first written feed.number feed.live feed.begun.items has (MayEndWith fault) [] may);
 }
+
+-- all whole lines of what was read were answered
+pub whole_of_fed : (Hears : List Refusal → Type 0) (source source' first written : Option Text) (text : Text) (feed : Feed) → Consumes source source' text → IsFed Hears text first written feed → AnswersWhole Hears source source' first written
+whole_of_fed Hears source source' first written text feed read has = record { text = text; read = read; answers = has.answers; refusals = has.refusals; after = feed.live; turns = has.turns; wrote = has.wrote; heard = has.heard }
 
 pub front_of_some : (Hears : List Refusal → Type 0) (error : WriteError) (fault : ScriptFault) (source mid source' first written : Option Text) (text more : Text) → IsWriteFault error fault → Consumes source mid text → Consumes mid source' more
     → AnswersSome Hears (MayBegin error) (text ++ more) first written → AnswersFront Hears source source' first written fault

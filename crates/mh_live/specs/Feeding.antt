@@ -1,13 +1,14 @@
 -- What the lines that came so far were answered, and what was told of them.
-use Rattle.std.specs.Prelude.{◌≡◌, ℕ, suc, Option, List, [], ◌∷◌, ◌++◌, length, Result, IfErr, OnOk}
+use Rattle.std.specs.Prelude.{◌≡◌, ℕ, suc, Option, List, [], ◌∷◌, ◌++◌, length, Result, IfErr, OnOk, IsErrOf}
 use Rattle.std.specs.Io.KnownBytes.{Appends, Consumes, IsAtEnd}
 use Rattle.mh_model.specs.Bytes.{Text, cut_after}
 use Rattle.mh_model.specs.Live.{Live, Turn, Waits, IsTurn, IsLive, unended_text}
+use Rattle.mh_text.specs.Stream.{ConsumesSome}
 use Rattle.mh_live.specs.declared.feed.Feed.{Feed}
 use Rattle.mh_live.specs.Heard.{AreHeard, IsHeard, IsLiveHeard}
 use Rattle.mh_script.specs.declared.end.Refusal.{Refusal}
 use Rattle.mh_script.specs.declared.fault.ScriptFault.{ScriptFault}
-use Rattle.mh_script.specs.declared.fault.ScriptFault.TheVariants.{Write}
+use Rattle.mh_script.specs.declared.fault.ScriptFault.TheVariants.{Read, Write, NoMemory}
 use Rattle.mh_script.specs.declared.fault.WriteError.{WriteError}
 use Rattle.mh_script.specs.declared.fault.WriteError.TheVariants as cause
 use Rattle.mh_script.specs.Run.{Device}
@@ -101,8 +102,21 @@ pub record AnswersFront (Hears : List Refusal → Type 0) (source source' sink s
   pub read : Consumes source source' text
   pub some : AnswersSome Hears (MayEndWith fault) text sink sink'
 
+-- some bytes of a source were read, each whole line in them answered, and each refused one told
+pub record AnswersWhole (Hears : List Refusal → Type 0) (source source' sink sink' : Option Text) : Type 0 where
+  pub text : Text
+  pub read : Consumes source source' text
+  pub answers : Text
+  pub refusals : List Refusal
+  pub after : Live
+  pub turns : AreHeard 1 Waits (cut_after 10 text).pieces refusals answers after
+  pub wrote : Appends sink sink' answers
+  pub heard : Hears refusals
+
 -- Lines of a source were answered as they came and the refused ones told, and how that ended
 pub record IsLiveRun (Hears : List Refusal → Type 0) (source source' sink sink' : Device) (ended : Result Unit ScriptFault) : Type 0 where
   pub answered : OnOk ended (AnswersAll Hears source.bytes source'.bytes sink.bytes sink'.bytes)
   pub begun : IfErr ended (AnswersFront Hears source.bytes source'.bytes sink.bytes sink'.bytes)
+  pub prompt : IsErrOf ended Read → AnswersWhole Hears source.bytes source'.bytes sink.bytes sink'.bytes
+  pub memory : IsErrOf ended NoMemory → ConsumesSome source.bytes source'.bytes
   pub blames : Blames source.failures source'.failures sink.failures sink'.failures ended

@@ -1,7 +1,8 @@
 //! Lines that are read from a source as they come. Those whose ends have come are answered before more bytes are read.
-ghost use Rattle.std.specs.Prelude.{◌≡◌, ◌<◌, ◌≤◌, ◌^◌, ◌++◌, [], Option, IfErr, OnOk, OnErr, IsErrOf};
+ghost use Rattle.std.specs.Prelude.{◌≡◌, ◌<◌, ◌≤◌, ◌^◌, ◌++◌, [], Option, IfErr, OnOk, OnErr, IsErrOf, length};
 ghost use Rattle.mh_model.specs.Bytes.{Text};
-ghost use Rattle.mh_live.specs.Feeding.{AnswersAll, AnswersFront, AnswersSome, IsFed, MayBegin, TakesTurn, TurnsPartly, WritesPart};
+ghost use Rattle.mh_text.specs.Stream.{ConsumesSome};
+ghost use Rattle.mh_live.specs.Feeding.{AnswersAll, AnswersFront, AnswersSome, AnswersWhole, IsFed, MayBegin, TakesTurn, TurnsPartly, WritesPart};
 ghost use Rattle.mh_live.specs.Heard.{IsTold, refusal_of, unended_refusal};
 ghost use Rattle.mh_model.specs.Live.{Waits, unended_text};
 ghost use Rattle.mh_script.specs.Texts.{Blames};
@@ -132,6 +133,7 @@ impl Feed {
         ensures done { OnOk result (Appends (W.written sink.old) (W.written sink.new) (unended_text self.old.number self.old.begun.items)) }
         ensures begun { IfErr result (WritesPart (unended_text self.old.number self.old.begun.items) (W.written sink.old) (W.written sink.new)) }
         ensures told { OnOk result (IsTold L.hears listener.old (unended_refusal self.old.number self.old.begun.items) listener.new) }
+        ensures some { OnErr result (0 < length self.old.begun.items) }
         ensures untold { OnErr result (listener.new ≡ listener.old) }
         ensures no_failure { OnOk result (W.failures sink.new ≡ W.failures sink.old) }
         ensures blamed { IsErrOf result WriteError.Device → W.failures sink.old < W.failures sink.new }
@@ -168,6 +170,10 @@ pub fn run_live<R: Threads, S: Source, W: Sink, L: Listener, G: CrewGate>(
     requires sink_count { W.failures sink.old < 2 ^ 62 }
     ensures answered { OnOk result (AnswersAll (λ refusals. L.hears listener.old refusals listener.new) (S.rest source.old) (S.rest source.new) (W.written sink.old) (W.written sink.new)) }
     ensures begun { IfErr result (AnswersFront (λ refusals. L.hears listener.old refusals listener.new) (S.rest source.old) (S.rest source.new) (W.written sink.old) (W.written sink.new)) }
+    ensures prompt { IsErrOf result ScriptFault.Read → AnswersWhole (λ refusals. L.hears listener.old refusals listener.new) (S.rest source.old) (S.rest source.new) (W.written sink.old) (W.written sink.new) }
+
+    // Memory is taken only for bytes that the source gave.
+    ensures memory { IsErrOf result ScriptFault.NoMemory → ConsumesSome (S.rest source.old) (S.rest source.new) }
     ensures blames { Blames (S.failures source.old) (S.failures source.new) (W.failures sink.old) (W.failures sink.new) result }
 {
     let mut scanner = CrewScan::new(rt, alloc, workers, gate);

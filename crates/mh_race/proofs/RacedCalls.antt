@@ -1,15 +1,16 @@
 -- What the history of a race has of each seat's calls.
-use Rattle.std.proofs.Common.{arith, ◌≡◌, ◌≤◌, ◌<◌, ◌==◌, ◌+◌, ⊎_elim, ℕ, Bool, true, false, List, [], ◌∷◌, ◌++◌, Option, None, All, count_by, refl, sym, ap, ◌∙◌, subst, cond}
+use Rattle.std.proofs.Common.{arith, ◌≡◌, ◌≤◌, ◌<◌, ◌==◌, ◌+◌, ⊎_elim, ℕ, Bool, true, false, List, [], ◌∷◌, ◌++◌, Option, None, Some, All, count_by, get_or, length, length-append, append-nil, refl, sym, ap, ◌∙◌, subst, cond}
 use Rattle.std.proofs.lemmas.Bool.{eqb-true}
 use Rattle.std.proofs.lemmas.Bool.Decides.{leb_tells}
-use Rattle.std.proofs.lemmas.List.Elements.{All-head, All-tail}
+use Rattle.std.proofs.lemmas.List.Elements.{All-contains, All-head, All-tail}
+use Rattle.std.proofs.lemmas.Option.{none-some}
 use Rattle.std.proofs.lemmas.List.Sums.{sum_by-cons}
 use Rattle.mh_service.specs.OfLock.Seats.{LockSeatView}
 use Rattle.mh_model.specs.declared.command.Event.{Event}
 use Rattle.mh_model.specs.declared.history.Entry.{Entry}
 use Rattle.mh_model.specs.History.{owner_of, owned_by, events_of}
 use Rattle.mh_service.specs.OfState.Stop.{Stop}
-use Rattle.mh_race.specs.Racing.{HasRun}
+use Rattle.mh_race.specs.Racing.{AreRun, AreStopped, BeginsTheCalls, HasRun, MakesTheCalls, NoneStopped}
 
 -- an element that a test finds
 record Found {X : Type 0} (P : X → Type 0) (p : X → Bool) : Type 0 where
@@ -46,37 +47,62 @@ owned-none owner bound seat few above (event ∷ events) = go (owner event == se
     go true is none = absurd (omega (arith, eqb-true (owner event) seat is, few event, above))
     go false is none = subst (λ b. cond b (event ∷ owned_by owner seat events) (owned_by owner seat events) ≡ []) (sym is) none
 
--- what the history has of one seat's calls
-pub record HasCalls (events done : List Event) (refused : Option Stop) (seat : ℕ) : Type 0 where
-  pub left : List Event
-  pub made : owned_by owner_of seat done ++ left ≡ owned_by owner_of seat events
-  pub all : refused ≡ None → left ≡ []
+-- what the history has of one seat's calls: all, or those before one that was refused
+abbrev HasCalls : List Event → List Event → Option Stop → ℕ → Type 0
+HasCalls events done None seat = owned_by owner_of seat done ≡ owned_by owner_of seat events
+HasCalls events done (Some stop) seat = (refused : Event) × (later : List Event) × (owned_by owner_of seat done ++ refused ∷ later ≡ owned_by owner_of seat events)
 
-module _ (one_owner : (event : Event) → owner_of event ≤ 8) (events : List Event) (refused : Option Stop) (seats : List (LockSeatView Entry)) (history : List Entry)
-    (run : All (HasRun events refused) seats) (logs : All (λ seat. seat.log ≡ owned_by (λ entry. owner_of entry.event) seat.number history) seats)
+module _ (one_owner : (event : Event) → owner_of event ≤ 8) (events : List Event) (stops : List (Option Stop)) (seats : List (LockSeatView Entry)) (history : List Entry)
+    (run : AreRun events stops seats) (logs : All (λ seat. seat.log ≡ owned_by (λ entry. owner_of entry.event) seat.number history) seats)
     (numbers : (number : ℕ) → number < 9 → count_by (λ seat. seat.number == number) seats ≡ 1) where
-  -- a seat has run, and its log is its part of the history
-  abbrev Made : LockSeatView Entry → Type 0
-  Made seat = HasRun events refused seat × (seat.log ≡ owned_by (λ entry. owner_of entry.event) seat.number history)
+  -- the events in a seat's log are its part of the history
+  log-events : (seat : LockSeatView Entry) → seat.log ≡ owned_by (λ entry. owner_of entry.event) seat.number history → events_of seat.log ≡ owned_by owner_of seat.number (events_of history)
+  log-events seat log = ap events_of log ∙ owned-events seat.number history
 
-  of-seat : (number : ℕ) (seat : LockSeatView Entry) → Made seat → seat.number ≡ number → HasCalls events (events_of history) refused number
-  of-seat number seat made is = subst (HasCalls events (events_of history) refused) is (record {
-    left = made.0.left;
-    made = ap (λ es. es ++ made.0.left) (sym (ap events_of made.1 ∙ owned-events seat.number history)) ∙ made.0.made;
-    all = made.0.all;
-  })
+  of-seat : (refused : Option Stop) (number : ℕ) (seat : LockSeatView Entry) → HasRun events refused seat → seat.log ≡ owned_by (λ entry. owner_of entry.event) seat.number history → seat.number ≡ number → HasCalls events (events_of history) refused number
+  of-seat None number seat made log is = subst (HasCalls events (events_of history) None) is (sym (log-events seat log) ∙ made)
+  of-seat (Some stop) number seat made log is = subst (HasCalls events (events_of history) (Some stop)) is (made.0, made.1, ap (λ es. es ++ made.0 ∷ made.1) (sym (log-events seat log)) ∙ made.2)
 
-  below-nine : (number : ℕ) → number < 9 → HasCalls events (events_of history) refused number
-  below-nine number below =
-      let found = find Made (λ seat. seat.number == number) seats (λ k d lt. (run k d lt, logs k d lt)) (omega (arith, numbers number below)) in
-      of-seat number found.x found.holds (eqb-true found.x.number number found.passes)
+  -- a seat of this number has run all its events, and its log is its part of the history
+  abbrev Made : ℕ → LockSeatView Entry → Type 0
+  Made number seat = (seat.number ≡ number → HasRun events None seat) × (seat.log ≡ owned_by (λ entry. owner_of entry.event) seat.number history)
 
-  above-eight : (number : ℕ) → 8 < number → HasCalls events (events_of history) refused number
-  above-eight number above = record {
-    left = [];
-    made = ap (λ es. es ++ []) (owned-none owner_of 8 number one_owner above (events_of history)) ∙ sym (owned-none owner_of 8 number one_owner above events);
-    all = λ none. refl;
-  }
+  whole-below : (number : ℕ) → get_or stops number None ≡ None → number < 9 → HasCalls events (events_of history) None number
+  whole-below number none below =
+      let found = find (Made number) (λ seat. seat.number == number) seats (λ k d lt. (run.none number below none k d lt, logs k d lt)) (omega (arith, numbers number below)) in
+      let same = eqb-true found.x.number number found.passes in
+      of-seat None number found.x (found.holds.0 same) found.holds.1 same
 
-  pub calls-at : (number : ℕ) → HasCalls events (events_of history) refused number
-  calls-at number = ⊎_elim (λ within. below-nine number (omega (arith, within.1))) (λ past. above-eight number past.1) (leb_tells number 8)
+  short-below : (number : ℕ) (stop : Stop) → get_or stops number None ≡ Some stop → number < 9 → HasCalls events (events_of history) (Some stop) number
+  short-below number stop is below =
+      let found = run.some number stop below is in
+      of-seat (Some stop) number found.0 found.3 (All-contains (λ seat. seat.log ≡ owned_by (λ entry. owner_of entry.event) seat.number history) seats found.0 logs found.1) found.2
+
+  whole-above : (number : ℕ) → 8 < number → HasCalls events (events_of history) None number
+  whole-above number above = owned-none owner_of 8 number one_owner above (events_of history) ∙ sym (owned-none owner_of 8 number one_owner above events)
+
+  calls-at : (number : ℕ) (refused : Option Stop) → get_or stops number None ≡ refused → HasCalls events (events_of history) refused number
+  calls-at number None is = ⊎_elim (λ within. whole-below number is (omega (arith, within.1))) (λ past. whole-above number past.1) (leb_tells number 8)
+  calls-at number (Some stop) is = ⊎_elim (λ within. short-below number stop is (omega (arith, within.1))) (λ past. absurd (none-some stop (sym (run.above number past.1) ∙ is))) (leb_tells number 8)
+
+  begun : (number : ℕ) (refused : Option Stop) → HasCalls events (events_of history) refused number → (left : List Event) × (owned_by owner_of number (events_of history) ++ left ≡ owned_by owner_of number events)
+  begun number None calls = ([], append-nil (owned_by owner_of number (events_of history)) ∙ calls)
+  begun number (Some stop) calls = (calls.0 ∷ calls.1, calls.2)
+
+  pub calls-begun : BeginsTheCalls events (events_of history)
+  calls-begun = λ number. begun number (get_or stops number None) (calls-at number (get_or stops number None) refl)
+
+  -- a seat that was refused a call has made fewer
+  never-whole : (done : List Event) (refused : Event) (later all : List Event) → done ++ refused ∷ later ≡ all → done ≡ all → ⊥
+  never-whole done refused later all short whole = omega (arith, ap length short, ap length whole, length-append done (refused ∷ later))
+
+  whole-stop : (number : ℕ) (refused : Option Stop) → get_or stops number None ≡ refused → owned_by owner_of number (events_of history) ≡ owned_by owner_of number events → get_or stops number None ≡ None
+  whole-stop number None is whole = is
+  whole-stop number (Some stop) is whole = let calls = calls-at number (Some stop) is in absurd (never-whole (owned_by owner_of number (events_of history)) calls.0 calls.1 (owned_by owner_of number events) calls.2 whole)
+
+  pub calls-stopped : AreStopped events (events_of history) stops
+  calls-stopped = λ number. (λ none. calls-at number None none, λ whole. whole-stop number (get_or stops number None) refl whole)
+
+-- if no seat was stopped each has made all of its calls
+pub makes-all : (events done : List Event) (stops : List (Option Stop)) → AreStopped events done stops → NoneStopped stops → MakesTheCalls events done
+makes-all events done stops stopped none = λ seat. (stopped seat).0 (none seat)

@@ -1,30 +1,124 @@
--- What the seats of a race have run of its events.
-use Rattle.std.proofs.Common.{◌≡◌, ◌==◌, ℕ, List, ◌++◌, Option, Some, None, All, map, take, drop, sym, ap, ◌∙◌}
-use Rattle.std.proofs.lemmas.List.{take-append-drop}
-use Rattle.std.proofs.lemmas.List.Elements.{All-map, filter-append}
+-- What the seats of a race have run of its events, and which of them were refused one.
+use Rattle.std.proofs.Common.{arith, ◌≡◌, ◌≢◌, ◌+◌, ◌<◌, ◌==◌, ◌⊎◌, inl, inr, ⊎_elim, ℕ, List, [], ◌∷◌, ◌++◌, Option, Some, None, All, Contains, get_or, length, map, replicate, take, drop, refl, sym, ap, ◌∙◌, subst, cond}
+use Rattle.std.proofs.lemmas.Bool.{eq-eqb}
+use Rattle.std.proofs.lemmas.Bool.Decides.{eqb_tells, leb_tells}
+use Rattle.std.proofs.lemmas.List.{take-append-drop, drop_more, get_or-map, get_or-replicate, get_or_past, length-map, length-replicate}
+use Rattle.std.proofs.lemmas.List.Elements.{All-append, All-contains, All-map, All-push, Contains-append_left, Contains-append_right, Contains-push, filter-append}
 use Rattle.std.proofs.lemmas.Option.{none-some}
 use Rattle.mh_service.specs.OfLock.Seats.{LockSeatView}
 use Rattle.mh_model.specs.declared.command.Event.{Event}
 use Rattle.mh_model.specs.declared.history.Entry.{Entry}
 use Rattle.mh_model.specs.History.{owner_of, owned_by, events_of}
 use Rattle.mh_service.specs.OfState.Stop.{Stop}
-use Rattle.mh_race.specs.Racing.{HasRun, HasRunIn}
+use Rattle.mh_race.specs.Racing.{AreNoted, AreRun, HasRun, HasRunIn}
 use Rattle.mh_race.specs.declared.racer.Racer.{Racer}
-use Rattle.mh_service.specs.Services.{ServiceView, IsOf}
+use Rattle.mh_service.specs.Services.{ServiceView}
+
+-- what is owned from an event on that is owned
+owned-from : (seat : ℕ) (events : List Event) (i : ℕ) (d : Event) → i < length events → owner_of (get_or events i d) ≡ seat → owned_by owner_of seat events ≡ owned_by owner_of seat (take i events) ++ get_or events i d ∷ owned_by owner_of seat (drop (i + 1) events)
+owned-from seat events i d within own =
+    let rest : List Event = owned_by owner_of seat (drop (i + 1) events) in
+    let first : owned_by owner_of seat (get_or events i d ∷ drop (i + 1) events) ≡ get_or events i d ∷ rest = ap (λ b. cond b (get_or events i d ∷ rest) rest) (eq-eqb (owner_of (get_or events i d)) seat own) in
+    sym (ap (owned_by owner_of seat) (take-append-drop i events)) ∙ filter-append (λ e. owner_of e == seat) (take i events) (drop i events) ∙ ap (λ es. owned_by owner_of seat (take i events) ++ es) (ap (owned_by owner_of seat) (drop_more events i d within) ∙ first)
 
 -- a seat that was refused an event has run those before it
-pub refused-at : (seat : LockSeatView Entry) (events : List Event) (i : ℕ) (stop : Stop) → events_of seat.log ≡ owned_by owner_of seat.number (take i events) → HasRun events (Some stop) seat
-refused-at seat events i stop made = record {
-  left = owned_by owner_of seat.number (drop i events);
-  made = ap (λ es. es ++ owned_by owner_of seat.number (drop i events)) made ∙ (sym (filter-append (λ e. owner_of e == seat.number) (take i events) (drop i events)) ∙ ap (owned_by owner_of seat.number) (take-append-drop i events));
-  all = λ none. absurd (none-some stop (sym none));
-}
+pub refused-at : (seat : LockSeatView Entry) (events : List Event) (i : ℕ) (d : Event) (stop : Stop) → i < length events → owner_of (get_or events i d) ≡ seat.number → events_of seat.log ≡ owned_by owner_of seat.number (take i events)
+    → HasRun events (Some stop) seat
+refused-at seat events i d stop within own made =
+    (get_or events i d, owned_by owner_of seat.number (drop (i + 1) events), ap (λ es. es ++ get_or events i d ∷ owned_by owner_of seat.number (drop (i + 1) events)) made ∙ sym (owned-from seat.number events i d within own))
 
--- a seat that has run to a refusal of its own has run to one of the race
-over : (events : List Event) (own all : Option Stop) (seat : LockSeatView Entry) → (all ≡ None → own ≡ None) → HasRun events own seat → HasRun events all seat
-over events own all seat none run = record { left = run.left; made = run.made; all = λ is. run.all (none is) }
+-- Noted ------------------------------------------------------------------------------------------
 
-pub seats-run : (service : ServiceView) (events : List Event) (racers : List Racer) (refused : Option Stop) → All (HasRunIn service events) racers → (refused ≡ None → All (λ racer. racer.stop ≡ None) racers)
-    → All (λ seat. IsOf service seat × HasRun events refused seat) (map (λ racer. racer.seat) racers)
-seats-run service events racers refused run none =
-    All-map (λ seat. IsOf service seat × HasRun events refused seat) (λ racer. racer.seat) racers (λ k d lt. ((run k d lt).0, over events _ refused _ (λ is. none is k d lt) (run k d lt).1))
+pub nobody-stopped : (count number : ℕ) → get_or (replicate {A = Option Stop} count None) number None ≡ None
+nobody-stopped count number =
+    let stops : List (Option Stop) = replicate count None in
+    ⊎_elim (λ past. get_or_past stops number None (omega (arith, past.1, length-replicate {A = Option Stop} count None))) (λ within. get_or-replicate {A = Option Stop} count number None None within.1) (leb_tells count number)
+
+pub noted-nobody : (stops : List (Option Stop)) → AreNoted [] stops stops
+noted-nobody stops = record { none = λ number below is. (is, λ k d lt. absurd (omega (arith, lt))); some = λ number stop below is. inl is; above = λ number past. refl }
+
+module _ (racers : List Racer) (racer : Racer) (old mid new : List (Option Stop)) (noted : AreNoted racers old mid) where
+  -- one that was noted before
+  found-before : (number : ℕ) (reason : Stop) → number < 9 → get_or mid number None ≡ Some reason
+      → (get_or old number None ≡ Some reason) ⊎ ((r : Racer) × Contains (racers ++ racer ∷ []) r × (r.seat.number ≡ number) × (r.stop ≡ Some reason))
+  found-before number reason below some = ⊎_elim (λ before. inl before) (λ found. inr (found.0, Contains-append_left racers (racer ∷ []) found.0 found.1, found.2, found.3)) (noted.some number reason below some)
+
+  -- one more, who wasn't refused a call
+  one-whole : racer.stop ≡ None → AreNoted (racers ++ racer ∷ []) old mid
+  one-whole unstopped = record {
+    none = λ number below is.
+        let before = noted.none number below is in
+        (before.0, All-push (λ r. r.seat.number ≡ number → r.stop ≡ None) racers racer before.1 (λ same. unstopped));
+    some = found-before;
+    above = noted.above;
+  }
+
+  module _ (stop : Stop) (stopped : racer.stop ≡ Some stop) (past : 8 < racer.seat.number → new ≡ mid) (there : racer.seat.number < 9 → get_or new racer.seat.number None ≡ racer.stop) (other : (number : ℕ) → number ≢ racer.seat.number → get_or new number None ≡ get_or mid number None) where
+    none-at : (number : ℕ) → number < 9 → get_or new number None ≡ None → (get_or old number None ≡ None) × All (λ r. r.seat.number ≡ number → r.stop ≡ None) (racers ++ racer ∷ [])
+    none-at number below none =
+        ⊎_elim
+        (λ same. absurd (none-some stop (sym none ∙ ap (λ n. get_or new n None) same.1 ∙ there (subst (λ n. n < 9) same.1 below) ∙ stopped)))
+        (λ apart. let before = noted.none number below (sym (other number apart.1) ∙ none) in (before.0, All-push (λ r. r.seat.number ≡ number → r.stop ≡ None) racers racer before.1 (λ same. absurd (apart.1 (sym same)))))
+        (eqb_tells number racer.seat.number)
+
+    some-at : (number : ℕ) (reason : Stop) → number < 9 → get_or new number None ≡ Some reason
+        → (get_or old number None ≡ Some reason) ⊎ ((r : Racer) × Contains (racers ++ racer ∷ []) r × (r.seat.number ≡ number) × (r.stop ≡ Some reason))
+    some-at number reason below some =
+        ⊎_elim
+        (λ same. inr (racer, Contains-push racers racer, sym same.1, sym (there (subst (λ n. n < 9) same.1 below)) ∙ ap (λ n. get_or new n None) (sym same.1) ∙ some))
+        (λ apart. found-before number reason below (sym (other number apart.1) ∙ some))
+        (eqb_tells number racer.seat.number)
+
+    above-at : (number : ℕ) → 8 < number → get_or new number None ≡ get_or old number None
+    above-at number above =
+        ⊎_elim
+        (λ same. ap (λ stops. get_or stops number None) (past (subst (λ n. 8 < n) same.1 above)) ∙ noted.above number above)
+        (λ apart. other number apart.1 ∙ noted.above number above)
+        (eqb_tells number racer.seat.number)
+
+    -- one more, who was
+    one-short : AreNoted (racers ++ racer ∷ []) old new
+    one-short = record { none = none-at; some = some-at; above = above-at }
+
+-- one racer more, as is noted at the number of the seat
+pub noted-more : (racers : List Racer) (racer : Racer) (old mid new : List (Option Stop)) → (racer.stop ≡ None → new ≡ mid) → (8 < racer.seat.number → new ≡ mid) → ((reason : Stop) → racer.seat.number < 9 → racer.stop ≡ Some reason → get_or new racer.seat.number None ≡ racer.stop)
+    → ((number : ℕ) → number ≢ racer.seat.number → get_or new number None ≡ get_or mid number None) → AreNoted racers old mid → AreNoted (racers ++ racer ∷ []) old new
+noted-more racers racer old mid new same past there other noted = go racer.stop refl
+  where
+    go : (stop : Option Stop) → racer.stop ≡ stop → AreNoted (racers ++ racer ∷ []) old new
+    go None is = subst (AreNoted (racers ++ racer ∷ []) old) (sym (same is)) (one-whole racers racer old mid new noted is)
+    go (Some stop) is = one-short racers racer old mid new noted stop is past (λ below. there stop below is) other
+
+-- Run --------------------------------------------------------------------------------------------
+
+Contains-map : (racers : List Racer) (racer : Racer) → Contains racers racer → Contains (map (λ r. r.seat) racers) racer.seat
+Contains-map racers racer is = (is.0, omega (arith, is.1, length-map racers (λ r. r.seat)), get_or-map (λ r. r.seat) racers is.0 racer racer.seat is.1 ∙ ap (λ r. r.seat) is.2)
+
+module _ (service : ServiceView) (events : List Event) where
+  -- racers of a number of whom none was refused a call
+  whole-seats : (racers : List Racer) (number : ℕ) → All (HasRunIn service events) racers → All (λ r. r.seat.number ≡ number → r.stop ≡ None) racers → All (λ seat. seat.number ≡ number → HasRun events None seat) (map (λ r. r.seat) racers)
+  whole-seats racers number run none = All-map (λ seat. seat.number ≡ number → HasRun events None seat) (λ r. r.seat) racers (λ k d lt same. subst (λ stop. HasRun events stop (get_or racers k d).seat) (none k d lt same) (run k d lt).1)
+
+  -- one who was
+  short-seat : (racers : List Racer) (number : ℕ) (stop : Stop) → All (HasRunIn service events) racers → (racer : Racer) × Contains racers racer × (racer.seat.number ≡ number) × (racer.stop ≡ Some stop)
+      → (seat : LockSeatView Entry) × Contains (map (λ r. r.seat) racers) seat × (seat.number ≡ number) × HasRun events (Some stop) seat
+  short-seat racers number stop run found =
+      (found.0.seat, Contains-map racers found.0 found.1, found.2, subst (λ stop. HasRun events stop found.0.seat) found.3 (All-contains (HasRunIn service events) racers found.0 run found.1).1)
+
+  -- those with threads of their own, and then the others
+  pub seats-run : (busy idle : List Racer) (first mid last : List (Option Stop)) → ((number : ℕ) → get_or first number None ≡ None) → AreNoted busy first mid → AreNoted idle mid last → All (HasRunIn service events) busy → All (HasRunIn service events) idle
+      → AreRun events last (map (λ r. r.seat) busy ++ map (λ r. r.seat) idle)
+  seats-run busy idle first mid last empty one other run also = record {
+    none = λ number below is.
+        let second = other.none number below is in
+        let none = one.none number below second.0 in
+        All-append (λ seat. seat.number ≡ number → HasRun events None seat) (map (λ r. r.seat) busy) (map (λ r. r.seat) idle) (whole-seats busy number run none.1) (whole-seats idle number also second.1);
+    some = λ number stop below is.
+        ⊎_elim (λ before. left number stop (one.some number stop below before)) (λ found. let seat = short-seat idle number stop also found in (seat.0, Contains-append_right (map (λ r. r.seat) busy) (map (λ r. r.seat) idle) seat.0 seat.1, seat.2, seat.3)) (other.some number stop below is);
+    above = λ number past. other.above number past ∙ one.above number past ∙ empty number;
+  }
+    where
+      left : (number : ℕ) (stop : Stop) → (get_or first number None ≡ Some stop) ⊎ ((racer : Racer) × Contains busy racer × (racer.seat.number ≡ number) × (racer.stop ≡ Some stop))
+          → (seat : LockSeatView Entry) × Contains (map (λ r. r.seat) busy ++ map (λ r. r.seat) idle) seat × (seat.number ≡ number) × HasRun events (Some stop) seat
+      left number stop (inl before) = absurd (none-some stop (sym (empty number) ∙ before))
+      left number stop (inr found) = let seat = short-seat busy number stop run found in (seat.0, Contains-append_left (map (λ r. r.seat) busy) (map (λ r. r.seat) idle) seat.0 seat.1, seat.2, seat.3)

@@ -1,5 +1,5 @@
 -- What each seat of a race has done, and what a race leaves of the events of its script.
-use Rattle.std.specs.Prelude.{◌≡◌, ℕ, List, [], ◌++◌, Option, None}
+use Rattle.std.specs.Prelude.{◌≡◌, ◌↔◌, ◌⊎◌, ℕ, ◌<◌, List, [], ◌∷◌, ◌++◌, Option, Some, None, All, Contains, get_or}
 use Rattle.mh_model.specs.declared.command.Event.{Event}
 use Rattle.mh_model.specs.History.{owner_of, owned_by, events_of}
 use Rattle.mh_service.specs.OfLock.Seats.{LockSeatView}
@@ -15,14 +15,37 @@ IsNew service seat = IsOf service seat × (seat.log ≡ [])
 abbrev pub IsFresh : ServiceView → Racer → Type 0
 IsFresh service racer = IsNew service racer.seat × (racer.stop ≡ None)
 
--- The seat has made its first calls of some events in their order, and all of them if none was refused
-pub record HasRun (events : List Event) (refused : Option Stop) (seat : LockSeatView Entry) : Type 0 where
-  pub left : List Event
-  pub made : events_of seat.log ++ left ≡ owned_by owner_of seat.number events
-  pub all : refused ≡ None → left ≡ []
+-- The seat has made its calls of some events in their order: all of them, or if one was refused those before it
+abbrev pub HasRun : List Event → Option Stop → LockSeatView Entry → Type 0
+HasRun events None seat = events_of seat.log ≡ owned_by owner_of seat.number events
+HasRun events (Some stop) seat = (refused : Event) × (later : List Event) × (events_of seat.log ++ refused ∷ later ≡ owned_by owner_of seat.number events)
 
 abbrev pub HasRunIn : ServiceView → List Event → Racer → Type 0
 HasRunIn service events racer = IsOf service racer.seat × HasRun events racer.stop racer.seat
+
+-- by the numbers of seats it is noted which racers were refused a call: none at a number at which nothing is noted, and one at a number at which something new is
+pub record AreNoted (racers : List Racer) (old new : List (Option Stop)) : Type 0 where
+  pub none : (number : ℕ) → number < 9 → get_or new number None ≡ None → (get_or old number None ≡ None) × All (λ racer. racer.seat.number ≡ number → racer.stop ≡ None) racers
+  pub some : (number : ℕ) (stop : Stop) → number < 9 → get_or new number None ≡ Some stop
+      → (get_or old number None ≡ Some stop) ⊎ ((racer : Racer) × Contains racers racer × (racer.seat.number ≡ number) × (racer.stop ≡ Some stop))
+  pub above : (number : ℕ) → 8 < number → get_or new number None ≡ get_or old number None
+
+-- the same of seats and what they have run
+pub record AreRun (events : List Event) (stops : List (Option Stop)) (seats : List (LockSeatView Entry)) : Type 0 where
+  pub none : (number : ℕ) → number < 9 → get_or stops number None ≡ None → All (λ seat. seat.number ≡ number → HasRun events None seat) seats
+  pub some : (number : ℕ) (stop : Stop) → number < 9 → get_or stops number None ≡ Some stop → (seat : LockSeatView Entry) × Contains seats seat × (seat.number ≡ number) × HasRun events (Some stop) seat
+  pub above : (number : ℕ) → 8 < number → get_or stops number None ≡ None
+
+-- by these stops some seat was refused a call for this reason, or none was refused any
+abbrev pub IsStopped : List (Option Stop) → Stop → Type 0
+IsStopped stops reason = (seat : ℕ) × (get_or stops seat None ≡ Some reason)
+
+abbrev pub NoneStopped : List (Option Stop) → Type 0
+NoneStopped stops = (seat : ℕ) → get_or stops seat None ≡ None
+
+-- A seat was stopped just if not all of its calls among the events were done
+abbrev pub AreStopped : List Event → List Event → List (Option Stop) → Type 0
+AreStopped events done stops = (seat : ℕ) → (get_or stops seat None ≡ None) ↔ (owned_by owner_of seat done ≡ owned_by owner_of seat events)
 
 -- Each seat's calls are those that it has among the events, in their order, and no others
 abbrev pub MakesTheCalls : List Event → List Event → Type 0

@@ -1,9 +1,9 @@
 //! Races over the events of a script.
-ghost use Rattle.std.specs.Prelude.{◌≡◌, ◌≢◌, ◌<◌, ◌≤◌, ◌+◌, ◌++◌, ℕ, All, IfOk, None, Some, map, vec_len};
+ghost use Rattle.std.specs.Prelude.{◌≡◌, ◌≢◌, ◌<◌, ◌≤◌, ◌+◌, ◌++◌, ℕ, All, IfOk, None, Some, get_or, map, vec_len};
 ghost use Rattle.std.specs.Vec.{vec_capacity};
 ghost use Rattle.mh_model.specs.History.{IsLegal, events_of};
 ghost use Rattle.mh_model.specs.Limits.{most_entries};
-ghost use Rattle.mh_race.specs.Racing.{IsNew, IsFresh, HasRun, HasRunIn, MakesTheCalls, BeginsTheCalls};
+ghost use Rattle.mh_race.specs.Racing.{IsNew, IsFresh, HasRunIn, AreNoted, AreRun, AreStopped, BeginsTheCalls, IsStopped, NoneStopped};
 ghost use Rattle.mh_service.specs.Services.{ServiceView, IsOf};
 ghost use Rattle.mh_service.specs.OfState.Stop.{Stop};
 
@@ -17,18 +17,21 @@ use mh_service::mh_scan::crew_scan::CrewGate;
 use mh_service::mh_seat_laws::lock::events_have_one_owner;
 use mh_service::mh_state::machine::Stop;
 use mh_service::seat::{DESK, Seat};
-use mh_service::service::Service;
+use mh_service::service::{SEATS, Service};
 use std::alloc::Global;
 use std::sync::Wait;
 use std::thread;
 use std::thread::Threads;
 
-/// What a race leaves: the calls that were answered, in the order in which they were done, and, if calls were left out,
-/// why.
+/// Why each seat, by its number, made no more calls, if calls of its own were left out.
+pub type Stops = [Option<Stop>; SEATS as usize];
+
+/// What a race leaves: the calls that were answered, in the order in which they were done, and the seats whose calls were
+/// refused.
 #[derive(Drop)]
 pub struct Raced {
     pub history: Vec<Entry>,
-    pub stop: Option<Stop>,
+    pub stops: Stops,
 }
 
 /// The seats of a race: those that get a thread of their own, and the others, which have no calls to make.
@@ -93,66 +96,94 @@ fn run_all<R: Threads + Wait + Sync, G: CrewGate + Sync>(
     thread::for_each_mut(rt, racers.as_mut_slice(), threads, &one);
 }
 
-/// Moves the seats of racers behind those that are there, for which there is room, and gives the gravest refusal:
-/// refused memory before a full history.
-fn take_seats(racers: Vec<Racer>, seats: &mut Vec<Seat>, stop: Option<Stop>) -> Option<Stop>
+/// Notes at the number of a seat why it was refused a call, if it was.
+fn note(stops: &mut Stops, number: u64, stop: Option<Stop>)
+    ensures none { stop ≡ None → stops.new ≡ stops.old }
+    ensures past { 8 < number → stops.new ≡ stops.old }
+    ensures noted { (reason : Stop) → number < 9 → stop ≡ Some reason → get_or stops.new number None ≡ stop }
+    ensures others { (other : ℕ) → other ≢ number → get_or stops.new other None ≡ get_or stops.old other None }
+{
+    let index = number as usize;
+    if stop.is_some() && index < stops.len() {
+        stops[index] = stop;
+    }
+}
+
+/// Moves the seats of racers behind those that are there, for which there is room, and notes which were refused a call.
+fn take_seats(racers: Vec<Racer>, seats: &mut Vec<Seat>, stops: &mut Stops)
     requires room { vec_len seats.old + vec_len racers ≤ vec_capacity seats.old }
     ensures seats { seats.new.items ≡ seats.old.items ++ map (λ racer. racer.seat) racers.items }
     ensures room { vec_capacity seats.new ≡ vec_capacity seats.old }
-    ensures before { result ≡ None → stop ≡ None }
-    ensures none { result ≡ None → All (λ racer. racer.stop ≡ None) racers.items }
-    ensures starved { stop ≡ Some Stop.NoMemory → result ≡ Some Stop.NoMemory }
-    ensures full { result ≡ Some Stop.HistoryFull → All (λ racer. racer.stop ≢ Some Stop.NoMemory) racers.items }
+    ensures noted { AreNoted racers.items stops.old stops.new }
 {
-    let mut most = stop;
     for Racer { seat, stop } in racers {
-        if most != Some(Stop::NoMemory) && stop.is_some() {
-            most = stop;
-        }
+        note(stops, seat.number(), stop);
         seats.push_reserved(seat);
     }
-    most
 }
 
-/// Makes the calls of all seats, and gives them back, with the gravest refusal, if some call was refused.
+/// Makes the calls of all seats, and gives them back, with which of them were refused a call.
 fn run_seats<R: Threads + Wait + Sync, G: CrewGate + Sync>(
     rt: &R,
     alloc: Global,
     service: &Service<'_, G>,
     seats: Vec<Seat>,
     events: &[Event],
-) -> Result<(Vec<Seat>, Option<Stop>), NoMemory>
+) -> Result<(Vec<Seat>, Stops), NoMemory>
     requires { All (IsNew service.now) seats.items }
-    ensures run { IfOk result (λ run. All (λ seat. IsOf service.now seat × HasRun events.now run.1 seat) run.0.items) }
+    ensures own { IfOk result (λ run. All (IsOf service.now) run.0.items) }
+    ensures run { IfOk result (λ run. AreRun events.now run.1 run.0.items) }
     ensures count { IfOk result (λ run. vec_len run.0 ≡ vec_len seats) }
 {
     let mut back = Vec::with_capacity(alloc, seats.len())?;
+    let mut stops: Stops = [None; SEATS as usize];
     let Racers { mut busy, mut idle } = racers_of(alloc, seats, events)?;
     run_all(rt, service, &mut busy, events, 9);
     run_all(rt, service, &mut idle, events, 1);
-    let stop = take_seats(busy, &mut back, None);
-    let stop = take_seats(idle, &mut back, stop);
-    Ok((back, stop))
+    take_seats(busy, &mut back, &mut stops);
+    take_seats(idle, &mut back, &mut stops);
+    Ok((back, stops))
 }
 
-/// A call that is refused for a full history has found it full. No contract says that the history left at the end is no
-/// shorter, so that is looked at here.
-#[tactic(auto, unfolding(mh_model::specs::Limits::most_entries))]
-fn stop_of(stop: Option<Stop>, entries: u64) -> Option<Stop>
-    ensures none { result ≡ None → stop ≡ None }
-    ensures starved { stop ≡ Some Stop.NoMemory → result ≡ Some Stop.NoMemory }
-    ensures full { result ≡ Some Stop.HistoryFull → entries ≡ most_entries }
+/// The gravest of some refusals: refused memory before a full history.
+fn gravest(stops: &[Option<Stop>]) -> Option<Stop>
+    ensures none { result ≡ None → NoneStopped stops.now }
+    ensures one { (stop : Stop) → result ≡ Some stop → IsStopped stops.now stop }
+    ensures starved { IsStopped stops.now Stop.NoMemory → result ≡ Some Stop.NoMemory }
 {
-    match stop {
-        Some(Stop::HistoryFull) if entries == MOST_EVENTS => stop,
-        Some(_) => Some(Stop::NoMemory),
-        None => None,
+    let mut most = None;
+    for stop in stops {
+        if most != Some(Stop::NoMemory) && stop.is_some() {
+            most = *stop;
+        }
+    }
+    most
+}
+
+impl Raced {
+    /// Why calls were left out, if some were: refused memory before a full history. A call that is refused for a full
+    /// history has found it full. No contract says that the history left at the end is no shorter, so that is looked at
+    /// here.
+    #[tactic(auto, unfolding(mh_model::specs::Limits::most_entries))]
+    pub fn stop(&self) -> Option<Stop>
+        ensures none { result ≡ None → NoneStopped self.now.stops }
+        ensures some { (stop : Stop) → result ≡ Some stop → (reason : Stop) × IsStopped self.now.stops reason }
+        ensures starved { IsStopped self.now.stops Stop.NoMemory → result ≡ Some Stop.NoMemory }
+        ensures full { result ≡ Some Stop.HistoryFull → vec_len self.now.history ≡ most_entries }
+    {
+        match gravest(&self.stops) {
+            Some(Stop::HistoryFull) if self.history.len() as u64 == MOST_EVENTS => {
+                Some(Stop::HistoryFull)
+            }
+            Some(_) => Some(Stop::NoMemory),
+            None => None,
+        }
     }
 }
 
 /// Lets the sessions of a script race: each session below 8 with events, and the desk, makes its own calls in a thread of
-/// its own, in the order of the script, up to the first that is refused. No order is given between them. Each passes the
-/// gate before its first call.
+/// its own, in the order of the script, up to the first that is refused. The others go on then. No order is given between
+/// them. Each passes the gate before its first call.
 pub fn race<R: Threads + Wait + Sync, G: CrewGate + Sync>(
     rt: &R,
     alloc: Global,
@@ -164,16 +195,15 @@ pub fn race<R: Threads + Wait + Sync, G: CrewGate + Sync>(
     requires { (0 < workers) × (workers ≤ 64) }
     ensures legal { IfOk result (λ raced. IsLegal config raced.history.items) }
     ensures begun { IfOk result (λ raced. BeginsTheCalls events.now (events_of raced.history.items)) }
-    ensures all { IfOk result (λ raced. raced.stop ≡ None → MakesTheCalls events.now (events_of raced.history.items)) }
-    ensures full { IfOk result (λ raced. raced.stop ≡ Some Stop.HistoryFull → vec_len raced.history ≡ most_entries) }
+    ensures each { IfOk result (λ raced. AreStopped events.now (events_of raced.history.items) raced.stops) }
 {
     events_have_one_owner();
     let (service, seats) = Service::open(alloc, config, workers, gate)?;
-    let (seats, stop) = run_seats(rt, alloc, &service, seats, events)?;
+    let (seats, stops) = run_seats(rt, alloc, &service, seats, events)?;
     match service.close(seats) {
         Ok(closed) => Ok(Raced {
-            stop: stop_of(stop, closed.history.len() as u64),
             history: closed.history,
+            stops,
         }),
         Err(_) => unreachable!(),
     }

@@ -41,7 +41,7 @@ fn write_race<R: Threads + Wait + Sync, W: Sink, G: CrewGate + Sync>(
 {
     let raced = race(rt, alloc, script.config(), script.events(), workers, gate)?;
     write_record(alloc, script.config(), raced.history.as_slice(), sink)?;
-    match raced.stop {
+    match raced.stop() {
         None => Ok(()),
         Some(stop) => Err(ScriptFault::from(stop)),
     }

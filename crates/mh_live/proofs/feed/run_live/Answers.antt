@@ -1,18 +1,23 @@
-use Rattle.std.proofs.Common.{rules, ◌∙◌, [], ◌++◌, take, refl}
+use Rattle.std.proofs.Common.{rules, arith, ◌≡◌, ◌<◌, ◌∙◌, [], ◌++◌, length, take, refl, length-append, length-take-le}
 use Rattle.std.proofs.KnownBytes.{Consumes-kept, Consumes-nil, Consumes-trans}
 use Rattle.std.proofs.lemmas.Result.{err_from_is_err_and}
 use Rattle.mh_live.specs.Heard.{unended_refusal}
-use Rattle.mh_live.proofs.FeedLemmas.{all_answered, fed_none, fed_untold, front_of_end, front_of_fed, front_of_some}
+use Rattle.mh_live.proofs.FeedLemmas.{all_answered, fed_none, fed_some, fed_untold, front_of_end, front_of_fed, front_of_some, no_read, read_ended, whole_of_fed}
 use Rattle.mh_live.proofs.TurnLemmas.{heard_more}
 use Rattle.mh_live.proofs.feed.run_live.Goals as goal
 
 pub loop-init : goal.loop-init
-loop-init g c = (refl, refl, ([], Consumes-nil _, fed_none _ _ c.new-feed.result c.new-feed.ensures.live c.new-feed.ensures.number c.new-feed.ensures.begun (g.met.L.Listener.silence c.args.listener.now)))
+loop-init g c = (refl, refl, ([], Consumes-nil _, fed_none _ _ c.new-feed.result c.new-feed.ensures.live c.new-feed.ensures.number c.new-feed.ensures.begun (g.met.L.Listener.silence c.args.listener.now), omega arith))
 
 pub returns-in_default-clause-begun : goal.returns-in_default-clause-begun
 returns-in_default-clause-begun g c =
     let inv = c.loop.invariant.2 in
     front_of_fed _ _ _ _ _ _ inv.0 c.loop.feed refl (Consumes-kept _ _ _ _ inv.1 c.in_default.ensures.kept) inv.2
+
+pub returns-in_default-clause-prompt : goal.returns-in_default-clause-prompt
+returns-in_default-clause-prompt g c =
+    let inv = c.loop.invariant.2 in
+    λ _. whole_of_fed _ _ _ _ _ inv.0 c.loop.feed (Consumes-kept _ _ _ _ inv.1 c.in_default.ensures.kept) inv.2
 
 pub returns-in_err-end-clause-begun : goal.returns-in_err-end-clause-begun
 returns-in_err-end-clause-begun g c =
@@ -20,6 +25,16 @@ returns-in_err-end-clause-begun g c =
     let returned = err_from_is_err_and c.from_residual.result c.from_residual.ensures.1 in
     let fed = fed_untold g.L.Listener.hears g.met.L.Listener.onward c.args.listener.now c.loop.listener c.end.new.listener inv.0 _ _ c.loop.feed c.in_err-end.ensures.untold inv.2 in
     rw returned.1 (front_of_end _ _ _ _ _ _ _ inv.0 c.read.new.buffer c.in-Ok.count c.loop.feed inv.1 c.in-Ok.ensures.read (search rules) fed _ returned.0 returned.2 c.in_err-end.ensures.begun)
+
+pub returns-in_err-end-clause-prompt : goal.returns-in_err-end-clause-prompt
+returns-in_err-end-clause-prompt g c =
+    let returned = err_from_is_err_and c.from_residual.result c.from_residual.ensures.1 in
+    rw returned.1 (λ is. absurd (no_read _ returned.0 returned.2 is))
+
+pub returns-in_err-end-clause-memory : goal.returns-in_err-end-clause-memory
+returns-in_err-end-clause-memory g c =
+    let inv = c.loop.invariant.2 in
+    λ _. (inv.0, fed_some _ _ _ _ _ _ _ inv.2 c.in_err-end.ensures.some, read_ended _ _ _ inv.0 c.read.new.buffer c.in-Ok.count inv.1 c.in-Ok.ensures.read (search rules))
 
 pub returns-then-count-eq0-clause-answered : goal.returns-then-count-eq0-clause-answered
 returns-then-count-eq0-clause-answered g c =
@@ -33,15 +48,38 @@ returns-in_err-bytes-clause-begun g c =
     let returned = err_from_is_err_and c.from_residual-in_err-bytes.result c.from_residual-in_err-bytes.ensures.1 in
     rw returned.1 (front_of_some _ _ returned.0 _ _ _ _ _ inv.0 (take c.in-Ok.count c.read.new.buffer) returned.2 inv.1 c.in-Ok.ensures.read (c.in_err-bytes.ensures.begun inv.0 _ c.args.listener.now inv.2))
 
+pub returns-in_err-bytes-clause-prompt : goal.returns-in_err-bytes-clause-prompt
+returns-in_err-bytes-clause-prompt g c =
+    let returned = err_from_is_err_and c.from_residual-in_err-bytes.result c.from_residual-in_err-bytes.ensures.1 in
+    rw returned.1 (λ is. absurd (no_read _ returned.0 returned.2 is))
+
+pub returns-in_err-bytes-clause-memory : goal.returns-in_err-bytes-clause-memory
+returns-in_err-bytes-clause-memory g c =
+    let inv = c.loop.invariant.2 in
+    let count : length (take c.in-Ok.count c.read.new.buffer) ≡ c.in-Ok.count = length-take-le c.in-Ok.count c.read.new.buffer c.in-Ok.ensures.within in
+    let some : 0 < length (inv.0 ++ take c.in-Ok.count c.read.new.buffer) = omega (arith, count, length-append inv.0 (take c.in-Ok.count c.read.new.buffer)) in
+    λ _. (_, some, Consumes-trans _ _ _ _ _ inv.1 c.in-Ok.ensures.read)
+
 pub loop-preserved : goal.loop-preserved
 loop-preserved g c =
-    let inv = c.loop.invariant in (
+    let inv = c.loop.invariant in
+    let count : length (take c.in-Ok.count c.read.new.buffer) ≡ c.in-Ok.count = length-take-le c.in-Ok.count c.read.new.buffer c.in-Ok.ensures.within in (
       c.in-Ok.ensures.no_failure ∙ inv.0,
       c.in_ok-bytes.ensures.no_failure ∙ inv.1,
-      (inv.2.0 ++ take c.in-Ok.count c.read.new.buffer, Consumes-trans _ _ _ _ _ inv.2.1 c.in-Ok.ensures.read, c.in_ok-bytes.ensures.done inv.2.0 _ c.args.listener.now inv.2.2),
+      (
+        inv.2.0 ++ take c.in-Ok.count c.read.new.buffer,
+        Consumes-trans _ _ _ _ _ inv.2.1 c.in-Ok.ensures.read,
+        c.in_ok-bytes.ensures.done inv.2.0 _ c.args.listener.now inv.2.2,
+        omega (arith, inv.2.3, count, length-append inv.2.0 (take c.in-Ok.count c.read.new.buffer)),
+      ),
     )
 
 pub returns-clause-begun : goal.returns-clause-begun
 returns-clause-begun g c =
     let inv = c.loop.invariant.2 in
     front_of_fed _ _ _ _ _ _ inv.0 c.loop.feed refl inv.1 inv.2
+
+pub returns-clause-memory : goal.returns-clause-memory
+returns-clause-memory g c =
+    let inv = c.loop.invariant.2 in
+    λ _. (inv.0, omega (arith, inv.3), inv.1)

@@ -1,8 +1,8 @@
-use Rattle.std.proofs.Common.{◌≡◌, ◌++◌, All, map, ap, ◌∙◌, sym, subst}
-use Rattle.std.proofs.lemmas.List.Elements.{All-append}
-use Rattle.mh_race.specs.Racing.{HasRun}
+use Rattle.std.proofs.Common.{◌≡◌, ◌++◌, All, map, ap, ◌∙◌, sym, subst, replicate, None}
+use Rattle.std.proofs.lemmas.List.Elements.{All-append, All-map}
+use Rattle.mh_race.specs.Racing.{AreRun}
 use Rattle.mh_service.specs.Services.{IsOf}
-use Rattle.mh_race.proofs.RunSeats.{seats-run}
+use Rattle.mh_race.proofs.RunSeats.{nobody-stopped, seats-run}
 use Rattle.mh_race.proofs.race.run_seats.Goals as goal
 
 pub run_all-requires-clause-fresh : goal.run_all-requires-clause-fresh
@@ -11,13 +11,17 @@ run_all-requires-clause-fresh g c κs within = λ k d lt. (c.in_ok-busy.ensures.
 pub run_all-requires-2-clause-fresh : goal.run_all-requires-2-clause-fresh
 run_all-requires-2-clause-fresh g c κs within = λ k d lt. (c.in_ok-busy.ensures.fresh c.args.service.now c.requires).1 k d lt
 
+pub returns-clause-own : goal.returns-clause-own
+returns-clause-own g c =
+    let is : c.take_seats-2.new.seats.items ≡ map (λ racer. racer.seat) c.run_all.new.racers.items ++ map (λ racer. racer.seat) c.run_all-2.new.racers.items
+    = c.take_seats-2.ensures.seats ∙ ap (λ l. l ++ map (λ racer. racer.seat) c.run_all-2.new.racers.items) (c.take_seats.ensures.seats ∙ ap (λ l. l ++ map (λ racer. racer.seat) c.run_all.new.racers.items) c.in_ok-back.ensures.items) in
+    let busy = All-map (IsOf c.args.service.now) (λ racer. racer.seat) c.run_all.new.racers.items (λ k d lt. (c.run_all.ensures.run k d lt).0) in
+    let idle = All-map (IsOf c.args.service.now) (λ racer. racer.seat) c.run_all-2.new.racers.items (λ k d lt. (c.run_all-2.ensures.run k d lt).0) in
+    subst (All (IsOf c.args.service.now)) (sym is) (All-append (IsOf c.args.service.now) (map (λ racer. racer.seat) c.run_all.new.racers.items) (map (λ racer. racer.seat) c.run_all-2.new.racers.items) busy idle)
+
 pub returns-clause-run : goal.returns-clause-run
 returns-clause-run g c =
-    let first = c.take_seats-stop.ensures in
-    let second = c.take_seats-stop-2.ensures in
-    let busy = seats-run c.args.service.now c.args.events.now c.run_all.new.racers.items c.take_seats-stop-2.result c.run_all.ensures.run (λ none. first.none (second.before none)) in
-    let idle = seats-run c.args.service.now c.args.events.now c.run_all-2.new.racers.items c.take_seats-stop-2.result c.run_all-2.ensures.run second.none in
-    let all = All-append (λ seat. IsOf c.args.service.now seat × HasRun c.args.events.now c.take_seats-stop-2.result seat) (map (λ racer. racer.seat) c.run_all.new.racers.items) (map (λ racer. racer.seat) c.run_all-2.new.racers.items) busy idle in
-    let is : c.take_seats-stop-2.new.seats.items ≡ map (λ racer. racer.seat) c.run_all.new.racers.items ++ map (λ racer. racer.seat) c.run_all-2.new.racers.items
-    = second.seats ∙ ap (λ l. l ++ map (λ racer. racer.seat) c.run_all-2.new.racers.items) (first.seats ∙ ap (λ l. l ++ map (λ racer. racer.seat) c.run_all.new.racers.items) c.in_ok-back.ensures.items) in
-    subst (All (λ seat. IsOf c.args.service.now seat × HasRun c.args.events.now c.take_seats-stop-2.result seat)) (sym is) all
+    let is : c.take_seats-2.new.seats.items ≡ map (λ racer. racer.seat) c.run_all.new.racers.items ++ map (λ racer. racer.seat) c.run_all-2.new.racers.items
+    = c.take_seats-2.ensures.seats ∙ ap (λ l. l ++ map (λ racer. racer.seat) c.run_all-2.new.racers.items) (c.take_seats.ensures.seats ∙ ap (λ l. l ++ map (λ racer. racer.seat) c.run_all.new.racers.items) c.in_ok-back.ensures.items) in
+    subst (AreRun c.args.events.now c.take_seats-2.new.stops) (sym is)
+    (seats-run c.args.service.now c.args.events.now c.run_all.new.racers.items c.run_all-2.new.racers.items (replicate 9 None) c.take_seats.new.stops c.take_seats-2.new.stops (nobody-stopped 9) c.take_seats.ensures.noted c.take_seats-2.ensures.noted c.run_all.ensures.run c.run_all-2.ensures.run)

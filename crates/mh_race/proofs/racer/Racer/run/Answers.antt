@@ -1,4 +1,4 @@
-use Rattle.std.proofs.Common.{take, sym, ap, ◌∙◌}
+use Rattle.std.proofs.Common.{arith, take, refl, sym, ap, ◌∙◌}
 use Rattle.mh_model.specs.History.{owner_of, owned_by, events_of}
 use Rattle.mh_race.proofs.RunSeats.{refused-at}
 use Rattle.mh_race.proofs.racer.Racer.run.Goals as goal
@@ -6,4 +6,4 @@ use Rattle.mh_race.proofs.racer.Racer.run.Goals as goal
 pub returns-in-Err : goal.returns-in-Err
 returns-in-Err g c =
     let made = ap events_of c.in-Err.ensures.err ∙ (c.loop-event.invariant.made ∙ ap (λ n. owned_by owner_of n (take c.loop-event.event-index c.args.events.now)) (sym c.call.ensures.own.1)) in
-    (c.call.ensures.own.0, refused-at c.call.new.seat c.args.events.now c.loop-event.event-index c.in-Err.stop made)
+    (c.call.ensures.own.0, refused-at c.call.new.seat c.args.events.now c.loop-event.event-index _ c.in-Err.stop (omega arith) (c.if-not-owns.ensures.0 refl ∙ sym c.call.ensures.own.1) made)
