@@ -9,12 +9,12 @@ use Rattle.mh_model.specs.Table.{Made}
 use Rattle.mh_model.specs.Collector.{Collector, quantum}
 use Rattle.mh_model.specs.Mutator.{HeapState, new_group, with_root}
 use Rattle.mh_model.specs.CycleBounds.{IsInBounds}
-use Rattle.mh_model.specs.Invariant.{IsKeeping, IsSteady}
+use Rattle.mh_model.specs.Invariant.{HeapKeeps, IsKeeping, IsSteady}
 use Rattle.mh_laws.specs.Barriers.{RootsWrittenKeepTheSnapshot, ObjectsMadeKeepTheSnapshot}
-use Rattle.mh_laws.specs.Snapshots.{HeapsStayKept}
+use Rattle.mh_laws.specs.Snapshots.{CommandsKeepTheSnapshot, HeapsStayKept}
 use Rattle.mh_laws.specs.Bounds.{CollectorsStayInBounds}
 use Rattle.mh_cycle.specs.State.{CycleState, with_collector, first_state}
-use Rattle.mh_paged.specs.Kept.{Steps, heap_of, IsHeap}
+use Rattle.mh_paged.specs.Kept.{KeepsEachWorld, Steps, heap_of, IsHeap}
 
 pub kept-after : HeapsStayKept → CollectorsStayInBounds → (old new : CycleState) (birth next : ℕ) (ended left : List Bool) → IsHeap old birth ended → new.config ≡ old.config → (who : ℕ) (command : Command) (reply : Reply) → Steps (heap_of old birth ended) who command reply (heap_of new next left)
     → IsHeap new next left
@@ -45,3 +45,7 @@ kept-first kept bounded config cycle first = rw first (record { keeping = kept.f
 pub steady-made : ObjectsMadeKeepTheSnapshot → (heap : HeapState) → IsKeeping heap → (references numbers : ℕ) (made : Made) (new : Collector) → new_group heap references numbers ≡ Some made → new ≡ record (heap.collector) { table = made.table } → IsSteady new
 steady-made law heap keeping references numbers made new group is =
     subst IsSteady (sym is) (keeping.0, heap.next_birth + 1, (law keeping.0 heap.next_birth heap.collector references numbers made group keeping.1).0)
+
+-- a command keeps each snapshot
+pub keeps-each : CommandsKeepTheSnapshot → (old new : HeapState) (who : ℕ) (command : Command) (reply : Reply) → Steps old who command reply new → KeepsEachWorld old new
+keeps-each law old new who command reply steps snapshot keeps = subst (HeapKeeps snapshot) (ap (λ (a : Answer HeapState). a.state) steps) (law snapshot old keeps who command)

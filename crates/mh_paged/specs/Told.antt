@@ -1,4 +1,4 @@
--- What the laws tell of a heap of pages at each moment, in equations and orders alone.
+-- What the laws tell of a heap of pages at each moment, in equations and orders alone, and what a quantum does.
 use Rattle.std.specs.Prelude.{◌≡◌, ℕ, ◌+◌, ◌≤◌}
 use Rattle.mh_model.specs.declared.command.Command.{Command}
 use Rattle.mh_model.specs.World.{IsClosed, births}
@@ -6,8 +6,11 @@ use Rattle.mh_model.specs.Paths.{Agrees}
 use Rattle.mh_model.specs.Collector.{quantum}
 use Rattle.mh_model.specs.Mutator.{HeapState, mutator_step}
 use Rattle.mh_model.specs.View.{heap_view}
+use Rattle.mh_laws.specs.Forwarders.{MakesItsForwarders}
 use Rattle.mh_run_laws.specs.Following.{Follows, has_no_place}
+use Rattle.mh_cycle.specs.Snapshots.{ContinuesEach}
 use Rattle.mh_heap.specs.Shown.{Showing}
+use Rattle.mh_paged.specs.Kept.{StartsFromItsView}
 
 -- what a heap of pages shows: its view, if its pages have no place, its cycle's number, and the configured quantum
 abbrev pub showing : HeapState → Showing
@@ -17,10 +20,13 @@ showing heap = record { view = heap_view heap; is_full = has_no_place heap; numb
 abbrev pub after_quantum : HeapState → HeapState
 after_quantum heap = record heap { collector = (quantum heap.config heap.collector).collector }
 
--- the machine's quantum was run, which spent so many units
+-- the machine's quantum was run, which spent so many units. It kept the snapshot of a running cycle, started one from the view, and left no forwarders but those that it made
 pub record IsQuantum (old : HeapState) (spent : ℕ) (new : HeapState) : Type 0 where
   pub units : spent ≡ (quantum old.config old.collector).units
   pub state : new ≡ after_quantum old
+  pub keeps : ContinuesEach old.collector new.collector
+  pub starts : StartsFromItsView old new
+  pub forwarders : MakesItsForwarders old.config old.collector new.collector
 
 -- what a heap shows is closed, commands and a quantum do there what they should, and births are counted
 pub record IsTold (heap : HeapState) : Type 0 where

@@ -9,7 +9,10 @@ ghost use Rattle.mh_model.specs.Machine.{dump_pages, quanta_left, stat_on};
 ghost use Rattle.mh_model.specs.Mutator.{first_heap, root_at, shape_at};
 ghost use Rattle.mh_model.specs.Invariant.{IsObjectAt};
 ghost use Rattle.mh_model.specs.declared.reply.Refusal.TheVariants.{Null, NoField, TooLarge, Ended, TooManySessions};
+ghost use Rattle.mh_laws.specs.Forwarders.{MakesItsForwarders};
+ghost use Rattle.mh_cycle.specs.Snapshots.{ContinuesEach};
 ghost use Rattle.mh_heap.specs.Checks.{tested};
+ghost use Rattle.mh_paged.specs.Kept.{StartsFromItsView};
 ghost use Rattle.mh_paged.specs.Told.{IsTold};
 
 use crate::lent::{dump_table, forwarder_count, free_pages, live_count, root, shape_of};
@@ -127,6 +130,9 @@ impl KeptHeap {
         ensures spent { result ≡ (quantum self.old.config self.old.collector).units }
         ensures after { self.new ≡ record (self.old) { collector = (quantum self.old.config self.old.collector).collector } }
         ensures limit { result ≤ self.old.config.quantum }
+        ensures keeps { ContinuesEach self.old.collector self.new.collector }
+        ensures starts { StartsFromItsView self.old self.new }
+        ensures forwarders { MakesItsForwarders self.old.config self.old.collector self.new.collector }
     {
         heaps_stay_kept();
         collectors_stay_in_bounds();

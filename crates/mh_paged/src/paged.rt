@@ -2,20 +2,25 @@
 //!
 //! It is a type of its own because the laws of `Heap` speak of views and those of `KeptHeap` of pages: it keeps at hand, as a
 //! ghost, what the laws say of the view of its pages.
-ghost use Rattle.std.specs.Prelude.{◌≡◌, true, IfOk};
+ghost use Rattle.std.specs.Prelude.{◌≡◌, ◌<◌, true, IfOk};
+ghost use Rattle.mh_model.specs.declared.birth.TheConstants.{LIFE};
 ghost use Rattle.mh_model.specs.Pages.{free_pages};
 ghost use Rattle.mh_model.specs.Machine.{dump_pages, quanta_left, stat_on};
 ghost use Rattle.mh_model.specs.Mutator.{first_heap};
+ghost use Rattle.mh_paged.specs.Kept.{KeepsEachWorld, Steps};
 ghost use Rattle.mh_paged.specs.Told.{IsTold};
 
 use crate::kept::KeptHeap;
 use mh_cycle::mh_scan::scan::Scanner;
 use mh_heap::heap::Heap;
+use mh_heap::perform::perform;
+use mh_laws::snapshots::commands_keep_the_snapshot;
+use mh_model::command::Command;
 use mh_model::config::Config;
 use mh_model::cycle::{Phase, Spent};
 use mh_model::dump::Dump;
 use mh_model::memory::NoMemory;
-use mh_model::reply::Refusal;
+use mh_model::reply::{Refusal, Reply};
 use mh_model::shape::Shape;
 use mh_model::stat::Stat;
 use std::alloc::Global;
@@ -44,6 +49,21 @@ impl PagedHeap {
         let kept = &mut self.kept;
         kept.start();
         kept.told();
+    }
+
+    /// Performs a command of the session `who`. It takes no memory.
+    // It has a second caller, which tells what commands do; the first runs every command of a script.
+    #[inline(always)]
+    pub fn perform(&mut self, who: u8, command: &Command) -> Reply
+        requires { self.old.kept.next_birth < LIFE }
+        ensures step { Steps self.old.kept who command.now result self.new.kept }
+        ensures keeps { KeepsEachWorld self.old.kept self.new.kept }
+    {
+        commands_keep_the_snapshot();
+        let Ok(reply) = perform(self, who, command) else {
+            unreachable!()
+        };
+        reply
     }
 
     /// What the collector is at.
@@ -83,7 +103,6 @@ impl PagedHeap {
 }
 
 impl Heap for PagedHeap {
-    ghost use Rattle.mh_paged.specs.Kept.{Steps};
     ghost use Rattle.mh_paged.specs.Told.{IsQuantum, showing};
     ghost use Rattle.mh_paged.specs.Telling.{commands_shown, quanta_shown};
 

@@ -7,9 +7,11 @@ ghost use Rattle.mh_model.specs.Classes.{parts};
 ghost use Rattle.mh_model.specs.Table.{made_group};
 ghost use Rattle.mh_model.specs.Collector.{quantum};
 ghost use Rattle.mh_model.specs.Deeds.{Adds, make_deeds, new_deeds, command_deeds, quantum_deeds, units_of};
+ghost use Rattle.mh_laws.specs.Forwarders.{MakesItsForwarders};
+ghost use Rattle.mh_cycle.specs.Snapshots.{ContinuesEach};
 ghost use Rattle.mh_cycle.specs.State.{with_collector};
 ghost use Rattle.mh_heap.specs.Outcome.{done_or};
-ghost use Rattle.mh_paged.specs.Kept.{Steps};
+ghost use Rattle.mh_paged.specs.Kept.{KeepsEachWorld, StartsFromItsView, Steps};
 ghost use Rattle.mh_paged.specs.Told.{IsQuantum};
 
 use crate::kept::{KeptHeap, parts_of};
@@ -20,12 +22,11 @@ use mh_cycle::cycle::Cycle;
 use mh_cycle::mh_blocks::blocks::Full;
 use mh_deeds::log::Deeds;
 use mh_groups::group::{PartPlaces, make_group_told};
-use mh_heap::perform::perform;
 use mh_heap::slots::own_slot;
 use mh_laws::barriers::objects_made_keep_the_snapshot;
 use mh_laws::bounds::collectors_stay_in_bounds;
 use mh_laws::commands::commands_are_answered;
-use mh_laws::snapshots::{collectors_stay_steady, heaps_stay_kept};
+use mh_laws::snapshots::{collectors_stay_steady, commands_keep_the_snapshot, heaps_stay_kept};
 use mh_laws::tables::making_keeps_the_pages;
 use mh_model::birth::Birth;
 use mh_model::command::Command;
@@ -101,6 +102,9 @@ impl KeptHeap {
         ensures spent { result ≡ (quantum self.old.config self.old.collector).units }
         ensures after { self.new ≡ record (self.old) { collector = (quantum self.old.config self.old.collector).collector } }
         ensures limit { result ≤ self.old.config.quantum }
+        ensures keeps { ContinuesEach self.old.collector self.new.collector }
+        ensures starts { StartsFromItsView self.old self.new }
+        ensures forwarders { MakesItsForwarders self.old.config self.old.collector self.new.collector }
         ensures told { Adds deeds.old (quantum_deeds self.old.config self.old.collector) deeds.new }
         ensures sum { units_of (quantum_deeds self.old.config self.old.collector) ≡ result }
     {
@@ -178,18 +182,17 @@ impl PagedHeap {
             let outcome = self.make_told(who, slot, references, numbers, deeds);
             return outcome.map_or_else(Reply::Refused, |()| Reply::Done);
         }
-        let Ok(reply) = perform(self, who, command) else {
-            unreachable!()
-        };
-        reply
+        self.perform(who, command)
     }
 
     /// Performs a command of the session `who`, and tells what it places and what its barriers shade.
     pub fn perform_told(&mut self, who: u8, command: &Command, deeds: &mut Deeds) -> Reply
         requires { self.old.kept.next_birth < LIFE }
         ensures step { Steps self.old.kept who command.now result self.new.kept }
+        ensures keeps { KeepsEachWorld self.old.kept self.new.kept }
         ensures told { Adds deeds.old (command_deeds self.old.kept who command.now) deeds.new }
     {
+        commands_keep_the_snapshot();
         let grey = self.kept.grey_count();
         let reply = self.answer_told(who, command, deeds);
         self.kept.tell_shaded(grey, deeds);

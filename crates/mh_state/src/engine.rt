@@ -20,7 +20,6 @@ use mh_model::cycle::Spent;
 use mh_model::memory::NoMemory;
 use mh_model::reply::Reply;
 use mh_paged::mh_heap::heap::Heap;
-use mh_paged::mh_heap::perform::perform;
 use mh_paged::mh_scan::scan::Scanner;
 use mh_paged::paged::PagedHeap;
 use mh_report::report::report;
@@ -101,9 +100,7 @@ impl Engine {
         ensures config { self.new.heap.kept.config ≡ self.old.heap.kept.config }
         ensures room { 0 < self.new.trace.room }
     {
-        let Ok(reply) = perform(&mut self.heap, who, command) else {
-            unreachable!()
-        };
+        let reply = self.heap.perform(who, command);
         let units = units_of(config, command, &reply);
         self.trace.mutator(units);
         self.units += units;
