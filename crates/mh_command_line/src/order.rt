@@ -74,12 +74,22 @@ fn refused(
 }
 
 /// `clap`'s refusal of an option that is no number.
-fn no_number(alloc: Global, subcommand: &str, name: &str, text: &str) -> Result<clap::Error, AllocError>
+fn no_number(
+    alloc: Global,
+    subcommand: &str,
+    name: &str,
+    text: &str,
+) -> Result<clap::Error, AllocError>
     ensures { IfOk result (λ error. kind_of error ≡ ValueValidation) }
 {
     let text = quoted(alloc, text)?;
     let message = format!(in alloc; "invalid value '{text}' for '--{name}': not a number")?;
-    refused(alloc, subcommand, ErrorKind::ValueValidation, message.as_str())
+    refused(
+        alloc,
+        subcommand,
+        ErrorKind::ValueValidation,
+        message.as_str(),
+    )
 }
 
 /// `clap`'s refusal of a profile that is none.
@@ -88,7 +98,12 @@ fn no_profile(alloc: Global, subcommand: &str, text: &str) -> Result<clap::Error
 {
     let text = quoted(alloc, text)?;
     let message = format!(in alloc; "invalid value '{text}' for '--profile': {UnknownProfile}")?;
-    refused(alloc, subcommand, ErrorKind::ValueValidation, message.as_str())
+    refused(
+        alloc,
+        subcommand,
+        ErrorKind::ValueValidation,
+        message.as_str(),
+    )
 }
 
 /// `clap`'s refusal of blocks that are none.
@@ -99,7 +114,12 @@ fn no_blocks(alloc: Global, subcommand: &str, text: &str) -> Result<clap::Error,
     let message = format!(in alloc;
         "invalid value '{text}' for '--allocates': not WORDS:COUNT with 4 to 64 words and 1 to 1048576 blocks of a class"
     )?;
-    refused(alloc, subcommand, ErrorKind::ValueValidation, message.as_str())
+    refused(
+        alloc,
+        subcommand,
+        ErrorKind::ValueValidation,
+        message.as_str(),
+    )
 }
 
 /// `clap`'s refusal of options without this one.
@@ -107,15 +127,30 @@ fn missing(alloc: Global, subcommand: &str, name: &str) -> Result<clap::Error, A
     ensures { IfOk result (λ error. kind_of error ≡ MissingRequiredArgument) }
 {
     let message = format!(in alloc; "the argument '--{name}' was not provided")?;
-    refused(alloc, subcommand, ErrorKind::MissingRequiredArgument, message.as_str())
+    refused(
+        alloc,
+        subcommand,
+        ErrorKind::MissingRequiredArgument,
+        message.as_str(),
+    )
 }
 
 /// `clap`'s refusal of an option beside another.
-fn beside(alloc: Global, subcommand: &str, name: &str, other: &str) -> Result<clap::Error, AllocError>
+fn beside(
+    alloc: Global,
+    subcommand: &str,
+    name: &str,
+    other: &str,
+) -> Result<clap::Error, AllocError>
     ensures { IfOk result (λ error. kind_of error ≡ ArgumentConflict) }
 {
     let message = format!(in alloc; "the argument '--{name}' cannot be used with '--{other}'")?;
-    refused(alloc, subcommand, ErrorKind::ArgumentConflict, message.as_str())
+    refused(
+        alloc,
+        subcommand,
+        ErrorKind::ArgumentConflict,
+        message.as_str(),
+    )
 }
 
 /// The subcommand that `clap` found.

@@ -28,5 +28,5 @@ pub made_by_the_world : (heap : HeapState) (world : World) → Agrees (heap_view
     → (world_step world who (command.New slot references numbers)).reply ≡ reply.Done
 made_by_the_world heap world agrees who slot references numbers none =
     let same = refused-alike (sight_of never_full world) (record (heap_sight heap) { is_full = never_full }) who slot references numbers
-        (sym (most-shown heap ∙ ap most_fields agrees.config)) refl (sym (ended-shown heap ∙ agrees.ended)) in
+    (sym (most-shown heap ∙ ap most_fields agrees.config)) refl (sym (ended-shown heap ∙ agrees.ended)) in
     made-unrefused world who slot references numbers (same ∙ none)

@@ -74,9 +74,9 @@ module _ (config : Config) (history : List Entry) (promise : IsPromised config (
       is_seen (world_after (first_world config) before) entry.event entry.reply
       (λ who command same other. promise.replies (events_of before) who command entry.reply (rw same at given) other ∙ ap (λ (w : World). (world_step w who command).reply) world)
       (λ who command same full.
-          let refused = rw (same, full-is entry.reply full) at given in
-          let new = promise.full.new (events_of before) who command refused in
-          (new-lacks command entry.reply new full, subst (λ (w : World). (world_step w who command).reply ≡ reply.Done) world (made-full config (events_of history) (replies_of history) promise.full (events_of before) who command refused new)))
+      let refused = rw (same, full-is entry.reply full) at given in
+      let new = promise.full.new (events_of before) who command refused in
+      (new-lacks command entry.reply new full, subst (λ (w : World). (world_step w who command).reply ≡ reply.Done) world (made-full config (events_of history) (replies_of history) promise.full (events_of before) who command refused new)))
 
 pub legal_for_sessions : RunsKeepTheirPromise → OnlyTheRulesMatter → LegalHistoriesAreLegalForSessions
 legal_for_sessions keep alone config history legal =

@@ -44,7 +44,8 @@ fn is_made(heap: &PlainHeap, who: u8, command: &Command) -> bool
     else {
         unreachable!();
     };
-    heap.refusal_of_new(who, slot, references, numbers).is_none()
+    heap.refusal_of_new(who, slot, references, numbers)
+        .is_none()
 }
 
 /// Performs a session's command, if there was room for it, and reports whether the session may see the entry's reply. It

@@ -5,4 +5,4 @@ use Rattle.mh_sessions.proofs.judge.is_made.Goals as goal
 pub returns : goal.returns
 returns c =
     rw c.in-New.is
-        (answers_new c.refusal_of_new.result c.is_none.result (world_of c.args.heap.now) c.args.who c.in-New.slot c.in-New.references c.in-New.numbers c.is_none.ensures c.refusal_of_new.ensures)
+    (answers_new c.refusal_of_new.result c.is_none.result (world_of c.args.heap.now) c.args.who c.in-New.slot c.in-New.references c.in-New.numbers c.is_none.ensures c.refusal_of_new.ensures)
