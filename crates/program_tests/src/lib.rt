@@ -14,6 +14,8 @@ mod device_tests;
 #[cfg(test)]
 mod graph;
 #[cfg(test)]
+mod launch_tests;
+#[cfg(test)]
 mod live_answers;
 #[cfg(test)]
 mod long_tests;

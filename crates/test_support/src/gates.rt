@@ -19,14 +19,23 @@ const PIECE: usize = 16;
 /// How many pieces a batch has at most.
 const MOST_PIECES: usize = 64;
 
-/// Waits until a counter has come to a count, for ever if it doesn't. A test that waits so is ended after 60 seconds.
-pub fn wait_for(counter: &AtomicU64, count: u64) {
-    for _ in 0..u64::MAX {
+/// How many turns a worker is held at most.
+const MOST_TURNS: u64 = 1_000_000;
+
+/// Whether a counter comes to a count within so many turns, each of which yields.
+fn comes_to(counter: &AtomicU64, count: u64, turns: u64) -> bool {
+    for _ in 0..turns {
         if counter.load(SeqCst) >= count {
-            return;
+            return true;
         }
         thread::yield_now();
     }
+    false
+}
+
+/// Waits until a counter has come to a count, for ever if it doesn't. A test that waits so is ended after 60 seconds.
+pub fn wait_for(counter: &AtomicU64, count: u64) {
+    comes_to(counter, count, u64::MAX);
 }
 
 /// Which of the numbers below 64 came, and how many came.
@@ -171,11 +180,12 @@ impl CrewGate for Arrivals {
     }
 }
 
-/// A gate that holds the worker of the first piece until a later one was begun, for ever if no other worker draws it.
+/// A gate that holds the worker of the first piece until a later one was begun, for a million turns at most.
 #[derive(Drop)]
 pub struct Hold {
     until: u64,
     begun: AtomicU64,
+    given_up: AtomicU64,
 }
 
 impl Hold {
@@ -183,12 +193,13 @@ impl Hold {
         Hold {
             until,
             begun: AtomicU64::new(0),
+            given_up: AtomicU64::new(0),
         }
     }
 
-    /// Whether the piece that is waited for was begun.
-    pub fn is_open(&self) -> bool {
-        self.begun.load(SeqCst) == 1
+    /// Whether the piece that is waited for was begun, and no turns ran out.
+    pub fn is_met(&self) -> bool {
+        self.begun.load(SeqCst) == 1 && self.given_up.load(SeqCst) == 0
     }
 }
 
@@ -197,8 +208,8 @@ impl Gate for Hold {
         if piece == self.until {
             self.begun.store(1, SeqCst);
         }
-        if piece == 0 {
-            wait_for(&self.begun, 1);
+        if piece == 0 && !comes_to(&self.begun, 1, MOST_TURNS) {
+            self.given_up.store(1, SeqCst);
         }
     }
 

@@ -14,7 +14,7 @@ use mh_scan::scan::{OneScan, Scanner};
 use std::alloc::{AllocError, Global};
 use std::test::Fail;
 use std::thread::Threads;
-use test_support::gates::{Seen, Watch};
+use test_support::gates::{Hold, Seen, Watch};
 
 fn leads(blocks: &Blocks, reference: Option<Place>) -> bool
     ensures { IsTrue result → Leads blocks.now reference }
@@ -251,5 +251,62 @@ fn each_piece_passes_the_gate_once(rt: HostRuntime) -> Result<(), Fail> {
         first_wrong_of(&rt, rt.alloc(), &mut blocks, part)
     };
     assert_eq!(rt; wrong?, None);
+    Ok(())
+}
+
+/// The places of 64 blocks of this part, each of which refers to nothing.
+fn unlinked(alloc: Global, blocks: &mut Blocks, part: Part) -> Result<Vec<Place>, AllocError> {
+    let mut places = Vec::new(alloc);
+    for _ in 0..64 {
+        if let Ok(place) = blocks.make(part, 0, Birth(0), 0) {
+            places.push(place)?;
+        }
+    }
+    Ok(places)
+}
+
+/// Whether a crew of two finds one null reference in each of 64 blocks.
+fn finds_nulls<R: Threads>(
+    rt: &R,
+    alloc: Global,
+    gate: &Hold,
+    blocks: &Blocks,
+    batch: &[Place],
+) -> Result<bool, NoMemory> {
+    if !are_scannable(blocks, batch) {
+        return Ok(false);
+    }
+    let lists = CrewScan::new(rt, alloc, 2, gate).scan(blocks, batch)?;
+    Ok(
+        lists.len() == 64
+            && lists
+                .iter()
+                .all(|list| list.as_slice() == [None].as_slice()),
+    )
+}
+
+/// The same with the worker of the first piece held until another is begun, and whether that is met.
+fn finds_nulls_while_held<R: Threads>(
+    rt: &R,
+    alloc: Global,
+    until: u64,
+    part: Part,
+) -> Result<[bool; 2], NoMemory> {
+    let mut blocks = Blocks::open(alloc, 2)?;
+    let batch = unlinked(alloc, &mut blocks, part)?;
+    let gate = Hold::new(until);
+    let finds = finds_nulls(rt, alloc, &gate, &blocks, &batch)?;
+    Ok([finds, gate.is_met()])
+}
+
+/// One worker is held at the first of four pieces. The other goes on to the second, and to the last.
+#[test]
+fn a_worker_scans_on_while_another_is_held(rt: HostRuntime) -> Result<(), Fail> {
+    let all = parts(Rules::Second, 1, 0).ok_or("too large")?;
+    let _ = all.count();
+    for until in [1, 3] {
+        let found = finds_nulls_while_held(&rt, rt.alloc(), until, all.get(0))?;
+        assert_eq!(rt; found, [true, true], "until piece {until}");
+    }
     Ok(())
 }
