@@ -57,7 +57,7 @@ ORDERS = {
     "end": "| `end` |",
 }
 
-ROOM = Rule("What sessions see", "But any `new` may be answered")
+ROOM = Rule("What sessions see", "But a `new` that such a heap answers")
 PLAIN_HEAP = Rule("What sessions see", "has to be that of a heap that never collects")
 FULL_HEAP = Rule("Objects", "If none exists the heap is full")
 PLACEMENT = Rule("Objects", "A part goes into the first of these that exists")
