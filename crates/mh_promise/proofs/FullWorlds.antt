@@ -1,5 +1,5 @@
 -- What a full heap refuses, and no other test does, the ever-growing world makes.
-use Rattle.std.proofs.Common.{◌≡◌, ◌∙◌, ℕ, Option, None, ap, sym, refl}
+use Rattle.std.proofs.Common.{◌≡◌, ◌∙◌, ℕ, None, ap, sym, refl}
 use Rattle.mh_model.specs.declared.command.Command.TheVariants as command
 use Rattle.mh_model.specs.declared.reply.Reply.TheVariants as reply
 use Rattle.mh_model.specs.World.{Sight, World, effect, heap_step, most_fields, never_full, refusal, sight_of, unless_refused, world_step}

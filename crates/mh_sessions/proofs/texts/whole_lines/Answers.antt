@@ -1,4 +1,4 @@
-use Rattle.mh_sessions.proofs.TextLemmas.{passed_all, passed_more, passed_none}
+use Rattle.mh_sessions.proofs.TextLemmas.{passed_more}
 use Rattle.mh_sessions.proofs.texts.whole_lines.Goals as goal
 
 pub loop-after-preserved : goal.loop-after-preserved
