@@ -170,6 +170,7 @@ impl Raced {
         ensures some { (stop : Stop) → result ≡ Some stop → (reason : Stop) × IsStopped self.now.stops reason }
         ensures starved { IsStopped self.now.stops Stop.NoMemory → result ≡ Some Stop.NoMemory }
         ensures full { result ≡ Some Stop.HistoryFull → vec_len self.now.history ≡ most_entries }
+        ensures memory { result ≡ Some Stop.NoMemory → vec_len self.now.history ≡ most_entries → IsStopped self.now.stops Stop.NoMemory }
     {
         match gravest(&self.stops) {
             Some(Stop::HistoryFull) if self.history.len() as u64 == MOST_EVENTS => {
