@@ -1,5 +1,5 @@
 -- The command line as `clap` is given it, and what the options in its matches say.
-use Rattle.std.specs.Prelude.{◌≡◌, ◌⊎◌, ◌<◌, ◌≤◌, ◌==◌, if◌then◌else◌, ℕ, Bool, true, false, List, Option, Some, option_map, codes, IfSome, IsSomeAnd, Result, Ok, Err}
+use Rattle.std.specs.Prelude.{◌≡◌, ◌⊎◌, ◌<◌, ◌≤◌, ◌==◌, if◌then◌else◌, ℕ, Bool, true, false, List, Option, Some, option_map, codes, IfSome, IsSomeAnd, Result, Ok, Err, unwrap_or}
 use Rattle.std.specs.Str.{bytes_eq}
 use Rattle.std.specs.Option.{option_map_or}
 use Rattle.std.specs.Str.Parse.{IsNumeral, digits_value, without_leading_plus}
@@ -194,7 +194,7 @@ rules_given rows = option_map (λ text. rules_numbered (number_in text)) (one_of
 
 -- and these others if they don't
 abbrev pub rules_of : Rules → List Row → Rules
-rules_of other rows = option_map_or (λ rules. rules) (rules_given rows) other
+rules_of other rows = unwrap_or (rules_given rows) other
 
 -- the number of an option, which is this other one if the matches don't say
 abbrev pub number_or : ℕ → Text → List Row → ℕ

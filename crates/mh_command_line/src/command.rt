@@ -17,7 +17,7 @@ const ABOUT: &str =
     "An executable reference of the Metronome collector: runs scripts of mutator commands and collector quanta, writes random ones, and judges histories";
 
 const MANUAL: &str =
-    "Scripts and histories are read from standard input. Their grammar, each command's cost and all exit statuses are in `man metroheap` and in docs/MANUAL.md.";
+    "Scripts and histories are read from standard input. Their grammar, each command's cost and all exit statuses are in `man metroheap`, which is docs/MANUAL.md of its sources.";
 
 const ABOUT_RUN: &str =
     "Run a script: print the reply to each of its events, or the line that refuses the script";
@@ -480,12 +480,15 @@ pub fn command<'a>(alloc: Global) -> Result<Command<'a>, AllocError>
 }
 
 /// The command of a subcommand by itself, if the program looks at its options after `clap` did, and else the whole.
-pub(crate) fn command_of<'a>(alloc: Global, subcommand: &str) -> Result<Command<'a>, AllocError> {
+pub(crate) fn command_of<'a>(
+    alloc: Global,
+    subcommand: Option<&str>,
+) -> Result<Command<'a>, AllocError> {
     match subcommand {
-        "check" => check(alloc),
-        "migrate" => migrate(alloc),
-        "generate" => generate(alloc),
-        "size" => size(alloc),
+        Some("check") => check(alloc),
+        Some("migrate") => migrate(alloc),
+        Some("generate") => generate(alloc),
+        Some("size") => size(alloc),
         _ => command(alloc),
     }
 }

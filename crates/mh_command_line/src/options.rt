@@ -119,10 +119,7 @@ pub(crate) fn rules_asked(matches: &ArgMatches<'_>, other: Rules) -> Rules
     requires { AsksForRules (rows_of (found_of matches.now)) }
     ensures { result ≡ rules_of other (rows_of (found_of matches.now)) }
 {
-    match rules_given(matches) {
-        Some(rules) => rules,
-        None => other,
-    }
+    rules_given(matches).unwrap_or(other)
 }
 
 /// Whether a flag is given.

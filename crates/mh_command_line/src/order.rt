@@ -59,11 +59,11 @@ fn order_of<'a>(matches: &ArgMatches<'a>) -> Result<Order, OptionFault<'a>>
     }
 }
 
-/// `clap`'s refusal of options, with this kind of fault and with the usage of the subcommand, if it is one whose options the
-/// program looks at itself.
+/// `clap`'s refusal of options, with this kind of fault. It shows the usage of the subcommand if that is one whose options the
+/// program looks at itself, and else that of the program.
 fn refused(
     alloc: Global,
-    subcommand: &str,
+    subcommand: Option<&str>,
     kind: ErrorKind,
     message: &str,
 ) -> Result<clap::Error, AllocError>
@@ -76,7 +76,7 @@ fn refused(
 /// `clap`'s refusal of an option that is no number.
 fn no_number(
     alloc: Global,
-    subcommand: &str,
+    subcommand: Option<&str>,
     name: &str,
     text: &str,
 ) -> Result<clap::Error, AllocError>
@@ -93,7 +93,11 @@ fn no_number(
 }
 
 /// `clap`'s refusal of a profile that is none.
-fn no_profile(alloc: Global, subcommand: &str, text: &str) -> Result<clap::Error, AllocError>
+fn no_profile(
+    alloc: Global,
+    subcommand: Option<&str>,
+    text: &str,
+) -> Result<clap::Error, AllocError>
     ensures { IfOk result (λ error. kind_of error ≡ ValueValidation) }
 {
     let text = quoted(alloc, text)?;
@@ -107,7 +111,7 @@ fn no_profile(alloc: Global, subcommand: &str, text: &str) -> Result<clap::Error
 }
 
 /// `clap`'s refusal of blocks that are none.
-fn no_blocks(alloc: Global, subcommand: &str, text: &str) -> Result<clap::Error, AllocError>
+fn no_blocks(alloc: Global, subcommand: Option<&str>, text: &str) -> Result<clap::Error, AllocError>
     ensures { IfOk result (λ error. kind_of error ≡ ValueValidation) }
 {
     let text = quoted(alloc, text)?;
@@ -123,7 +127,7 @@ fn no_blocks(alloc: Global, subcommand: &str, text: &str) -> Result<clap::Error,
 }
 
 /// `clap`'s refusal of options without this one.
-fn missing(alloc: Global, subcommand: &str, name: &str) -> Result<clap::Error, AllocError>
+fn missing(alloc: Global, subcommand: Option<&str>, name: &str) -> Result<clap::Error, AllocError>
     ensures { IfOk result (λ error. kind_of error ≡ MissingRequiredArgument) }
 {
     let message = format!(in alloc; "the argument '--{name}' was not provided")?;
@@ -138,7 +142,7 @@ fn missing(alloc: Global, subcommand: &str, name: &str) -> Result<clap::Error, A
 /// `clap`'s refusal of an option beside another.
 fn beside(
     alloc: Global,
-    subcommand: &str,
+    subcommand: Option<&str>,
     name: &str,
     other: &str,
 ) -> Result<clap::Error, AllocError>
@@ -153,15 +157,7 @@ fn beside(
     )
 }
 
-/// The subcommand that `clap` found.
-fn subcommand_name<'a>(matches: &'a ArgMatches<'_>) -> &'a str {
-    match matches.subcommand() {
-        Some((name, _)) => name,
-        None => "",
-    }
-}
-
-fn refused_options(alloc: Global, subcommand: &str, fault: OptionFault<'_>) -> LineFault
+fn refused_options(alloc: Global, subcommand: Option<&str>, fault: OptionFault<'_>) -> LineFault
     ensures { RefusesOptions fault.entry result }
 {
     let refusal = match fault {
@@ -203,7 +199,7 @@ fn quoted_refusal<T: AsStr>(
             return Ok(told);
         }
     }
-    refused(alloc, "", error.kind(), "a word is not as it should be")
+    refused(alloc, None, error.kind(), "a word is not as it should be")
 }
 
 fn refused_words<T: AsStr>(alloc: Global, words: &[T], error: clap::Error) -> LineFault
@@ -229,7 +225,7 @@ pub fn order<T: AsStr>(alloc: Global, words: &[T]) -> Result<Order, LineFault>
     match command.try_get_matches_from(words) {
         Ok(matches) => match order_of(&matches) {
             Ok(order) => Ok(order),
-            Err(fault) => Err(refused_options(alloc, subcommand_name(&matches), fault)),
+            Err(fault) => Err(refused_options(alloc, matches.subcommand_name(), fault)),
         },
         Err(error) if error.kind() == ErrorKind::DisplayVersion => Ok(Order::Version),
         Err(error) => Err(refused_words(alloc, words, error)),
