@@ -32,7 +32,7 @@ curve_run form config events =
 
 -- What is written of a script: the curve of the run of its first 1,000,000 events under these rules, or its first bad line
 abbrev pub curve_output : CurveForm → Rules → Text → Text
-curve_output form rules text = transcript (curve_run form) rules text
+curve_output form rules text = transcript (λ _. curve_run form) rules text
 
 -- Histories --------------------------------------------------------------------------------------
 

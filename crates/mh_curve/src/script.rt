@@ -122,11 +122,12 @@ struct Drawn {
 }
 
 impl Transcript for Drawn {
-    ghost text_of = { λ drawn. curve_run drawn.form };
+    ghost text_of = { λ drawn _. curve_run drawn.form };
 
     fn write<C: Scanner, W: Sink>(
         &self,
         alloc: Global,
+        _script: &[u8],
         config: Config,
         events: &[Event],
         scanner: &mut C,

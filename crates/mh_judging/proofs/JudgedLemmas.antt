@@ -55,7 +55,7 @@ begins_to_judge_nothing Judged some known a =
     let verdict = some text.0 in
     record { text = text.0; is_text = text.1; verdict = verdict.0; judged = verdict.1; wrote = AppendsBeginning-nothing a _ }
 
-module _ {R : Type 0} {read : Text → R} {known : Option Text} {text : Text} (reads : Reads read known text) where
+module _ {R : Type 0} {read : Text → R} {most : ℕ} {known : Option Text} {text : Text} (reads : Reads read most known text) where
   pub judges_reads : (Judged : Text → Verdict → Type 0) → GoesBy read Judged → (old new : Option Text) (verdict : Verdict) → Judged text verdict → Appends old new (line_text (verdict_text verdict))
       → Judges Judged known old new verdict
   judges_reads Judged goes old new verdict h wrote =

@@ -88,7 +88,7 @@ begins_to_migrate_nothing some config known a =
     let text = some_text known in
     record { text = text.0; is_text = text.1; begun = begins_migration_nothing some config text.0 a }
 
-module _ {known : Option Text} {text : Text} (reads : Reads history_reading known text) where
+module _ {known : Option Text} {text : Text} (reads : Reads history_reading 1073741824 known text) where
   pub migrates_reads : MigratedTextsAreLegal → (config : Config) → config.rules ≡ First → (old new : Option Text) (verdict : Verdict) → MigratesText config text old new verdict
       → Migrates config known old new verdict
   migrates_reads law config first old new verdict h =

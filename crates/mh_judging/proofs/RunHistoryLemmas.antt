@@ -18,7 +18,7 @@ histories_reading rules (BadLine line) = refl
 histories_reading rules (Means script) = refl
 
 -- the transcript that is a history is the history of the run
-pub histories_are : (rules : Rules) (text : Text) → transcript history_run rules text ≡ history_output rules text
+pub histories_are : (rules : Rules) (text : Text) → transcript (λ _. history_run) rules text ≡ history_output rules text
 unfolding history_output
 histories_are rules text = histories_reading rules (reading text)
 

@@ -26,11 +26,12 @@ use std::thread::Threads;
 struct History;
 
 impl Transcript for History {
-    ghost text_of = { λ history. history_run };
+    ghost text_of = { λ _ _. history_run };
 
     fn write<C: Scanner, W: Sink>(
         &self,
         alloc: Global,
+        _script: &[u8],
         config: Config,
         events: &[Event],
         scanner: &mut C,

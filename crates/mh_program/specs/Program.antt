@@ -27,7 +27,7 @@ use Rattle.mh_show.specs.Page.{page_text}
 use Rattle.mh_size.specs.Heaps.{IsHeapText}
 use Rattle.mh_size.specs.Scripts.{IsSizing}
 use Rattle.mh_size.specs.Targets.{IsTargetText}
-use Rattle.mh_show.specs.OfTelling.Steps.{steps_text}
+use Rattle.mh_show.specs.OfTelling.Steps.{told_text}
 use Rattle.mh_program.specs.Status.{judgement_status_of, line_status_of, live_status_of, status_of, curve_status_of}
 use Rattle.mh_program.specs.Telling.{ErrorStream, TellsEnd, TellsFault, TellsJudgement, TellsLine, TellsRefusals, TellsRun, TellsCurve}
 
@@ -85,7 +85,7 @@ IsRunBy History rules = IsHistoryRun rules
 -- What the program does on an order, or on words that give none
 abbrev pub Serves : Result Order LineFault → (source source' sink sink' : Device) (errors errors' : ErrorStream) → ℕ → Type 0
 Serves (Ok (Run options)) source source' sink sink' errors errors' status = Obeys (IsRunBy options.form options.rules source source' sink sink') (TellsRun TellsEnd) status_of errors errors' status
-Serves (Ok (Steps options)) source source' sink sink' errors errors' status = Obeys (IsRun (transcript (steps_text options.steps) options.rules) source source' sink sink') (TellsRun TellsEnd) status_of errors errors' status
+Serves (Ok (Steps options)) source source' sink sink' errors errors' status = Obeys (IsRun (transcript (told_text options.steps) options.rules) source source' sink sink') (TellsRun TellsEnd) status_of errors errors' status
 Serves (Ok (Show rules)) source source' sink sink' errors errors' status = Obeys (IsRun (transcript page_text rules) source source' sink sink') (TellsRun TellsEnd) status_of errors errors' status
 Serves (Ok (Live workers)) source source' sink sink' errors errors' status = AnswersLines source source' sink sink' errors errors' status
 Serves (Ok (Race workers)) source source' sink sink' errors errors' status = Obeys (IsRaceRun source source' sink sink') (TellsRun TellsEnd) status_of errors errors' status

@@ -12,7 +12,7 @@ ghost use Rattle.mh_racing.specs.Raced.{IsRaceRun};
 ghost use Rattle.mh_sessions.specs.Texts.{IsSessionsJudging};
 ghost use Rattle.mh_live.specs.OfScript.Run.{IsRun, device, transcript};
 ghost use Rattle.mh_show.specs.Page.{page_text};
-ghost use Rattle.mh_show.specs.OfTelling.Steps.{steps_text};
+ghost use Rattle.mh_show.specs.OfTelling.Steps.{told_text};
 
 use crate::errors::Errors;
 use crate::run_curve::{draw_history, draw_script};
@@ -103,7 +103,7 @@ fn stepped<S: Source, W: Sink>(
 ) -> Result<End, ScriptFault>
     requires source_count { S.failures source.old < 2 ^ 62 }
     requires sink_count { W.failures sink.old < 2 ^ 62 }
-    ensures { IsRun (transcript (steps_text options.steps) options.rules)
+    ensures { IsRun (transcript (told_text options.steps) options.rules)
         (device (S.rest source.old) (S.failures source.old)) (device (S.rest source.new) (S.failures source.new))
         (device (W.written sink.old) (W.failures sink.old)) (device (W.written sink.new) (W.failures sink.new)) result }
 {
@@ -120,7 +120,7 @@ fn steps<S: Source, W: Sink, E: Sink>(
 ) -> u8
     requires source_count { S.failures source.old < 2 ^ 62 }
     requires sink_count { W.failures sink.old < 2 ^ 62 }
-    ensures { Obeys (IsRun (transcript (steps_text options.steps) options.rules)
+    ensures { Obeys (IsRun (transcript (told_text options.steps) options.rules)
         (device (S.rest source.old) (S.failures source.old)) (device (S.rest source.new) (S.failures source.new))
         (device (W.written sink.old) (W.failures sink.old)) (device (W.written sink.new) (W.failures sink.new))) (TellsRun TellsEnd) status_of
         errors.old errors.new result }

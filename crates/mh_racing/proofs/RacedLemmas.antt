@@ -120,7 +120,7 @@ begins_race_nothing (Means script) a = raced_nothing script a
 pub begins_to_race_nothing : (known a : Option Text) → BeginsToRace known a a
 begins_to_race_nothing known a = let text = some_text known in record { text = text.0; is_text = text.1; begun = begins_race_nothing (reading text.0) a }
 
-module _ {known : Option Text} {text : Text} (reads : Reads reading known text) where
+module _ {known : Option Text} {text : Text} (reads : Reads reading 67108864 known text) where
   pub races_reads : (Raced : Meaning → Text → Type 0) (script : Meaning) (old new : Option Text) → reading text ≡ Means script → Writes (Raced script) old new → Races Raced known old new
   races_reads Raced script old new is wrote = record { text = reads.whole; is_text = reads.is_text; script = script; means = reads.same ∙ is; wrote = wrote }
 

@@ -2,6 +2,7 @@ pub mod AddedLines
 pub mod BufferLemmas
 pub mod FaultLemmas
 pub mod MachineLemmas
+pub mod PieceLemmas
 pub mod RunLemmas
 pub mod SourceLemmas
 pub mod OfState

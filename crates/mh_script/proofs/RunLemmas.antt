@@ -24,6 +24,6 @@ replies_reading rules (BadLine line) = refl
 replies_reading rules (Means script) = refl
 
 -- the transcript of replies is the output
-pub replies_are : (rules : Rules) (text : Text) → transcript replies_run rules text ≡ output_under rules text
+pub replies_are : (rules : Rules) (text : Text) → transcript (λ _. replies_run) rules text ≡ output_under rules text
 unfolding output_under
 replies_are rules text = replies_reading rules (reading text)

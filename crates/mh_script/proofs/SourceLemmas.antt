@@ -62,23 +62,28 @@ read-append {R} read most bounded text rest whole = go (nat_lt most (length text
       let short : length text ≤ most = grind (arith, nat_tests) in
       ap read (ap (λ (r : Text). text ++ r) (whole short) ∙ append-nil text)
 
--- the whole text of a source, which reads like the text that was read of it
-pub record Reads {R : Type 0} (read : Text → R) (known : Option Text) (text : Text) : Type 0 where
+-- the whole text of a source, which reads like the text that was read of it, and is that text if it is not too long
+pub record Reads {R : Type 0} (read : Text → R) (most : ℕ) (known : Option Text) (text : Text) : Type 0 where
   pub whole : Text
   pub is_text : IsTextOf known whole
   pub same : read whole ≡ read text
+  pub all : length text ≤ most → whole ≡ text
 
 reads-consumed : {R : Type 0} (read : Text → R) (most : ℕ) → IsBounded read most → (known rest : Option Text) (text : Text) → Consumes known rest text → (length text ≤ most → IsAtEnd rest)
-    → Reads read known text
-reads-consumed read most bounded None rest text consumed whole = record { whole = text; is_text = tt; same = refl }
+    → Reads read most known text
+reads-consumed read most bounded None rest text consumed whole = record { whole = text; is_text = tt; same = refl; all = λ _. refl }
 reads-consumed read most bounded (Some bytes) None text consumed whole = absurd consumed
-reads-consumed read most bounded (Some bytes) (Some left) text consumed whole =
-    record { whole = bytes; is_text = refl; same = ap read consumed ∙ read-append read most bounded text left whole }
+reads-consumed read most bounded (Some bytes) (Some left) text consumed whole = record {
+  whole = bytes;
+  is_text = refl;
+  same = ap read consumed ∙ read-append read most bounded text left whole;
+  all = λ short. consumed ∙ (ap (λ (r : Text). text ++ r) (whole short) ∙ append-nil text);
+}
 
 -- the same of a slice of what was read
 pub reads_slice : {R : Type 0} (read : Text → R) (most : ℕ) → IsBounded read most → (known rest : Option Text) (items text : Text) → text ≡ items → Consumes known rest items
-    → (length items ≤ most → IsAtEnd rest) → Reads read known text
-reads_slice read most bounded known rest items text same consumed whole = subst (Reads read known) (sym same) (reads-consumed read most bounded known rest items consumed whole)
+    → (length items ≤ most → IsAtEnd rest) → Reads read most known text
+reads_slice read most bounded known rest items text same consumed whole = subst (Reads read most known) (sym same) (reads-consumed read most bounded known rest items consumed whole)
 
 -- memory was refused for a text that was read whole
 pub wants_text : (Begins : Text → Type 0) (most : ℕ) (known rest : Option Text) (items text : Text) → text ≡ items → Consumes known rest items → (length items ≤ most → IsAtEnd rest) → length text ≤ most → Begins text
@@ -130,12 +135,15 @@ ending-few meaning few =
     ap (λ b. if b then HistoryFull else Done) is
 
 -- what is to be written of a text, by a transcript and rules
-module _ (text_of : Config → List Event → Text) (rules : Rules) where
-  module _ {known : Option Text} {text : Text} (reads : Reads reading known text) where
-    written-reads : (r : Reading Meaning) → reading text ≡ r → transcript text_of rules reads.whole ≡ transcript_of text_of rules r
-    written-reads r is = ap (transcript_of text_of rules) (reads.same ∙ is)
+module _ (text_of : Text → Config → List Event → Text) (rules : Rules) where
+  module _ {known : Option Text} {text : Text} (reads : Reads reading 67108864 known text) where
+    written-reads : (r : Reading Meaning) → reading text ≡ r → transcript text_of rules reads.whole ≡ transcript_of (text_of text) rules r
+    written-reads (BadLine line) is = ap (transcript_of (text_of reads.whole) rules) (reads.same ∙ is)
+    written-reads (Means script) is =
+        let short : length text ≤ 67108864 = runs_short text (inr (script, is)) in
+        ap (transcript_of (text_of reads.whole) rules) (reads.same ∙ is) ∙ ap (λ (t : Text). transcript_of (text_of t) rules (Means script)) (reads.all short)
 
-    outputs-reads : (old new : Option Text) (r : Reading Meaning) (ended : Ending) → reading text ≡ r → Appends old new (transcript_of text_of rules r) → ending_of r ≡ ended
+    outputs-reads : (old new : Option Text) (r : Reading Meaning) (ended : Ending) → reading text ≡ r → Appends old new (transcript_of (text_of text) rules r) → ending_of r ≡ ended
         → Outputs (transcript text_of rules) known old new ended
     outputs-reads old new r ended is wrote ends =
         let P : Text → Type 0 = λ t. Appends old new t in
@@ -146,18 +154,18 @@ module _ (text_of : Config → List Event → Text) (rules : Rules) where
           wrote = subst P (sym (written-reads r is)) wrote;
         }
 
-    pub Done-reads : (old new : Option Text) (meaning : Meaning) → reading text ≡ Means meaning → Appends old new (transcript_of text_of rules (Means meaning)) → length meaning.events ≤ most_entries
+    pub Done-reads : (old new : Option Text) (meaning : Meaning) → reading text ≡ Means meaning → Appends old new (transcript_of (text_of text) rules (Means meaning)) → length meaning.events ≤ most_entries
         → Outputs (transcript text_of rules) known old new Done
     Done-reads old new meaning is wrote few = outputs-reads old new (Means meaning) Done is wrote (ending-few meaning few)
 
-    pub HistoryFull-reads : (old new : Option Text) (meaning : Meaning) → reading text ≡ Means meaning → Appends old new (transcript_of text_of rules (Means meaning)) → most_entries < length meaning.events
+    pub HistoryFull-reads : (old new : Option Text) (meaning : Meaning) → reading text ≡ Means meaning → Appends old new (transcript_of (text_of text) rules (Means meaning)) → most_entries < length meaning.events
         → Outputs (transcript text_of rules) known old new HistoryFull
     HistoryFull-reads old new meaning is wrote many = outputs-reads old new (Means meaning) HistoryFull is wrote (ending-many meaning many)
 
-    pub Refused-reads : (old new : Option Text) (line : ℕ) → reading text ≡ BadLine line → Appends old new (transcript_of text_of rules (BadLine line)) → Outputs (transcript text_of rules) known old new (Refused line)
+    pub Refused-reads : (old new : Option Text) (line : ℕ) → reading text ≡ BadLine line → Appends old new (transcript_of (text_of text) rules (BadLine line)) → Outputs (transcript text_of rules) known old new (Refused line)
     Refused-reads old new line is wrote = outputs-reads old new (BadLine line) (Refused line) is wrote refl
 
-    pub WritesBeginning-reads : (old new : Option Text) (r : Reading Meaning) → reading text ≡ r → AppendsBeginning old new (transcript_of text_of rules r) → WritesBeginning (transcript text_of rules) known old new
+    pub WritesBeginning-reads : (old new : Option Text) (r : Reading Meaning) → reading text ≡ r → AppendsBeginning old new (transcript_of (text_of text) rules r) → WritesBeginning (transcript text_of rules) known old new
     WritesBeginning-reads old new r is begun =
         (reads.whole, begun.0, begun.1, reads.is_text, begun.2 ∙ sym (written-reads r is), begun.3)
 

@@ -25,11 +25,12 @@ use std::thread::Threads;
 struct Replies;
 
 impl Transcript for Replies {
-    ghost text_of = { λ replies. replies_run };
+    ghost text_of = { λ _ _. replies_run };
 
     fn write<C: Scanner, W: Sink>(
         &self,
         alloc: Global,
+        _script: &[u8],
         config: Config,
         events: &[Event],
         scanner: &mut C,

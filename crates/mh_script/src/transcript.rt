@@ -30,22 +30,24 @@ const MOST_ENTRIES: usize = limits::MOST_EVENTS as usize;
 
 /// What a run is written as: its replies, its history, or its steps.
 pub trait Transcript {
-    // the text of a run of these events
-    ghost text_of: { Self → Config → List Event → Text };
+    // the text of a run of these events, which are those of a script of the first text
+    ghost text_of: { Self → Text → Config → List Event → Text };
 
-    /// Does events from the first machine on, and writes the text of that run.
+    /// Does the events of a script from the first machine on, and writes the text of that run.
     fn write<C: Scanner, W: Sink>(
         &self,
         alloc: Global,
+        script: &[u8],
         config: Config,
         events: &[Event],
         scanner: &mut C,
         sink: &mut W,
     ) -> Result<(), WriteError>
+        requires short { length script.now ≤ SCRIPT_BYTES }
         requires few { length events.now ≤ most_entries }
         requires count { W.failures sink.old < 2 ^ 62 }
-        ensures done { OnOk result (Appends (W.written sink.old) (W.written sink.new) (text_of self.now config events.now)) }
-        ensures begun { OnErr result (AppendsBeginning (W.written sink.old) (W.written sink.new) (text_of self.now config events.now)) }
+        ensures done { OnOk result (Appends (W.written sink.old) (W.written sink.new) (text_of self.now script.now config events.now)) }
+        ensures begun { OnErr result (AppendsBeginning (W.written sink.old) (W.written sink.new) (text_of self.now script.now config events.now)) }
         ensures no_failure { OnOk result (W.failures sink.new ≡ W.failures sink.old) }
         ensures blamed { IsErrOf result WriteError.Device → W.failures sink.old < W.failures sink.new }
         ensures not_blamed { IsErrOf result WriteError.NoMemory → W.failures sink.new ≡ W.failures sink.old };
@@ -64,21 +66,23 @@ fn answered(events: &[Event]) -> &[Event]
 fn write_answers<T: Transcript, C: Scanner, W: Sink>(
     alloc: Global,
     form: &T,
+    text: &[u8],
     script: &Script,
     rules: Rules,
     scanner: &mut C,
     sink: &mut W,
 ) -> Result<(), WriteError>
-    requires { W.failures sink.old < 2 ^ 62 }
-    ensures done { OnOk result (Appends (W.written sink.old) (W.written sink.new) (transcript_of (T.text_of form.now) rules (Means script.now))) }
-    ensures begun { OnErr result (AppendsBeginning (W.written sink.old) (W.written sink.new) (transcript_of (T.text_of form.now) rules (Means script.now))) }
+    requires short { length text.now ≤ SCRIPT_BYTES }
+    requires count { W.failures sink.old < 2 ^ 62 }
+    ensures done { OnOk result (Appends (W.written sink.old) (W.written sink.new) (transcript_of (T.text_of form.now text.now) rules (Means script.now))) }
+    ensures begun { OnErr result (AppendsBeginning (W.written sink.old) (W.written sink.new) (transcript_of (T.text_of form.now text.now) rules (Means script.now))) }
     ensures no_failure { OnOk result (W.failures sink.new ≡ W.failures sink.old) }
     ensures blamed { IsErrOf result WriteError.Device → W.failures sink.old < W.failures sink.new }
     ensures not_blamed { IsErrOf result WriteError.NoMemory → W.failures sink.new ≡ W.failures sink.old }
 {
     let config = script.config().with_rules(rules);
     let events = answered(script.events());
-    form.write(alloc, config, events, scanner, sink)
+    form.write(alloc, text, config, events, scanner, sink)
 }
 
 /// Reads a whole script, and then writes the transcript of its run under these rules. Of a script that is outside the grammar
@@ -105,7 +109,7 @@ pub fn transcribe<T: Transcript, C: Scanner, S: Source, W: Sink>(
     let text = read_whole(alloc, source, SCRIPT_BYTES)?;
     let bytes = text.as_slice();
     match parse(alloc, bytes) {
-        Ok(script) => match write_answers(alloc, form, &script, rules, scanner, sink) {
+        Ok(script) => match write_answers(alloc, form, bytes, &script, rules, scanner, sink) {
             Ok(()) if script.events().len() > MOST_ENTRIES => Err(ScriptFault::HistoryFull),
             Ok(()) => Ok(End::Done),
             Err(WriteError::Device) => Err(ScriptFault::Write),

@@ -2,6 +2,7 @@
 use Rattle.std.proofs.Common.{◌≡◌, ◌∙◌, List, [], ◌++◌, Option, ap, subst, append-nil, append_assoc, codes}
 use Rattle.std.proofs.KnownBytes.{Appends-trans}
 use Rattle.std.specs.Io.KnownBytes.{Appends}
+use Rattle.mh_curve.proofs.OfScript.PieceLemmas.{begun_after, begun_by, begun_first, written_all}
 use Rattle.mh_curve.specs.Points.{points_of}
 use Rattle.mh_model.specs.declared.command.Event.{Event}
 use Rattle.mh_model.specs.declared.config.Config.{Config}
@@ -10,12 +11,11 @@ use Rattle.mh_model.specs.Machine.{Machine, first_machine, machine_after}
 use Rattle.mh_model.specs.Trace.{Letter}
 use Rattle.mh_show.specs.Page.{config_row, events_text, point_row, run_text}
 use Rattle.mh_show.specs.Rows.{listed, row_text}
-use Rattle.mh_show.proofs.PieceLemmas.{begun_after, begun_by, begun_first, written_all}
 use Rattle.mh_text.specs.Stream.{AppendsBeginning}
 
 -- what stands before the events, and what after them
 abbrev pub front_text : Config → Text
-front_text config = codes "{\"config\":" ++ (row_text (config_row config) ++ codes ",\"events\":[\n")
+front_text config = codes "\"config\":" ++ (row_text (config_row config) ++ codes ",\"events\":[\n")
 
 abbrev pub rest_text : Config → List Letter → Text
 rest_text config letters = codes "0],\"curve\":" ++ (listed (λ point. row_text (point_row point)) (points_of config letters) ++ codes "}\n")
@@ -31,7 +31,7 @@ module _ (config : Config) (events : List Event) where
   rest = rest_text config (machine_after (first_machine config) events).trace.letters
 
   run_is : front_text config ++ (shown ++ rest) ≡ run_text config events
-  run_is = pieces (codes "{\"config\":") (row_text (config_row config)) (codes ",\"events\":[\n") shown rest
+  run_is = pieces (codes "\"config\":") (row_text (config_row config)) (codes ",\"events\":[\n") shown rest
 
   joined_is : (front_text config ++ shown) ++ rest ≡ run_text config events
   joined_is = append_assoc (front_text config) shown rest ∙ run_is

@@ -10,6 +10,8 @@ use Rattle.mh_model.specs.Machine.{Machine, first_machine, event_step, machine_a
 use Rattle.mh_model.specs.Replies.{reply_text}
 use Rattle.mh_curve.specs.declared.point.Point.{Point}
 use Rattle.mh_curve.specs.Points.{points_of}
+use Rattle.mh_telling.specs.Lines.{quoted}
+use Rattle.mh_text.specs.Names.{names_in}
 use Rattle.mh_show.specs.declared.page.TheConstants.{HEAD}
 use Rattle.mh_show.specs.declared.drawing.TheConstants.{DRAWING}
 use Rattle.mh_show.specs.declared.hands.TheConstants.{HANDS}
@@ -82,13 +84,20 @@ config_row config = row_of (rules_number config.rules) (Some config.pages ∷ So
 abbrev pub point_row : Point → Row
 point_row point = row_of point.window (Some point.least ∷ point.floor ∷ [])
 
--- The numbers of a run, as an object of JSON
+-- The names of a script's sessions, with which the object of JSON begins that is the run
+abbrev pub names_part : List Text → Text
+names_part names = codes "{\"names\":" ++ (listed quoted names ++ codes ",")
+
+-- The numbers of a run, with which it ends
 abbrev pub run_text : Config → List Event → Text
 run_text config events =
     let machine = machine_after (first_machine config) events in
-    codes "{\"config\":" ++ (row_text (config_row config) ++ (codes ",\"events\":[\n" ++ (events_text 0 (first_machine config) events
+    codes "\"config\":" ++ (row_text (config_row config) ++ (codes ",\"events\":[\n" ++ (events_text 0 (first_machine config) events
     ++ (codes "0],\"curve\":" ++ (listed (λ point. row_text (point_row point)) (points_of config machine.trace.letters) ++ codes "}\n")))))
 
--- The page of a run of these events
-abbrev pub page_text : Config → List Event → Text
-page_text config events = HEAD.now ++ (run_text config events ++ (DRAWING.now ++ HANDS.now))
+abbrev pub script_text : Text → Config → List Event → Text
+script_text script config events = names_part (names_in script) ++ run_text config events
+
+-- The page of a run of these events, which are those of this script
+abbrev pub page_text : Text → Config → List Event → Text
+page_text script config events = HEAD.now ++ (script_text script config events ++ (DRAWING.now ++ HANDS.now))

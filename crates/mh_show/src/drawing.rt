@@ -13,6 +13,9 @@ const events = listed(run.events).map(([text, reply, units, whole, command, root
   text, reply, units, whole, command: listed(command), roots: listed(roots),
   spent: ran ? ran[0] : -1, ended: ran ? ran[1] : 0, deeds: ran ? listed(ran[2]) : [],
 }));
+// Whose root slots these are: a session's, with its name in the script if that is another, or those of the board
+const names = listed(run.names);
+const ownerOf = (who) => who === 8 ? "board" : (names[who] ?? "s" + who) === "s" + who ? "s" + who : `s${who} (${names[who]})`;
 const points = listed(run.curve).map(([window, least, floor]) => ({ window, least, floor }));
 const PHASES = ["idle", "roots", "mark", "sweep", "defrag"];
 const TIERS = ["dense", "free", "sparse"];

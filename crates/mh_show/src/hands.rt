@@ -157,7 +157,7 @@ function drawRoots() {
   for (let who = 0; who < 9; who += 1) {
     const slots = [...Array(16).keys()].filter((i) => roots[16 * who + i] >= 0 || 16 * who + i === scanned);
     if (!slots.length) continue;
-    add(list, "dt", who < 8 ? "s" + who : "board");
+    add(list, "dt", ownerOf(who));
     const own = add(list, "dd", "");
     for (const i of slots) add(own, "span", `${i}: ${word(roots[16 * who + i])}`).classList.toggle("now", 16 * who + i === scanned);
   }

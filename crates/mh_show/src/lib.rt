@@ -9,6 +9,7 @@ pub mod event;
 mod events;
 pub mod hands;
 pub mod laws;
+mod names;
 mod numbers;
 pub mod page;
 pub mod rows;

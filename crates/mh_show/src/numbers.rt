@@ -38,12 +38,12 @@ fn push_config(text: &mut String, config: Config) -> Result<(), NoMemory>
     )
 }
 
-/// What stands before the events.
+/// What stands before the events, after the names of sessions.
 pub(crate) fn config_text(alloc: Global, config: Config) -> Result<String, NoMemory>
-    ensures { IfOk result (λ text. string_bytes text ≡ codes "{\"config\":" ++ (row_text (config_row config) ++ codes ",\"events\":[\n")) }
+    ensures { IfOk result (λ text. string_bytes text ≡ codes "\"config\":" ++ (row_text (config_row config) ++ codes ",\"events\":[\n")) }
 {
     let mut text = String::new(alloc);
-    text.push_str("{\"config\":")?;
+    text.push_str("\"config\":")?;
     push_config(&mut text, config)?;
     text.push_str(",\"events\":[\n")?;
     Ok(text)

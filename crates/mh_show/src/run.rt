@@ -5,12 +5,13 @@ ghost use Rattle.mh_model.specs.Limits.{most_entries};
 ghost use Rattle.mh_model.specs.Output as model;
 ghost use Rattle.mh_curve.specs.OfScript.Run.{EndsAs, HasReason, Outputs, TakesToRun, WritesBeginning, transcript};
 ghost use Rattle.mh_curve.specs.OfScript.Texts.{LeavesSource, Blames, WantsMemory};
-ghost use Rattle.mh_show.specs.Page.{page_text, run_text};
+ghost use Rattle.mh_show.specs.Page.{page_text, run_text, script_text};
 ghost use Rattle.mh_text.specs.Stream.{AppendsBeginning};
 
 use crate::drawing::DRAWING;
 use crate::events::write_events;
 use crate::hands::HANDS;
+use crate::names::write_names;
 use crate::numbers::{config_text, curve_text};
 use crate::page::HEAD;
 use mh_curve::mh_scan::scan::{OneScan, Scanner};
@@ -54,23 +55,47 @@ fn write_run<W: Sink>(
     Ok(())
 }
 
-/// Writes the page of a run of events.
-fn write_page<W: Sink>(
+/// Writes the object that has the names and the numbers of the run of a script.
+fn write_script<W: Sink>(
     alloc: Global,
+    script: &[u8],
     config: Config,
     events: &[Event],
     sink: &mut W,
 ) -> Result<(), WriteError>
+    requires short { length script.now ≤ SCRIPT_BYTES }
     requires few { length events.now ≤ most_entries }
     requires count { W.failures sink.old < 2 ^ 62 }
-    ensures done { OnOk result (Appends (W.written sink.old) (W.written sink.new) (page_text config events.now)) }
-    ensures begun { OnErr result (AppendsBeginning (W.written sink.old) (W.written sink.new) (page_text config events.now)) }
+    ensures done { OnOk result (Appends (W.written sink.old) (W.written sink.new) (script_text script.now config events.now)) }
+    ensures begun { OnErr result (AppendsBeginning (W.written sink.old) (W.written sink.new) (script_text script.now config events.now)) }
+    ensures no_failure { OnOk result (W.failures sink.new ≡ W.failures sink.old) }
+    ensures blamed { IsErrOf result WriteError.Device → W.failures sink.old < W.failures sink.new }
+    ensures not_blamed { IsErrOf result WriteError.NoMemory → W.failures sink.new ≡ W.failures sink.old }
+{
+    write_names(alloc, script, sink)?;
+    write_run(alloc, config, events, sink)?;
+    Ok(())
+}
+
+/// Writes the page of a run of events.
+fn write_page<W: Sink>(
+    alloc: Global,
+    script: &[u8],
+    config: Config,
+    events: &[Event],
+    sink: &mut W,
+) -> Result<(), WriteError>
+    requires short { length script.now ≤ SCRIPT_BYTES }
+    requires few { length events.now ≤ most_entries }
+    requires count { W.failures sink.old < 2 ^ 62 }
+    ensures done { OnOk result (Appends (W.written sink.old) (W.written sink.new) (page_text script.now config events.now)) }
+    ensures begun { OnErr result (AppendsBeginning (W.written sink.old) (W.written sink.new) (page_text script.now config events.now)) }
     ensures no_failure { OnOk result (W.failures sink.new ≡ W.failures sink.old) }
     ensures blamed { IsErrOf result WriteError.Device → W.failures sink.old < W.failures sink.new }
     ensures not_blamed { IsErrOf result WriteError.NoMemory → W.failures sink.new ≡ W.failures sink.old }
 {
     write_text(sink, HEAD)?;
-    write_run(alloc, config, events, sink)?;
+    write_script(alloc, script, config, events, sink)?;
     write_text(sink, DRAWING)?;
     write_text(sink, HANDS)?;
     Ok(())
@@ -87,12 +112,13 @@ impl Transcript for Show {
     fn write<C: Scanner, W: Sink>(
         &self,
         alloc: Global,
+        script: &[u8],
         config: Config,
         events: &[Event],
         _scanner: &mut C,
         sink: &mut W,
     ) -> Result<(), WriteError> {
-        write_page(alloc, config, events, sink)
+        write_page(alloc, script, config, events, sink)
     }
 }
 

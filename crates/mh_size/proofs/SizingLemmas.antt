@@ -28,7 +28,7 @@ ending_few meaning few =
     let is : nat_lt most_entries (length meaning.events) ≡ false = grind (arith, nat_tests) in
     ap (λ b. if b then HistoryFull else Done) is
 
-module _ (rules : Rules) {known : Option Text} {text : Text} (reads : Reads reading known text) (old new : Option Text) where
+module _ (rules : Rules) {known : Option Text} {text : Text} (reads : Reads reading 67108864 known text) (old new : Option Text) where
   sizes_reads : (r : Reading Meaning) (ended : Ending) → reading text ≡ r → Writes (IsSizeText rules r) old new → ending_of r ≡ ended → Sizes rules known old new ended
   unfolding ending
   sizes_reads r ended is wrote ends =

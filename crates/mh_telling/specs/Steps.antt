@@ -8,6 +8,8 @@ use Rattle.mh_model.specs.Machine.{Machine, first_machine, event_step}
 use Rattle.mh_orders.specs.declared.steps.Steps.{Steps}
 use Rattle.mh_orders.specs.Steps.{is_asked}
 use Rattle.mh_telling.specs.Lines.{account_text, entry_line}
+use Rattle.mh_telling.specs.Names.{names_text}
+use Rattle.mh_text.specs.Names.{names_in}
 
 -- the account of an event, if its deeds are asked for
 abbrev pub deeds_text : Steps → ℕ → Machine → Event → Text
@@ -26,3 +28,7 @@ events_text steps number machine (event ∷ events) = event_text steps number ma
 -- The steps of a run of these events from the first machine on. Events are counted from 1
 abbrev pub steps_text : Steps → Config → List Event → Text
 steps_text steps config events = events_text steps 1 (first_machine config) events
+
+-- The same of a run of this script, below the names of its sessions
+abbrev pub told_text : Steps → Text → Config → List Event → Text
+told_text steps script config events = names_text steps.form 0 (names_in script) ++ steps_text steps config events

@@ -5,4 +5,5 @@ mod deed_fields;
 pub mod entry;
 mod fields;
 mod lines;
+mod names;
 pub mod run;

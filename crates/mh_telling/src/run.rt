@@ -12,11 +12,12 @@ ghost use Rattle.mh_script.specs.Run.{EndsAs, HasReason, Outputs, TakesToRun, Wr
 ghost use Rattle.mh_script.specs.Texts.{LeavesSource, Blames, WantsMemory};
 ghost use Rattle.mh_script.specs.OfState.Running.{Does};
 ghost use Rattle.mh_telling.specs.Lines.{account_text, entry_line};
-ghost use Rattle.mh_telling.specs.Steps.{event_text, events_text, steps_text};
+ghost use Rattle.mh_telling.specs.Steps.{event_text, events_text, steps_text, told_text};
 ghost use Rattle.mh_text.specs.Stream.{AppendsBeginning};
 
 use crate::entry::push_entry_line;
 use crate::lines::push_account;
+use crate::names::write_names;
 use mh_deeds::account::Account;
 use mh_model::command::Event;
 use mh_model::config::{Config, Rules};
@@ -166,6 +167,51 @@ fn write_steps<C: Scanner, W: Sink>(
     Ok(())
 }
 
+/// Does events from the first machine on, and writes their lines.
+fn write_run<C: Scanner, W: Sink>(
+    alloc: Global,
+    steps: Steps,
+    config: Config,
+    events: &[Event],
+    scanner: &mut C,
+    sink: &mut W,
+) -> Result<(), WriteError>
+    requires few { length events.now ≤ most_entries }
+    requires count { W.failures sink.old < 2 ^ 62 }
+    ensures done { OnOk result (Appends (W.written sink.old) (W.written sink.new) (steps_text steps config events.now)) }
+    ensures begun { OnErr result (AppendsBeginning (W.written sink.old) (W.written sink.new) (steps_text steps config events.now)) }
+    ensures no_failure { OnOk result (W.failures sink.new ≡ W.failures sink.old) }
+    ensures blamed { IsErrOf result WriteError.Device → W.failures sink.old < W.failures sink.new }
+    ensures not_blamed { IsErrOf result WriteError.NoMemory → W.failures sink.new ≡ W.failures sink.old }
+{
+    let mut machine = Machine::open(alloc, config)?;
+    write_steps(alloc, steps, &mut machine, events, scanner, sink)
+}
+
+/// Writes the names of a script's sessions, and then the steps of its run.
+fn write_told<C: Scanner, W: Sink>(
+    alloc: Global,
+    steps: Steps,
+    script: &[u8],
+    config: Config,
+    events: &[Event],
+    scanner: &mut C,
+    sink: &mut W,
+) -> Result<(), WriteError>
+    requires short { length script.now ≤ SCRIPT_BYTES }
+    requires few { length events.now ≤ most_entries }
+    requires count { W.failures sink.old < 2 ^ 62 }
+    ensures done { OnOk result (Appends (W.written sink.old) (W.written sink.new) (told_text steps script.now config events.now)) }
+    ensures begun { OnErr result (AppendsBeginning (W.written sink.old) (W.written sink.new) (told_text steps script.now config events.now)) }
+    ensures no_failure { OnOk result (W.failures sink.new ≡ W.failures sink.old) }
+    ensures blamed { IsErrOf result WriteError.Device → W.failures sink.old < W.failures sink.new }
+    ensures not_blamed { IsErrOf result WriteError.NoMemory → W.failures sink.new ≡ W.failures sink.old }
+{
+    write_names(alloc, steps.form, script, sink)?;
+    write_run(alloc, steps, config, events, scanner, sink)?;
+    Ok(())
+}
+
 /// A run that is written as these steps.
 #[derive(Clone, Copy)]
 struct Stepped {
@@ -173,23 +219,23 @@ struct Stepped {
 }
 
 impl Transcript for Stepped {
-    ghost text_of = { λ stepped. steps_text stepped.steps };
+    ghost text_of = { λ stepped. told_text stepped.steps };
 
     fn write<C: Scanner, W: Sink>(
         &self,
         alloc: Global,
+        script: &[u8],
         config: Config,
         events: &[Event],
         scanner: &mut C,
         sink: &mut W,
     ) -> Result<(), WriteError> {
-        let mut machine = Machine::open(alloc, config)?;
-        write_steps(alloc, self.steps, &mut machine, events, scanner, sink)
+        write_told(alloc, self.steps, script, config, events, scanner, sink)
     }
 }
 
-/// Reads a whole script, and then writes the steps of its run under these rules: each event with its reply, and below it
-/// what it did. Of a script that is outside the grammar it writes the one line that names the first bad line.
+/// Reads a whole script, and then writes the steps of its run under these rules: the names of its sessions where these aren't
+/// `s0` to `s7`, then each event with its reply, and below it what it did. Of a script that is outside the grammar it writes the one line that names the first bad line.
 pub fn tell_script<S: Source, W: Sink>(
     alloc: Global,
     source: &mut S,
@@ -199,10 +245,10 @@ pub fn tell_script<S: Source, W: Sink>(
 ) -> Result<End, ScriptFault>
     requires source_count { S.failures source.old < 2 ^ 62 }
     requires sink_count { W.failures sink.old < 2 ^ 62 }
-    ensures ends { IfOk result (EndsAs (transcript (steps_text steps) rules) (S.rest source.old) (W.written sink.old) (W.written sink.new)) }
+    ensures ends { IfOk result (EndsAs (transcript (told_text steps) rules) (S.rest source.old) (W.written sink.old) (W.written sink.new)) }
     ensures reason { IfOk result (HasReason (S.rest source.old)) }
-    ensures begun { OnErr result (WritesBeginning (transcript (steps_text steps) rules) (S.rest source.old) (W.written sink.old) (W.written sink.new)) }
-    ensures full { IsErrOf result ScriptFault.HistoryFull → Outputs (transcript (steps_text steps) rules) (S.rest source.old) (W.written sink.old) (W.written sink.new) model.HistoryFull }
+    ensures begun { OnErr result (WritesBeginning (transcript (told_text steps) rules) (S.rest source.old) (W.written sink.old) (W.written sink.new)) }
+    ensures full { IsErrOf result ScriptFault.HistoryFull → Outputs (transcript (told_text steps) rules) (S.rest source.old) (W.written sink.old) (W.written sink.new) model.HistoryFull }
     ensures unread { IsErrOf result ScriptFault.Read → Keeps (W.written sink.old) (W.written sink.new) }
     ensures memory { IsErrOf result ScriptFault.NoMemory → WantsMemory TakesToRun (S.rest source.old) (S.rest source.new) }
     ensures taken { LeavesSource SCRIPT_BYTES (S.rest source.old) (S.rest source.new) result }

@@ -4,7 +4,7 @@
 pub mod device;
 pub mod forms;
 pub mod line;
-mod names;
+pub mod names;
 pub mod pieces;
 pub mod reply_line;
 pub mod reply_text;

@@ -1,8 +1,11 @@
-ghost use Rattle.std.specs.Prelude.{◌≡◌, ◌≤◌, [], length, IfOk, OnOk, OnErr};
+//! The names that a script has for its sessions.
+ghost use Rattle.std.specs.Prelude.{◌≡◌, ◌+◌, ◌<◌, ◌≤◌, ◌^◌, [], length, IfOk, OnOk, OnErr};
 ghost use Rattle.mh_model.specs.Bytes.{is_text};
 ghost use Rattle.mh_model.specs.Script.{session_number, with_name};
-ghost use Rattle.mh_text.specs.Names.{names_shown};
+ghost use Rattle.mh_text.specs.Names.{names_in, names_shown};
 
+use crate::line::{Line, line_of};
+use crate::pieces::Lines;
 use crate::word::is_word;
 use indexmap::IndexSet;
 use mh_model::limits::SESSIONS;
@@ -56,6 +59,29 @@ impl<'a> Names<'a> {
         self.last = Some((name, number));
         Ok(number)
     }
+
+    /// The names in the order in which they were first seen.
+    pub fn as_slice(&self) -> &[&'a [u8]]
+        ensures { names_shown result.now ≡ self.now }
+    {
+        self.seen.as_slice()
+    }
+}
+
+/// The names of the sessions of a script, eight at most, in the order in which they are first seen. A line that is outside the
+/// grammar has none.
+pub fn names_in(alloc: Global, text: &[u8]) -> Result<Names<'_>, NoMemory>
+    requires { length text.now + 1 < 2 ^ 64 }
+    ensures { IfOk result (λ names. names ≡ names_in text.now) }
+{
+    let mut names = Names::new(alloc);
+    let mut lines = Lines::new(text);
+    while let Some((_, line)) = lines.next_line() {
+        if let Line::Calls(name, _) = line_of(line) {
+            names.number(name)?;
+        }
+    }
+    Ok(names)
 }
 
 /// The place of a name among those seen, where it is put if it is new and there is room.

@@ -129,7 +129,7 @@ const SCRIPTS: &[Case<'static>] = &[
         words: STEPS,
         input: b"config 4 353 0 0\na new 0 0 0\na new 1 0 0\n",
         outputs: &[
-            b"{\"event\":1,\"text\":\"s0 new 0 0 0\",\"reply\":\"ok\"}\n{\"event\":1,\"deed\":\"make\",\"place\":\"0.0\",\"birth\":0,\"part\":0,\"class\":4,\"references\":0,\"numbers\":0,\"tier\":\"free\"}\n{\"event\":2,\"text\":\"s0 new 1 0 0\",\"reply\":\"ok\"}\n",
+            b"{\"session\":\"s0\",\"name\":\"a\"}\n{\"event\":1,\"text\":\"s0 new 0 0 0\",\"reply\":\"ok\"}\n{\"event\":1,\"deed\":\"make\",\"place\":\"0.0\",\"birth\":0,\"part\":0,\"class\":4,\"references\":0,\"numbers\":0,\"tier\":\"free\"}\n{\"event\":2,\"text\":\"s0 new 1 0 0\",\"reply\":\"ok\"}\n",
         ],
         told: NONE,
         status: 0,

@@ -11,7 +11,7 @@ use test_support::troubled::Trouble;
 
 const SCRIPT: &[u8] = b"config 4 353 0 0\na new 0 1 0\na clear 0\n";
 
-const NUMBERS: &[u8] = b"{\"config\":[2,4,353,0,0],\"events\":[
+const NUMBERS: &[u8] = b"{\"names\":[\"a\",0],\"config\":[2,4,353,0,0],\"events\":[
 [\"s0 new 0 1 0\",\"ok\",1,1,[[15,0,0,0,5,1,0,1],0],[[0,0],0],0],
 [\"s0 clear 0\",\"ok\",1,1,[0],[[0,-1],0],0],
 0],\"curve\":[[1,1,-1],[2,2,-1],0]}

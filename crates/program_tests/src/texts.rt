@@ -77,7 +77,9 @@ mutator 13 collector 831 quanta 6 greatest 209 window 1 least 0 floor none
 ";
 
 /// Its steps, with what the quantum did that moves the object.
-pub const COLLECTED_STEPS: &[u8] = b"1 s0 new 0 1 59 = ok
+pub const COLLECTED_STEPS: &[u8] = b"session s0 is a
+session s1 is b
+1 s0 new 0 1 59 = ok
 2 s0 new 1 1 59 = ok
 3 s0 new 2 1 59 = ok
 4 s0 new 3 1 59 = ok

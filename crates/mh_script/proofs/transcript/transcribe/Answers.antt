@@ -1,11 +1,11 @@
-use Rattle.std.proofs.Common.{sym, ap, ◌∙◌}
+use Rattle.std.proofs.Common.{inr, sym, ap, ◌∙◌}
 use Rattle.std.proofs.lemmas.Result.{err_from_is_err_and}
 use Rattle.std.specs.Prelude.{Err}
 use Rattle.mh_text.proofs.ErrorLemmas.{same_error}
 use Rattle.mh_model.specs.Script.{BadLine}
 use Rattle.mh_script.specs.Texts.{ForBytes}
 use Rattle.mh_script.proofs.AddedLines.{on_err}
-use Rattle.mh_script.proofs.SourceLemmas.{Refused-reads, Done-reads, HistoryFull-reads, WritesBeginning-nothing, WritesBeginning-reads, beginning_of, few_entries, many_entries, reads_slice, refused_reason, script_bounded, wants_event, wants_script}
+use Rattle.mh_script.proofs.SourceLemmas.{Refused-reads, Done-reads, HistoryFull-reads, WritesBeginning-nothing, WritesBeginning-reads, beginning_of, few_entries, many_entries, reads_slice, refused_reason, runs_short, script_bounded, wants_event, wants_script}
 use Rattle.mh_script.proofs.transcript.transcribe.Goals as goal
 
 pub returns-in_err-text-clause-begun : goal.returns-in_err-text-clause-begun
@@ -68,3 +68,6 @@ returns-in-Ok-clause-memory g c =
 pub returns-clause-memory : goal.returns-clause-memory
 returns-clause-memory g c =
     λ _. wants_event _ _ _ _ c.as_slice-bytes.ensures.value c.in_ok-text.ensures.read c.in_ok-text.ensures.whole (c.in-Err-NoMemory.ensures.memory (ap Err c.in-Err-NoMemory.field-0-is))
+
+pub write_answers-requires-clause-short : goal.write_answers-requires-clause-short
+write_answers-requires-clause-short g c = runs_short _ (inr (_, c.in-Ok.ensures.script))

@@ -1,0 +1,63 @@
+//! The names that a script has for its sessions.
+ghost use Rattle.std.specs.Prelude.{◌≡◌, ◌<◌, ◌≤◌, ◌^◌, ◌++◌, codes, IfOk, OnOk, OnErr, IsErrOf, length};
+ghost use Rattle.std.specs.Io.KnownBytes.{Appends};
+ghost use Rattle.mh_show.specs.Page.{names_part};
+ghost use Rattle.mh_telling.specs.Lines.{quoted};
+ghost use Rattle.mh_text.specs.Names.{names_in, names_shown};
+ghost use Rattle.mh_text.specs.Stream.{AppendsBeginning};
+
+use mh_curve::mh_script::fault::WriteError;
+use mh_model::memory::NoMemory;
+use mh_text::names::names_in;
+use mh_text::script::SCRIPT_BYTES;
+use mh_text::sink::Sink;
+use mh_text::stream::write_text;
+use std::alloc::Global;
+
+fn push_name(text: &mut Vec<u8>, name: &[u8]) -> Result<(), NoMemory>
+    ensures { OnOk result (text.new.items ≡ text.old.items ++ (quoted name.now ++ codes ",")) }
+{
+    text.extend_from_slice(b"\"")?;
+    text.extend_from_slice(name)?;
+    text.extend_from_slice(b"\",")?;
+    Ok(())
+}
+
+fn part_of(alloc: Global, names: &[&[u8]]) -> Result<Vec<u8>, NoMemory>
+    ensures { IfOk result (λ text. text.items ≡ names_part (names_shown names.now)) }
+{
+    let mut text = Vec::new(alloc);
+    text.extend_from_slice(b"{\"names\":[")?;
+    for name in names {
+        push_name(&mut text, name)?;
+    }
+    text.extend_from_slice(b"0],")?;
+    Ok(text)
+}
+
+fn names_text(alloc: Global, script: &[u8]) -> Result<Vec<u8>, NoMemory>
+    requires { length script.now ≤ SCRIPT_BYTES }
+    ensures { IfOk result (λ text. text.items ≡ names_part (names_in script.now)) }
+{
+    let names = names_in(alloc, script)?;
+    part_of(alloc, names.as_slice())
+}
+
+/// Writes the names of the first eight sessions of a script, and how the object begins that has the numbers of its run.
+pub(crate) fn write_names<W: Sink>(
+    alloc: Global,
+    script: &[u8],
+    sink: &mut W,
+) -> Result<(), WriteError>
+    requires short { length script.now ≤ SCRIPT_BYTES }
+    requires count { W.failures sink.old < 2 ^ 62 }
+    ensures done { OnOk result (Appends (W.written sink.old) (W.written sink.new) (names_part (names_in script.now))) }
+    ensures begun { OnErr result (AppendsBeginning (W.written sink.old) (W.written sink.new) (names_part (names_in script.now))) }
+    ensures no_failure { OnOk result (W.failures sink.new ≡ W.failures sink.old) }
+    ensures blamed { IsErrOf result WriteError.Device → W.failures sink.old < W.failures sink.new }
+    ensures not_blamed { IsErrOf result WriteError.NoMemory → W.failures sink.new ≡ W.failures sink.old }
+{
+    let text = names_text(alloc, script)?;
+    write_text(sink, text.as_slice())?;
+    Ok(())
+}
