@@ -47,7 +47,7 @@ take_set (suc n) (y ∷ xs) zero x = refl
 take_set (suc n) (y ∷ xs) (suc i) x = ap (λ ys. y ∷ ys) (take_set n xs i x)
 
 -- the block of words with these header words and these fields
-pub block_is : (words : List ℕ) (birth counts stamp forward : ℕ) (fields : List ℕ) → get_or words 0 0 ≡ birth → get_or words 3 0 ≡ counts → get_or words 2 0 ≡ stamp → get_or words 1 0 ≡ forward → drop 4 words ≡ fields
+pub block_is : (words : List ℕ) (birth counts stamp forward : ℕ) (fields : List ℕ) → get_or words 0 0 ≡ birth → get_or words 1 0 ≡ counts → get_or words 2 0 ≡ stamp → get_or words 3 0 ≡ forward → drop 4 words ≡ fields
     → block_of words ≡ block_from birth counts stamp forward fields
 unfolding block_of
 block_is words birth counts stamp forward fields a b c d e = rw (← a, ← b, ← c, ← d, ← e) refl
@@ -55,22 +55,22 @@ block_is words birth counts stamp forward fields a b c d e = rw (← a, ← b, �
 pub stamp_written : (words : List ℕ) (stamp : ℕ) → 4 ≤ length words → block_of (set words 2 stamp) ≡ record (block_of words) { stamp = stamp }
 unfolding block_of
 stamp_written words stamp room =
-    block_is (set words 2 stamp) (get_or words 0 0) (get_or words 3 0) stamp (get_or words 1 0) (drop 4 words)
-    (get_or-set_other words 2 0 stamp 0 (below 0 2 (omega arith))) (get_or-set_other words 2 3 stamp 0 (above 3 2 (omega arith))) (get_or-set_same words 2 stamp 0 (omega arith)) (get_or-set_other words 2 1 stamp 0 (below 1 2 (omega arith)))
+    block_is (set words 2 stamp) (get_or words 0 0) (get_or words 1 0) stamp (get_or words 3 0) (drop 4 words)
+    (get_or-set_other words 2 0 stamp 0 (below 0 2 (omega arith))) (get_or-set_other words 2 1 stamp 0 (below 1 2 (omega arith))) (get_or-set_same words 2 stamp 0 (omega arith)) (get_or-set_other words 2 3 stamp 0 (above 3 2 (omega arith)))
     (drop-set-lt 4 words 2 stamp (omega arith))
 
-pub forward_written : (words : List ℕ) (word : ℕ) → 4 ≤ length words → block_of (set words 1 word) ≡ record (block_of words) { forward = place_in word }
+pub forward_written : (words : List ℕ) (word : ℕ) → 4 ≤ length words → block_of (set words 3 word) ≡ record (block_of words) { forward = place_in word }
 unfolding block_of
 forward_written words word room =
-    block_is (set words 1 word) (get_or words 0 0) (get_or words 3 0) (get_or words 2 0) word (drop 4 words)
-    (get_or-set_other words 1 0 word 0 (below 0 1 (omega arith))) (get_or-set_other words 1 3 word 0 (above 3 1 (omega arith))) (get_or-set_other words 1 2 word 0 (above 2 1 (omega arith))) (get_or-set_same words 1 word 0 (omega arith))
-    (drop-set-lt 4 words 1 word (omega arith))
+    block_is (set words 3 word) (get_or words 0 0) (get_or words 1 0) (get_or words 2 0) word (drop 4 words)
+    (get_or-set_other words 3 0 word 0 (below 0 3 (omega arith))) (get_or-set_other words 3 1 word 0 (below 1 3 (omega arith))) (get_or-set_other words 3 2 word 0 (below 2 3 (omega arith))) (get_or-set_same words 3 word 0 (omega arith))
+    (drop-set-lt 4 words 3 word (omega arith))
 
-field_written : (words : List ℕ) (index word : ℕ) → block_of (set words (4 + index) word) ≡ block_from (get_or words 0 0) (get_or words 3 0) (get_or words 2 0) (get_or words 1 0) (set (drop 4 words) index word)
+field_written : (words : List ℕ) (index word : ℕ) → block_of (set words (4 + index) word) ≡ block_from (get_or words 0 0) (get_or words 1 0) (get_or words 2 0) (get_or words 3 0) (set (drop 4 words) index word)
 field_written words index word =
     block_is (set words (4 + index) word) _ _ _ _ _
-    (get_or-set_other words (4 + index) 0 word 0 (below 0 (4 + index) (omega arith))) (get_or-set_other words (4 + index) 3 word 0 (below 3 (4 + index) (omega arith)))
-    (get_or-set_other words (4 + index) 2 word 0 (below 2 (4 + index) (omega arith))) (get_or-set_other words (4 + index) 1 word 0 (below 1 (4 + index) (omega arith)))
+    (get_or-set_other words (4 + index) 0 word 0 (below 0 (4 + index) (omega arith))) (get_or-set_other words (4 + index) 1 word 0 (below 1 (4 + index) (omega arith)))
+    (get_or-set_other words (4 + index) 2 word 0 (below 2 (4 + index) (omega arith))) (get_or-set_other words (4 + index) 3 word 0 (below 3 (4 + index) (omega arith)))
     (drop-set-add 4 words index word)
 
 pub reference_written : (words : List ℕ) (index word : ℕ) → index < reference_words words → block_of (set words (4 + index) word) ≡ record (block_of words) { references = set (block_of words).references index (place_in word) }

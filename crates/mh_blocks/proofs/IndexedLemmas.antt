@@ -62,15 +62,15 @@ pub released_indexed : (table : Table (List ℕ)) (place : ℕ) (frees_page : Bo
 released_indexed table place frees_page index there alone is = rw (with_released-table_map block_of table place frees_page) (released_index (blocks_of table) place frees_page index there alone is)
 
 pub moved_indexed : (table : Table (List ℕ)) (size place target word : ℕ) (index : Index) → IsMoved table (blocks_of table) size place target → IsSome (block_at (blocks_of table) place) → forward_at (blocks_of table) place ≡ None → class_at table (page_number place) ≡ Some size → place_in word ≡ Some target
-    → IsIndexOf (blocks_of table) index → IsIndexOf (blocks_of (with_word (copied table size place target) place 1 word)) (record index { marked = set index.marked target (get_or index.marked place false); forwarders = set index.forwarders place true })
+    → IsIndexOf (blocks_of table) index → IsIndexOf (blocks_of (with_word (copied table size place target) place 3 word)) (record index { marked = set index.marked target (get_or index.marked place false); forwarders = set index.forwarders place true })
 moved_indexed table size place target word index this there original class leads is = go (block_at (blocks_of table) place) refl there
   where
     go : (content : Option Block) → block_at (blocks_of table) place ≡ content → IsSome content
-        → IsIndexOf (blocks_of (with_word (copied table size place target) place 1 word)) (record index { marked = set index.marked target (get_or index.marked place false); forwarders = set index.forwarders place true })
+        → IsIndexOf (blocks_of (with_word (copied table size place target) place 3 word)) (record index { marked = set index.marked target (get_or index.marked place false); forwarders = set index.forwarders place true })
     go None at none = absurd (false≢true none)
     go (Some block) at some =
         let move : Move = record { block = block; class_size = size; target = target } in
-        let moved : blocks_of (with_word (copied table size place target) place 1 word) ≡ moved_table (blocks_of table) place move
-        = of_some (class_at (blocks_of table) (page_number place)) (λ s. blocks_of (with_word (copied table size place target) place 1 word) ≡ moved_table (blocks_of table) place (record { block = block; class_size = s; target = target })) size (class_at-table_map block_of table (page_number place) ∙ class)
-        (of_some (block_at (blocks_of table) place) (λ b. IfSome (class_at (blocks_of table) (page_number place)) (λ s. blocks_of (with_word (copied table size place target) place 1 word) ≡ moved_table (blocks_of table) place (record { block = b; class_size = s; target = target }))) block at (this.moved word leads)) in
+        let moved : blocks_of (with_word (copied table size place target) place 3 word) ≡ moved_table (blocks_of table) place move
+        = of_some (class_at (blocks_of table) (page_number place)) (λ s. blocks_of (with_word (copied table size place target) place 3 word) ≡ moved_table (blocks_of table) place (record { block = block; class_size = s; target = target })) size (class_at-table_map block_of table (page_number place) ∙ class)
+        (of_some (block_at (blocks_of table) place) (λ b. IfSome (class_at (blocks_of table) (page_number place)) (λ s. blocks_of (with_word (copied table size place target) place 3 word) ≡ moved_table (blocks_of table) place (record { block = b; class_size = s; target = target }))) block at (this.moved word leads)) in
         rw moved (moved_index (blocks_of table) place move index at (original_at (block_at (blocks_of table) place) block at original) (free_above block_of table size target this.free) is)

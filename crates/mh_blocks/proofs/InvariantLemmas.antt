@@ -13,7 +13,7 @@ use Rattle.mh_table_laws.proofs.TableMapLemmas.{freed-table_map, with_flag-table
 use Rattle.mh_blocks.proofs.PageMapLemmas.{class_at-table_map, free_above}
 use Rattle.mh_blocks.proofs.ReadLemmas.{HasReference, HasNumber}
 use Rattle.mh_blocks.proofs.WriteLemmas.{with_word-stamp, with_word-reference, with_word-number}
-use Rattle.mh_blocks.proofs.PackedLemmas.{empty_packed, empty_blocks, word_packed, below_counts, past_counts, freed_packed, flagged_packed, released_packed}
+use Rattle.mh_blocks.proofs.PackedLemmas.{empty_packed, empty_blocks, word_packed, freed_packed, flagged_packed, released_packed}
 use Rattle.mh_blocks.proofs.FreeLemmas.{of_some}
 use Rattle.mh_blocks.proofs.MadeLemmas.{IsMadeAt}
 use Rattle.mh_blocks.proofs.MovedLemmas.{copied, IsMoved}
@@ -40,13 +40,13 @@ freed_counted table number blocks forwarders empty counted = record {
 
 pub stamp_counted : (table : Table (List ℕ)) (place stamp blocks forwarders : ℕ) → IsSome (block_at (blocks_of table) place) → AreCounted table blocks forwarders → AreCounted (with_word table place 2 stamp) blocks forwarders
 stamp_counted table place stamp blocks forwarders there counted = record {
-  packed = word_packed table place 2 stamp (omega arith) (below_counts 2 (omega arith)) counted.packed;
+  packed = word_packed table place 2 stamp (omega arith) counted.packed;
   counts = rw (with_word-stamp table place stamp counted.packed) (changed_counts (blocks_of table) place (λ block. record block { stamp = stamp }) blocks forwarders there (λ block. refl) counted.counts);
 }
 
 pub reference_counted : (table : Table (List ℕ)) (place index word blocks forwarders : ℕ) → HasReference table place index → AreCounted table blocks forwarders → AreCounted (with_word table place (4 + index) word) blocks forwarders
 reference_counted table place index word blocks forwarders this counted = record {
-  packed = word_packed table place (4 + index) word (omega arith) (past_counts (4 + index) (omega arith)) counted.packed;
+  packed = word_packed table place (4 + index) word (omega arith) counted.packed;
   counts =
       rw (with_word-reference table place index word (place_in word) this refl)
       (changed_counts (blocks_of table) place (λ block. record block { references = set block.references index (place_in word) }) blocks forwarders (ap is_some this.words.block) (λ block. refl) counted.counts);
@@ -54,7 +54,7 @@ reference_counted table place index word blocks forwarders this counted = record
 
 pub number_counted : (table : Table (List ℕ)) (place index number blocks forwarders : ℕ) → HasNumber table place index → AreCounted table blocks forwarders → AreCounted (with_word table place (4 + reference_words (words_at table place) + index) number) blocks forwarders
 number_counted table place index number blocks forwarders this counted = record {
-  packed = word_packed table place (4 + reference_words (words_at table place) + index) number (omega arith) (past_counts (4 + reference_words (words_at table place) + index) (omega arith)) counted.packed;
+  packed = word_packed table place (4 + reference_words (words_at table place) + index) number (omega arith) counted.packed;
   counts = rw (with_word-number table place index number this) (changed_counts (blocks_of table) place (λ block. record block { numbers = set block.numbers index number }) blocks forwarders this.there (λ block. refl) counted.counts);
 }
 
@@ -81,17 +81,17 @@ pub original_at : (content : Option Block) (block : Block) → content ≡ Some 
 original_at content block is original = ap (option_and_then (λ (b : Block). b.forward)) (sym is) ∙ original
 
 pub moved_counted : (table : Table (List ℕ)) (size place target word blocks forwarders : ℕ) → IsMoved table (blocks_of table) size place target → IsSome (block_at (blocks_of table) place) → forward_at (blocks_of table) place ≡ None → class_at table (page_number place) ≡ Some size → place_in word ≡ Some target → AreCounted table blocks forwarders
-    → AreCounted (with_word (copied table size place target) place 1 word) (blocks + 1) (forwarders + 1)
+    → AreCounted (with_word (copied table size place target) place 3 word) (blocks + 1) (forwarders + 1)
 moved_counted table size place target word blocks forwarders this there original class leads counted = record {
   packed = this.packed word;
   counts = go (block_at (blocks_of table) place) refl there;
 }
   where
-    go : (content : Option Block) → block_at (blocks_of table) place ≡ content → IsSome content → HasCounts (blocks_of (with_word (copied table size place target) place 1 word)) (blocks + 1) (forwarders + 1)
+    go : (content : Option Block) → block_at (blocks_of table) place ≡ content → IsSome content → HasCounts (blocks_of (with_word (copied table size place target) place 3 word)) (blocks + 1) (forwarders + 1)
     go None at none = absurd (false≢true none)
     go (Some block) at some =
         let move : Move = record { block = block; class_size = size; target = target } in
-        let moved : blocks_of (with_word (copied table size place target) place 1 word) ≡ moved_table (blocks_of table) place move
-        = of_some (class_at (blocks_of table) (page_number place)) (λ s. blocks_of (with_word (copied table size place target) place 1 word) ≡ moved_table (blocks_of table) place (record { block = block; class_size = s; target = target })) size (class_at-table_map block_of table (page_number place) ∙ class)
-        (of_some (block_at (blocks_of table) place) (λ b. IfSome (class_at (blocks_of table) (page_number place)) (λ s. blocks_of (with_word (copied table size place target) place 1 word) ≡ moved_table (blocks_of table) place (record { block = b; class_size = s; target = target }))) block at (this.moved word leads)) in
+        let moved : blocks_of (with_word (copied table size place target) place 3 word) ≡ moved_table (blocks_of table) place move
+        = of_some (class_at (blocks_of table) (page_number place)) (λ s. blocks_of (with_word (copied table size place target) place 3 word) ≡ moved_table (blocks_of table) place (record { block = block; class_size = s; target = target })) size (class_at-table_map block_of table (page_number place) ∙ class)
+        (of_some (block_at (blocks_of table) place) (λ b. IfSome (class_at (blocks_of table) (page_number place)) (λ s. blocks_of (with_word (copied table size place target) place 3 word) ≡ moved_table (blocks_of table) place (record { block = b; class_size = s; target = target }))) block at (this.moved word leads)) in
         rw moved (moved_counts (blocks_of table) place move blocks forwarders at (original_at (block_at (blocks_of table) place) block at original) (free_above block_of table size target this.free) counted.counts)

@@ -48,7 +48,7 @@ class_room words size is = go (words == 0) is
 
 -- words with another header
 abbrev pub set_header : List ℕ → Header → List ℕ
-set_header words header = set (set (set (set words 0 header.birth) 3 header.counts) 2 header.stamp) 1 header.forward
+set_header words header = set (set (set (set words 0 header.birth) 1 header.counts) 2 header.stamp) 3 header.forward
 
 with_word-taken : (table : Table (List ℕ)) (size place index word : ℕ) (words : List ℕ) → IsFreeFor table size place → with_word (with_taken table size place words) place index word ≡ with_taken table size place (set words index word)
 with_word-taken table size place index word words free =
@@ -58,16 +58,16 @@ with_word-taken table size place index word words free =
 -- a header written to a block that was just put
 pub with_header-taken : (table : Table (List ℕ)) (size place : ℕ) (words : List ℕ) (header : Header) → IsFreeFor table size place → with_header (with_taken table size place words) place header ≡ with_taken table size place (set_header words header)
 with_header-taken table size place words header free =
-    ap (λ t. with_word (with_word (with_word t place 3 header.counts) place 2 header.stamp) place 1 header.forward) (with_word-taken table size place 0 header.birth words free)
-    ∙ ap (λ t. with_word (with_word t place 2 header.stamp) place 1 header.forward) (with_word-taken table size place 3 header.counts (set words 0 header.birth) free)
-    ∙ ap (λ t. with_word t place 1 header.forward) (with_word-taken table size place 2 header.stamp (set (set words 0 header.birth) 3 header.counts) free)
-    ∙ with_word-taken table size place 1 header.forward (set (set (set words 0 header.birth) 3 header.counts) 2 header.stamp) free
+    ap (λ t. with_word (with_word (with_word t place 1 header.counts) place 2 header.stamp) place 3 header.forward) (with_word-taken table size place 0 header.birth words free)
+    ∙ ap (λ t. with_word (with_word t place 2 header.stamp) place 3 header.forward) (with_word-taken table size place 1 header.counts (set words 0 header.birth) free)
+    ∙ ap (λ t. with_word t place 3 header.forward) (with_word-taken table size place 2 header.stamp (set (set words 0 header.birth) 1 header.counts) free)
+    ∙ with_word-taken table size place 3 header.forward (set (set (set words 0 header.birth) 1 header.counts) 2 header.stamp) free
 
 -- the words of a new block of a class
 abbrev pub new_words : ℕ → Header → List ℕ
 new_words size header = set_header (replicate size 0) header
 
-new_words-is : (size : ℕ) (header : Header) → 4 ≤ size → new_words size header ≡ header.birth ∷ header.forward ∷ header.stamp ∷ header.counts ∷ replicate (size - 4) 0
+new_words-is : (size : ℕ) (header : Header) → 4 ≤ size → new_words size header ≡ header.birth ∷ header.counts ∷ header.stamp ∷ header.forward ∷ replicate (size - 4) 0
 new_words-is size header room =
     let more : size ≡ suc (suc (suc (suc (size - 4)))) = omega arith in
     ap (λ count. new_words count header) more
@@ -109,7 +109,7 @@ pub new_words_packed : (size birth stamp index : ℕ) (part : Part) (header : He
 new_words_packed size birth stamp index part header room most fits new =
     subst IsPacked (sym (new_words-is size header (omega arith))) (record { born = omega (arith, new.birth_word); room = rw long fields; most = rw long most })
   where
-    long : length (header.birth ∷ header.forward ∷ header.stamp ∷ header.counts ∷ replicate (size - 4) 0) ≡ size
+    long : length (header.birth ∷ header.counts ∷ header.stamp ∷ header.forward ∷ replicate (size - 4) 0) ≡ size
     long = omega (arith, length-replicate {A = ℕ} (size - 4) 0)
 
     fields : 4 + reference_count (header_in header.counts) + number_count (header_in header.counts) ≤ size

@@ -12,7 +12,7 @@ use Rattle.mh_blocks.proofs.PageMapLemmas.{class_at-table_map, free_above}
 use Rattle.mh_table_laws.proofs.placing.Places.{block_at-with_taken_there}
 use Rattle.mh_blocks.proofs.ReadLemmas.{words_there, header_within, small_place}
 use Rattle.mh_blocks.proofs.WriteLemmas.{with_word-forward}
-use Rattle.mh_blocks.proofs.PackedLemmas.{taken_packed, word_packed, below_counts}
+use Rattle.mh_blocks.proofs.PackedLemmas.{taken_packed, word_packed}
 use Rattle.mh_blocks.proofs.FreeLemmas.{if_some, at_some, free_for_class}
 
 -- the table with the words of a block copied to another place
@@ -24,10 +24,10 @@ pub record IsMoved (table : Table (List ℕ)) (above : Table Block) (size place 
   pub free : IsFreeFor table size target
   pub small : target < 2 ^ 62
   pub there : IsSome (block_at (copied table size place target) place)
-  pub within : 1 < length (words_at (copied table size place target) place)
-  pub packed : (word : ℕ) → ArePacked (with_word (copied table size place target) place 1 word)
+  pub within : 3 < length (words_at (copied table size place target) place)
+  pub packed : (word : ℕ) → ArePacked (with_word (copied table size place target) place 3 word)
   pub moved : (word : ℕ) → place_in word ≡ Some target
-      → IfSome (block_at above place) (λ block. IfSome (class_at above (page_number place)) (λ s. blocks_of (with_word (copied table size place target) place 1 word) ≡ moved_table above place (record { block = block; class_size = s; target = target })))
+      → IfSome (block_at above place) (λ block. IfSome (class_at above (page_number place)) (λ s. blocks_of (with_word (copied table size place target) place 3 word) ≡ moved_table above place (record { block = block; class_size = s; target = target })))
 
 moves_below : (table : Table (List ℕ)) (size place target : ℕ) → ArePacked table → IsSome (block_at (blocks_of table) place) → IsFreeFor table size target → class_at table (page_number place) ≡ Some size → IsMoved table (blocks_of table) size place target
 moves_below table size place target packed there free class =
@@ -40,7 +40,7 @@ moves_below table size place target packed there free class =
       small = small_place table target packed (free_above block_of table size target free).inside;
       there = ap is_some still;
       within = omega (arith, header_within table place words, ap (λ content. length (unwrap_or content [])) still);
-      packed = λ word. word_packed (copied table size place target) place 1 word (omega arith) (below_counts 1 (omega arith)) all;
+      packed = λ word. word_packed (copied table size place target) place 3 word (omega arith) all;
       moved = λ word leads. if_some (block_at (blocks_of table) place) _ (λ block is.
           at_some (class_at (blocks_of table) (page_number place)) _ size (class_at-table_map block_of table (page_number place) ∙ class)
           (with_word-forward (copied table size place target) place word target all leads

@@ -35,24 +35,18 @@ empty_blocks (suc count) = ap (λ table. None ∷ table) (empty_blocks count)
 above : (a b : ℕ) → b < a → b ≢ a
 above a b more e = omega arith
 
-pub below_counts : (a : ℕ) → a < 3 → 3 ≢ a
-below_counts a less e = omega arith
-
-pub past_counts : (a : ℕ) → 3 < a → 3 ≢ a
-past_counts a more e = omega arith
-
--- the birth and the counts stay as they are
-pub set_packed : (words : List ℕ) (index word : ℕ) → 0 < index → 3 ≢ index → IsPacked words → IsPacked (set words index word)
-set_packed words index word later other packed =
-    let counts : get_or (set words index word) 3 0 ≡ get_or words 3 0 = get_or-set_other words index 3 word 0 other in
+-- the first two words stay as they are
+pub set_packed : (words : List ℕ) (index word : ℕ) → 1 < index → IsPacked words → IsPacked (set words index word)
+set_packed words index word later packed =
+    let counts : get_or (set words index word) 1 0 ≡ get_or words 1 0 = get_or-set_other words index 1 word 0 (above index 1 later) in
     record {
-      born = rw (get_or-set_other words index 0 word 0 (above index 0 later)) packed.born;
+      born = rw (get_or-set_other words index 0 word 0 (above index 0 (omega arith))) packed.born;
       room = rw (counts, length-set words index word) packed.room;
       most = rw (length-set words index word) packed.most;
     }
 
-pub word_packed : (table : Table (List ℕ)) (place index word : ℕ) → 0 < index → 3 ≢ index → ArePacked table → ArePacked (with_word table place index word)
-word_packed table place index word later apart packed = record {
+pub word_packed : (table : Table (List ℕ)) (place index word : ℕ) → 1 < index → ArePacked table → ArePacked (with_word table place index word)
+word_packed table place index word later packed = record {
   few = rw (length-set table (page_number place) (option_map (page_with (slot_number place) (option_map (λ words. set words index word) (block_at table place))) (page_at table (page_number place)))) packed.few;
   blocks = λ other words is. elim (after_change table place other (option_map (λ w. set w index word) (block_at table place)) words is) [
     | inl new ↦ written (block_at table place) words (packed.blocks place) new
@@ -62,7 +56,7 @@ word_packed table place index word later apart packed = record {
   where
     written : (content : Option (List ℕ)) (words : List ℕ) → ((w : List ℕ) → content ≡ Some w → IsPacked w) → option_map (λ w. set w index word) content ≡ Some words → IsPacked words
     written None words each is = absurd (none-some words is)
-    written (Some w) words each is = subst IsPacked (same_Some (set w index word) words is) (set_packed w index word later apart (each w refl))
+    written (Some w) words each is = subst IsPacked (same_Some (set w index word) words is) (set_packed w index word later (each w refl))
 
 -- Blocks put and taken back ------------------------------------------------------------------------
 

@@ -33,11 +33,11 @@ pub birth_is : (table : Table (List ℕ)) (place : ℕ) → HasWords table place
 unfolding block_of
 birth_is table place words = rw words.block refl
 
-pub part_is : (table : Table (List ℕ)) (place : ℕ) → HasWords table place → IfSome (block_at (blocks_of table) place) (λ block. part_in (get_or (words_at table place) 3 0) ≡ block.part)
+pub part_is : (table : Table (List ℕ)) (place : ℕ) → HasWords table place → IfSome (block_at (blocks_of table) place) (λ block. part_in (get_or (words_at table place) 1 0) ≡ block.part)
 unfolding block_of
 part_is table place words = rw words.block refl
 
-pub header_is : (table : Table (List ℕ)) (place : ℕ) → HasWords table place → IfSome (block_at (blocks_of table) place) (λ block. header_in (get_or (words_at table place) 3 0) ≡ block.header)
+pub header_is : (table : Table (List ℕ)) (place : ℕ) → HasWords table place → IfSome (block_at (blocks_of table) place) (λ block. header_in (get_or (words_at table place) 1 0) ≡ block.header)
 unfolding block_of
 header_is table place words = rw words.block refl
 
@@ -45,7 +45,7 @@ pub stamp_is : (table : Table (List ℕ)) (place : ℕ) → HasWords table place
 unfolding block_of
 stamp_is table place words = sym (ap (λ content. unwrap_or (option_map (λ block. block.stamp) content) 0) words.block)
 
-pub forward_is : (table : Table (List ℕ)) (place : ℕ) → HasWords table place → place_in (get_or (words_at table place) 1 0) ≡ forward_at (blocks_of table) place
+pub forward_is : (table : Table (List ℕ)) (place : ℕ) → HasWords table place → place_in (get_or (words_at table place) 3 0) ≡ forward_at (blocks_of table) place
 unfolding block_of
 forward_is table place words = sym (ap (λ content. option_and_then (λ block. block.forward) content) words.block)
 

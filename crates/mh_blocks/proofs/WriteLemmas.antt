@@ -14,9 +14,9 @@ with_word-stamp table place stamp packed =
     changed block_of table place (λ words. set words 2 stamp) (λ block. record block { stamp = stamp })
     (λ words is. stamp_written words stamp (omega (arith, (packed.blocks place words is).room)))
 
-pub with_word-forward : (table : Table (List ℕ)) (place word target : ℕ) → ArePacked table → place_in word ≡ Some target → blocks_of (with_word table place 1 word) ≡ with_block_change (blocks_of table) place (λ block. record block { forward = Some target })
+pub with_word-forward : (table : Table (List ℕ)) (place word target : ℕ) → ArePacked table → place_in word ≡ Some target → blocks_of (with_word table place 3 word) ≡ with_block_change (blocks_of table) place (λ block. record block { forward = Some target })
 with_word-forward table place word target packed leads =
-    changed block_of table place (λ words. set words 1 word) (λ block. record block { forward = Some target })
+    changed block_of table place (λ words. set words 3 word) (λ block. record block { forward = Some target })
     (λ words is. forward_written words word (omega (arith, (packed.blocks place words is).room)) ∙ ap (λ forward. record (block_of words) { forward = forward }) leads)
 
 pub with_word-reference : (table : Table (List ℕ)) (place index word : ℕ) (reference : Option ℕ) → HasReference table place index → place_in word ≡ reference → blocks_of (with_word table place (4 + index) word) ≡ with_reference_at (blocks_of table) place index reference

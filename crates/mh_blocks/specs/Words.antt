@@ -1,5 +1,5 @@
 -- What the words of a block stand for.
--- Word 0 is the birth and 1 more. Word 1 is 0, or the place that the block moved to and 1 more. Word 2 is the mark stamp. Word 3 has the number of the part in its high bits from 2 ^ 40 on, then the references and the numbers of its header in 20 bits each.
+-- Word 0 is the birth and 1 more. Word 1 has the number of the part in its high bits from 2 ^ 40 on, then the references and the numbers of its header in 20 bits each. Word 2 is the mark stamp. Word 3 is 0, or the place that the block moved to and 1 more.
 -- The fields follow from word 4 on: the references, each 0 for null or else a place and 1 more, and then the numbers.
 use Rattle.std.specs.Prelude.{ℕ, zero, suc, ◌-◌, ◌/◌, ◌%◌, ◌^◌, Option, Some, None, List, get_or, map, take, drop}
 use Rattle.mh_model.specs.declared.shape.Shape.{Shape}
@@ -23,11 +23,11 @@ header_in word = record { references = word / 2 ^ 20 % 2 ^ 20; numbers = word % 
 
 -- how many references the words of a block have
 abbrev pub reference_words : List ℕ → ℕ
-reference_words words = reference_count (header_in (get_or words 3 0))
+reference_words words = reference_count (header_in (get_or words 1 0))
 
 -- how many numbers they have
 abbrev pub number_words : List ℕ → ℕ
-number_words words = number_count (header_in (get_or words 3 0))
+number_words words = number_count (header_in (get_or words 1 0))
 
 -- the block of four header words and the words after them
 abbrev pub block_from : ℕ → ℕ → ℕ → ℕ → List ℕ → Block
@@ -43,7 +43,7 @@ block_from birth counts stamp forward fields = record {
 
 -- the block that words stand for
 unfoldable pub block_of : List ℕ → Block
-block_of words = block_from (get_or words 0 0) (get_or words 3 0) (get_or words 2 0) (get_or words 1 0) (drop 4 words)
+block_of words = block_from (get_or words 0 0) (get_or words 1 0) (get_or words 2 0) (get_or words 3 0) (drop 4 words)
 
 -- the table of blocks that a table of words stands for
 abbrev pub blocks_of : Table (List ℕ) → Table Block

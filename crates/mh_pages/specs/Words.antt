@@ -5,7 +5,7 @@ use Rattle.mh_pages.specs.declared.header.Header.{Header}
 
 -- the header of a block
 abbrev pub header_of : List ℕ → Header
-header_of block = record { birth = get_or block 0 0; counts = get_or block 3 0; stamp = get_or block 2 0; forward = get_or block 1 0 }
+header_of block = record { birth = get_or block 0 0; counts = get_or block 1 0; stamp = get_or block 2 0; forward = get_or block 3 0 }
 
 -- the words of the block at a place, and none if there is no block
 abbrev pub words_at : Table (List ℕ) → ℕ → List ℕ
@@ -17,4 +17,4 @@ with_word table place index word = with_block table place (option_map (λ block.
 
 -- the table with another header of the block at a place
 abbrev pub with_header : Table (List ℕ) → ℕ → Header → Table (List ℕ)
-with_header table place header = with_word (with_word (with_word (with_word table place 0 header.birth) place 3 header.counts) place 2 header.stamp) place 1 header.forward
+with_header table place header = with_word (with_word (with_word (with_word table place 0 header.birth) place 1 header.counts) place 2 header.stamp) place 3 header.forward
