@@ -7,6 +7,10 @@ from importlib.machinery import SourceFileLoader
 from importlib.util import module_from_spec, spec_from_loader
 
 
+# What `must_fail` says of an edit that is refused. The kind that it gives beside its text differs from kit to kit.
+REFUSED = "refused, as it must be"
+
+
 def code():
     """The command `rt`, a script of Python beside the page that it prints, as a module."""
     place = pathlib.Path(subprocess.check_output(["rt", "doc"], text=True).strip()).parent / "bin"
