@@ -30,7 +30,7 @@ const MOST_ENTRIES: usize = limits::MOST_EVENTS as usize;
 
 /// What a run is written as: its replies, its history, or its steps.
 pub trait Transcript {
-    // the text of a run of these events, which are those of a script of the first text
+    // the text of a run of these events, which a script with this text has
     ghost text_of: { Self → Text → Config → List Event → Text };
 
     /// Does the events of a script from the first machine on, and writes the text of that run.

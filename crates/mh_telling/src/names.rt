@@ -29,6 +29,7 @@ fn session_word(number: u64) -> ArrayString<WORD_BYTES>
     word
 }
 
+/// Adds a word and a name with what stands around them.
 fn push_around(
     text: &mut Vec<u8>,
     head: &[u8],
