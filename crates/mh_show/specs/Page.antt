@@ -95,9 +95,9 @@ run_text config events =
     codes "\"config\":" ++ (row_text (config_row config) ++ (codes ",\"events\":[\n" ++ (events_text 0 (first_machine config) events
     ++ (codes "0],\"curve\":" ++ (listed (λ point. row_text (point_row point)) (points_of config machine.trace.letters) ++ codes "}\n")))))
 
-abbrev pub script_text : Text → Config → List Event → Text
-script_text script config events = names_part (names_in script) ++ run_text config events
+abbrev pub object_text : Text → Config → List Event → Text
+object_text script config events = names_part (names_in script) ++ run_text config events
 
 -- The page of a run of these events, which are those of this script
 abbrev pub page_text : Text → Config → List Event → Text
-page_text script config events = HEAD.now ++ (script_text script config events ++ (DRAWING.now ++ HANDS.now))
+page_text script config events = HEAD.now ++ (object_text script config events ++ (DRAWING.now ++ HANDS.now))

@@ -23,7 +23,7 @@ fn push_name(text: &mut Vec<u8>, name: &[u8]) -> Result<(), NoMemory>
     Ok(())
 }
 
-fn part_of(alloc: Global, names: &[&[u8]]) -> Result<Vec<u8>, NoMemory>
+fn names_part(alloc: Global, names: &[&[u8]]) -> Result<Vec<u8>, NoMemory>
     ensures { IfOk result (λ text. text.items ≡ names_part (names_shown names.now)) }
 {
     let mut text = Vec::new(alloc);
@@ -40,7 +40,7 @@ fn names_text(alloc: Global, script: &[u8]) -> Result<Vec<u8>, NoMemory>
     ensures { IfOk result (λ text. text.items ≡ names_part (names_in script.now)) }
 {
     let names = names_in(alloc, script)?;
-    part_of(alloc, names.as_slice())
+    names_part(alloc, names.as_slice())
 }
 
 /// Writes the names of the first eight sessions of a script, and how the object begins that has the numbers of its run.

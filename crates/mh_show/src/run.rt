@@ -5,7 +5,7 @@ ghost use Rattle.mh_model.specs.Limits.{most_entries};
 ghost use Rattle.mh_model.specs.Output as model;
 ghost use Rattle.mh_curve.specs.OfScript.Run.{EndsAs, HasReason, Outputs, TakesToRun, WritesBeginning, transcript};
 ghost use Rattle.mh_curve.specs.OfScript.Texts.{LeavesSource, Blames, WantsMemory};
-ghost use Rattle.mh_show.specs.Page.{page_text, run_text, script_text};
+ghost use Rattle.mh_show.specs.Page.{page_text, run_text, object_text};
 ghost use Rattle.mh_text.specs.Stream.{AppendsBeginning};
 
 use crate::drawing::DRAWING;
@@ -56,7 +56,7 @@ fn write_run<W: Sink>(
 }
 
 /// Writes the object that has the names and the numbers of the run of a script.
-fn write_script<W: Sink>(
+fn write_object<W: Sink>(
     alloc: Global,
     script: &[u8],
     config: Config,
@@ -66,8 +66,8 @@ fn write_script<W: Sink>(
     requires short { length script.now ≤ SCRIPT_BYTES }
     requires few { length events.now ≤ most_entries }
     requires count { W.failures sink.old < 2 ^ 62 }
-    ensures done { OnOk result (Appends (W.written sink.old) (W.written sink.new) (script_text script.now config events.now)) }
-    ensures begun { OnErr result (AppendsBeginning (W.written sink.old) (W.written sink.new) (script_text script.now config events.now)) }
+    ensures done { OnOk result (Appends (W.written sink.old) (W.written sink.new) (object_text script.now config events.now)) }
+    ensures begun { OnErr result (AppendsBeginning (W.written sink.old) (W.written sink.new) (object_text script.now config events.now)) }
     ensures no_failure { OnOk result (W.failures sink.new ≡ W.failures sink.old) }
     ensures blamed { IsErrOf result WriteError.Device → W.failures sink.old < W.failures sink.new }
     ensures not_blamed { IsErrOf result WriteError.NoMemory → W.failures sink.new ≡ W.failures sink.old }
@@ -95,7 +95,7 @@ fn write_page<W: Sink>(
     ensures not_blamed { IsErrOf result WriteError.NoMemory → W.failures sink.new ≡ W.failures sink.old }
 {
     write_text(sink, HEAD)?;
-    write_script(alloc, script, config, events, sink)?;
+    write_object(alloc, script, config, events, sink)?;
     write_text(sink, DRAWING)?;
     write_text(sink, HANDS)?;
     Ok(())

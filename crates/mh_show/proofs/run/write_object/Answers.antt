@@ -1,7 +1,7 @@
 use Rattle.std.proofs.Common.{[], refl, append-nil}
 use Rattle.mh_curve.proofs.OfScript.AddedLines.{on_err}
 use Rattle.mh_curve.proofs.OfScript.PieceLemmas.{begun_after, begun_first, written_all}
-use Rattle.mh_show.proofs.run.write_script.Goals as goal
+use Rattle.mh_show.proofs.run.write_object.Goals as goal
 
 pub returns-in_err-write_names-clause-begun : goal.returns-in_err-write_names-clause-begun
 returns-in_err-write_names-clause-begun g c = on_err _ (begun_first _ _ _ _ _ c.in_err-write_names.ensures.begun refl)
