@@ -1,5 +1,8 @@
-//! Times six kinds of script. Then come places, words, blocks and objects over 4,096 pages, and cycles over graphs that are
-//! made by commands, by one thread and by crews. The figures go to standard error, since they differ from run to run.
+//! Times six kinds of script. Then come places, words, blocks and objects over 4,096 pages, and cycles over graphs
+//! that are made by commands, by one thread and by crews. The figures go to standard error, since they differ from
+//! run to run.
+//!
+//! Time has no proof and no test. docs/MEASURED.md has what was measured.
 #![tactic(auto)]
 
 mod churn;

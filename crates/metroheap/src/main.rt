@@ -1,4 +1,8 @@
 //! The program: scripts from standard input, replies to standard output.
+//!
+//! A program has to have a `main`. It hands the runtime, the words and the three streams to `launch`, which tests
+//! call too. Neither has a clause. CI runs this one with status 0 alone; the examples of the documents show other
+//! statuses, by both builds of it.
 #![tactic(auto)]
 
 use mh_program::launch::launch;

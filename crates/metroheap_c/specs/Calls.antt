@@ -17,7 +17,7 @@ pub record Reads (ends : Driven → Status → Type 0) (old new : Driven) (statu
   pub kept : new ≡ old
   pub ends_so : ends old status
 
--- no text was given
+-- no text was given: the buffer is as it was, and the length is 0
 pub record IsUntold (old new : Text) (written : ℕ) : Type 0 where
   pub kept : new ≡ old
   pub none : written ≡ 0

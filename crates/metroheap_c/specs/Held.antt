@@ -8,9 +8,11 @@ use Rattle.std.specs.declared.option.Option.TheVariants.{None, Some}
 use Rattle.std.specs.contracts.impls.GlobalAllocator.TheImpl.{ghosts}
 use Rattle.mh_embed.specs.contracts.embedded.Embedded.{the_row}
 
+-- what a handle keeps
 abbrev pub Kept : Type 0
 Kept = the_row.Denot
 
+-- a pointer owns what its handle keeps: nothing if it is null, and else a box
 abbrev pub held : Global → Ptr → Option Kept → Fml
 held a null_ptr None = ftrue
 held a null_ptr (Some x) = ffalse

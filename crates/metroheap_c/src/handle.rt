@@ -1,4 +1,5 @@
-//! What C keeps of a machine.
+//! What C keeps of a machine. A call takes the box out of the handle and puts it back, so the bodies of the calls need
+//! no `unsafe`.
 ghost use Rattle.std.specs.Prelude.{◌≡◌, Option, None, Some, MatchOption};
 ghost use Rattle.metroheap_c.specs.Held.{Kept, held};
 

@@ -1,4 +1,6 @@
-//! The calls of the static library, for programs in C and what calls C. `include/metroheap.h` describes them.
+//! The calls of the static library, for programs in C and what calls C. `include/metroheap.h` describes them. Each is a
+//! call of `mh_embed` over what its handle keeps. A closed handle answers so and stays closed. Tests alone show that
+//! the header says what the calls take, and that a C program finds them.
 #![tactic(auto)]
 
 ghost use Rattle.std.specs.Prelude.{◌≡◌, None};

@@ -1,4 +1,4 @@
-//! A box with its fields in sight of the handle.
+//! A box with its fields in sight of the handle. The handle needs the pointer alone, since C holds it as one.
 ghost use Rattle.std.specs.Prelude.{◌≡◌};
 ghost use Rattle.std.specs.Box.Ownership.{box_owns};
 

@@ -1,4 +1,4 @@
--- Sets of numbers below 4,096, one after another in a list of bits.
+-- Sets of page numbers, which are below 4,096, one after another in a list of bits.
 use Rattle.std.specs.Prelude.{◌≡◌, ◌<◌, ◌≤◌, ℕ, ◌+◌, ◌*◌, ◌==◌, Bool, true, false, not, List, length, get_or, replicate}
 use Rattle.mh_bits.specs.Bits.{has_bit_among}
 

@@ -1,3 +1,4 @@
+//! A list of words in which one call alone reads a word, and counts it. So a contract can bound what a search reads.
 ghost use Rattle.std.specs.Prelude.{◌≡◌, ◌<◌, ◌≤◌, ◌+◌, ◌^◌, length, get_or, set, replicate, IfOk};
 ghost use Rattle.mh_bits.specs.Bits.{IsZeroed};
 

@@ -1,3 +1,6 @@
+//! Sets of page numbers below 4,096: a page is put in or taken out, the least one is found, and whether one is below a
+//! page. The least member takes two reads of words at most, and so does the test: a summary says which words of a set
+//! have members.
 ghost use Rattle.std.specs.Prelude.{◌≡◌, ◌<◌, ◌≤◌, ◌+◌, ◌*◌, ◌^◌, true, false, length, slice_set, IfOk, MatchOption, MatchBool};
 ghost use Rattle.mh_bits.specs.Sets.{empty_sets, HasLower, HasNoLower, IsEmptySet, IsLeastMember};
 

@@ -1,3 +1,6 @@
+//! A set of places, a word a page. A place is put in, taken out or looked up, and all are taken out. The slots of a
+//! page are given as the bits of a word, so that all are asked together. No search for a place reads these words, so
+//! they aren't counted.
 ghost use Rattle.std.specs.Prelude.{◌≡◌, ◌<◌, ◌≤◌, ◌+◌, ◌*◌, ℕ, true, false, length, get_or, set, replicate, IfOk};
 ghost use Rattle.mh_bits.specs.Bits.{has_bit};
 

@@ -1,5 +1,7 @@
 -- What the words of a block stand for.
--- Word 0 is the birth and 1 more. Word 1 has the number of the part in its high bits from 2 ^ 40 on, then the references and the numbers of its header in 20 bits each. Word 2 is the mark stamp. Word 3 is 0, or the place that the block moved to and 1 more.
+-- Word 0 is the birth and 1 more.
+-- Word 1 is part * 2 ^ 40 + references * 2 ^ 20 + numbers: the number of the part, and the counts of its header in 20 bits each.
+-- Word 2 is the mark stamp. Word 3 is the forwarding word: 0, or the place that the block moved to and 1 more.
 -- The fields follow from word 4 on: the references, each 0 for null or else a place and 1 more, and then the numbers.
 use Rattle.std.specs.Prelude.{ℕ, zero, suc, ◌-◌, ◌/◌, ◌%◌, ◌^◌, Option, Some, None, List, get_or, map, take, drop}
 use Rattle.mh_model.specs.declared.shape.Shape.{Shape}

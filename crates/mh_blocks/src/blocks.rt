@@ -1,3 +1,12 @@
+//! The table of blocks, which is the model's after every call.
+//!
+//! A part is made at the least place of its class, or not at all, exactly when there is none. A block is taken back. A
+//! block is moved, with an equal copy and a forwarder. Stamps, headers, references and numbers are read and written as
+//! in the model. A reference is forwarded as it is loaded, by one hop. How many blocks and forwarders there are is
+//! known without counting.
+//!
+//! A part is made as `Parts` gives it, with its number, birth and stamp. Callers of blocks don't see the pages behind
+//! them: getters of `Pages`, and `warm`, are here with the same arguments, which are handed on.
 ghost use Rattle.std.specs.Prelude.{◌≡◌, ◌<◌, ◌≤◌, ◌^◌, IsSome, IfSome, IfOk, OnErr, Some, None, true, false, length, set, replicate, filter, is_some};
 ghost use Rattle.mh_model.specs.Classes.{class_of, part_words};
 ghost use Rattle.mh_model.specs.Pages.{page_number, page_at, block_at, Leads, class_at, flag_at, count_at, has_denser, least_place, least_dense_place, free_pages, with_taken, with_released, with_flag, HaveTheirSlots, IsFreeFor};

@@ -1,3 +1,5 @@
+//! The index of marks and of forwarders beside the words. The invariant of `Blocks` keeps it, and no public contract
+//! names it.
 ghost use Rattle.std.specs.Prelude.{◌≡◌, ◌==◌, ◌<◌, ◌≤◌, ◌+◌, ◌*◌, ℕ, true, false, length, get_or, set, replicate, IfOk};
 ghost use Rattle.mh_pages.specs.OfBits.Bits.{has_bit};
 

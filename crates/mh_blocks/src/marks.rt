@@ -1,3 +1,9 @@
+//! What is asked of blocks most often: whether one is marked in a cycle or is a forwarder, which slots of a page have
+//! one, and which of these a sweep frees.
+//!
+//! An index beside the words answers, which the invariant keeps. So marks are asked here, and not of the grey list. A
+//! cycle of which no block has the stamp begins its marks; of any other cycle the stamps answer. `is_marked` takes the
+//! cycle's number, since a mark is a stamp equal to it and the collector alone counts cycles.
 ghost use Rattle.std.specs.Prelude.{◌≡◌, ◌≢◌, ◌==◌, ◌<◌, ◌+◌, ◌*◌, ℕ, IsSome, is_some, length};
 ghost use Rattle.mh_model.specs.Pages.{block_at};
 ghost use Rattle.mh_model.specs.Table.{stamp_at, forward_at};

@@ -35,7 +35,9 @@ next_of [] = 0
 next_of (number ∷ []) = suc number
 next_of (number ∷ next ∷ numbers) = next_of (next ∷ numbers)
 
--- A draw by the draw rule: in some state of the claim word, in which all seats' lists keep the rule and one is what a seat drew before, the answer is the draw's, and the state after that draw keeps the rule and has what the seat drew by then
+-- A draw by the draw rule: the answer is that of a draw in some state of the claim word.
+-- There all lists of seats keep the rule, and one is what a seat drew before.
+-- The state after the draw keeps the rule too, and has what the seat drew by then
 pub record IsDrawnByRule (bound seats : ℕ) (before after : List ℕ) (answer : Option ℕ) : Type 0 where
   pub state : ClaimState
   pub seat : ℕ

@@ -1,4 +1,21 @@
 //! The claim word and its seats.
+//!
+//! Up to 64 seats draw numbers below a bound through a shared reference. What a seat drew is listed in order, and a
+//! seat that is answered with nothing has ended. Once all seats have ended, each number below the bound was drawn
+//! exactly once.
+//!
+//! Each draw is a step of the claim word in some state of it, with what this seat drew (`rule`). In that state the
+//! lists of all seats are the numbers below the word, each once. The draw gives the word and raises it by one, and the
+//! lists are so after it too. A seat's contract can name no more: others step meanwhile, and a seat of the kit's table
+//! is shown the state at its own step alone. That the states of all draws are those of one word is what `finish` shows,
+//! which has all seats in hand. A body with a counter for each seat could meet `draw`, but then `finish` has no proof.
+//!
+//! The rule that the table keeps says more than the counts: only the last number of a list may be the bound or above.
+//! Without that clause the law that such a table shows the model's rule has no proof, and `draw` and `finish` rest on
+//! it. A `DrawSeat` is one of the seats first made. A seat of the table that stands for several, before a split or
+//! after a join, keeps their lists apart.
+//!
+//! `draw` takes neither a handle nor an allocator, so a body of it that waits or asks for memory doesn't compile.
 ghost use Rattle.std.specs.Prelude.{◌≡◌, ◌+◌, ◌^◌, ◌<◌, ◌≤◌, [], ◌∷◌, ◌++◌, ℕ, true, false, is_none, map, vec_len, All, IfOk, IfSome, MatchOption};
 ghost use Rattle.mh_model.specs.History.{has_ended, times_drawn};
 ghost use Rattle.mh_claims.specs.Seats.{IsOf, IsNew, IsDrawnByRule, seat_ended, next_of};

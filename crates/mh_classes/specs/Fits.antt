@@ -15,6 +15,6 @@ pub record IsPart (part : Part) : Type 0 where
   pub few : part.references + part.numbers ≤ 60
   pub fits : FitsItsHeader part
 
--- a list holds the parts of some object
+-- a list holds the parts of some object of at most 216,000 fields
 abbrev pub AreParts : List Part → Type 0
 AreParts list = (references : ℕ) × (numbers : ℕ) × (references + numbers ≤ 216000) × (list ≡ parts references numbers)

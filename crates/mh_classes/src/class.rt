@@ -1,5 +1,8 @@
-//! Size classes. From 4 words on each class is 9/8 of the one before, rounded up; the last has 64 words.
-//! Size classes of a small ratio are Metronome's (Bacon, Cheng and Rajan, POPL 2003).
+//! Size classes. From 4 words on each class is 9/8 of the one before, rounded up; the last has 64 words. Size classes
+//! of a small ratio are Metronome's (Bacon, Cheng and Rajan, POPL 2003).
+//!
+//! The class of so many words is the least that has as many. There is none exactly for 0 words and for more than 64. A
+//! class has its words, its slots in a page and its number.
 ghost use Rattle.std.specs.Prelude.{◌≡◌, ◌<◌, ◌≤◌, IsTrue, unwrap_or};
 ghost use Rattle.mh_model.specs.Classes.{class_of, is_class_size, slots_in};
 ghost use Rattle.mh_classes.specs.Numbers.{class_number};

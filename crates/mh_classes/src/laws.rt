@@ -1,4 +1,5 @@
-//! Laws of the parts of an object of at most 216,000 fields.
+//! Laws of the parts of an object of at most 216,000 fields. Each part has a class, and the references and numbers that
+//! its header says. Its counts and its part number fit the packed header.
 ghost use Rattle.mh_classes.specs.PartLaws.{PartsHaveClasses, PartsFitTheirHeaders, PartsAreFew};
 
 /// Each part has a class.

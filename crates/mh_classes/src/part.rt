@@ -1,4 +1,11 @@
 //! The parts of an object, each computed from its number.
+//!
+//! How many parts there are, and each by its number: header, own fields, first child and class. No list of them is
+//! kept, so even the parts of the largest object take no memory.
+//!
+//! A block is made from a `Part`, and not from two counts. No other file makes one, so no block is ever made that its
+//! header doesn't describe. `child_count` counts in the counts of an object. That of `mh_blocks` counts in words of a
+//! page: each in the type of what it reads.
 ghost use Rattle.std.specs.Prelude.{◌≡◌, ◌<◌, ◌≤◌, ◌+◌, Some, length, slice_get};
 ghost use Rattle.mh_model.specs.Classes.{class_of, part_words, plain_part, spine_part, run_count, middle_count, child_count, middle_spine, arraylet, parts};
 ghost use Rattle.mh_classes.specs.Fits.{AreParts, FitsItsHeader};

@@ -1,5 +1,8 @@
-//! The parts of an object: one block for up to 60 fields, and else a spine, middle spines and arraylets.
-//! Objects in arraylets are Metronome's (Bacon, Cheng and Rajan, POPL 2003).
+//! The parts of an object: one block for up to 60 fields, and else a spine, middle spines and arraylets. Objects in
+//! arraylets are Metronome's (Bacon, Cheng and Rajan, POPL 2003).
+//!
+//! The parts are the model's. There are none exactly for more fields than the rules allow. Above 3,600 fields middle
+//! spines stand between the spine and its arraylets.
 ghost use Rattle.std.specs.Prelude.{◌≡◌, ◌<◌, ◌+◌, IfSome, IsNone, ◌↔◌};
 ghost use Rattle.mh_model.specs.Classes.{parts};
 ghost use Rattle.mh_model.specs.World.{most_fields_under};

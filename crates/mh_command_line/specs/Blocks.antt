@@ -13,9 +13,11 @@ pub record Counted : Type 0 where
   pub parts : List ℕ
   pub most_words : ℕ
 
+-- the counts of what is asked for
 abbrev pub counted_of : Allocations → Counted
 counted_of allocations = record { parts = allocations.parts; most_words = allocations.most_words }
 
+-- those of no blocks
 abbrev pub none_counted : Counted
 none_counted = record { parts = replicate 20 0; most_words = 4 }
 
@@ -30,11 +32,13 @@ counted_with counted blocks =
     let parts = slice_index counted.parts number + blocks.count in
     if nat_le parts 1048576 then Some (record { parts = slice_set counted.parts number parts; most_words = max counted.most_words blocks.words }) else None
 
+-- the blocks of two numbers, if both are there and may be so many words and blocks
 abbrev pub blocks_numbered : Option ℕ → Option ℕ → Option Blocks
 blocks_numbered None count = None
 blocks_numbered (Some words) None = None
 blocks_numbered (Some words) (Some count) = if are_blocks words count then Some (record { words = words; count = count }) else None
 
+-- the same of a text that is cut at its colons, of which it has one
 abbrev pub blocks_cut : List Text → Text → Option Blocks
 blocks_cut [] count = None
 blocks_cut (words ∷ []) count = blocks_numbered (number words) (number count)

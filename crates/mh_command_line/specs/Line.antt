@@ -290,6 +290,7 @@ pub record AsksToSize (rows : List Row) : Type 0 where
   pub window : IfSome (one_of (codes "window") rows) (IsUnsignedIn 1 18446744073709551615)
   pub rules : AsksForRules rows
 
+-- a subcommand that has workers and no other option
 abbrev pub TakesWorkers : Text → Type 0
 TakesWorkers name = (name ≡ codes "live") ⊎ (name ≡ codes "race")
 

@@ -228,8 +228,9 @@ pub data AreRefused (words : List Text) (kind : ErrorKind) : Type 0 where
   NotTaken : IsAmong kind (fault_of metroheap words) → AreRefused words kind
   NotMet : AskAmiss words kind → AreRefused words kind
 
--- words are refused only if `clap` doesn't take them, with one of the kinds of fault that it finds first, or if their
--- configuration is outside the limits; words that ask for the version are never refused for that
+-- words are refused only if `clap` doesn't take them, with one of the kinds of fault that it finds first; if their options
+-- are amiss, with the kind of that; or if their configuration is outside the limits. Words that ask for the version are
+-- never refused for that
 abbrev pub IsFault : List Text → LineFault → Type 0
 IsFault words (Words error) = (kind_of error ≢ DisplayVersion) × AreRefused words (kind_of error)
 IsFault words NotText = ⊥

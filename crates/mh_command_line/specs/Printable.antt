@@ -2,7 +2,7 @@
 use Rattle.std.specs.Prelude.{◌≡◌, ◌≤◌, ◌⊎◌, ℕ, Bool, List, ◌&&◌, nat_le}
 use Rattle.std.specs.List.{All}
 
--- the byte is a space, a letter, a digit or another sign of ASCII
+-- the byte can be printed: it is a space, a letter, a digit or another sign of ASCII
 abbrev pub is_printable : ℕ → Bool
 is_printable byte = nat_le 32 byte && nat_le byte 126
 

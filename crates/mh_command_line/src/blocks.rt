@@ -1,4 +1,5 @@
-//! The blocks that an interval between two quanta asks for.
+//! The blocks that an interval between two quanta asks for. Words count the header, since that is what size classes
+//! are of. The program reads them and not `clap`, which takes any text here.
 ghost use Rattle.std.specs.Prelude.{◌≡◌, IfSome, IsTrue, option_map};
 ghost use Rattle.mh_command_line.specs.Blocks.{ReadsAllocations, allocations_in, are_blocks, blocks_of, counted_of, counted_with, none_counted};
 

@@ -1,3 +1,15 @@
+//! The command line as `clap` has it: the subcommands with their options, and what help says of them.
+//!
+//! `run`, `live` and `race` take `--workers`. `check` and `migrate` take the four numbers of a configuration, and
+//! `audit` takes no option. `clap` proves the limits of all other numbers, and that a seed and a number of events are
+//! given.
+//!
+//! What it proves covers no rule between two options. So the program looks at such rules itself, as `clap` would, and
+//! none of the four is required here. `generate` has no `--trigger`, so no rule holds between its options.
+//!
+//! `clap`'s own subcommand `help` is turned off, so the subcommand that it finds is one of the program's. Help, the
+//! word `help`, no words, unknown words and stray words are refused by `clap`, with status 2. The texts of help spell
+//! the limits of a configuration once more.
 ghost use Rattle.std.specs.Prelude.{◌≡◌, IfOk, IsOkAnd, Some, false, true, codes};
 ghost use Rattle.clap.specs.Words.{app_of, new_app, rule_of, with_rule, with_subcommand};
 ghost use Rattle.clap.specs.declared.builder.command.Command.TheViews.{out-Command};

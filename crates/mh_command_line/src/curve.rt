@@ -1,4 +1,5 @@
-//! The subcommand that draws curves.
+//! The subcommand that draws curves, of a script or of a history. No rule holds between its options: with
+//! `--history`, `--rules` says nothing.
 ghost use Rattle.std.specs.Prelude.{◌≡◌, IfOk, false, codes};
 ghost use Rattle.clap.specs.Words.{app_of, found_of, rows_of};
 ghost use Rattle.clap.specs.declared.builder.command.Command.TheViews.{out-Command};

@@ -1,3 +1,5 @@
+//! Why a command line gave no order. The texts are written twice, for `Display` here and in `mh_program`, whose
+//! contract names them: a derived `Display` has no clause. A test compares them.
 use mh_orders::order::ConfigOption;
 use thiserror::Error;
 

@@ -1,4 +1,7 @@
 //! The command line: from its words to an order, by `clap`.
+//!
+//! The crate knows `clap` and no heap. Orders and their options are in `mh_orders`, which knows neither. So the
+//! crates of texts take their options without loading `clap`.
 #![tactic(auto)]
 
 mod blocks;

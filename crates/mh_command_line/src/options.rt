@@ -1,3 +1,18 @@
+//! What the options in the matches of `clap` say, and what is wrong with those that `clap` leaves open.
+//!
+//! The program reads whether an option of a configuration is a number, since `clap`'s numbers end at 64 bits. A text
+//! that is none is refused in `clap`'s form and in the program's words. A number outside the limits, of any length,
+//! makes a bad configuration. Blamed is the first of pages, quantum and every that is outside, or else the trigger,
+//! whose limit is the number of pages.
+//!
+//! `check --sessions` wants none of these options, and refuses each.
+//!
+//! `--rules` is an option of `run`, `steps`, `show`, `curve`, `size` and `check`. Without it a script is under the
+//! second rules. A history of version 1 is then under the first, as before there was such an option. `live` and
+//! `race` are under the second.
+//!
+//! Of a random script half of the pages is the trigger, at which scripts collect. Its quantum has 250 units by
+//! default: with 288 or more no event comes while roots are scanned.
 ghost use Rattle.std.specs.Prelude.{◌≡◌, ◌<◌, ◌≤◌, ◌/◌, ◌↔◌, None, Some, true, codes, IfOk, IfErr, IfSome, IsSomeAnd, OnOk, IsTrue};
 ghost use Rattle.std.specs.Char.{is_digit};
 ghost use Rattle.std.specs.List.{list_all};

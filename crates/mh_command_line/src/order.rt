@@ -1,3 +1,18 @@
+//! The order that words give, or why they give none.
+//!
+//! They give one only if `clap` finds no fault in them. It is the order of the subcommand that `clap` finds, with
+//! these numbers. Its configuration, if it has one, is within the limits. Nothing that it needs is missing, and
+//! nothing is given that it excludes. A random script is one by these options, and by the stated ones where an option
+//! is left out. It is the order to write the version only if `clap` finds that the words ask for it. Words are never
+//! refused because they ask for the version.
+//!
+//! All other words are refused with one of the faults that `clap` finds first, or for their options. Then a number, a
+//! profile or blocks can't be read, an option is missing, or one may not stand beside another. Or the configuration
+//! is bad, with an option that is outside its limits. Numbers of a configuration may have any length. With
+//! `--sessions` none of them is missing.
+//!
+//! Any command line may be answered with `NoMemory`. Each is read by a command that is built in memory, and `clap`'s
+//! contract doesn't say when it asks for that.
 ghost use Rattle.std.specs.Prelude.{◌≡◌, IfOk, IfErr, IsSomeAnd, Err, map};
 ghost use Rattle.std.specs.String.{string_bytes};
 ghost use Rattle.clap.specs.Words.{found_of, kind_of, rows_of, subcommand_rows_of};

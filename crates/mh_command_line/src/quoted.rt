@@ -1,4 +1,11 @@
 //! Words of the command line as they can be printed.
+//!
+//! A word is quoted with the bytes escaped that can't be printed. If it is then longer than 80 bytes, it is cut
+//! there, and `...` follows. A refusal is what `clap` says of the words so shown, if that is the same kind of fault.
+//! Else it is a line that quotes nothing.
+//!
+//! Of the text that `clap` gives for refused words a contract says only which bytes it may have (`printable`). What
+//! `signs` leaves is one line.
 ghost use Rattle.std.specs.Prelude.{◌≡◌, IfOk};
 ghost use Rattle.std.specs.List.{All};
 ghost use Rattle.mh_command_line.specs.Printable.{is_printable, IsPrintable, IsPrintableByte, IsSign};

@@ -1,4 +1,6 @@
-//! The subcommand that sizes a heap.
+//! The subcommand that sizes a heap: of a script, of what intervals ask for, or of a share of the mutator. `clap`
+//! proves the limits of its numbers, and no rule between them. So which options go together is looked at here, and a
+//! refusal names the option that is missing or too many.
 ghost use Rattle.std.specs.Prelude.{◌≡◌, IfErr, IfOk, IfSome, IsSome, IsTrue, OnOk, None, false, true, codes, is_some};
 ghost use Rattle.clap.specs.Words.{IsUnsignedIn, app_of, found_of, one_of, rows_of, rule_of};
 ghost use Rattle.clap.specs.declared.builder.command.Command.TheViews.{out-Command};

@@ -1,4 +1,9 @@
 //! The words of the command line as the system has them.
+//!
+//! Words that can't be read are refused as not text, or with out of memory. Not text is a word after the program's
+//! own name that isn't UTF-8. That name may be any bytes, since help and usage say `metroheap`.
+//!
+//! No clause says which words are given: tests show it.
 ghost use Rattle.std.specs.Prelude.{IfErr};
 ghost use Rattle.mh_command_line.specs.Orders.{IsUnread};
 

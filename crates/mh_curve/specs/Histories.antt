@@ -47,6 +47,7 @@ short_reading (Means recorded) = if nat_lt (length (letters_of recorded.entries)
 abbrev pub traced_curve : CurveForm → Config → TraceState → Text
 traced_curve form config trace = curve_text form (record (counts_of trace) { quanta = None }) (points_of config trace.letters)
 
+-- the curve of a history that is read, or the first bad line
 abbrev pub recorded_curve : CurveForm → Reading Recorded → Text
 recorded_curve form (BadLine line) = line_text (bad_line_text line)
 recorded_curve form (Means recorded) = traced_curve form recorded.config (recorded_trace recorded.entries)
@@ -71,6 +72,7 @@ abbrev pub IsTraceIf : Bool → List Measured → TraceState → Type 0
 IsTraceIf true entries trace = IsTraceOf entries trace
 IsTraceIf false entries trace = LIFE ≤ length (letters_of entries)
 
+-- the same of what a tally has
 abbrev pub IsTallyOf : List Measured → Tally → Type 0
 IsTallyOf entries tally = IsTraceIf tally.is_short entries tally.trace.trace
 

@@ -22,6 +22,7 @@ abbrev pub point_words : Point → List Text
 point_words point =
     codes "window" ∷ decimal point.window ∷ codes "least" ∷ decimal point.least ∷ codes "share" ∷ percent_text (share_of point.least point.window) ∷ codes "floor" ∷ optional_word point.floor ∷ []
 
+-- how many quanta, if they are counted
 abbrev pub quanta_words : Option ℕ → List Text
 quanta_words None = []
 quanta_words (Some quanta) = codes "quanta" ∷ decimal quanta ∷ []
@@ -46,11 +47,12 @@ abbrev pub step_text : ℕ → ℕ → ℕ → Text
 step_text count i share =
     decimal (place_x count i) ++ codes "," ++ decimal (place_y share) ++ codes " " ++ decimal (place_x count (i + 1)) ++ codes "," ++ decimal (place_y share) ++ codes " "
 
+-- the same of a floor, if there is one
 abbrev pub floor_step : ℕ → ℕ → ℕ → Option ℕ → Text
 floor_step count i window None = []
 floor_step count i window (Some floor) = step_text count i (share_of floor window)
 
--- the label of window i of so many, of which seven at most have one
+-- the label of window i of so many, of which six at most have one
 abbrev pub tick_text : ℕ → ℕ → ℕ → Text
 tick_text count i window =
     if i % (count / 6 + 1) == 0 then codes "<text x=\"" ++ decimal (place_x count i) ++ codes "\" y=\"390\">" ++ decimal window ++ codes "</text>\n" else []
@@ -69,6 +71,7 @@ abbrev pub parts_from : Part → ℕ → ℕ → List Point → Text
 parts_from part count i [] = []
 parts_from part count i (point ∷ points) = part_text part count i point ++ parts_from part count (suc i) points
 
+-- and of all points
 abbrev pub parts_text : Part → List Point → Text
 parts_text part points = parts_from part (length points) 0 points
 

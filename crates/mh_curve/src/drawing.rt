@@ -1,4 +1,5 @@
-//! What is drawn of the texts of histories.
+//! What is drawn of the texts of histories. It is found before anything is written, so `history` has only to write
+//! it.
 ghost use Rattle.std.specs.Prelude.{◌≡◌, IfOk, OnErr};
 ghost use Rattle.std.specs.String.{string_bytes};
 ghost use Rattle.mh_curve.specs.Histories.{IsBounded, IsDrawn, TakesToDraw, traced_curve};

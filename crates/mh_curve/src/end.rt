@@ -1,3 +1,5 @@
+//! How the curve of a history ended. It is a type beside `End` of `mh_script`, since its reasons are those of
+//! histories, and a history may be too long.
 use mh_script::mh_reasons::history_reason::HistoryReason;
 
 /// How the curve of a history ended.

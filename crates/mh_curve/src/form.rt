@@ -1,3 +1,5 @@
+//! The text of a curve, as a table or as a picture. It is written exactly, as a function of the counts and the
+//! points. Of each window it has the fewest units of the mutator, their share and the floor.
 ghost use Rattle.std.specs.Prelude.{◌≡◌, IfOk};
 ghost use Rattle.std.specs.String.{string_bytes};
 ghost use Rattle.mh_curve.specs.Texts.{curve_text};

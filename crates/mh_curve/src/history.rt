@@ -1,4 +1,13 @@
 //! The curves of histories of version 2.
+//!
+//! The curve is that of the units of the entries in order, whatever they reply, under the history's own
+//! configuration. It is written exactly. A history is refused as by an audit, for a reason that is true of its bad
+//! line. One of 2 ^ 62 units or more is refused with line 0, as one of too many bytes is: no trace is that long. A
+//! failed source leaves nothing written. A failed sink and out of memory leave a prefix. A device failed exactly when
+//! it is blamed. Memory is refused only for bytes that the source gave, or for a text that begins with an entry or is
+//! a history.
+//!
+//! Nothing is replayed and nothing judged: it is there for other collectors, whose quanta and phases are their own.
 ghost use Rattle.std.specs.Prelude.{◌≡◌, ◌≢◌, ◌<◌, ◌^◌, Err, IfOk, OnOk, OnErr, IsErrOf};
 ghost use Rattle.std.specs.Io.KnownBytes.{Appends, Keeps};
 ghost use Rattle.mh_curve.specs.Histories.{TakesToDraw, history_curve};

@@ -1,4 +1,8 @@
-//! The minimum mutator utilisation of runs: the least share of the mutator in windows of each length, as a table and as a picture.
+//! The minimum mutator utilisation of runs: the least share of the mutator in windows of each length, as a table and
+//! as a picture.
+//!
+//! `points` reads the points of a curve off a trace, and `form` makes a text of them. `script` draws the run of a
+//! script, `history` a history of version 2. What either writes is exact.
 #![tactic(auto)]
 
 pub use mh_script;

@@ -1,4 +1,5 @@
-//! What the texts of curves have of each of their points.
+//! What the texts of curves have of each of their points. A table has a line of each. A picture has a step of each in
+//! either of its lines, and the label of six windows at most. One loop adds any of these parts.
 ghost use Rattle.std.specs.Prelude.{◌≡◌, ◌+◌, ◌<◌, ◌≤◌, ◌++◌, OnOk};
 ghost use Rattle.std.specs.String.{string_bytes};
 ghost use Rattle.mh_curve.specs.Texts.{floor_step, part_text, parts_text, place_x, place_y, step_text, tick_text};

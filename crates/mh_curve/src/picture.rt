@@ -1,3 +1,4 @@
+//! A curve as a picture. It is text as well, so it is a function of the points.
 ghost use Rattle.std.specs.Prelude.{◌≡◌, ◌++◌, OnOk};
 ghost use Rattle.std.specs.String.{string_bytes};
 ghost use Rattle.mh_curve.specs.Texts.{head_text, labels_text, legend_of, lines_text, picture_text};

@@ -1,3 +1,5 @@
+//! What a curve says of one window, and what its trace counts. A share is in hundredths of a per cent, rounded down,
+//! since all numbers here are whole.
 ghost use Rattle.std.specs.Prelude.{◌≡◌};
 ghost use Rattle.mh_curve.specs.Points.{share_of};
 

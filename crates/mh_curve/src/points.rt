@@ -1,3 +1,9 @@
+//! The points of the curve of a trace, one for each of its windows, exactly as `points_of` defines them.
+//!
+//! Windows grow by an eighth, and by 1 at least; the last is the whole trace. So a curve of a million units has some
+//! hundred points, at nearly equal distances on a logarithmic scale. Each point has the fewest units of the mutator
+//! in any stretch as long as its window, and the floor of the configuration. A trace without units has no point. The
+//! trace stays as it is.
 ghost use Rattle.std.specs.Prelude.{◌≡◌, ◌<◌, IfOk, length};
 ghost use Rattle.std.specs.List.{All};
 ghost use Rattle.mh_model.specs.declared.birth.TheConstants.{LIFE};

@@ -1,4 +1,8 @@
 //! The curves of runs of scripts.
+//!
+//! What is written is exactly the curve of the trace of the run, and all that is said of `run_script` holds of it. A
+//! script is refused as by a run, and a failed sink and out of memory leave a prefix. The trace of a run has fewer
+//! than 2 ^ 62 units by a law, so no script is too long for its curve.
 ghost use Rattle.std.specs.Prelude.{◌≡◌, ◌<◌, ◌≤◌, ◌^◌, suc, length, IfOk, OnOk, OnErr, IsErrOf};
 ghost use Rattle.std.specs.Io.KnownBytes.{Appends, Keeps};
 ghost use Rattle.std.specs.String.{string_bytes};

@@ -1,4 +1,5 @@
-//! What a picture has besides its points, in SVG: 800 wide and 450 high. The two lines differ in colour, also to the colour-blind, and in stroke.
+//! What a picture has besides its points, in SVG: 800 wide and 450 high. The two lines differ in colour, also to the
+//! colour-blind, and in stroke.
 
 /// Up to the description, which the counts follow.
 pub(crate) const HEAD: &str =

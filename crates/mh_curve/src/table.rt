@@ -1,3 +1,4 @@
+//! A curve as a table: a line with what its trace counts, and then a line for each window with its numbers.
 ghost use Rattle.std.specs.Prelude.{◌≡◌, ◌++◌, Some, OnOk};
 ghost use Rattle.std.specs.String.{string_bytes};
 ghost use Rattle.mh_model.specs.Bytes.{joined};

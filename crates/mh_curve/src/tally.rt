@@ -1,4 +1,8 @@
 //! The traces of histories, entry by entry.
+//!
+//! The units of an entry count in the order in which a run has them: those of the mutator, and then those of the
+//! collector. No entry is kept. From 2 ^ 62 units on no more are counted, but lines are still read, so that a bad one
+//! is found.
 ghost use Rattle.std.specs.Prelude.{◌≡◌, ◌+◌, ◌<◌, ◌↔◌, List, ◌∷◌, ◌++◌, [], length, IsTrue, IfOk, IfErr, OnOk, IsErrOf};
 ghost use Rattle.mh_curve.specs.Histories.{Extends, IsBounded, IsTallyOf};
 ghost use Rattle.mh_history.specs.Beginnings.{HasEntry, entries_left, measured_line};

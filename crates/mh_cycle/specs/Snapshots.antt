@@ -20,7 +20,7 @@ abbrev pub StartsFromTheView : CycleState → Collector → Type 0
 StartsFromTheView old new = (heap : HeapState) → heap.config ≡ old.config → heap.collector ≡ old.collector → old.collector.phase ≡ Idle → is_start_due old.config old.collector ≡ true → IsSound heap.next_birth old.collector
     → Continues (heap_view heap) heap.next_birth new
 
--- each snapshot that was kept still is
+-- each snapshot that was kept still is. So the barrier of a root slot keeps them
 abbrev pub KeepsEach : Collector → Collector → Type 0
 KeepsEach old new = (snapshot : World) (next_birth : ℕ) → KeepsSnapshot snapshot next_birth old → KeepsSnapshot snapshot next_birth new
 
@@ -28,6 +28,6 @@ KeepsEach old new = (snapshot : World) (next_birth : ℕ) → KeepsSnapshot snap
 abbrev pub HasKeptBlock : World → ℕ → Collector → ℕ → Type 0
 HasKeptBlock snapshot next_birth collector place = in_roots_or_mark collector.phase ≡ true → (block : Block) × (block_at collector.table place ≡ Some block) × (block.forward ≡ None) × IsKept snapshot next_birth block.birth
 
--- each snapshot that was kept still is, if the block at this place is of what it keeps
+-- each snapshot that was kept still is, if the block at this place is of what it keeps. So the barrier of a reference keeps them
 abbrev pub KeepsEachBehind : ℕ → Collector → Collector → Type 0
 KeepsEachBehind place old new = (snapshot : World) (next_birth : ℕ) → HasKeptBlock snapshot next_birth old place → KeepsSnapshot snapshot next_birth old → KeepsSnapshot snapshot next_birth new

@@ -8,6 +8,7 @@ use Rattle.mh_model.specs.Table.{Block}
 use Rattle.mh_model.specs.Collector.{Collector, first_collector, forwarded_slots, collector_step}
 use Rattle.mh_mark.specs.OfGrey.Queue.{Queue}
 
+-- a collector with its configuration
 pub record CycleState : Type 0 where
   pub config : Config
   pub collector : Collector
@@ -20,11 +21,11 @@ with_collector state collector = record state { collector = collector }
 abbrev pub with_slots : Collector → List (Option ℕ) → Collector
 with_slots collector slots = record collector { slots = slots }
 
--- with its slots forwarded: each leads straight to where it led
+-- a collector with its slots forwarded: each leads straight to where it led
 abbrev pub with_forwarded : Collector → Collector
 with_forwarded collector = with_slots collector (forwarded_slots collector.table collector.slots)
 
--- after a step that leaves its slots as they were
+-- a collector after a step that leaves its slots as they were
 abbrev pub step_beside_slots : Collector → Collector
 step_beside_slots collector = with_slots (collector_step collector) collector.slots
 

@@ -1,3 +1,33 @@
+//! The collector with its table and its roots: quanta, and the deletion barriers.
+//!
+//! A quantum is the model's, whatever the scanner answers: what it spends, at most the units configured, and what it
+//! leaves of each thing that the collector has. It is never refused. It keeps each world that is taken as the snapshot
+//! of the running cycle. One that ends the cycle leaves exactly the objects that the snapshot reached or that were born
+//! since, each with all its parts (`keeps`; `starts`, if the same quantum began it). One that starts a cycle starts it
+//! with what is reachable in the view at its entry (`starts`).
+//!
+//! When a cycle's defragmentation begins, no block is a forwarder. A quantum leaves a cycle ended only if it was
+//! entered in that defragmentation, or that defragmentation begins in it. So each forwarder that a cycle leaves was
+//! made in it (`forwarders`).
+//!
+//! The barriers of a slot and of a reference are the model's and keep each snapshot. That of a reference does so if its
+//! block belongs to what the snapshot keeps. Of another block it promises nothing: to shade what garbage refers to
+//! marks what no snapshot reached. So it gives back that the cycle is steady only through a snapshot that its caller
+//! names. Each command of the heap above has one.
+//!
+//! `start` asks for a cycle. The configuration, the phase and the number of cycles are read. So are the quanta that the
+//! running cycle has had (`quanta_run`), and those that it has left at most.
+//!
+//! The promise of the snapshot is no part of the type. `Cycle` keeps its own frame alone: how many pages the table and
+//! the grey list have, that the cursor is in range, and that marking has a grey block. Quanta, steps and barriers
+//! require that some world is the snapshot of the running cycle (`IsSteady`). All but the barrier of a reference give
+//! this back. For each world taken as the snapshot, whichever it is, the calls keep what it reached. The heap above,
+//! which knows the next birth, keeps one.
+//!
+//! A quantum asks that its cycle has had fewer than 2^62 quanta, beside the same of the number of cycles. That a cycle
+//! never has so many is a law of whole commands and quanta (`collectors_stay_in_bounds`). In the type's invariant it
+//! would have to hold after each single step too, and after whatever a caller writes into the lent table. So the heap
+//! above keeps it, and its quantum asks for the number of cycles alone.
 ghost use Rattle.std.specs.Prelude.{◌≡◌, ◌^◌, ◌<◌, ◌≤◌, true, IfOk, None, length};
 ghost use Rattle.mh_model.specs.Table.{references_at, forward_at};
 ghost use Rattle.mh_model.specs.Collector.{is_idle, quantum_start, quantum};

@@ -1,4 +1,4 @@
-//! The grey list as others read it.
+//! The grey list as others read it: how many places are grey, and each of them in order.
 ghost use Rattle.std.specs.Prelude.{◌≡◌, ◌<◌, Some, length, slice_get};
 
 use crate::cycle::Cycle;

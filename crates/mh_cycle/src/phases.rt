@@ -1,4 +1,6 @@
-//! The phases of a quantum: each takes its steps in a loop of its own, as many as fit in what is left.
+//! The phases of a quantum: each takes its steps in a loop of its own, as many as fit in what is left. A quantum is
+//! these loops in the order of the phases, while the model's takes step after step. Both are the same, since a run of
+//! steps is one stride.
 ghost use Rattle.std.specs.Prelude.{◌≡◌, ◌-◌, false};
 ghost use Rattle.mh_model.specs.declared.cycle.Phase.TheVariants.{Mark, Sweep, Defrag};
 ghost use Rattle.mh_model.specs.Invariant.{IsSteady};

@@ -1,4 +1,12 @@
 //! The steps of a quantum one after the other, each with its deeds and what it cost.
+//!
+//! One step of the running cycle is the model's, and tells its deeds. Their units are what the step costs. Steps that
+//! are taken until the next one doesn't fit in what is left are the quantum: all that is said of a quantum holds of
+//! them. Their deeds are those of the quantum, and the units of these are what it spent (`sum`).
+//!
+//! Steps are taken by calls of their own, beside those of a quantum that tells nothing. Both share the start of a
+//! cycle, the step of the roots and that of defragmentation. Here the sweep takes a slot at a time, and marking has a
+//! loop of its own, as `mh_mark` says. A cycle that starts tells `Start`, and then that it enters the roots.
 ghost use Rattle.std.specs.Prelude.{◌≡◌, ◌^◌, ◌<◌, ◌≤◌, false, [], ◌∷◌, option_map, length};
 ghost use Rattle.mh_model.specs.declared.cycle.Phase.TheVariants.{Roots, Mark, Sweep, Defrag};
 ghost use Rattle.mh_model.specs.Pages.{page_number, page_at, block_at};

@@ -1,4 +1,4 @@
-//! What one event did.
+//! What one event did: the deeds of its command and those of the quantum that it ran. It is whole if both logs are.
 ghost use Rattle.std.specs.Prelude.{◌≡◌};
 ghost use Rattle.mh_deeds.specs.Accounts.{empty_account, is_whole};
 

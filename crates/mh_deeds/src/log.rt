@@ -1,4 +1,5 @@
-//! Deeds in the order in which they were done.
+//! Deeds in the order in which they were done. Where memory is refused for one, the log says from then on that it isn't
+//! whole, until it is cleared.
 ghost use Rattle.std.specs.Prelude.{◌≡◌, [], ◌∷◌, ◌++◌, IfOk};
 ghost use Rattle.mh_model.specs.Deeds.{Adds};
 ghost use Rattle.mh_deeds.specs.Accounts.{empty_log};

@@ -1,3 +1,10 @@
+//! Steps of defragmentation. The target to which a step moves its block, if it moves one, and what the step costs are
+//! the model's. So is the step itself, on the table and for the place of the next step. `still_run` finds next steps
+//! that move no block, how many they are, and where the step after them is.
+//!
+//! The root slots are the caller's. `mh_cycle` forwards them once a quantum, and not at each move. By the contract of
+//! `Cycle::quantum` each quantum as a whole equals the definition, in which each move forwards them. Steps are
+//! functions over the table and no type of their own, since all that they go on from is the collector's cursor.
 ghost use Rattle.std.specs.Prelude.{ℕ, ◌≡◌, ◌+◌, ◌<◌, ◌≤◌, true, None, Some, length};
 ghost use Rattle.mh_model.specs.Pages.{page_number, slot_number, class_at, flag_at};
 ghost use Rattle.mh_model.specs.Collector.{next_move, move_cost, next_place, flagged_page};

@@ -15,6 +15,7 @@ pub record Driven : Type 0 where
   pub names : List Text
   pub reply : Option Reply
 
+-- the first machine of a configuration, before any name and any reply
 abbrev pub first_driven : Config → Driven
 first_driven config = record { machine = first_running config; names = []; reply = None }
 

@@ -18,7 +18,7 @@ use Rattle.mh_embed.specs.Numbers.{event_numbered}
 abbrev pub live_with : Driven → Live
 live_with driven = Runs driven.machine.machine driven.names driven.machine.done
 
--- A line whose event is done is answered the text of its reply by a run line by line too, and leaves it there as here
+-- A line whose event is done gets the text of its reply from a run line by line too, which then stands as here
 abbrev pub LinesAreTurns : Type 0
 LinesAreTurns = (number : ℕ) (line : Text) (old new : Driven) (given : Reply) → LineEnds old (line_of line) new status.Done → new.reply ≡ Some given
     → turn number (live_with old) line ≡ answers_line (reply_text given) (live_with new)

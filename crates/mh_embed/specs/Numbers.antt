@@ -45,6 +45,7 @@ event_numbered n = option_or (option_map (λ command. event.Session n.session co
 
 -- Replies ----------------------------------------------------------------------------------------
 
+-- the number of a refusal, and that of a phase
 abbrev pub refusal_number : Refusal → ℕ
 refusal_number BadSlot = 1
 refusal_number Null = 2
@@ -66,6 +67,7 @@ abbrev pub option_values : Option ℕ → List ℕ
 option_values None = 0 ∷ 0 ∷ []
 option_values (Some n) = 1 ∷ n ∷ []
 
+-- the number of the kind of a reply
 abbrev pub reply_kind : Reply → ℕ
 reply_kind reply.Done = 1
 reply_kind (reply.Number number) = 2
@@ -102,10 +104,12 @@ pub record IsShownBy (given : Reply) (n : ReplyNumbers) : Type 0 where
 
 -- Items of dumps ---------------------------------------------------------------------------------
 
+-- 1 for a flag that is set, and 0 for one that isn't
 abbrev pub flag_number : Bool → ℕ
 flag_number true = 1
 flag_number false = 0
 
+-- the number of the kind of an item
 abbrev pub item_kind : DumpItem → ℕ
 item_kind (item.Page page class_size is_flagged) = 1
 item_kind (item.Block slot birth part) = 2

@@ -1,4 +1,6 @@
-//! A machine behind a handle.
+//! A machine behind a handle. The reply to an event is the machine's. If an event isn't done, all is as it was, and the
+//! status says why. A text that doesn't fit, or for which memory is refused, leaves the reply to be asked for again.
+//! Quanta are run by the calling thread alone.
 ghost use Rattle.std.specs.Prelude.{◌≡◌, IfOk, OnOk};
 ghost use Rattle.std.specs.String.{string_bytes};
 ghost use Rattle.mh_model.specs.Replies.{reply_text};

@@ -1,4 +1,5 @@
-//! Events that numbers are.
+//! Events that numbers are, by the order of commands and controls in the tables of the model. Each event can be asked
+//! so.
 ghost use Rattle.std.specs.Prelude.{◌≡◌, ◌⊎◌, ◌≤◌};
 ghost use Rattle.mh_embed.specs.Numbers.{command_numbered, control_numbered, event_numbered};
 

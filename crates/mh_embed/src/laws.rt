@@ -1,4 +1,4 @@
-//! Laws of machines behind handles.
+//! Laws of machines behind handles: a line is answered as in a run line by line, and each event has numbers.
 ghost use Rattle.mh_embed.specs.Laws.{EventsHaveNumbers, LinesAreTurns};
 
 /// A line whose event is done is answered as in a run line by line.

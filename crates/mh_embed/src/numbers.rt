@@ -1,4 +1,5 @@
-//! Events, replies and the items of dumps as plain numbers, as C passes them.
+//! Events, replies and the items of dumps as plain numbers, as C passes them. The header `include/metroheap.h` has the
+//! same structs.
 
 /// An event: its kind, the number of the session that asks, and the numbers of its form in their order. The number of a
 /// control is `third`. What a kind doesn't have isn't read.

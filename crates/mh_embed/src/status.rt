@@ -1,3 +1,4 @@
+//! What a call came to, and the number by which C knows it.
 ghost use Rattle.std.specs.Prelude.{◌≡◌};
 ghost use Rattle.mh_embed.specs.Statuses.{code_of};
 

@@ -4,11 +4,10 @@ use Rattle.std.proofs.lemmas.Bool.{and_parts, and_from, ltb-true, leb-true}
 use Rattle.std.proofs.lemmas.Fmt.{length-decimal-le}
 use Rattle.std.specs.List.{list_all}
 use Rattle.mh_model.specs.declared.command.Command.{Command}
-use Rattle.mh_model.specs.declared.command.Command.TheVariants as command
 use Rattle.mh_model.specs.declared.command.Control.{Control}
-use Rattle.mh_model.specs.declared.command.Control.TheVariants as control
 use Rattle.mh_model.specs.Bytes.{Text, joined}
 use Rattle.mh_model.specs.Forms.{Phrase, are_below, command_phrase, control_phrase, is_sayable, phrase_words, u32, u64}
+use Rattle.mh_text_laws.proofs.PhraseLemmas.{command_passes, control_passes}
 use Rattle.mh_text_laws.proofs.round_trips.ReplyRoundTrips.{small_numbers}
 use Rattle.mh_text_laws.proofs.round_trips.WordRoundTrips.{all-decimals, are_words, decimal_word, is_word}
 
@@ -22,30 +21,17 @@ room_of [] = 0
 room_of (bound ∷ bounds) = 1 + digits_below bound + room_of bounds
 
 -- a word, and numbers of 64 bits at most, which take few bytes together
+abbrev is_fine_form : Text → List ℕ → Bool
+is_fine_form verb bounds = is_word verb && (list_all (λ bound. nat_le bound u64) bounds && nat_le (length verb + room_of bounds) 48)
+
 abbrev is_fine : Phrase → Bool
-is_fine said = is_word said.verb && (list_all (λ bound. nat_le bound u64) said.bounds && nat_le (length said.verb + room_of said.bounds) 48)
+is_fine said = is_fine_form said.verb said.bounds
 
 pub fine_command : (c : Command) → is_fine (command_phrase c) ≡ true
-fine_command (command.New d r n) = refl
-fine_command (command.Get d s f) = refl
-fine_command (command.Put s f v) = refl
-fine_command (command.Copy d s) = refl
-fine_command (command.Clear d) = refl
-fine_command (command.Read s i) = refl
-fine_command (command.Write s i x) = refl
-fine_command (command.Same a b) = refl
-fine_command (command.Shape s) = refl
-fine_command (command.Post b s) = refl
-fine_command (command.Take d b) = refl
-fine_command command.End = refl
+fine_command c = command_passes is_fine_form refl c
 
 pub fine_control : (c : Control) → is_fine (control_phrase c) ≡ true
-fine_control control.Quantum = refl
-fine_control control.Start = refl
-fine_control control.Stat = refl
-fine_control control.Dump = refl
-fine_control control.Left = refl
-fine_control (control.Report window) = refl
+fine_control c = control_passes is_fine_form refl c
 
 -- Words ------------------------------------------------------------------------------------------
 

@@ -6,10 +6,11 @@ use Rattle.mh_model.specs.declared.command.Event.TheVariants as event
 use Rattle.mh_model.specs.Bytes.{Text, joined, lines_text}
 use Rattle.mh_model.specs.HistoryTexts.{event_words}
 
--- `config PAGES QUANTUM TRIGGER EVERY`
+-- the numbers of a configuration
 abbrev pub config_numbers : Config → List ℕ
 config_numbers config = config.pages ∷ config.quantum ∷ config.trigger ∷ config.every ∷ []
 
+-- `config PAGES QUANTUM TRIGGER EVERY`
 abbrev pub config_line : Config → Text
 config_line config = joined (codes "config" ∷ map decimal (config_numbers config))
 
@@ -33,11 +34,12 @@ abbrev pub is_next : ℕ → Event → Bool
 is_next named (event.Session who command) = nat_le who named
 is_next named (event.Control control) = true
 
--- each event's is, so that each session has its number as it is first seen
+-- each event's is, so that sessions are first named in the order of their numbers
 abbrev pub are_in_order : ℕ → List Event → Bool
 are_in_order named [] = true
 are_in_order named (event ∷ events) = is_next named event && are_in_order (named_after named event) events
 
+-- how many names were seen after events in order
 abbrev pub named_after_all : ℕ → List Event → ℕ
 named_after_all named [] = named
 named_after_all named (event ∷ events) = named_after_all (named_after named event) events

@@ -1,4 +1,5 @@
-//! The events of a script, one after the other.
+//! The events of a script, one after the other. Its clauses have what the proof of a script needs: which sessions may
+//! come, and in which order they are first named.
 ghost use Rattle.std.specs.Prelude.{◌≡◌, true};
 ghost use Rattle.mh_model.specs.HistoryTexts.{is_event};
 ghost use Rattle.mh_model.specs.declared.history.Version.TheVariants.{Two};

@@ -1,4 +1,5 @@
-//! Small objects of all kinds, most of which live shortly.
+//! Small objects of all kinds, most of which live shortly: the profile `churn`. The profile `refusals` has such
+//! commands between its own.
 
 use crate::plan::Plan;
 use crate::random::Random;

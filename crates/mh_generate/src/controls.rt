@@ -1,4 +1,4 @@
-//! What is asked of the collector and its reports.
+//! What is asked of the collector and its reports. If quanta run on request alone, most controls ask for one.
 
 use crate::random::Random;
 use mh_model::command::Control;

@@ -1,4 +1,4 @@
-//! Objects of all classes, of which few are kept, so that pages become sparse.
+//! Objects of all classes, of which few are kept, so that pages become sparse: the profile `frag`.
 
 use crate::plan::Plan;
 use crate::random::Random;

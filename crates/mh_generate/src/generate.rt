@@ -1,4 +1,11 @@
 //! Random scripts.
+//!
+//! One that is written whole is within the grammar. It has the configuration and exactly as many events as are asked
+//! for, and its commands are those of no more sessions. Two profiles, `Refusals` and `Mixed`, name nine sessions,
+//! however many are asked for. A failed sink and out of memory leave a prefix of such a script. A device failed
+//! exactly when it is blamed.
+//!
+//! Tests alone show that the same options give the same bytes, and what the scripts make the collector do.
 ghost use Rattle.std.specs.Prelude.{◌≡◌, ◌<◌, ◌^◌, OnOk, OnErr, IsErrOf};
 ghost use Rattle.std.specs.Io.KnownBytes.{Appends};
 ghost use Rattle.mh_text.specs.Stream.{AppendsBeginning};

@@ -1,4 +1,4 @@
-//! Objects of many blocks, with sizes at and beside the limits of blocks and spines.
+//! Objects of many blocks, with sizes at and beside the limits of blocks and spines: the profile `large`.
 
 use crate::plan::Plan;
 use crate::random::Random;

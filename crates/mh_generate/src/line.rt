@@ -1,4 +1,4 @@
-//! Lines of scripts as they are written.
+//! Lines of scripts as they are written. An event is written as in a history, so a session is named by its number.
 ghost use Rattle.std.specs.Prelude.{◌≡◌, ◌++◌, ◌∷◌, OnOk, decimal, map};
 ghost use Rattle.std.specs.String.{string_bytes};
 ghost use Rattle.mh_model.specs.Bytes.{joined, line_text};

@@ -1,4 +1,4 @@
-//! Long lists that are built, walked and cut.
+//! Long lists that are built, walked and cut: the profile `lists`.
 
 use crate::plan::Plan;
 use crate::random::Random;

@@ -1,4 +1,4 @@
-//! Which commands and controls come, by the profile.
+//! Which commands and controls come, by the profile. No theorem rests on what is chosen here.
 ghost use Rattle.std.specs.Prelude.{◌<◌};
 
 use crate::plan::Plan;

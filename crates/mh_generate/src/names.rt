@@ -1,4 +1,5 @@
-//! The sessions that were named, in the order of their numbers.
+//! The sessions that were named, in the order of their numbers. One that comes too early gives way to the next that
+//! isn't named yet. So a session has its number in its name, and a script's text is one function of its events.
 ghost use Rattle.std.specs.Prelude.{◌≡◌, ◌+◌, ◌<◌, ◌≤◌, suc, nat_lt, nat_le, ◌||◌, if◌then◌else◌};
 
 use mh_model::limits::SESSIONS;

@@ -1,4 +1,5 @@
-//! What a session does next.
+//! What a session does next: a few commands that belong together. They are kept in an array, so a plan takes no
+//! memory.
 ghost use Rattle.std.specs.Prelude.{◌≤◌, length};
 
 use mh_model::command::Command;

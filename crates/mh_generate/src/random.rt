@@ -1,4 +1,4 @@
-//! Random numbers.
+//! Random numbers: those that `rand_pcg` has for a seed. No theorem rests on them.
 ghost use Rattle.std.specs.Prelude.{◌<◌};
 
 use rand_core::utils::NextWord;

@@ -1,4 +1,5 @@
-//! Commands that are refused, for each reason.
+//! Commands that are refused, for each reason: the profile `refusals`. Sessions beside those that do the work have
+//! their commands from here too.
 
 use crate::churn;
 use crate::plan::Plan;

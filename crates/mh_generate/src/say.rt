@@ -1,4 +1,4 @@
-//! Commands, written as in a script.
+//! Commands, written as in a script, so that plans read like its lines.
 
 use mh_model::command::Command;
 

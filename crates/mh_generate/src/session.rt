@@ -1,4 +1,5 @@
-//! What is remembered of a session.
+//! What is remembered of a session. It is a guess, since commands may be refused. By it most commands find an object
+//! that has the field.
 
 use crate::plan::Plan;
 use crate::random::SLOTS;

@@ -1,4 +1,4 @@
-//! Trees that are joined, walked, grafted, turned and pruned.
+//! Trees that are joined, walked, grafted, turned and pruned: the profile `trees`.
 
 use crate::plan::Plan;
 use crate::random::Random;

@@ -1,4 +1,4 @@
-//! Objects of many references, in one block and in several.
+//! Objects of many references, in one block and in several: the profile `wide`.
 
 use crate::plan::Plan;
 use crate::random::Random;

@@ -12,7 +12,7 @@ pub record Queue : Type 0 where
 abbrev pub is_in : ℕ → List ℕ → Bool
 is_in place places = list_any (λ other. place == other) places
 
--- no place stands twice, each is one of the pages, of which there are at most 4,096, and there is room for one entry a place
+-- no place stands twice; each is one of the pages, of which there are at most 4,096; and there is room for one entry a place
 pub record IsQueue (items : List ℕ) (capacity pages : ℕ) : Type 0 where
   pub once : NoneTwice items
   pub below : (place : ℕ) → is_in place items ≡ true → place < 64 * pages

@@ -9,7 +9,7 @@ use Rattle.mh_grey.specs.Queue.{is_in}
 abbrev pub marking : Table Block → List ℕ → ℕ → Marking
 marking table grey cycle = record { table = table; grey = grey; cycle = cycle }
 
--- a place whose block isn't marked isn't grey
+-- a place whose block isn't marked, which shading would append, isn't grey
 abbrev pub IsApartAt : Table Block → ℕ → List ℕ → ℕ → Type 0
 IsApartAt table cycle grey place = stamp_at table place ≢ cycle → is_in place grey ≡ false
 

@@ -1,3 +1,12 @@
+//! The grey list, first in, first out, and shading.
+//!
+//! A reference is shaded as in the model: the block to which it leads becomes marked, if it isn't, and its place is
+//! appended to the list. No place is in the list twice, and it never lacks room. Its front is read and taken off. The
+//! start of a cycle and the words read ahead change nothing of the list.
+//!
+//! `shade` takes the cycle's number, since a mark is a stamp equal to it and the collector alone counts cycles. Whether
+//! a block is marked is asked of `Blocks`, which has the index. `front` and `pop` are for who uses the crate by itself:
+//! a batch is taken off by `pop_first`.
 ghost use Rattle.std.specs.Prelude.{◌≡◌, ◌==◌, ◌*◌, ◌<◌, ◌≤◌, false, IfOk, IsSome, [], ◌∷◌, ◌++◌, length, slice_get, take, drop, Some};
 ghost use Rattle.mh_model.specs.Pages.{block_at};
 ghost use Rattle.mh_model.specs.Collector.{shade, shade_place};

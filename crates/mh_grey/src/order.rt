@@ -1,3 +1,5 @@
+//! The order in which blocks are taken off the grey list, by which the next cycle reads words ahead. It is for the
+//! cache alone, and contracts see it as the unit.
 ghost use Rattle.std.specs.Prelude.{◌≡◌, ◌≤◌, IfOk};
 
 use mh_blocks::blocks::Blocks;

@@ -1,4 +1,5 @@
 -- Parts made one after the other, how they are taken back, and what they are before they are linked.
+-- These words belong to private functions and their loops, and no public contract names them.
 use Rattle.std.specs.Prelude.{◌≡◌, ◌≤◌, ◌+◌, IsSome, ℕ, zero, suc, Bool, true, false, Some, None, List, length, get_or, replicate, slice_get}
 use Rattle.mh_model.specs.Classes.{Part}
 use Rattle.mh_model.specs.Pages.{Table, page_number, block_at, count_at, with_released}

@@ -1,4 +1,4 @@
--- Which parts of an object need a place of the largest class.
+-- Which parts of an object fill a block of the largest class, and so need a place of it. No public contract names these words.
 use Rattle.std.specs.Prelude.{◌==◌, ◌&&◌, not, is_some, Bool, ℕ, List, count_by}
 use Rattle.mh_model.specs.Classes.{Part, part_words}
 

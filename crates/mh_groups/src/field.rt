@@ -3,6 +3,9 @@
 //! Up to 60 fields lie in the object's one block. Of an object of more fields part 0 is a spine: its references lead to
 //! arraylets of 60 fields each, or, for more than 3,600 fields, to middle spines whose references lead to arraylets.
 //! Each reference on the way is resolved as it is used, since any block may have moved.
+//!
+//! A field is at the model's position, and is read and written there. `store_ref` is for who uses the crate by itself,
+//! and no test calls it: `put` finds the field once, for its barrier and for the write.
 ghost use Rattle.std.specs.Prelude.{◌≡◌, ◌<◌, ◌≤◌, length};
 ghost use Rattle.mh_model.specs.Pages.{Leads};
 ghost use Rattle.mh_model.specs.Table.{references_at, numbers_at, with_reference_at, with_number_at, child_place, position_of, reference_in, loaded_reference, number_index, number_in};

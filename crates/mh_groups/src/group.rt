@@ -1,4 +1,16 @@
 //! Objects made with all their parts or not at all.
+//!
+//! An object is made with its parts linked. It is refused exactly when one of them finds no place after those before
+//! it. Then the table is as it was, with the pages that the object took given back. An object of more than 64 parts is
+//! refused before any part is made, if it has more full arraylets than there are places for.
+//!
+//! Making an object reports its parts in order, if that is asked: where each was placed, its class and its counts,
+//! and the tier that found its place. A refused one reports nothing.
+//!
+//! `make_group` is given room for 3,661 places (`PartPlaces`), as many as an object has parts at most. The places of
+//! its parts are kept there while the object is made. So it can be undone from the last part to the first, each with
+//! the page that it took, and no memory is asked for. The parts are linked after all of them were made, as the
+//! definition does.
 ghost use Rattle.std.specs.Prelude.{◌≡◌, ◌<◌, ◌≤◌, ◌^◌, ◌&&◌, ℕ, nat_lt, true, IsSome, IfOk, OnOk, OnErr, Some, None, length, get_or, map, take, [], ◌∷◌};
 ghost use Rattle.mh_model.specs.Deeds.{make_deeds, Adds};
 ghost use Rattle.mh_model.specs.Pages.{page_number, block_at};

@@ -1,3 +1,4 @@
+//! Positions of fields, which contracts see as the model's.
 use mh_model::place::Place;
 use std::marker::Model;
 

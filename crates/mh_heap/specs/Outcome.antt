@@ -6,6 +6,7 @@ use Rattle.mh_model.specs.declared.reply.Refusal.{Refusal}
 use Rattle.mh_model.specs.declared.reply.Reply.{Reply}
 use Rattle.mh_model.specs.declared.reply.Reply.TheVariants as reply
 
+-- the reply that the result of a call is: done, a number, yes or no, or a shape, and else its refusal
 abbrev pub done_or : Result Unit Refusal → Reply
 done_or (Ok nothing) = reply.Done
 done_or (Err refusal) = reply.Refused refusal

@@ -5,7 +5,7 @@ use Rattle.mh_model.specs.World.{World, IsClosed, never_full, object_at}
 use Rattle.mh_model.specs.Paths.{Agrees, IsPath}
 use Rattle.mh_heap.specs.Shown.{Showing, ShowsQuantum}
 
--- there is always a place, no cycle begins, and a quantum spends nothing
+-- what such a heap shows: there is always a place, no cycle begins, and a quantum spends nothing
 abbrev pub plain_showing : World → Showing
 plain_showing world = record { view = world; is_full = never_full; number = 0; limit = 0 }
 

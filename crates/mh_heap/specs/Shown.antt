@@ -5,7 +5,8 @@ use Rattle.mh_model.specs.declared.reply.Reply.{Reply}
 use Rattle.mh_model.specs.World.{World, Performs}
 use Rattle.mh_model.specs.Paths.{Agrees}
 
--- the world that the heap is seen as, whether no place is left for an object of so many references and numbers, how many cycles have begun, and the most that a quantum spends
+-- what a heap shows: the world that it is seen as, and whether no place is left for an object of so many references and numbers; how many cycles have
+-- begun, and the most that a quantum spends
 pub record Showing : Type 0 where
   pub view : World
   pub is_full : ℕ → ℕ → Bool

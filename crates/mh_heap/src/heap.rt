@@ -1,3 +1,21 @@
+//! The trait of heaps, and its laws.
+//!
+//! Each of the twelve commands of a session, on any heap, answers what `heap_step` answers on the heap's view: the
+//! world's reply, or that the heap is full. It changes the view exactly as the world changes. Slots and references name
+//! only objects that are there (`closed`). `make` alone may be answered that the heap is full or that there is no
+//! memory. Both leave the view as it was. Out of memory is answered only if nothing refuses the command.
+//!
+//! A quantum, on any heap, leaves a view that agrees with the one before it: the same slots, ended sessions and next
+//! birth, nothing changed or added, and nothing lost that is reachable. It spends at most the heap's limit and begins
+//! at most one cycle. No command begins one.
+//!
+//! Each call promises exactly what its heap does (`performs`, `collects`). Laws of the trait say what that shows: the
+//! world's step on the view, and for a quantum a view that agrees with the one before. So a heap proves the step from
+//! its own relation to the view once, and not for each call.
+//!
+//! The calls return types of Rust, such as `Result<u64, Refusal>` for `read`, and no `Reply`. `make` returns
+//! `Result<Result<(), Refusal>, NoMemory>`, since out of memory is no reply. The signatures stand here, in the plain
+//! heap and in the heap of pages: an implementation spells them out.
 ghost use Rattle.std.specs.Prelude.{◌≡◌, ◌<◌, ℕ, None, IfOk, OnErr};
 ghost use Rattle.mh_model.specs.declared.birth.TheConstants.{LIFE};
 ghost use Rattle.mh_model.specs.declared.command.Command.{Command};

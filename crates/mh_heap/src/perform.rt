@@ -1,3 +1,6 @@
+//! Commands performed on any heap. Each is performed as the call of its name, and promises what that call promises and
+//! what the laws of `Heap` say that this shows. Here the results of calls become replies. `Heap` has all twelve
+//! commands, so `perform` needs no condition on its command.
 ghost use Rattle.std.specs.Prelude.{◌≡◌, ◌<◌, None, IfOk, OnErr};
 ghost use Rattle.mh_model.specs.declared.birth.TheConstants.{LIFE};
 ghost use Rattle.mh_model.specs.World.{births, sight_of, refusal, IsClosed, IsNew, Performs};

@@ -1,16 +1,16 @@
 -- The words before and after `=` in a line, by its bytes.
-use Rattle.std.proofs.Common.{◌≡◌, ℕ, zero, suc, ◌+◌, ◌-◌, ◌<◌, ◌==◌, not, ◌&&◌, cond, Bool, true, false, Option, Some, None, IsSome, option_map, option_and_then, List, [], ◌∷◌, ◌++◌, length, take, drop, get_or, refl, sym, ap, ◌∙◌, append_assoc, arith}
+use Rattle.std.proofs.Common.{◌≡◌, ℕ, zero, suc, ◌+◌, ◌-◌, ◌<◌, ◌==◌, not, cond, Bool, true, false, Option, Some, None, IsSome, option_map, option_and_then, List, [], ◌∷◌, ◌++◌, length, take, drop, get_or, refl, sym, ap, ◌∙◌, append_assoc, arith}
 use Rattle.std.specs.Prelude.{codes}
 use Rattle.std.proofs.lemmas.List.{append-nil, take_rest}
 use Rattle.std.proofs.Common.{take-append-drop}
-use Rattle.std.proofs.lemmas.Bool.{and_parts, and_from, eq-eqb}
+use Rattle.std.proofs.lemmas.Bool.{and_parts, and_from}
 use Rattle.mh_model.specs.declared.history.Entry.{Entry}
 use Rattle.mh_model.specs.declared.history.Version.{Version}
 use Rattle.mh_model.specs.declared.history.Version.TheVariants.{Two}
 use Rattle.mh_model.specs.Bytes.{Text, Cut, cut_after, with_byte, words, numbers, is_text}
 use Rattle.mh_model.specs.HistoryTexts.{Halves, halves_at, entry_by, entry_of, measured_with, measured_by, measured_of}
 use Rattle.mh_model.proofs.TextLemmas.{text_is}
-use Rattle.mh_text.proofs.HalfLemmas.{after_words}
+use Rattle.mh_text.proofs.HalfLemmas.{words_then, after_words}
 use Rattle.mh_history.specs.Halves.{lacks, all_lack, IsAroundEquals}
 
 -- Bytes that a text lacks ------------------------------------------------------------------------
@@ -176,29 +176,6 @@ pub done_wrong : (front units : List Text) → all_lack 105 front ≡ true → (
 done_wrong front units no_units none = wrong_units front (codes "ok" ∷ codes "units" ∷ units) (codes "ok" ∷ []) units no_units refl none
 
 -- Lines ------------------------------------------------------------------------------------------
-
-abbrev then_cut : Cut → Cut → Cut
-then_cut first next = record { pieces = first.pieces ++ first.rest ∷ next.pieces; rest = next.rest }
-
-then_byte : (byte : ℕ) (pieces : List Text) (rest : Text) (next : Cut) → with_byte byte (then_cut (record { pieces = pieces; rest = rest }) next) ≡ then_cut (with_byte byte (record { pieces = pieces; rest = rest })) next
-then_byte byte [] rest next = refl
-then_byte byte (piece ∷ pieces) rest next = refl
-
-cut_then_by : (is : Bool) (byte : ℕ) (first next : Cut)
-    → cond is (record { pieces = [] ∷ (then_cut first next).pieces; rest = (then_cut first next).rest }) (with_byte byte (then_cut first next))
-    ≡ then_cut (cond is (record { pieces = [] ∷ first.pieces; rest = first.rest }) (with_byte byte first)) next
-cut_then_by true byte first next = refl
-cut_then_by false byte first next = then_byte byte first.pieces first.rest next
-
-cut_then : (end : ℕ) (first next : Text) → cut_after end (first ++ end ∷ next) ≡ then_cut (cut_after end first) (cut_after end next)
-cut_then end [] next = rw (eq-eqb end end refl) refl
-cut_then end (byte ∷ first) next = rw (cut_then end first next) (cut_then_by (byte == end) byte (cut_after end first) (cut_after end next))
-
-words_then : (first next : Text) → words (first ++ 32 ∷ next) ≡ words first ++ words next
-words_then first next =
-    let a = cut_after 32 first in
-    let b = cut_after 32 next in
-    rw (cut_then 32 first next) (append_assoc a.pieces (a.rest ∷ b.pieces) (b.rest ∷ []) ∙ sym (append_assoc a.pieces (a.rest ∷ []) (b.pieces ++ b.rest ∷ [])))
 
 pub line_words : (line before after : Text) → IsAroundEquals line before after → words line ≡ words before ++ codes "=" ∷ words after
 line_words line before after around =

@@ -5,6 +5,7 @@ use Rattle.mh_model.specs.Forms.{numbered, at, u64}
 use Rattle.mh_model.specs.Replies.{placed_from}
 use Rattle.mh_history.specs.declared.dump.Placed.{Placed}
 
+-- a slot and two numbers, by a list of these three
 abbrev pub placed_made : List ℕ → Placed
 placed_made ns = record { slot = at ns 0; first = at ns 1; second = at ns 2 }
 

@@ -1,3 +1,5 @@
+//! Entries of histories, each read from its line. Most lines are cut at their first byte `=`, and those of which that
+//! says too little word by word, as the model does.
 ghost use Rattle.std.specs.Prelude.{◌≡◌, ◌∷◌, ◌++◌, [], codes, true, Some, None, IfOk, IfSome, IfNone, OnErr, IsSome, option_and_then};
 ghost use Rattle.mh_model.specs.Bytes.{words, numbers};
 ghost use Rattle.mh_model.specs.declared.history.Entry.{Entry};

@@ -1,3 +1,5 @@
+//! Events as histories write them. A session is `s0` to `s8`, in both versions, by the order in which a script names
+//! them first. `s8` is all sessions past the eighth. A history has no other names.
 ghost use Rattle.std.specs.Prelude.{◌≡◌};
 ghost use Rattle.mh_model.specs.HistoryTexts.{session_of, event_of};
 

@@ -1,3 +1,4 @@
+//! The first line of a history of version 2: the rules by their number, and the configuration.
 ghost use Rattle.std.specs.Prelude.{◌≡◌, ◌∷◌, [], option_and_then};
 ghost use Rattle.mh_model.specs.HistoryTexts.{header_of, header_by};
 

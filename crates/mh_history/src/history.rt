@@ -1,3 +1,6 @@
+//! Histories of version 1. A text is one with these entries exactly when the grammar says so. Otherwise its first bad
+//! line is named. Out of memory is answered only if the text begins with an entry (`memory`). `history_lines` gives the
+//! lines after the first to those who keep no entry.
 ghost use Rattle.std.specs.Prelude.{◌≡◌, IfOk, IfErr, IsErrOf};
 ghost use Rattle.mh_model.specs.HistoryTexts.{history_reading};
 ghost use Rattle.mh_model.specs.Script.{BadLine, Means};

@@ -1,3 +1,5 @@
+//! Replies whose values stand between key words: those of a quantum, of `stat` and of `report`. The values are kept in
+//! an array of a fixed size, so reading them takes no memory.
 ghost use Rattle.std.specs.Prelude.{◌≡◌, ◌<◌, ◌∷◌, [], length, codes, Some, None, IfSome, IfNone, option_and_then};
 ghost use Rattle.mh_model.specs.Replies.{values, spent_of, stat_of, report_of};
 ghost use Rattle.mh_text.specs.Names.{names_shown};

@@ -1,3 +1,8 @@
+//! Histories entry by entry, of which none is kept: the entry that the next line is, or that it is bad.
+//!
+//! One at a time is in memory, also one whose reply is a dump of any length: 32 bytes for each of its items, which have
+//! at least 6 bytes of text each. A legal dump has at most 266,240 items, which are 8.5 MB, so only a bad text has an
+//! entry that takes more.
 ghost use Rattle.std.specs.Prelude.{◌≡◌, ◌<◌, ℕ, List, [], drop, length, Option, IfOk, IfErr, IfSome, IfNone, OnErr, IsErrOf, IsSome};
 ghost use Rattle.mh_model.specs.Bytes.{words};
 ghost use Rattle.mh_model.specs.declared.history.Version.TheVariants.{One};

@@ -1,3 +1,5 @@
+//! The line of an entry with its units, added to a text. It is the model's, and so are an event and a reply that are
+//! added alone.
 ghost use Rattle.std.specs.Prelude.{◌≡◌, ◌++◌, ◌∷◌, [], map, decimal, OnOk};
 ghost use Rattle.std.specs.String.{string_bytes};
 ghost use Rattle.mh_model.specs.Bytes.{joined, line_text};

@@ -1,3 +1,5 @@
+//! Records: histories of version 2, with their configuration and the units of each entry. All that is said of those of
+//! version 1 in `history` holds of them.
 ghost use Rattle.std.specs.Prelude.{◌≡◌, IfOk, IfErr, IsErrOf};
 ghost use Rattle.mh_model.specs.HistoryTexts.{recorded_reading};
 ghost use Rattle.mh_model.specs.Script.{BadLine, Means};

@@ -41,15 +41,17 @@ IsRight machine event right = right ≡ measured_step machine event (event_step 
 abbrev pub IsEntryFault : Machine → Entry → EntryFault → Type 0
 IsEntryFault machine entry f = IsReplyFault entry.reply (event_step machine entry.event).reply f
 
+-- the units of an entry
 abbrev pub units_of : Measured → Units
 units_of measured = record { mutator = measured.mutator; collector = measured.collector }
 
--- what it says of one with its units: its reply isn't the right one, or only its units aren't
+-- what it says of one with its units beside the right one: its reply isn't right, or only its units aren't
 abbrev pub IsWrongBeside : Measured → Measured → EntryFault → Type 0
 IsWrongBeside given right (fault.Units stated wanted) =
     (given.entry.reply ≡ right.entry.reply) × (stated ≡ units_of given) × (wanted ≡ units_of right) × (stated ≢ wanted)
 IsWrongBeside given right f = IsReplyFault given.entry.reply right.entry.reply f
 
+-- the same beside the entry that the machine makes
 abbrev pub IsMeasuredFault : Machine → Measured → EntryFault → Type 0
 IsMeasuredFault machine measured f = IsWrongBeside measured (measured_step machine measured.entry.event (event_step machine measured.entry.event)) f
 

@@ -90,7 +90,7 @@ pub record BeginsToMigrate (config : Config) (known old new : Option Text) : Typ
 
 -- Ended ------------------------------------------------------------------------------------------
 
--- A history of a source was judged, of so many bytes at most and with such a prefix if memory is taken for it, and how that ended
+-- A history of a source was judged, of so many bytes at most, and how that ended. If memory is taken for it, it begins so
 pub record IsJudging (Judged : Text → Verdict → Type 0) (Explained : Text → Judgement → Type 0) (Begins : Text → Type 0) (most : ℕ) (source source' sink sink' : Device) (ended : Result Judgement ScriptFault) : Type 0 where
   pub judged : IfOk ended (λ judgement. Judges Judged source.bytes sink.bytes sink'.bytes (verdict_of judgement))
   pub explained : IfOk ended (Explains Explained source.bytes)

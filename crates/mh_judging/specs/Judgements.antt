@@ -16,7 +16,7 @@ use Rattle.mh_judging.specs.declared.judgement.Judgement.{Judgement}
 use Rattle.mh_judging.specs.declared.judgement.Judgement.TheVariants.{Legal, Refused, FirstBad}
 use Rattle.mh_judging.specs.Faults.{HasFault, IsEntryFault, IsMeasuredFault, IsWrongAfter}
 
--- the verdict alone
+-- the verdict of a judgement
 abbrev pub verdict_of : Judgement → Verdict
 verdict_of (Legal count) = verdict.Legal count
 verdict_of (Refused line reason) = verdict.Refused line
@@ -33,17 +33,19 @@ IsExplained Bad Wrong (Legal count) = Unit {0}
 IsExplained Bad Wrong (Refused line reason) = Bad line reason
 IsExplained Bad Wrong (FirstBad number fault) = Wrong number fault
 
--- of a text of version 1 under a configuration
+-- a fault of the entry with this number, of a text of version 1 under a configuration
 abbrev pub IsCheckedFault : Config → Text → ℕ → EntryFault → Type 0
 IsCheckedFault config text number fault = (entries : List Entry) × (history_reading text ≡ Means entries) × HasFault (IsWrongAfter config (λ entry. entry.event) IsEntryFault) entries number fault
 
+-- what a judgement says of such a text beside its verdict is true
 abbrev pub IsCheckExplained : Config → Text → Judgement → Type 0
 IsCheckExplained config text = IsExplained (IsHistoryReason One text) (IsCheckedFault config text)
 
--- and of one of version 2
+-- a fault of the entry with this number, of a text of version 2
 abbrev pub IsAuditedFault : Text → ℕ → EntryFault → Type 0
 IsAuditedFault text number fault =
     (recorded : Recorded) × (recorded_reading text ≡ Means recorded) × HasFault (IsWrongAfter recorded.config (λ measured. measured.entry.event) IsMeasuredFault) recorded.entries number fault
 
+-- what a judgement says of such a text beside its verdict is true
 abbrev pub IsAuditExplained : Text → Judgement → Type 0
 IsAuditExplained text = IsExplained (IsHistoryReason Two text) (IsAuditedFault text)

@@ -1,3 +1,5 @@
+//! What is wrong with an entry of a history, and the text that says it. It is one too many, or its reply or its units
+//! aren't the right ones. No contract speaks of the text: tests compare it.
 use mh_model::dump::DumpItem;
 use mh_model::reply::Reply;
 use mh_text::reply_text::{ItemText, ReplyText};

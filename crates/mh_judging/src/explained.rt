@@ -1,4 +1,10 @@
 //! Judgements: verdicts on whole texts, with what is wrong with a text that isn't legal.
+//!
+//! The verdict is the one that the text has. What stands beside it is true of the text: the reason for its bad line,
+//! and what is wrong with its first bad entry. Memory is refused only if the text begins with an entry.
+//!
+//! What is wrong with a bad entry is found by a second replay, up to that entry, after the verdict. So judging costs
+//! nothing more for a legal history. A judge that kept the fault would need the right reply beside each entry.
 ghost use Rattle.std.specs.Prelude.{IfOk, OnErr};
 ghost use Rattle.mh_judging.specs.Judgements.{IsAuditExplained, IsAuditedFault, IsCheckExplained, IsCheckedFault, verdict_of};
 ghost use Rattle.mh_history.specs.Beginnings.{BeginsWithEntry, BeginsWithMeasured};

@@ -1,4 +1,19 @@
 //! Histories that are judged as whole texts.
+//!
+//! The verdict reported is the one that the text has. A history of the first version has it by a configuration, one
+//! of the second by its own. What is reported beside it is true of the text: the reason for its bad line, and what is
+//! wrong with its first bad entry. The line of the verdict was written and nothing else. A failed sink leaves a
+//! prefix of that line. A failed source or out of memory leaves nothing written. A device failed exactly when it is
+//! blamed. Of a text that is given the same verdict is found.
+//!
+//! A fault of the text comes before a bad entry, in whatever lines they are. So entries are judged as they are read,
+//! none is kept, and after the first bad one the lines are still read to the end. The first bad entry is the least
+//! number up to which the history isn't legal. So it is 1,000,001 if the machine's replies are right that far.
+//!
+//! One entry is kept at a time, also one whose reply is a dump of any length. An item of a dump takes 32 bytes, and
+//! has at least 6 bytes of text. A legal dump has at most 266,240 items. So only a text with a longer one, which is
+//! bad, takes more than 9 MB for an entry. No machine is opened before there is an entry. So memory is refused only
+//! for bytes that the source gave, or for a text that begins with an entry.
 ghost use Rattle.std.specs.Prelude.{◌≡◌, ◌≢◌, ◌<◌, ◌^◌, List, [], ◌∷◌, ◌++◌, IfOk, IfErr, OnOk, OnErr, IsErrOf};
 ghost use Rattle.std.specs.Io.KnownBytes.{Keeps};
 ghost use Rattle.mh_model.specs.History.{IsLegal};

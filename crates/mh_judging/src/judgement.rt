@@ -1,3 +1,6 @@
+//! What `check`, `audit` and `migrate` find of a history: a verdict, with the reason for a bad line or what is wrong
+//! with a bad entry. It is one type, so that one function gives its exit status. The statuses are in `mh_program`,
+//! above the crates of the texts.
 ghost use Rattle.std.specs.Prelude.{◌≡◌};
 ghost use Rattle.mh_judging.specs.Judgements.{IsRefusal, verdict_of};
 ghost use Rattle.mh_script.specs.OfReasons.HistoryReasons.{IsRefusedAt};

@@ -1,4 +1,11 @@
-//! Histories as texts: judged, with what is wrong with them, migrated from the first version to the second, and written of runs.
+//! Histories as texts: judged, with what is wrong with them, migrated from the first version to the second, and
+//! written of runs.
+//!
+//! Runs, judging and races of scripts are a crate each, so a run of a script waits for no lock. What reads and writes
+//! whole texts is in `mh_script`, on which the two others stand.
+//!
+//! Which verdict a text has is a relation (`IsChecked`, `IsAudited`), since equality of replies has no test in the
+//! model. Laws of `mh_text_laws` say that each text has one verdict alone.
 #![tactic(auto)]
 
 pub use mh_script;

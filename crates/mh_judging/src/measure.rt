@@ -1,4 +1,5 @@
-//! An event as it is done, with its units.
+//! An event as it is done, with its reply and its units. The units are read off the counts of the trace, before it
+//! and after it.
 ghost use Rattle.std.specs.Prelude.{◌≡◌, ◌<◌, suc, IfOk, OnOk};
 ghost use Rattle.mh_model.specs.HistoryTexts.{measured_step};
 ghost use Rattle.mh_model.specs.Limits.{most_entries};

@@ -1,4 +1,13 @@
 //! Histories of version 1 that become histories of version 2.
+//!
+//! A legal one is written as one of the second version, which is legal and has as many entries. Of any other text the
+//! line of its verdict is written, and what is reported beside the verdict is true of the text. A failed source
+//! leaves nothing written. Whatever else ends this early leaves a prefix. A device failed exactly when it is blamed.
+//! Memory is refused only for bytes that the source gave, or for a text that begins with an entry or is a history.
+//!
+//! A legal history is read twice, once to find its verdict and once to write it. Nothing of it may be written before
+//! it is known to be legal. The length of what is written is no premise. By a law, a history within its limit becomes
+//! a text within the limit of the second version.
 ghost use Rattle.std.specs.Prelude.{◌≡◌, ◌≢◌, ◌<◌, ◌^◌, IfOk, OnErr, IsErrOf};
 ghost use Rattle.std.specs.Io.KnownBytes.{Appends, Keeps};
 ghost use Rattle.mh_judging.specs.Judgements.{IsCheckExplained, verdict_of};

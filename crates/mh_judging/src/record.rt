@@ -1,4 +1,7 @@
 //! Histories that are replayed and runs that are made, and written as records of version 2.
+//!
+//! A record has the machine's replies and units for its events. Of a history the replies aren't looked at; in a legal
+//! one they are the same. Whatever ends a call early leaves a prefix of the record.
 ghost use Rattle.std.specs.Prelude.{◌≡◌, ◌<◌, ◌≤◌, ◌^◌, List, length, OnOk, OnErr, IsErrOf};
 ghost use Rattle.std.specs.Io.KnownBytes.{Appends};
 ghost use Rattle.mh_history.specs.Beginnings.{entries_left, entry_line};

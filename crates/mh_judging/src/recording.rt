@@ -1,4 +1,5 @@
-//! A record of version 2 as it is written: the machine that does the events, and the lines that wait for the sink.
+//! A record of version 2 as it is written: the machine that does the events, and the lines that wait for the sink. A
+//! line waits only until the buffer is full. So a record takes no more memory than the replies of a run do.
 ghost use Rattle.std.specs.Prelude.{◌≡◌, ◌+◌, ◌<◌, ◌≤◌, ◌^◌, List, ◌++◌, [], length, IfOk, IfSome, OnSome, IfNone, OnOk, OnErr, IsErrOf};
 ghost use Rattle.std.specs.Io.KnownBytes.{Appends};
 ghost use Rattle.std.specs.String.{string_bytes};

@@ -1,4 +1,8 @@
 //! Histories that are replayed once more, up to their first bad entry.
+//!
+//! What is found to be wrong with it is true of it. It is its reply beside the right one, or its units beside the
+//! right ones. Or the entry is one too many. What is right is what the machine answers after the entries before it.
+//! Lines that are known to be entries are read by `entry_again`, which refuses none.
 ghost use Rattle.std.specs.Prelude.{◌≡◌, ◌≢◌, ◌≤◌, ◌<◌, suc, [], ◌∷◌, ◌++◌, List, length, map, IfOk, IfSome, IfNone, OnOk};
 ghost use Rattle.mh_judging.specs.Faults.{HasFault, IsEntryFault, IsFaultAfter, IsMeasuredFault, IsRight, IsWrongAfter};
 ghost use Rattle.mh_judging.specs.declared.entry_fault.EntryFault.{EntryFault};

@@ -1,4 +1,5 @@
-//! A reply beside the right one.
+//! A reply beside the right one. What is found of two that differ is true: both replies, or of two dumps the first
+//! item in which they differ. The texts of two dumps would be a megabyte, and mostly the same.
 ghost use Rattle.std.specs.Prelude.{◌≡◌, ◌≢◌, ◌≤◌, ℕ, Option, length, slice_get, take};
 ghost use Rattle.mh_model.specs.declared.dump.DumpItem.{DumpItem};
 ghost use Rattle.mh_judging.specs.Faults.{IsFirstDifference, IsReplyFault};

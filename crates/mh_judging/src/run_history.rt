@@ -1,4 +1,11 @@
 //! Runs of scripts that are written as their histories.
+//!
+//! A run that ends well has written its history in the second version and nothing else, or the line that refuses the
+//! script. That history is legal if it isn't too long. Whatever ends the run early leaves a prefix of it. The number
+//! of workers changes nothing of this. All else that is said of `run_script` holds too.
+//!
+//! The history is written line by line, as the script runs, like its replies. So it takes no more memory than they
+//! do.
 ghost use Rattle.std.specs.Prelude.{◌<◌, ◌≤◌, ◌^◌, IfOk, OnErr, IsErrOf};
 ghost use Rattle.std.specs.Io.KnownBytes.{Keeps};
 ghost use Rattle.mh_model.specs.Output as model;

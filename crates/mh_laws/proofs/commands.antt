@@ -1,2 +1,3 @@
+pub mod EachCommand
 pub mod LeftUnchanged
 pub mod CommandAnswers

@@ -11,7 +11,8 @@ use Rattle.mh_model.specs.Collector.{Collector}
 use Rattle.mh_model.specs.Mutator.{HeapState, with_root, with_roots_cleared, new_group, with_born, heap_sight, heap_effect, mutator_step}
 use Rattle.mh_model.specs.Pages.{HaveTheirSlots}
 
--- a collector on the same course: only blocks, slots and the grey list may differ, and an object made meanwhile has at most so many fields
+-- a collector on the same course: only blocks with their pages, root slots and the grey list may differ. It has as many pages, and keeps their slots
+-- and blocks within the limits; these allow as many fields as an object made meanwhile may have
 pub record IsOnCourse (made : ℕ) (old new : Collector) : Type 0 where
   pub pages : length new.table ≡ length old.table
   pub slots : HaveTheirSlots old.table → HaveTheirSlots new.table
@@ -28,7 +29,8 @@ pub record IsBorn (heap : HeapState) (who slot references numbers : ℕ) : Type 
   pub group : new_group heap references numbers ≡ Some made
   pub state : (mutator_step heap who (command.New slot references numbers)).state ≡ with_born heap (own_slot who slot) made
 
--- A command leaves the collector's phase, cursor, cycle number, asking and quanta, and keeps the pages
+-- A command of a session leaves phase, cursor, cycle number, asking and quanta as they were. It keeps the number of pages, their slots, and blocks
+-- within the limits
 abbrev pub CommandKeepsTheCourse : Type 0
 CommandKeepsTheCourse = (heap : HeapState) (who : ℕ) (command : Command) → IsOnCourse (most_fields heap.config) heap.collector (mutator_step heap who command).state.collector
 
@@ -36,20 +38,21 @@ CommandKeepsTheCourse = (heap : HeapState) (who : ℕ) (command : Command) → I
 abbrev pub RefusalLeavesTheHeap : Type 0
 RefusalLeavesTheHeap = (heap : HeapState) (who : ℕ) (command : Command) (refusal : Refusal) → (mutator_step heap who command).reply ≡ reply.Refused refusal → (mutator_step heap who command).state ≡ heap
 
--- A new object is refused by a full heap only if its parts aren't made
+-- A new object is answered `heap full` only if its parts aren't made
 abbrev pub FullHeapHasNoPlace : Type 0
 FullHeapHasNoPlace = (heap : HeapState) (who slot references numbers : ℕ) → (mutator_step heap who (command.New slot references numbers)).reply ≡ reply.Refused HeapFull → new_group heap references numbers ≡ None
 
--- and each one that no other test refuses is, if they aren't made
+-- A new object that no other test refuses is answered `heap full` if its parts aren't made
 abbrev pub NoPlaceIsAFullHeap : Type 0
 NoPlaceIsAFullHeap = (heap : HeapState) (who slot references numbers : ℕ) → refusal (record (heap_sight heap) { is_full = never_full }) who (command.New slot references numbers) ≡ None → new_group heap references numbers ≡ None
     → (mutator_step heap who (command.New slot references numbers)).reply ≡ reply.Refused HeapFull
 
--- A new object that is answered as done is born with all its parts
+-- A new object that is answered as done has all its parts, and its slot names it
 abbrev pub DoneIsBorn : Type 0
 DoneIsBorn = (heap : HeapState) (who slot references numbers : ℕ) → (mutator_step heap who (command.New slot references numbers)).reply ≡ reply.Done → IsBorn heap who slot references numbers
 
--- A command that a test refuses answers the refusal and changes nothing, and one that none refuses has its effect: a new object that has a place is born, and a session's end empties its slots in order
+-- A command that a test refuses answers so and changes nothing, and one that none refuses has its effect. A new object that has a place is born, and
+-- a session's end empties its 16 slots in order
 pub record CommandsAreAnswered : Type 0 where
   pub refused : (heap : HeapState) (who : ℕ) (command : Command) (refused : Refusal) → refusal (heap_sight heap) who command ≡ Some refused → mutator_step heap who command ≡ says (reply.Refused refused) heap
   pub taken : (heap : HeapState) (who : ℕ) (command : Command) → refusal (heap_sight heap) who command ≡ None → mutator_step heap who command ≡ heap_effect heap who command

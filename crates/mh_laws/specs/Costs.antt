@@ -15,14 +15,16 @@ QuantumKeepsItsLimit = (config : Config) (collector : Collector) → (quantum co
 abbrev pub RunningStepCosts : Type 0
 RunningStepCosts = (collector : Collector) (has_moved : Bool) → is_idle collector.phase ≡ false → 1 ≤ step_cost collector has_moved
 
--- The next step costs at most 209 if the table is of such sizes, as it is wherever a collector is within the bounds of its cycle, and at every moment of every run, half steps included
+-- The next step costs at most 209 if classes have at most 64 words and blocks at most 60 references. So they have wherever a collector is within the
+-- bounds of its cycle, and at every moment of every run, half steps included
 pub record DearestStepCosts209 : Type 0 where
   pub costs : (collector : Collector) (has_moved : Bool) → IsSized collector.table → step_cost collector has_moved ≤ 209
   pub in_bounds : (config : Config) (collector : Collector) → IsInBounds config collector → IsSized collector.table
   pub after_events : (config : Config) (events : List Event) → IsSized (machine_after (first_machine config) events).heap.collector.table
   pub after_commands : (config : Config) (events : List Event) (event : Event) → IsSized (half_step (machine_after (first_machine config) events) event).heap.collector.table
 
--- A quantum stops only if no cycle runs or the next step doesn't fit in what is left, at its price after a move or before one
+-- A quantum stops only if no cycle runs or the next step doesn't fit in what is left. Its price is that after a move of the quantum, or that before
+-- one
 abbrev pub QuantumGoesOn : Type 0
 QuantumGoesOn = (config : Config) (collector : Collector) →
     let spending = quantum config collector in

@@ -7,22 +7,23 @@ use Rattle.mh_model.specs.Collector.{Collector}
 use Rattle.mh_model.specs.Mutator.{HeapState, root_at, shape_at, field_of}
 use Rattle.mh_model.specs.Invariant.{IsIn, IsPlainAt, LeadsToObject, HeapKeeps, IsKeeping, IsSteady, MayBeWritten, MayHaveWritten, IsObjectAt, IsFindable, HasField}
 
--- A slot of a kept heap holds the place of an object, whose shape is the one that is seen there
+-- A slot of a kept heap holds the place of an object, whose shape is the one that is seen there; or it is empty, and no shape is seen
 pub record SlotsHoldObjects : Type 0 where
   pub held : (heap : HeapState) → IsKeeping heap → (slot place : ℕ) → root_at heap slot ≡ Some place → (shape : Shape) × IsObjectAt heap.collector place shape × (shape_at heap slot ≡ Some shape)
   pub seen : (heap : HeapState) → IsKeeping heap → (slot : ℕ) (shape : Shape) → shape_at heap slot ≡ Some shape → (place : ℕ) × (root_at heap slot ≡ Some place) × IsObjectAt heap.collector place shape
 
--- Each field of an object is found: the references on the way to it lead to blocks, and where it lies there is a block with fields and as many of them
+-- Each field of an object is found: the references on the way lead to blocks, and at its place is a block with as many references and numbers
 pub record FieldsAreFound : Type 0 where
   pub findable : (collector : Collector) → IsSteady collector → (place : ℕ) (shape : Shape) → IsObjectAt collector place shape → (field : ℕ) → field < shape.references + shape.numbers → IsFindable collector.table place field
   pub lies : (collector : Collector) → IsSteady collector → (place : ℕ) (shape : Shape) → IsObjectAt collector place shape → (field : ℕ) → field < shape.references + shape.numbers → HasField collector place shape field
 
--- a reference leads to a block that is no forwarder, and there is a block on the way
+-- a reference that is null, or leads to a block that is no forwarder, with a block on the way
 pub record LeadsThere (collector : Collector) (reference : Option ℕ) : Type 0 where
   pub on : LeadsOn collector.table reference
   pub home : LeadsHome collector.table reference
 
--- References of slots and of plain blocks lead to blocks that are no forwarders, and those of slots and of objects' fields to objects; a grey place has a plain block, which is marked
+-- References of slots and of objects' fields lead to objects, also as they are loaded. Those of any plain block lead to blocks that are no
+-- forwarders. A grey place has a plain block, which is marked
 pub record ReferencesLeadOn : Type 0 where
   pub slots : (collector : Collector) → IsSteady collector → (slot : ℕ) → LeadsThere collector (get_or collector.slots slot None)
   pub words : (collector : Collector) → IsSteady collector → (place : ℕ) (block : Block) → IsPlainAt collector place block → (index : ℕ) → LeadsThere collector (reference_at collector.table place index)
@@ -32,7 +33,7 @@ pub record ReferencesLeadOn : Type 0 where
       → (other : Shape) × IsObjectAt collector target other
   pub grey : (collector : Collector) → IsSteady collector → (place : ℕ) → IsIn place collector.grey → (block : Block) × IsPlainAt collector place block × (block.stamp ≡ collector.cycle)
 
--- What slots hold and what is loaded may be written, and the fields of an object in a slot may have it written
+-- What slots of a kept heap hold and what is loaded from objects in them may be written. The fields of these objects may have it written
 pub record CommandsWriteWhatTheyMay : Type 0 where
   pub slots : (snapshot : World) (heap : HeapState) → HeapKeeps snapshot heap → (slot : ℕ) → MayBeWritten snapshot heap.next_birth heap.collector (root_at heap slot)
   pub fields : (snapshot : World) (heap : HeapState) → HeapKeeps snapshot heap → (slot field : ℕ) (shape : Shape) → shape_at heap slot ≡ Some shape → field < shape.references → MayHaveWritten snapshot heap.next_birth heap.collector (field_of heap slot field).place

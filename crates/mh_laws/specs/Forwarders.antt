@@ -18,21 +18,23 @@ pub record BeginsToDefragment (config : Config) (collector begun : Collector) : 
   pub is : after_steps config collector (suc count) ≡ begun
   pub defragments : begun.phase ≡ Defrag
 
--- if a table has a forwarder, an earlier one had none: no block, or one that is no forwarder
+-- a table with forwarders only at places at which an earlier one had none: there it had no block, or one that was no forwarder
 abbrev pub ForwardersAreNew : Table Block → Table Block → Type 0
 ForwardersAreNew earlier table = (place target : ℕ) → forward_at table place ≡ Some target → forward_at earlier place ≡ None
 
--- a collector is of the cycle whose defragmentation began with an earlier one, and each of its forwarders was made since
+-- a collector of the cycle whose defragmentation began with an earlier one, and whose forwarders were made since
 pub record IsMadeSince (begun collector : Collector) : Type 0 where
   pub cycle : begun.cycle ≡ collector.cycle
   pub forwarders : ForwardersAreNew begun.table collector.table
 
--- What a quantum leaves of forwarders: when a defragmentation begins within it no block is one, and a cycle that it leaves in defragmentation or ends was entered there, or begins to defragment within it and made each forwarder since
+-- what a quantum leaves of forwarders: when a defragmentation begins within it, no block is one. If it leaves a cycle in defragmentation or ended, it
+-- was entered in that cycle's defragmentation; or this begins within it, and each forwarder was made since
 pub record MakesItsForwarders (config : Config) (old new : Collector) : Type 0 where
   pub begins : (begun : Collector) → BeginsToDefragment config old begun → (place : ℕ) → forward_at begun.table place ≡ None
   pub reaches : in_trace new.phase ≡ false → (is_idle old.phase ≡ false) ⊎ (is_start_due config old ≡ true)
       → ((old.phase ≡ Defrag) × (old.cycle ≡ new.cycle)) ⊎ ((begun : Collector) × BeginsToDefragment config old begun × IsMadeSince begun new)
 
--- So does each quantum
+-- When a defragmentation begins within a quantum of a steady collector, no block is a forwarder. A quantum that leaves a cycle in defragmentation or
+-- ended was entered in that cycle's defragmentation; or this begins within it, and each forwarder was made since
 abbrev pub QuantaMakeTheirForwarders : Type 0
 QuantaMakeTheirForwarders = (config : Config) (collector : Collector) → IsSteady collector → MakesItsForwarders config collector (quantum config collector).collector

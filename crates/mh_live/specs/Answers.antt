@@ -9,7 +9,7 @@ use Rattle.mh_script.specs.OfState.Running.{Running, Does, MayAskForMemory}
 use Rattle.mh_model.specs.Live.{Live, Waits, Runs}
 use Rattle.mh_live.specs.declared.live.Attended.{Attended}
 
--- the lines of an event that isn't done
+-- the two lines of an event that isn't done: for a full history, and for refused memory
 abbrev pub full_line : Text
 full_line = line_text (codes "refused 8 history full")
 
@@ -22,6 +22,7 @@ pub data IsAnswered (old : Running) (event : Event) (text : Text) (new : Running
   Full : old.done ≡ most_entries → text ≡ full_line → new ≡ old → IsAnswered old event text new false
   Starved : MayAskForMemory old.room event → text ≡ starved_line → new ≡ old → IsAnswered old event text new false
 
+-- where a run by lines stands: the configuration hasn't come, or there is a machine with the names seen and its count of events
 abbrev pub live_of : Option Attended → Live
 live_of None = Waits
 live_of (Some attended) = Runs attended.machine.machine attended.names attended.machine.done

@@ -24,6 +24,7 @@ pub record HasAnswered (Hears : List Refusal → Type 0) (text : Text) (old new 
   pub wrote : Appends old new answers
   pub heard : Hears refusals
 
+-- the same by what a feed has
 abbrev pub IsFed : (List Refusal → Type 0) → Text → Option Text → Option Text → Feed → Type 0
 IsFed Hears text first new feed = HasAnswered Hears text first new feed.number feed.live feed.begun.items
 

@@ -1,4 +1,9 @@
 //! An event of a line, and what it is answered.
+//!
+//! Memory that is refused for the event is answered `refused 9 no memory`, and then nothing is changed: the text of a
+//! dump is made before the dump is done. An event past the 1,000,000th is answered `refused 8 history full`, however
+//! many come. Contracts of this file alone say that it is refused only to an event that may ask for it
+//! (`MayAskForMemory` of `mh_state`).
 ghost use Rattle.std.specs.Prelude.{◌≡◌, ◌<◌, [], ◌++◌, IfOk, OnOk};
 ghost use Rattle.std.specs.String.{string_bytes};
 ghost use Rattle.mh_model.specs.Bytes.{line_text};

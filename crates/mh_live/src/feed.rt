@@ -1,4 +1,17 @@
-//! Lines that are read from a source as they come. Those whose ends have come are answered before more bytes are read.
+//! Lines that are read from a source as they come.
+//!
+//! Those whose ends have come are answered before more bytes are read. That is seen in the code alone, and a test from
+//! another process shows it. At the end of the source each line was answered, and a last line without its end was
+//! refused. Whatever ends it earlier leaves the answers to the first lines, or a prefix of these. A failed read leaves
+//! each whole line answered that came before it (`prompt`). A device failed exactly when it is blamed. The run ends
+//! with out of memory only if the source gave some byte (`memory`). It ends so if memory is refused for the bytes of a
+//! line, or for the text of a reply that is no dump. The number of workers changes nothing of this.
+//!
+//! The listener hears of exactly the lines that were refused, in order, each with its number and a reason that is true
+//! of it. If the run ends early, it has heard of those whose answers were written whole. It hears after the answer, so
+//! whoever waits for the answer never waits for the listener.
+//!
+//! The buffer of answers keeps its room, so that a short reply takes memory only once.
 ghost use Rattle.std.specs.Prelude.{◌≡◌, ◌<◌, ◌≤◌, ◌^◌, ◌++◌, [], Option, IfErr, OnOk, OnErr, IsErrOf, length};
 ghost use Rattle.mh_model.specs.Bytes.{Text};
 ghost use Rattle.mh_text.specs.Stream.{ConsumesSome};

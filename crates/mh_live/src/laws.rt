@@ -1,4 +1,4 @@
-//! Laws of answers line by line.
+//! Laws of answers line by line: what they have to do with a run, and that each text has some.
 ghost use Rattle.mh_live.specs.Laws.{ScriptsAreAnsweredAsRun, TextsHaveAnswers};
 
 /// A script of at most 1,000,000 events is answered with the output of its run, if memory is never refused.

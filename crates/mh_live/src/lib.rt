@@ -1,4 +1,8 @@
 //! Scripts whose lines are answered one by one, as they come.
+//!
+//! `live` answers a line, and `feed` takes lines from a source and writes their answers to a sink. Lines are answered
+//! as the model says. A configuration is answered with nothing, as in a run. So the answers to the lines of a script
+//! are the output of its run, if its history has room.
 #![tactic(auto)]
 
 pub use mh_script;

@@ -1,3 +1,4 @@
+//! Who hears of refused lines: in the program standard error, of which this crate knows nothing.
 ghost use Rattle.std.specs.Prelude.{List, [], ◌∷◌, ◌++◌};
 ghost use Rattle.mh_script.specs.declared.end.Refusal.{Refusal};
 

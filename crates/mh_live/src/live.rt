@@ -1,4 +1,12 @@
 //! The machine that lines drive.
+//!
+//! A line outside the grammar is refused with its number and changes nothing, and the next one is answered. Before the
+//! configuration each line that isn't blank is bad, unless it is one. A second configuration is a bad line.
+//!
+//! An event after the 1,000,000th and one for which memory is refused are answered so, and change nothing, not even
+//! which names were seen. A line is answered with out of memory only if it is a configuration, a command, a quantum or
+//! a dump. That the event may ask for memory at all is said by private contracts alone (`MayAskForMemory` of
+//! `mh_state`).
 ghost use Rattle.std.specs.Prelude.{◌≡◌, [], true, false, IfOk, OnOk, Some};
 ghost use Rattle.std.specs.String.{string_bytes};
 ghost use Rattle.mh_model.specs.Script.{is_blank, line_of};

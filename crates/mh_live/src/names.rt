@@ -1,3 +1,6 @@
+//! The names of sessions that were seen, kept in arrays of a fixed size. They aren't those of `mh_text`, which borrow
+//! from a text: the bytes of a line are gone once it is answered. A name is looked up without being seen, since it is
+//! seen only once its event is done.
 ghost use Rattle.std.specs.Prelude.{◌≡◌, ◌≤◌, [], length, position};
 ghost use Rattle.mh_model.specs.Bytes.{is_text};
 ghost use Rattle.mh_model.specs.Script.{session_number, with_name};

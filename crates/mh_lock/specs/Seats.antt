@@ -36,7 +36,8 @@ abbrev pub entry_of : {R F E : Type 0} → (R → E) → Result R F → Option E
 entry_of entry (Ok reply) = Some (entry reply)
 entry_of entry (Err refusal) = None
 
--- The model's lock over a call of a seat: at home with the history found, then taken by the seat, then given back with the entry of the call or none, and at home with the history left
+-- The model's lock over a call of a seat: at home with the history found, and then taken by the seat; then given back with the entry of the call or
+-- none, and at home with the history left
 pub record IsTakenAndGiven {O E : Type 0} (owner : E → ℕ) (lock : LockView O) (before after : LockSeatView E) (found left : List E) (entry : Option E) : Type 0 where
   pub state : LockState E
   pub kept : IsAtHome owner state

@@ -12,6 +12,7 @@ empty_logs k zero = []
 empty_logs k (suc n) = (k, []) ∷ empty_logs (suc k) n
 
 module _ {E O : Type 0} where
+  -- logs, and what was found of the value
   abbrev pub seat_view : Logs E → Option (Found E O) → SeatView E O
   seat_view logs found = record { logs = logs; found = found }
 
@@ -63,7 +64,7 @@ pub record WasAtHome {E : Type 0} (owner : E → ℕ) (seats number : ℕ) (log 
   pub there : get_or state.logs number [] ≡ log
 
 module _ {T E O : Type 0} (owner : E → ℕ) (entries : T → List E) (origin : T → O) where
-  -- A seat of a lock with so many seats and an origin has the value that was at home, whose entries it found, and its log is what it owns of them
+  -- A seat of a lock with so many seats has the value that was at home, of the lock's origin, and found its entries. Its log is what it owns of them
   abbrev pub HasTaken : ℕ × O → Me T (SeatView E O) → Me T (SeatView E O) → Type 0
   HasTaken about before after =
       (value : T)

@@ -1,4 +1,5 @@
-//! What a value in a lock shows of itself, and what a call does with it.
+//! What a value in a lock shows of itself, and what a call does with it. These traits are what a caller of the lock
+//! brings. Of the value no call changes the origin, so at the close it is what the lock was opened with.
 ghost use Rattle.std.specs.Prelude.{◌≡◌, [], ◌∷◌, ◌++◌, ℕ, List, Result, IfOk, OnErr};
 
 use mh_model::history::Entry;

@@ -1,4 +1,15 @@
-//! The lock.
+//! The lock: how its value is taken, worked on and given back.
+//!
+//! A call works once, on the value that it finds under the lock, in which the seat owns exactly its log. It gives back
+//! what that leaves (`alone`). The entry of a call is appended to the log of its seat. If the work refuses, the log and
+//! the value's entries stay as they are. The lock is closed exactly when all seats are handed in. Then each seat's log
+//! is what that seat owns of the value's entries, in order, so that the logs merge to them. The value has the origin
+//! with which the lock was opened, since the rule keeps it. The lock keeps the model's rule (`kept`).
+//!
+//! A call tries 100 times, yielding after each try, before it sleeps, since most calls are shorter than a sleep and a
+//! wake. Beside the word of the rule the lock has a count of the sleepers, which no rule and no contract speaks of. A
+//! seat that gives the value back wakes a sleeper only if one is counted. A thread is counted before it looks at the
+//! word for the last time, so none sleeps unseen. That sleepers are woken is tested, not proved.
 ghost use Rattle.std.specs.Prelude.{◌≡◌, ◌≢◌, ◌+◌, ◌<◌, ◌==◌, [], ◌∷◌, ◌++◌, ℕ, List, Option, None, true, false, All, IfOk, IfErr, OnErr, count_by, map, slice_index_or, vec_len};
 ghost use Rattle.mh_model.specs.History.{owned_by};
 ghost use Rattle.mh_lock.specs.Seats.{LockSeatView, IsOf, new_seat, IsKeptAtHome, IsDoneUnderLock, entry_of};

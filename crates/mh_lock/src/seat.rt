@@ -1,4 +1,8 @@
 //! The seats of a lock.
+//!
+//! Each is one of those first made: a seat that stands for several, before a split or after a join, keeps their lists
+//! apart. A seat that gave back what it never took would leave the lock without its value. The rule speaks only of
+//! seats that took it, and only a call takes and gives.
 ghost use Rattle.std.specs.Prelude.{◌≡◌, []};
 ghost use Rattle.mh_lock.specs.Steps.{alone};
 

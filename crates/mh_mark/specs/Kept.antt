@@ -7,16 +7,17 @@ use Rattle.mh_grey.specs.Queue.{is_in}
 use Rattle.mh_grey.specs.Shading.{AreMarked}
 use Rattle.mh_mark.specs.Walkable.{LeadHome}
 
--- a reference is null, or leads straight to a block that is marked
+-- a reference is null, or leads straight to a block that is marked, as `is_reached` says
 abbrev pub IsReached : Marking → Option ℕ → Type 0
 IsReached marking None = Unit {0}
 IsReached marking (Some place) = (forward_at marking.table place ≡ None) × (stamp_at marking.table place ≡ marking.cycle)
 
--- each reference of the block at a place is so
+-- each reference of the block at a place is so, as `is_settled` says
 abbrev pub IsSettled : Marking → ℕ → Type 0
 IsSettled marking place = (index : ℕ) → index < length (references_at marking.table place) → IsReached marking (reference_at marking.table place index)
 
--- pages have the classes that they had; each block is where it was, leads where it led and has as many references; references that led home do, marked grey places are, settled blocks are, and what is newly grey is no forwarder
+-- what marking leaves as it was: the classes of pages, and where each block is, where it leads and how many references it has.
+-- References that led home still do, marked grey places and settled blocks stay so, and what is newly grey is no forwarder
 pub record KeepsMarking (old new : Marking) : Type 0 where
   pub there : (place : ℕ) → is_some (block_at new.table place) ≡ is_some (block_at old.table place)
   pub forwards : (place : ℕ) → forward_at new.table place ≡ forward_at old.table place

@@ -1,3 +1,5 @@
+//! Marking by a batch: the longest front of the grey list with at most 1,024 places that fits in what is left of the
+//! quantum. Table, grey list and cost are the model's, whatever the scanner answers.
 ghost use Rattle.std.specs.Prelude.{◌≡◌, ℕ, ◌≤◌, ◌++◌, [], true, IsSome, length};
 ghost use Rattle.mh_model.specs.Pages.{block_at};
 ghost use Rattle.mh_model.specs.Batches.{batch_cost, longest_front};

@@ -1,3 +1,5 @@
+//! Marking through one block. Table, grey list and cost are the model's. The first grey block is found before its step,
+//! since its number of references says what the step costs.
 ghost use Rattle.std.specs.Prelude.{◌≡◌, ℕ, ◌<◌, true, IsSome, length};
 ghost use Rattle.mh_model.specs.Pages.{block_at};
 ghost use Rattle.mh_model.specs.Table.{references_at, reference_at, LeadsHome};

@@ -1,4 +1,8 @@
 //! Marking of one grey block, with a deed for each of its references.
+//!
+//! Table and grey list are those of `mark_step`. The loop is another one, since a second caller would keep the compiler
+//! from putting `mark_step` in its place. A reference made its target grey if the grey list grew by it. So the second
+//! of two references to one white block tells that it shaded nothing.
 ghost use Rattle.std.specs.Prelude.{◌≡◌, ℕ, ◌<◌, IsSome, length};
 ghost use Rattle.mh_model.specs.Pages.{block_at};
 ghost use Rattle.mh_model.specs.Table.{references_at, reference_at, LeadsHome};

@@ -5,7 +5,7 @@ use Rattle.mh_model.specs.Pages.{Table}
 use Rattle.mh_model.specs.Table.{Block, with_reference_at, found_in}
 use Rattle.mh_model.specs.Collector.{Collector, Marking, shade, mark_cost, marking_of, with_marking, after_mark}
 
--- no place stands twice
+-- no place is in a list twice
 abbrev pub NoneTwice : List ℕ → Type 0
 NoneTwice grey = IsDistinct (λ place other. place == other) grey
 
@@ -14,13 +14,13 @@ abbrev pub written_back : Marking → ℕ → ℕ → List (Option ℕ) → Mark
 written_back marking place index [] = marking
 written_back marking place index (target ∷ found) = written_back (shade (record marking { table = with_reference_at marking.table place index target }) target) place (suc index) found
 
--- the same for each block of a batch, in order
+-- what was found of a batch written back and shaded, block by block in order
 abbrev pub batch_written : Marking → List ℕ → List (List (Option ℕ)) → Marking
 batch_written marking [] all = marking
 batch_written marking (place ∷ batch) [] = marking
 batch_written marking (place ∷ batch) (found ∷ all) = batch_written (written_back marking place 0 found) batch all
 
--- A batch taken off the grey list, of which this is left: found at once, and then written back and shaded
+-- a batch taken off the grey list, of which this is left: found at once, and then written back and shaded
 abbrev pub batch_marked : Marking → List ℕ → List ℕ → Marking
 batch_marked marking batch rest = batch_written (record marking { grey = rest }) batch (found_in marking.table batch)
 

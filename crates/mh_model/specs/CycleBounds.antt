@@ -1,4 +1,5 @@
--- What is left of a cycle on its way, in steps and in units, and when it is within its bounds.
+-- What is left of a running cycle, in steps and in units, and when it is within its bounds.
+-- Nobody has to believe these words: every step keeps them, and the laws of bounds say what follows.
 use Rattle.std.specs.Prelude.{◌≡◌, ℕ, suc, ◌+◌, ◌-◌, ◌*◌, ◌<◌, ◌≤◌, true, if◌then◌else◌, length, Option, Some, None, option_map, unwrap_or, List, []}
 use Rattle.std.specs.List.{AllByRecursion, sum_by}
 use Rattle.mh_model.specs.declared.config.Config.{Config}
@@ -17,7 +18,7 @@ abbrev pub count_at : Table Block → ℕ → ℕ
 count_at table place = length (references_at table place)
 
 module _ (price : ℕ → ℕ) (cycle : ℕ) where
-  -- what marking the block in a slot will cost, at a price by its references: nothing if it is marked
+  -- what marking the block of a slot will cost, and the blocks of a page, at a price by its references: nothing for one that is marked
   abbrev pub slot_weight : Option Block → ℕ
   slot_weight None = 0
   slot_weight (Some block) = if is_marked cycle block then 0 else price (length block.references)
@@ -26,7 +27,7 @@ module _ (price : ℕ → ℕ) (cycle : ℕ) where
   page_weight None = 0
   page_weight (Some page) = sum_by slot_weight page.slots
 
-  -- what marking all unmarked blocks will cost
+  -- what marking all unmarked blocks of a table will cost
   abbrev pub table_weight : Table Block → ℕ
   table_weight table = sum_by page_weight table
 
@@ -34,7 +35,7 @@ module _ (price : ℕ → ℕ) (cycle : ℕ) where
 abbrev pub grey_weight : (ℕ → ℕ) → Table Block → List ℕ → ℕ
 grey_weight price table grey = sum_by (λ place. price (count_at table place)) grey
 
--- What marking still costs: the grey blocks, and those that may become grey
+-- what marking still costs, in steps or in units by the price: the grey blocks, and those that may become grey
 abbrev pub weight : (ℕ → ℕ) → Marking → ℕ
 weight price marking = table_weight price marking.cycle marking.table + grey_weight price marking.table marking.grey
 
@@ -62,7 +63,7 @@ movable pages page slot words = 256 * (pages - suc page) + (256 - words * slot)
 abbrev pub movable_words : Collector → ℕ
 movable_words collector = movable (length collector.table) (page_number collector.cursor) (slot_number collector.cursor) (size_at collector.table (page_number collector.cursor))
 
--- how many steps the cycle may still take
+-- how many steps a cycle may still take, by its phase
 abbrev pub steps_left : Phase → Collector → ℕ
 steps_left Idle collector = 0
 steps_left Roots collector = (144 - collector.cursor) + weight in_steps (marking_of collector) + 128 * length collector.table
@@ -70,7 +71,7 @@ steps_left Mark collector = weight in_steps (marking_of collector) + 128 * lengt
 steps_left Sweep collector = (64 * length collector.table - collector.cursor) + 64 * length collector.table
 steps_left Defrag collector = 64 * length collector.table - collector.cursor
 
--- how many units it may still spend, without the charge for slots
+-- how many units a cycle may still spend, by its phase, without the charge for slots
 abbrev pub units_left : Phase → Collector → ℕ
 units_left Idle collector = 0
 units_left Roots collector = 2 * (144 - collector.cursor) + weight in_units (marking_of collector) + 384 * length collector.table
@@ -80,14 +81,14 @@ units_left Defrag collector = (64 * length collector.table - collector.cursor) +
 
 -- On the way -------------------------------------------------------------------------------------
 
--- a class has 4 to 64 words, its slots lie in 256 words, and the header and references of each block lie in its slot
+-- a class has 4 to 64 words, and its slots lie in 256 words; the header and references of each block lie in its slot
 pub record IsRoomyPage (page : Page Block) : Type 0 where
   pub least : 4 ≤ page.class_size
   pub most : page.class_size ≤ 64
   pub words : page.class_size * length page.slots ≤ 256
   pub blocks : (slot : ℕ) (block : Block) → block_in slot page ≡ Some block → length block.references + 4 ≤ page.class_size
 
--- each page in use is so
+-- each page in use of a table is roomy
 pub record IsRoomy (table : Table Block) : Type 0 where
   pub pages : (number : ℕ) (page : Page Block) → page_at table number ≡ Some page → IsRoomyPage page
 
@@ -101,7 +102,7 @@ pub record IsGreySound (marking : Marking) : Type 0 where
   pub once : NoneTwice marking.grey
   pub marked : AllByRecursion (IsMarkedIn marking.table marking.cycle) marking.grey
 
--- where a phase stands: its cursor in range, and the grey list empty outside the roots and marking
+-- where a phase stands: its cursor in range, and the grey list empty outside the roots and marking, and not empty in marking
 abbrev pub StageOf : Phase → Collector → Type 0
 StageOf Idle collector = collector.grey ≡ []
 StageOf Roots collector = collector.cursor < 144
@@ -115,12 +116,12 @@ pub record IsUnderway (collector : Collector) : Type 0 where
   pub sound : IsGreySound (marking_of collector)
   pub stage : StageOf collector.phase collector
 
--- so many quanta and what is left are within the most of a cycle
+-- so many quanta and what is left are within the most of a cycle, in steps and in units
 pub record IsWithin (config : Config) (quanta steps units : ℕ) : Type 0 where
   pub by_steps : quanta + steps ≤ most_steps config
   pub by_units : 353 ≤ config.quantum → quanta * (config.quantum - 352) + units ≤ most_units config
 
--- A collector within the bounds of its cycle: the quanta that it has had and what is left are within the most, and between two cycles no quantum is counted
+-- a collector within the bounds of its cycle: the quanta that it has had and what is left are within the most; between two cycles no quantum is counted
 pub record IsInBounds (config : Config) (collector : Collector) : Type 0 where
   pub pages : length collector.table ≡ config.pages
   pub under : IsUnderway collector

@@ -16,7 +16,7 @@ use Rattle.mh_model.specs.Openings.{class_parts}
 
 -- Marking -----------------------------------------------------------------------------------------
 
--- what marking a block costs: 1 for it, and 1 for each of its references
+-- what marking the block of a slot costs, and the blocks of a page: 1 for each block, and 1 for each of its references
 abbrev pub slot_units : Option Block → ℕ
 slot_units None = 0
 slot_units (Some block) = 1 + length block.references
@@ -50,7 +50,7 @@ abbrev pub parts_of : Option Object → List Part
 parts_of None = []
 parts_of (Some object) = parts (length object.references) (length object.numbers)
 
--- what marking an object costs: all its parts, also those that have only references to others
+-- what marking an object costs: all its parts, its spines included, which have only references to others
 abbrev pub object_units : Option Object → ℕ
 object_units object = sum_by part_units (parts_of object)
 
@@ -89,18 +89,19 @@ greatest_of number list (size ∷ sizes) = if occurs list size then max (number 
 abbrev pub most_slots : List Part → ℕ
 most_slots list = greatest_of slots_in list class_sizes
 
--- what defragmentation spends at most on a page of a class, of whose slots at most a quarter has a block that moves
+-- what defragmentation spends at most on a page of a class: its slots, and the words of a quarter of them, for at most so many have a block that moves
 abbrev pub slots_and_moves : ℕ → ℕ
 slots_and_moves size = slots_in size + slots_in size / 4 * size
 
--- the most of that
+-- the most that defragmentation spends on a page, if it has blocks of these parts
 abbrev pub most_moves : List Part → ℕ
 most_moves list = greatest_of slots_and_moves list class_sizes
 
--- what a cycle spends at most without the charge for slots, if nothing goes into flagged pages: 2 for each root, so many to mark, and the sweep and defragmentation of pages of these parts
+-- what a cycle spends at most without the charge for slots, if nothing goes into flagged pages: 2 for each root, so many to mark, and the sweep and
+-- defragmentation of pages of these parts
 abbrev pub units_for : Config → ℕ → List Part → ℕ
 units_for config marked list = 288 + marked + (most_slots list + most_moves list) * config.pages
 
--- and in quanta: all but 352 units of one that leaves the cycle running go to the cycle
+-- the most quanta of a cycle that marks so much, in pages of these parts: all but 352 units of one that leaves the cycle running go to the cycle
 abbrev pub quanta_for : Config → ℕ → List Part → ℕ
 quanta_for config marked list = units_for config marked list / (config.quantum - 352) + 1

@@ -1,4 +1,5 @@
 -- The forms of commands and controls: a word and the numbers after it. Scripts and histories share them.
+-- A table of forms gives, for each first word, what the words after it mean.
 use Rattle.std.specs.Prelude.{ℕ, ◌^◌, nat_lt, Bool, true, false, ◌&&◌, if◌then◌else◌, Option, Some, None, option_and_then, List, [], ◌∷◌, map, get_or, codes, decimal}
 use Rattle.mh_model.specs.declared.command.Command.{Command}
 use Rattle.mh_model.specs.declared.command.Command.TheVariants as command
@@ -15,7 +16,7 @@ abbrev pub within : {X : Type 0} → Bool → X → Option X
 within true x = Some x
 within false x = None
 
--- A first word, and what the words after it mean
+-- a first word, and what the words after it mean
 pub record Form (X : Type 0) : Type 0 where
   pub verb : Text
   pub meaning : List Text → Option X
@@ -25,7 +26,7 @@ abbrev pub form_of : {X : Type 0} → Text → List (Form X) → Option (Form X)
 form_of verb [] = None
 form_of verb (form ∷ forms) = if is_text verb form.verb then Some form else form_of verb forms
 
--- What words mean by the forms of a table
+-- what words mean by the forms of a table
 abbrev pub formed : {X : Type 0} → List (Form X) → List Text → Option X
 formed forms [] = None
 formed forms (verb ∷ words) = option_and_then (λ form. form.meaning words) (form_of verb forms)
@@ -41,10 +42,11 @@ are_below (bound ∷ bounds) (n ∷ ns) = nat_lt n bound && are_below bounds ns
 abbrev pub numbered : {X : Type 0} → List ℕ → (List ℕ → X) → List Text → Option X
 numbered bounds made words = option_and_then (λ ns. within (are_below bounds ns) (made ns)) (numbers words)
 
+-- a form: a first word, and numbers below these bounds after it
 abbrev pub with_numbers : {X : Type 0} → Text → List ℕ → (List ℕ → X) → Form X
 with_numbers verb bounds made = record { verb = verb; meaning = numbered bounds made }
 
--- A row of a table of forms: a first word, bounds of the numbers after it, and what these make
+-- a row of a table of forms: a first word, bounds of the numbers after it, and what these make
 pub record Row (X : Type 0) : Type 0 where
   pub verb : Text
   pub bounds : List ℕ
@@ -53,6 +55,7 @@ pub record Row (X : Type 0) : Type 0 where
 abbrev pub row : {X : Type 0} → Text → List ℕ → (List ℕ → X) → Row X
 row verb bounds made = record { verb = verb; bounds = bounds; made = made }
 
+-- the form that a row is
 abbrev pub row_form : {X : Type 0} → Row X → Form X
 row_form r = with_numbers r.verb r.bounds r.made
 
@@ -63,7 +66,7 @@ u32 = 2 ^ 32
 abbrev pub u64 : ℕ
 u64 = 2 ^ 64
 
--- number i of a list
+-- number i of a list, and 0 if it has none
 abbrev pub at : List ℕ → ℕ → ℕ
 at ns i = get_or ns i 0
 
@@ -76,15 +79,17 @@ pub record Phrase : Type 0 where
 abbrev pub phrase : Text → List ℕ → List ℕ → Phrase
 phrase verb bounds ns = record { verb = verb; bounds = bounds; numbers = ns }
 
+-- a phrase as words: its first word, and its numbers in decimal
 abbrev pub phrase_words : Phrase → List Text
 phrase_words said = said.verb ∷ map decimal said.numbers
 
--- its numbers are in the range of their types
+-- the numbers of a phrase are in the range of their types: each is below its bound
 abbrev pub is_sayable : Phrase → Bool
 is_sayable said = are_below said.bounds said.numbers
 
 -- Commands ---------------------------------------------------------------------------------------
 
+-- the twelve commands, as rows and as forms
 abbrev pub command_rows : List (Row Command)
 command_rows =
     row (codes "new") (u32 ∷ u32 ∷ u32 ∷ []) (λ ns. command.New (at ns 0) (at ns 1) (at ns 2))
@@ -104,6 +109,7 @@ command_rows =
 abbrev pub command_forms : List (Form Command)
 command_forms = map row_form command_rows
 
+-- how a command is written
 abbrev pub command_phrase : Command → Phrase
 command_phrase (command.New slot references numbers) = phrase (codes "new") (u32 ∷ u32 ∷ u32 ∷ []) (slot ∷ references ∷ numbers ∷ [])
 command_phrase (command.Get slot source field) = phrase (codes "get") (u32 ∷ u32 ∷ u32 ∷ []) (slot ∷ source ∷ field ∷ [])
@@ -118,7 +124,7 @@ command_phrase (command.Post board slot) = phrase (codes "post") (u32 ∷ u32 �
 command_phrase (command.Take slot board) = phrase (codes "take") (u32 ∷ u32 ∷ []) (slot ∷ board ∷ [])
 command_phrase command.End = phrase (codes "end") [] []
 
--- The command that words are the form of
+-- the command that words are the form of
 abbrev pub command_of : List Text → Option Command
 command_of words = formed command_forms words
 
@@ -129,6 +135,7 @@ abbrev pub where_known : {X : Type 0} → Version → X → List X
 where_known One x = []
 where_known Two x = x ∷ []
 
+-- the controls, as rows and as forms, of which the first version of histories knows one less: `left`
 abbrev pub control_rows : Version → List (Row Control)
 control_rows version =
     row (codes "quantum") [] (λ ns. control.Quantum)
@@ -141,6 +148,7 @@ control_rows version =
 abbrev pub control_forms : Version → List (Form Control)
 control_forms version = map row_form (control_rows version)
 
+-- how a control is written
 abbrev pub control_phrase : Control → Phrase
 control_phrase control.Quantum = phrase (codes "quantum") [] []
 control_phrase control.Start = phrase (codes "start") [] []
@@ -149,10 +157,11 @@ control_phrase control.Dump = phrase (codes "dump") [] []
 control_phrase control.Left = phrase (codes "left") [] []
 control_phrase (control.Report window) = phrase (codes "report") (u64 ∷ []) (window ∷ [])
 
+-- the control that words are the form of, in a version
 abbrev pub control_of : Version → List Text → Option Control
 control_of version words = formed (control_forms version) words
 
--- a version knows a control
+-- a version knows a control: the first all but `Left`
 abbrev pub knows_control : Version → Control → Bool
 knows_control One control.Left = false
 knows_control _ _ = true

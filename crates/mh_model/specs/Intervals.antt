@@ -1,4 +1,5 @@
 -- The intervals and the cycles of a run, and when it is never full.
+-- An *interval* is the events between two quanta, with the event that has the second one run.
 use Rattle.std.specs.Prelude.{◌≡◌, ℕ, ◌+◌, ◌*◌, ◌<◌, ◌≤◌, nat_lt, false, Bool, not, ◌&&◌, ◌||◌, if◌then◌else◌, List, [], ◌∷◌, ◌++◌}
 use Rattle.std.specs.List.{AllByRecursion}
 use Rattle.mh_model.specs.declared.command.Event.{Event}
@@ -13,12 +14,12 @@ use Rattle.mh_model.specs.Openings.{opens_at_most, free_of, LeavesFlagged}
 
 -- Runs -------------------------------------------------------------------------------------------
 
--- a machine before these events and after each of them
+-- the machines of a run: before these events and after each of them
 abbrev pub moments : Machine → List Event → List Machine
 moments machine [] = machine ∷ []
 moments machine (event ∷ events) = machine ∷ moments (event_step machine event).state events
 
--- Events cut after each that has a quantum run: the first interval begins with those that came before, and the last has no quantum
+-- events cut after each that has a quantum run: the first interval begins with those that came before, and the last has no quantum
 abbrev pub intervals : List Event → Machine → List Event → List (List Event)
 intervals before machine [] = before ∷ []
 intervals before machine (event ∷ events) =
@@ -30,7 +31,7 @@ intervals before machine (event ∷ events) =
 abbrev pub has_ended : Collector → Collector → Bool
 has_ended old new = is_idle new.phase && (not (is_idle old.phase) || nat_lt old.cycle new.cycle)
 
--- the machines after the events that ended a cycle
+-- the machines after the events in which a cycle ended
 abbrev pub cycle_ends : Machine → List Event → List Machine
 cycle_ends machine [] = []
 cycle_ends machine (event ∷ events) =
@@ -43,7 +44,7 @@ cycle_ends machine (event ∷ events) =
 abbrev pub CyclesTakeAtMost : ℕ → Config → List Event → Type 0
 CyclesTakeAtMost quanta config events = AllByRecursion (λ machine. is_idle machine.heap.collector.phase ≡ false → machine.heap.collector.quanta < quanta) (moments (first_machine config) events)
 
--- A run has room for so many intervals that open so many pages each: in its pages, in its trigger and one more, and in the free pages that each cycle leaves
+-- a run has room for so many intervals that open so many pages each: in its pages, in its trigger and one more, and in the free pages that each cycle leaves
 pub record HasRoomFor (config : Config) (events : List Event) (quanta opened : ℕ) : Type 0 where
   pub pages : quanta * opened ≤ config.pages
   pub trigger : quanta * opened ≤ config.trigger + 1
@@ -52,7 +53,7 @@ pub record HasRoomFor (config : Config) (events : List Event) (quanta opened : �
 
 -- Runs that are never full ------------------------------------------------------------------------
 
--- each command puts nothing into pages that are flagged
+-- each command leaves flagged pages flagged and without new blocks
 abbrev pub LeaveFlagged : Machine → List Event → Type 0
 LeaveFlagged machine [] = Unit {0}
 LeaveFlagged machine (event ∷ events) = LeavesFlagged machine.heap.collector.table (half_step machine event).heap.collector.table × LeaveFlagged (event_step machine event).state events

@@ -10,7 +10,8 @@ use Rattle.mh_model.specs.Machine.{Machine, first_machine, event_step}
 use Rattle.mh_model.specs.Replies.{bad_line_text, reply_text}
 use Rattle.mh_model.specs.Script.{Line, Blank, Calls, Asks, Wrong, config_words, is_blank, line_of, session_number, with_name}
 
--- Between two lines: the configuration hasn't come; or there is a machine, with the first names seen and how many events it has answered
+-- where a run by lines stands between two of them. The configuration hasn't come; or there is a machine, with the first names seen and how many
+-- events it has answered
 pub data Live : Type 0 where
   Waits : Live
   Runs : (machine : Machine) (names : List Text) (count : ℕ) → Live
@@ -22,32 +23,34 @@ pub record Turn : Type 0 where
 
 -- The turn of a line ------------------------------------------------------------------------------
 
+-- the turn of a line that is answered with nothing
 abbrev pub answers_nothing : Live → Turn
 answers_nothing live = record { text = []; live = live }
 
--- nothing is changed
+-- the turn of a line that is answered with one line
 abbrev pub answers_line : Text → Live → Turn
 answers_line text live = record { text = line_text text; live = live }
 
--- the first line that isn't blank is the configuration, which is answered with nothing
+-- the turn of line n, which is to be the configuration: it is answered with nothing; or refused, and the configuration is still to come
 abbrev pub config_turn : ℕ → Option Config → Turn
 config_turn n None = answers_line (bad_line_text n) Waits
 config_turn n (Some config) = answers_nothing (Runs (first_machine config) [] 0)
 
--- an event, after which these names have been seen
+-- the turn of an event: its reply, and these are the names seen after it; if the history is full, a refusal that changes nothing
 abbrev pub event_turn : Machine → List Text → ℕ → List Text → Event → Turn
 event_turn machine names count seen event =
     if nat_lt count most_entries then
     (let answer = event_step machine event in answers_line (reply_text answer.reply) (Runs answer.state seen (suc count)))
     else answers_line (codes "refused 8 history full") (Runs machine names count)
 
+-- the turn of line n after the configuration, by what it says
 abbrev pub line_turn : ℕ → Machine → List Text → ℕ → Line → Turn
 line_turn n machine names count Blank = answers_nothing (Runs machine names count)
 line_turn n machine names count (Calls name command) = event_turn machine names count (with_name names name) (event.Session (session_number names name) command)
 line_turn n machine names count (Asks control) = event_turn machine names count names (event.Control control)
 line_turn n machine names count Wrong = answers_line (bad_line_text n) (Runs machine names count)
 
--- The turn of line n. A line outside the grammar is refused with its number and changes nothing
+-- the turn of line n: a reply, nothing, or a refusal. A line outside the grammar is refused with its number and changes nothing
 unfoldable pub turn : ℕ → Live → Text → Turn
 turn n Waits line = if is_blank line then answers_nothing Waits else config_turn n (config_words (words line))
 turn n (Runs machine names count) line = line_turn n machine names count (line_of line)
@@ -61,7 +64,7 @@ needs_memory (Asks control.Quantum) = true
 needs_memory (Asks control.Dump) = true
 needs_memory _ = false
 
--- a line that makes a machine, or whose event may need memory
+-- a line that makes a machine, or whose event may need memory: a command, a quantum or a dump
 abbrev pub takes_memory : Live → Text → Bool
 takes_memory Waits line = not (is_blank line) && is_some (config_words (words line))
 takes_memory (Runs machine names count) line = needs_memory (line_of line)
@@ -76,19 +79,19 @@ pub data AreTurns : ℕ → Live → List Text → Text → Live → Type 0 wher
   Ended : (n : ℕ) (live : Live) → AreTurns n live [] [] live
   Turned : (n : ℕ) (live : Live) (line : Text) (lines : List Text) (first : Turn) (text : Text) (after : Live) → IsTurn n live line first → AreTurns (suc n) first.live lines text after → AreTurns n live (line ∷ lines) (first.text ++ text) after
 
--- a last line without its end is line n, and is outside the grammar
+-- a last line without its end is line n, and is refused as outside the grammar
 abbrev pub unended_text : ℕ → Text → Text
 unended_text n [] = []
 unended_text n (byte ∷ bytes) = line_text (bad_line_text n)
 
--- The answers to a text of lines, to its end
+-- the answers to a text of lines, to its end
 pub record IsLive (text written : Text) : Type 0 where
   pub answers : Text
   pub after : Live
   pub turns : AreTurns 1 Waits (cut_after 10 text).pieces answers after
   pub whole : written ≡ answers ++ unended_text (suc (length (cut_after 10 text).pieces)) (cut_after 10 text).rest
 
--- The answers if memory is never refused
+-- the answers if memory is never refused: to the lines from line n on, and to a text
 abbrev pub live_from : ℕ → Live → List Text → Text → Text
 live_from n live [] rest = unended_text n rest
 live_from n live (line ∷ lines) rest = (turn n live line).text ++ live_from (suc n) (turn n live line).live lines rest

@@ -40,7 +40,7 @@ worlds moment (event ∷ events) = moment.world ∷ worlds (next_moment moment e
 
 -- Pages in use -----------------------------------------------------------------------------------
 
--- 1 for a block that passes a test
+-- how many blocks of a slot, and of a page, pass a test
 abbrev pub slot_count : (Block → Bool) → Option Block → ℕ
 slot_count test None = 0
 slot_count test (Some block) = if test block then 1 else 0
@@ -53,10 +53,12 @@ page_count test (Some page) = sum_by (slot_count test) page.slots
 abbrev pub count_blocks : (Block → Bool) → Table Block → ℕ
 count_blocks test table = sum_by (page_count test) table
 
+-- a block is no forwarder
 abbrev pub is_plain : Block → Bool
 is_plain block = not (is_forwarder block)
 
--- A run has pages for cycles of so many quanta: for so many live parts at each moment, for the parts that each interval but one asks for, and for the pages that each opens
+-- a run has pages for cycles of so many quanta: for so many live parts at each moment, for what each interval but one asks for, and for the pages
+-- that each opens; and a trigger with which a cycle starts in time
 pub record HasPagesFor (config : Config) (events : List Event) (quanta opened asked most : ℕ) : Type 0 where
   pub pages : most + (quanta * asked + quanta * opened) ≤ config.pages + asked
   pub trigger : quanta * opened ≤ config.trigger + 1

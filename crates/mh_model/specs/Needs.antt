@@ -1,4 +1,6 @@
 -- What the sessions of a run need of a heap, by the ever-growing world alone: what can be told of a run before it is made.
+-- Quanta are run as in a machine that is never full: by the scheduler, or on request without one. So what is needed doesn't depend on pages, quantum
+-- or trigger.
 use Rattle.std.specs.Prelude.{ℕ, ◌+◌, ◌-◌, ◌*◌, ◌/◌, ◌==◌, ◌≤◌, ◌⊎◌, nat_le, Bool, false, not, ◌&&◌, if◌then◌else◌, List, [], ◌∷◌, ◌++◌}
 use Rattle.std.specs.List.{AllByRecursion, flat_map}
 use Rattle.mh_model.specs.declared.command.Control.TheVariants as control
@@ -15,7 +17,7 @@ use Rattle.mh_model.specs.LiveParts.{HasAtMostLive}
 
 -- Runs of the ever-growing world ------------------------------------------------------------------
 
--- the world, and the mutator's units since the last quantum of a machine that runs beside it and is never full
+-- the world, and the mutator's units since the last quantum of a machine that runs beside it and is never full; at first no units
 pub record WorldRun : Type 0 where
   pub world : World
   pub units : ℕ
@@ -23,7 +25,7 @@ pub record WorldRun : Type 0 where
 abbrev pub first_run : Config → WorldRun
 first_run config = record { world = first_world config; units = 0 }
 
--- the run after a command, before the quantum that it makes due
+-- the run after a command, before the quantum that it makes due; of a control the run before it
 abbrev pub half_run : WorldRun → Event → WorldRun
 half_run run (event.Session who command) =
     let answer = world_step run.world who command in
@@ -45,7 +47,7 @@ abbrev pub run_worlds : WorldRun → List Event → List World
 run_worlds run [] = run.world ∷ []
 run_worlds run (event ∷ events) = run.world ∷ run_worlds (next_run run event) events
 
--- Events cut after each that has a quantum run: the first interval begins with those that came before, and the last has no quantum
+-- events cut after each that has a quantum run: the first interval begins with those that came before, and the last has no quantum
 abbrev pub run_intervals : List Event → WorldRun → List Event → List (List Event)
 run_intervals before run [] = before ∷ []
 run_intervals before run (event ∷ events) =
@@ -55,7 +57,8 @@ run_intervals before run (event ∷ events) =
 
 -- Needs -------------------------------------------------------------------------------------------
 
--- The sessions of a run need no more than this: at each moment so many live parts, which cost so much to mark, and in each interval so many parts, on so many pages, of classes whose pages cost a cycle so much
+-- the sessions of a run need no more than this: live parts at each moment, and what marking them costs; parts of each interval, and the pages that
+-- these open; and what a page costs a cycle, for the classes of the parts that are asked for
 pub record NeedNoMore (needs : Needs) (config : Config) (events : List Event) : Type 0 where
   pub live : AllByRecursion (HasAtMostLive needs.live) (run_worlds (first_run config) events)
   pub marked : AllByRecursion (ReachesAtMost needs.marked) (run_worlds (first_run config) events)
@@ -63,19 +66,21 @@ pub record NeedNoMore (needs : Needs) (config : Config) (events : List Event) : 
   pub opened : AllByRecursion (λ interval. opens_at_most config interval ≤ needs.opened) (run_intervals [] (first_run config) events)
   pub page : let list = flat_map (asked_parts config) events in most_slots list + most_moves list ≤ needs.page
 
--- what a cycle spends at most without the charge for slots: 2 for each root, what it marks, and the sweep and the defragmentation of each page
+-- what a cycle spends at most by these needs, without the charge for slots: 2 for each root, what it marks, and the sweep and the defragmentation of each page
 abbrev pub units_needed : Needs → ℕ → ℕ
 units_needed needs pages = 288 + needs.marked + needs.page * pages
 
--- and in quanta: all but 352 units of one that leaves the cycle running go to the cycle
+-- the most quanta of a cycle by these needs: all but 352 units of one that leaves the cycle running go to the cycle
 abbrev pub quanta_needed : Needs → Config → ℕ
 quanta_needed needs config = units_needed needs config.pages / (config.quantum - 352) + 1
 
--- a cycle takes no more than so many quanta, by the bound of any cycle or by what is needed
+-- a cycle takes no more than so many quanta: by the bound of any cycle, or by what is needed if a quantum has more than 352 units. So the lesser of
+-- both is enough. The second wants 353 units, since 352 may go to the charge for slots and to what is left over
 abbrev pub AreEnoughQuanta : Needs → Config → ℕ → Type 0
 AreEnoughQuanta needs config quanta = (most_quanta config ≤ quanta) ⊎ ((353 ≤ config.quantum) × (quanta_needed needs config ≤ quanta))
 
--- A configuration has enough for cycles of so many quanta: pages for the live parts, for the parts that come between the first and the last quantum of a cycle, and for the free pages that it leaves; and a trigger with which a cycle starts in time
+-- a configuration has enough for cycles of so many quanta: pages for the live parts; for the parts that come between the first and the last quantum
+-- of a cycle; and for the free pages that it leaves. With its trigger a cycle starts in time
 pub record HasEnoughFor (needs : Needs) (config : Config) (quanta : ℕ) : Type 0 where
   pub bound : AreEnoughQuanta needs config quanta
   pub pages : needs.live + (quanta * needs.asked + quanta * needs.opened) ≤ config.pages + needs.asked

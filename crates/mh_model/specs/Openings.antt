@@ -15,19 +15,20 @@ use Rattle.mh_model.specs.Machine.{Machine}
 abbrev pub is_of_class : ℕ → Part → Bool
 is_of_class size part = unwrap_or (option_map (λ class. class == size) (class_of (part_words part))) false
 
--- how many of these parts do
+-- how many of these parts go into pages of a class
 abbrev pub class_parts : ℕ → List Part → ℕ
 class_parts size parts = count_by (is_of_class size) parts
 
--- how many pages of a class so many parts fill, of which the last may have room
+-- how many pages of a class so many parts fill, rounded up: the last may have room
 abbrev pub pages_for : ℕ → ℕ → ℕ
 pages_for size count = div_ceil count (slots_in size)
 
--- how many pages parts fill if each class has pages of its own
+-- how many pages parts fill if each class has pages of its own: the sum over the classes
 abbrev pub pages_of_parts : List Part → ℕ
 pages_of_parts list = sum_by (λ size. pages_for size (class_parts size list)) class_sizes
 
--- the parts of the object that an event asks for, and none if the rules don't allow so large a one
+-- the parts of the object that an event asks for, and none if it is too large for the rules. A refused object counts too. So a large one that a bad
+-- slot refuses may make what a script needs far greater than what its run takes
 abbrev pub asked_parts : Config → Event → List Part
 asked_parts config (event.Session who (command.New slot references numbers)) = if nat_lt (most_fields config) (references + numbers) then [] else parts references numbers
 asked_parts config _ = []
@@ -36,7 +37,7 @@ asked_parts config _ = []
 abbrev pub asked_count : Config → List Event → ℕ
 asked_count config events = length (flat_map (asked_parts config) events)
 
--- The most pages that a list of events opens if it runs no quantum
+-- the most pages that a list of events opens if it runs no quantum
 abbrev pub opens_at_most : Config → List Event → ℕ
 opens_at_most config events = pages_of_parts (flat_map (asked_parts config) events)
 
@@ -44,7 +45,7 @@ opens_at_most config events = pages_of_parts (flat_map (asked_parts config) even
 abbrev pub free_of : Machine → ℕ
 free_of machine = free_pages machine.heap.collector.table
 
--- Flagged pages stay flagged, and a place in one of them that has no block gets none
+-- flagged pages stay flagged, and a place in one of them that has no block gets none
 pub record LeavesFlagged {X : Type 0} (old new : Table X) : Type 0 where
   pub flags : (number : ℕ) → flag_at old number ≡ true → flag_at new number ≡ true
   pub empty : (place : ℕ) → flag_at old (page_number place) ≡ true → block_at old place ≡ None → block_at new place ≡ None

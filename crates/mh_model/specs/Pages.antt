@@ -1,20 +1,24 @@
--- Pages of slots, and the least place of a class. A place is the number page * 64 + slot.
--- Blocks are seen as values of some type: whole blocks here, and less of them where that is enough.
+-- Pages of slots, and the least place of a class. A place is the number `page * 64 + slot`.
+-- Blocks are seen here as values of any type, since only their places count. So a crate that knows of a block only its words cites the same
+-- definitions as one that knows all of it.
 use Rattle.std.specs.Prelude.{◌≡◌, ◌<◌, IsTrue, IsSome, ℕ, suc, ◌+◌, ◌/◌, ◌%◌, ◌==◌, Bool, true, false, not, ◌&&◌, if◌then◌else◌, Option, Some, None, option_map, option_and_then, unwrap_or, List, [], ◌∷◌, length, take, set, get_or, replicate}
 use Rattle.std.specs.List.{list_any}
 use Rattle.std.specs.Option.{option_or}
 use Rattle.mh_model.specs.Classes.{is_class_size, slots_in}
 
--- A page in use: the class of its blocks, known by its size, its flag, and its slots, each with a block or without (Metronome)
+-- a page in use: the class of its blocks, known by its size; its flag; and its slots, each with a block or without
+-- from: Metronome
 pub record Page (X : Type 0) : Type 0 where
   pub class_size : ℕ
   pub is_flagged : Bool
   pub slots : List (Option X)
 
--- The pages in order, each free or in use
+-- the pages in order, each free or in use
+-- from: Metronome
 abbrev pub Table : Type 0 → Type 0
 Table X = List (Option (Page X))
 
+-- the number of a place's page, and of its slot there
 abbrev pub page_number : ℕ → ℕ
 page_number place = place / 64
 
@@ -33,7 +37,7 @@ module _ {X : Type 0} where
   abbrev pub page_at : Table X → ℕ → Option (Page X)
   page_at table page = get_or table page None
 
-  -- the block in this slot of a page
+  -- the block in a slot of a page, and at a place, if one is there
   abbrev pub block_in : ℕ → Page X → Option X
   block_in slot page = get_or page.slots slot None
 
@@ -46,10 +50,12 @@ module _ {X : Type 0} where
   Leads table (Some place) = IsSome (block_at table place)
 
   -- the class of a page in use, known by its size, and none of a free one
+  -- from: Metronome
   abbrev pub class_at : Table X → ℕ → Option ℕ
   class_at table page = option_map (λ used. used.class_size) (page_at table page)
 
   -- the flag of a page in use, which a free one has not
+  -- from: Metronome
   abbrev pub flag_at : Table X → ℕ → Bool
   flag_at table page = unwrap_or (option_map (λ used. used.is_flagged) (page_at table page)) false
 
@@ -63,6 +69,7 @@ module _ {X : Type 0} where
   abbrev pub live_in : Page X → ℕ
   live_in page = block_count page.slots
 
+  -- how many pages are free
   abbrev pub free_pages : Table X → ℕ
   free_pages [] = 0
   free_pages (None ∷ pages) = suc (free_pages pages)
@@ -74,11 +81,11 @@ module _ {X : Type 0} where
 
   -- The least place ------------------------------------------------------------------------------
 
-  -- a page of this class that isn't flagged
+  -- a page of this class that isn't flagged: one of the first tier of placement
   abbrev pub is_dense : ℕ → Page X → Bool
   is_dense size page = (page.class_size == size) && not page.is_flagged
 
-  -- a page of this class that is flagged
+  -- a page of this class that is flagged: one of the last tier
   abbrev pub is_sparse : ℕ → Page X → Bool
   is_sparse size page = (page.class_size == size) && page.is_flagged
 
@@ -93,7 +100,7 @@ module _ {X : Type 0} where
   open_slot test None = None
   open_slot test (Some page) = if test page then empty_slot page.slots else None
 
-  -- slot 0 of a free page
+  -- slot 0 of a free page: the second tier
   abbrev pub fresh_slot : Option (Page X) → Option ℕ
   fresh_slot None = Some 0
   fresh_slot (Some page) = None
@@ -103,20 +110,21 @@ module _ {X : Type 0} where
   least slot_of [] = None
   least slot_of (page ∷ pages) = first_place (slot_of page) (least slot_of pages)
 
-  -- The first tier of placement, the only one for moves: the least free place in unflagged pages of the class
+  -- the first tier of placement, the only one for moves: the least free place in unflagged pages of the class
   abbrev pub least_dense_place : Table X → ℕ → Option ℕ
   least_dense_place table size = least (open_slot (is_dense size)) table
 
-  -- The least place of a class: of the first tier, else slot 0 of the least free page, else the least free place in flagged pages of the class
+  -- the least place of a class by the three tiers: of the first tier, else slot 0 of the least free page,
+  -- else the least free place in flagged pages of the class
   abbrev pub least_place : Table X → ℕ → Option ℕ
   least_place table size = option_or (least_dense_place table size) (option_or (least fresh_slot table) (least (open_slot (is_sparse size)) table))
 
-  -- a page that is in use is of this class and unflagged
+  -- a page is in use, of this class, and unflagged
   abbrev pub is_dense_page : ℕ → Option (Page X) → Bool
   is_dense_page size None = false
   is_dense_page size (Some page) = is_dense size page
 
-  -- a page below this one is of this class and unflagged
+  -- such a page has a lower number than this one
   abbrev pub has_denser : Table X → ℕ → ℕ → Bool
   has_denser table page size = list_any (is_dense_page size) (take page table)
 
@@ -130,25 +138,27 @@ module _ {X : Type 0} where
   abbrev pub with_block : Table X → ℕ → Option X → Table X
   with_block table place content = set table (page_number place) (option_map (page_with (slot_number place) content) (page_at table (page_number place)))
 
-  -- a page for blocks of a class: a free one that is taken becomes in use and unflagged
+  -- the page for a block of a class: one in use as it is; a free one that is taken becomes in use, of the class and unflagged
   abbrev pub page_for : ℕ → Option (Page X) → Page X
   page_for size None = record { class_size = size; is_flagged = false; slots = replicate (slots_in size) None }
   page_for size (Some page) = page
 
-  -- The table with a block at a place that was free for its class
+  -- the table with a block at a place that was free for its class; the page is then in use, if it was free
   abbrev pub with_taken : Table X → ℕ → ℕ → X → Table X
   with_taken table size place block = set table (page_number place) (Some (page_with (slot_number place) (Some block) (page_for size (page_at table (page_number place)))))
 
-  -- The table with the block at a place taken back, and its page freed if this is asked
+  -- the table with the block at a place taken back, and its page freed if this is asked
   abbrev pub with_released : Table X → ℕ → Bool → Table X
   with_released table place true = set table (page_number place) None
   with_released table place false = with_block table place None
 
   -- a page with its flag set so
+  -- from: Metronome
   abbrev pub flagged_as : Bool → Page X → Page X
   flagged_as is_flagged page = record page { is_flagged = is_flagged }
 
   -- the table with the flag of a page in use set so
+  -- from: Metronome
   abbrev pub with_flag : Table X → ℕ → Bool → Table X
   with_flag table page is_flagged = set table page (option_map (flagged_as is_flagged) (page_at table page))
 
@@ -163,7 +173,7 @@ module _ {X : Type 0} where
   abbrev pub HaveTheirSlots : Table X → Type 0
   HaveTheirSlots table = (number : ℕ) (page : Page X) → page_at table number ≡ Some page → HasItsSlots page
 
-  -- a place is free for a class: a slot of a free page that a page of the class has, or a slot without a block in a page of the class
+  -- a place is free for a class: a slot of a free page that a page of the class has; or a slot without a block in a page of the class
   pub record IsFreeFor (table : Table X) (size place : ℕ) : Type 0 where
     pub inside : page_number place < length table
     pub empty : block_at table place ≡ None

@@ -18,6 +18,7 @@ use Rattle.mh_model.specs.declared.history.Version.TheVariants.{One, Two}
 
 -- Written ----------------------------------------------------------------------------------------
 
+-- a refusal as words, of which the first is its number
 abbrev pub refusal_words : Refusal → List Text
 refusal_words BadSlot = codes "1" ∷ codes "bad" ∷ codes "slot" ∷ []
 refusal_words Null = codes "2" ∷ codes "null" ∷ []
@@ -27,6 +28,7 @@ refusal_words HeapFull = codes "5" ∷ codes "heap" ∷ codes "full" ∷ []
 refusal_words Ended = codes "6" ∷ codes "ended" ∷ []
 refusal_words TooManySessions = codes "7" ∷ codes "too" ∷ codes "many" ∷ codes "sessions" ∷ []
 
+-- the word of a phase
 abbrev pub phase_word : Phase → Text
 phase_word Idle = codes "idle"
 phase_word Roots = codes "roots"
@@ -34,6 +36,7 @@ phase_word Mark = codes "mark"
 phase_word Sweep = codes "sweep"
 phase_word Defrag = codes "defrag"
 
+-- the flag of a page as a word: `+` if it is set, and else `-`
 abbrev pub flag_word : Bool → Text
 flag_word true = codes "+"
 flag_word false = codes "-"
@@ -42,16 +45,18 @@ flag_word false = codes "-"
 abbrev pub placed_word : ℕ → ℕ → ℕ → ℕ → Text
 placed_word mark slot a b = decimal slot ++ mark ∷ (decimal a ++ 46 ∷ decimal b)
 
+-- an item of a dump as words: a page as `P` with its number, `C` with its class, and its flag; a block or a forwarder as one word, with `=` or `>`
 abbrev pub item_words : DumpItem → List Text
 item_words (item.Page page class_size is_flagged) = (80 ∷ decimal page) ∷ (67 ∷ decimal class_size) ∷ flag_word is_flagged ∷ []
 item_words (item.Block slot birth part) = placed_word 61 slot birth part ∷ []
 item_words (item.Forwarder slot to_page to_slot) = placed_word 62 slot to_page to_slot ∷ []
 
--- a number, if there is one
+-- a number, if there is one, and else `none`
 abbrev pub optional_word : Option ℕ → Text
 optional_word None = codes "none"
 optional_word (Some n) = decimal n
 
+-- a reply as words, and as a text
 abbrev pub reply_words : Reply → List Text
 reply_words reply.Done = codes "ok" ∷ []
 reply_words (reply.Number number) = codes "number" ∷ decimal number ∷ []
@@ -71,6 +76,7 @@ reply_words (reply.Left quanta) = codes "left" ∷ decimal quanta ∷ []
 abbrev pub reply_text : Reply → Text
 reply_text reply = joined (reply_words reply)
 
+-- the text of a refused script or history, with its first bad line
 abbrev pub bad_line_text : ℕ → Text
 bad_line_text line = codes "refused 10 line " ++ decimal line
 
@@ -85,7 +91,8 @@ abbrev pub is_after : Option ℕ → ℕ → Bool
 is_after None n = true
 is_after (Some before) n = nat_lt before n
 
--- Pages ascend, and slots ascend within a page: what comes after this page and this slot
+-- pages ascend strictly, and so do slots within a page, in what comes after this page and this slot; a page may be without blocks, and before the
+-- first page stands no block
 abbrev pub ascends : Option ℕ → Option ℕ → List DumpItem → Bool
 ascends page slot [] = true
 ascends page slot (item.Page next class_size is_flagged ∷ items) = is_after page next && ascends (Some next) None items
@@ -94,12 +101,13 @@ ascends (Some page) slot (item.Block next birth part ∷ items) = is_after slot 
 ascends None slot (item.Forwarder next to_page to_slot ∷ items) = false
 ascends (Some page) slot (item.Forwarder next to_page to_slot ∷ items) = is_after slot next && ascends (Some page) (Some next) items
 
+-- the numbers of an item of a dump
 abbrev pub item_numbers : DumpItem → List ℕ
 item_numbers (item.Page page class_size is_flagged) = page ∷ class_size ∷ []
 item_numbers (item.Block slot birth part) = slot ∷ birth ∷ part ∷ []
 item_numbers (item.Forwarder slot to_page to_slot) = slot ∷ to_page ∷ to_slot ∷ []
 
--- numbers of 64 bits
+-- these numbers have at most 64 bits, and so have those of the items of a dump
 abbrev pub are_u64 : List ℕ → Bool
 are_u64 [] = true
 are_u64 (n ∷ ns) = nat_lt n u64 && are_u64 ns
@@ -108,7 +116,9 @@ abbrev pub items_in_range : List DumpItem → Bool
 items_in_range [] = true
 items_in_range (item ∷ items) = are_u64 (item_numbers item) && items_in_range items
 
--- A reply is well formed in a version: its numbers are in the range of their types, a dump ascends, and the version knows it
+-- a reply is well formed in a version: its numbers are in the range of their types, a dump ascends, and the version knows it. Any such numbers will
+-- do, of 32 bits in `shape`, and of 64 in all others and in the items of a dump. A class size need not be a class. So an entry may be well formed,
+-- and bad
 abbrev pub is_reply : Version → Reply → Bool
 is_reply version (reply.Number number) = are_u64 (number ∷ [])
 is_reply version (reply.Shape shape) = are_below (u32 ∷ u32 ∷ []) (shape.references ∷ shape.numbers ∷ [])
@@ -123,6 +133,7 @@ is_reply version _ = true
 
 -- Read -------------------------------------------------------------------------------------------
 
+-- two lists have the same texts
 abbrev pub are_texts : List Text → List Text → Bool
 are_texts [] [] = true
 are_texts [] (y ∷ ys) = false
@@ -133,6 +144,7 @@ are_texts (x ∷ xs) (y ∷ ys) = is_text x y && are_texts xs ys
 abbrev pub with_words : {X : Type 0} → Text → List Text → X → Form X
 with_words verb more x = record { verb = verb; meaning = λ words. within (are_texts words more) x }
 
+-- the refusals by their words
 abbrev pub refusal_forms : List (Form Refusal)
 refusal_forms =
     with_words (codes "1") (codes "bad" ∷ codes "slot" ∷ []) BadSlot
@@ -144,6 +156,7 @@ refusal_forms =
     ∷ with_words (codes "7") (codes "too" ∷ codes "many" ∷ codes "sessions" ∷ []) TooManySessions
     ∷ []
 
+-- the phases by their words, and the phase that a word is
 abbrev pub phase_forms : List (Form Phase)
 phase_forms =
     with_words (codes "idle") [] Idle ∷ with_words (codes "roots") [] Roots ∷ with_words (codes "mark") [] Mark ∷ with_words (codes "sweep") [] Sweep ∷ with_words (codes "defrag") [] Defrag ∷ []
@@ -151,6 +164,7 @@ phase_forms =
 abbrev pub phase_of : Text → Option Phase
 phase_of word = formed phase_forms (word ∷ [])
 
+-- the flags by their words, and the flag that a word is
 abbrev pub flag_forms : List (Form Bool)
 flag_forms = with_words (codes "+") [] true ∷ with_words (codes "-") [] false ∷ []
 
@@ -163,11 +177,12 @@ values [] (value ∷ []) = Some (value ∷ [])
 values (key ∷ keys) (value ∷ word ∷ words) = if is_text word key then option_map (λ found. value ∷ found) (values keys words) else None
 values _ _ = None
 
+-- the reply `Spent` of two words: units and a phase
 abbrev pub spent_of : List Text → Option Reply
 spent_of (units ∷ phase ∷ []) = option_and_then (λ n. option_map (λ p. reply.Spent n p) (phase_of phase)) (number units)
 spent_of _ = None
 
--- of four numbers and a phase
+-- the reply to `Stat` of four numbers and a phase, and of the five words that are these
 abbrev pub stat_from : List ℕ → Phase → Stat
 stat_from ns phase = record { free = at ns 0; live = at ns 1; old = at ns 2; phase = phase; cycle = at ns 3 }
 
@@ -176,16 +191,17 @@ stat_of (free ∷ live ∷ old ∷ phase ∷ cycle ∷ []) =
     option_and_then (λ ns. option_map (λ p. reply.Stat (stat_from ns p)) (phase_of phase)) (numbers (free ∷ live ∷ old ∷ cycle ∷ []))
 stat_of _ = None
 
--- a number, or a word for none, with the answer to the test of that word
+-- a number, or none by the answer to the test of the word for none
 abbrev pub optional_by : Option ℕ → Bool → Option (Option ℕ)
 optional_by (Some n) none = Some (Some n)
 optional_by None true = Some None
 optional_by None false = None
 
+-- the number that a word is, or none if it is `none`
 abbrev pub optional_of : Text → Option (Option ℕ)
 optional_of word = optional_by (number word) (is_text word (codes "none"))
 
--- of five numbers, and two that may be none
+-- the reply to `Report` of five numbers and two that may be none, and of the seven words that are these
 abbrev pub report_from : List ℕ → Option ℕ → Option ℕ → Report
 report_from ns least floor = record { mutator = at ns 0; collector = at ns 1; quanta = at ns 2; greatest = at ns 3; window = at ns 4; least = least; floor = floor }
 
@@ -200,10 +216,11 @@ abbrev pub placed_from : List Text → List Text
 placed_from (slot ∷ place ∷ []) = slot ∷ parts_at 46 place
 placed_from _ = []
 
+-- the item that is made of the three numbers of a word with this mark
 abbrev pub placed_by : ℕ → (List ℕ → DumpItem) → Text → Option DumpItem
 placed_by mark made word = numbered (u64 ∷ u64 ∷ u64 ∷ []) made (placed_from (parts_at mark word))
 
--- `SLOT=BIRTH.PART`, or `SLOT>PAGE.SLOT`
+-- the block or the forwarder that a word is: `SLOT=BIRTH.PART`, or `SLOT>PAGE.SLOT`
 abbrev pub placed_of : Text → Option DumpItem
 placed_of word = option_or (placed_by 61 (λ ns. item.Block (at ns 0) (at ns 1) (at ns 2)) word) (placed_by 62 (λ ns. item.Forwarder (at ns 0) (at ns 1) (at ns 2)) word)
 
@@ -213,10 +230,12 @@ pub data Pending : Type 0 where
   HasPage : ℕ → Pending
   HasClass : ℕ → ℕ → Pending
 
+-- items with one more in front, if all of them were read
 abbrev pub with_item : Option DumpItem → Option (List DumpItem) → Option (List DumpItem)
 with_item None items = None
 with_item (Some item) items = option_map (λ items. item ∷ items) items
 
+-- the items that words are, read one word at a time, with what was read of a page before
 abbrev pub items_from : Pending → List Text → Option (List DumpItem)
 items_from Ready [] = Some []
 items_from (HasPage page) [] = None
@@ -225,9 +244,11 @@ items_from Ready (word ∷ words) = elim (tagged 80 word) [ Some page ↦ items_
 items_from (HasPage page) (word ∷ words) = elim (tagged 67 word) [ Some class_size ↦ items_from (HasClass page class_size) words | None ↦ None ]
 items_from (HasClass page class_size) (word ∷ words) = with_item (option_map (λ flag. item.Page page class_size flag) (flag_of word)) (items_from Ready words)
 
+-- the dump that words are, if its pages and slots ascend
 abbrev pub dump_of : List Text → Option Reply
 dump_of words = option_and_then (λ items. within (ascends None None items) (reply.Dump items)) (items_from Ready words)
 
+-- the replies by their first words, of which the first version of histories knows one less: `left`
 abbrev pub reply_forms : Version → List (Form Reply)
 reply_forms version =
     with_words (codes "ok") [] reply.Done
@@ -242,6 +263,6 @@ reply_forms version =
     ∷ (record { verb = codes "mutator"; meaning = λ words. option_and_then report_of (values (codes "collector" ∷ codes "quanta" ∷ codes "greatest" ∷ codes "window" ∷ codes "least" ∷ codes "floor" ∷ []) words) })
     ∷ where_known version (with_numbers (codes "left") (u64 ∷ []) (λ ns. reply.Left (at ns 0)))
 
--- The well-formed reply that words are
+-- the well-formed reply that words are
 abbrev pub reply_of : Version → List Text → Option Reply
 reply_of version words = formed (reply_forms version) words

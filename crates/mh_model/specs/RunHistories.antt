@@ -20,18 +20,19 @@ under_rules rules script = record { config = with_rules rules script.config; eve
 abbrev pub reading_under : Rules → Text → Reading Meaning
 reading_under rules text = reading_map (under_rules rules) (reading text)
 
--- The output of a script under these rules
+-- the output of a script under these rules
 unfoldable pub output_under : Rules → Text → Text
 output_under rules text = output_of (reading_under rules text)
 
--- The history of events: what the first machine answers to them, and the units of each
+-- the history of events: what the first machine answers to them, and the units of each
 abbrev pub recorded_run : Config → List Event → Recorded
 recorded_run config events = record { config = config; entries = machine_record (first_machine config) events }
 
+-- what a run writes as a history of a script that is read so
 abbrev pub history_output_of : Reading Meaning → Text
 history_output_of (BadLine line) = line_text (bad_line_text line)
 history_output_of (Means script) = recorded_text (recorded_run script.config (take most_entries script.events))
 
--- What a run of a script writes as a history of version 2: its first bad line, or the history of its first 1,000,000 events
+-- what a run of a script writes as a history of version 2: its first bad line, or the history of its first 1,000,000 events
 unfoldable pub history_output : Rules → Text → Text
 history_output rules text = history_output_of (reading_under rules text)

@@ -14,16 +14,18 @@ use Rattle.mh_model.specs.Machine.{Machine, first_machine, is_quantum_due, half_
 
 -- The world beside a machine ---------------------------------------------------------------------
 
+-- a reply is the refusal of a full heap
 abbrev pub is_heap_full : Reply → Bool
 is_heap_full (reply.Refused HeapFull) = true
 is_heap_full _ = false
 
--- the world takes the step of each command but one that was answered by a full heap
+-- the world beside a machine, after an event with its reply: it takes the step of each command that wasn't answered by a full heap
 abbrev pub world_beside_event : World → Event → Reply → World
 world_beside_event world (event.Session who command) answer = if is_heap_full answer then world else (world_step world who command).state
 world_beside_event world (event.Control control) answer = world
 
--- The world of a list of events that were given these replies
+-- the world beside a machine, after a list of events that were given these replies. It passes over events without a reply, so a list of replies may
+-- be shorter
 abbrev pub world_beside : World → List Event → List Reply → World
 world_beside world [] answers = world
 world_beside world (event ∷ events) [] = world
@@ -31,7 +33,9 @@ world_beside world (event ∷ events) (answer ∷ answers) = world_beside (world
 
 -- Moments ----------------------------------------------------------------------------------------
 
--- A moment of a run: the machine, the world beside it, and the world as the last cycle started, which is the first world before any did
+-- a moment of a run: the machine, the world beside it, and the world as the last cycle started; before any did, that is the first world, so every
+-- birth counts as kept
+-- from: Yuasa (snapshot)
 pub record Moment : Type 0 where
   pub machine : Machine
   pub world : World
@@ -46,25 +50,29 @@ has_quantum machine (event.Session who command) = is_quantum_due (half_step mach
 has_quantum machine (event.Control control.Quantum) = machine.heap.config.every == 0
 has_quantum machine (event.Control _) = false
 
--- the moment between a command and the quantum that it makes due
+-- the moment between a command and the quantum that it makes due; of a control the moment before it
 unfoldable pub half_moment : Moment → Event → Moment
 half_moment moment event = record moment { machine = half_step moment.machine event; world = world_beside_event moment.world event (event_step moment.machine event).reply }
 
--- The snapshot of a cycle is the world at the moment before the quantum that starts it (Yuasa 1990)
+-- the snapshot of a cycle: the world at the moment before the quantum that starts it. A quantum that starts none leaves the snapshot as it is
+-- from: Yuasa (snapshot)
 abbrev pub snapshot_at : Moment → World
 snapshot_at moment = if is_start_due moment.machine.heap.config moment.machine.heap.collector then moment.world else moment.snapshot
 
 -- the moment after an event
+-- from: Yuasa (snapshot)
 unfoldable pub next_moment : Moment → Event → Moment
 next_moment moment event =
     let half = half_moment moment event in
     record half { machine = (event_step moment.machine event).state; snapshot = if has_quantum moment.machine event then snapshot_at half else moment.snapshot }
 
--- The moment after a list of events
+-- the moment after a list of events
+-- from: Yuasa (snapshot)
 unfoldable pub moment_after : Moment → List Event → Moment
 moment_after moment [] = moment
 moment_after moment (event ∷ events) = moment_after (next_moment moment event) events
 
--- What a cycle keeps: the births that its snapshot reached, and those born since
+-- what a cycle keeps: the births that its snapshot reached, and those born since
+-- from: Yuasa
 abbrev pub IsKept : World → ℕ → ℕ → Type 0
 IsKept snapshot next_birth birth = Reachable snapshot birth ⊎ ((births snapshot ≤ birth) × (birth < next_birth))

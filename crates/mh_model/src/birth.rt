@@ -1,3 +1,5 @@
+//! Births, by which objects are known, and the number below which they stay. A birth is a type of its own, which
+//! contracts see as its number.
 use std::marker::Model;
 
 /// Births and cycle numbers stay below this number.

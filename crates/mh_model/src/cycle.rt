@@ -1,3 +1,5 @@
+//! The phases of the collector, and the units that a quantum spent. `Spent` is a type of its own, which contracts see
+//! as its number.
 use std::marker::Model;
 
 /// What the collector is at.

@@ -1,4 +1,9 @@
 //! What the collector, a barrier or the placing of a part does, told deed by deed.
+//!
+//! A deed is finer than a step. A block that is marked through is one deed, and each of its references is one more, of
+//! one unit each. The first move of a quantum is two: one of 1 and the words of the class, and one of 144 for the
+//! roots. So each unit stands where the work is. The phase that a step enters is a deed without units, since phases
+//! follow at once. Deeds of commands have none either, since what a command costs is the mutator's.
 use crate::birth::Birth;
 use crate::cycle::{Phase, Spent};
 use crate::place::Place;

@@ -1,3 +1,8 @@
+//! Dumps: what the table of blocks holds, page by page.
+//!
+//! A dump is the list that it was made of. A history, a log and a caller share its items. Each has a handle to them,
+//! and a count of handles can be full: so a copy may be answered with `NoMemory`, as `Dump::new` may. An item is kept
+//! as it is, in 32 bytes, and not packed: what a dump in a history may have are numbers of 64 bits each.
 ghost use Rattle.std.specs.Prelude.{◌≡◌, IfOk};
 
 use crate::memory::NoMemory;

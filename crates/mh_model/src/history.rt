@@ -1,3 +1,4 @@
+//! Entries of histories, the versions of their texts, and the verdicts on them.
 use crate::command::Event;
 use crate::reply::Reply;
 

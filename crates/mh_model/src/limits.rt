@@ -1,4 +1,8 @@
 //! The numbers of the rules, each named once for the code. The model has them where it speaks of them.
+//!
+//! Here are those that several crates need. The texts of `mh_command_line` and `mh_program` that name the limits of a
+//! configuration spell them again. Other numbers are where they are used: the bound of a cycle in `mh_cycle`, and once
+//! more in `mh_sizing`, which stands on no collector; the sizes of batches and pieces in `mh_mark` and `mh_scan`.
 
 /// The most pages of a heap.
 pub const MOST_PAGES: u32 = 4096;

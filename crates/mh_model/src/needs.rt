@@ -1,4 +1,6 @@
-/// What sessions need of a heap. A heap has fewer than 2^20 words, so 32 bits are enough for each.
+//! What sessions need of a heap, in the numbers by which its size is worked out.
+
+/// What sessions need of a heap. A heap has 2^20 words at most, so 32 bits are enough for each.
 #[derive(Clone, Copy, Debug, PartialEq, Eq)]
 pub struct Needs {
     /// The most parts of objects that are reachable at a time.

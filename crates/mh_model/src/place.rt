@@ -1,3 +1,4 @@
+//! Places of blocks. A place is a type of its own, which contracts see as its number. It has the model's page and slot.
 ghost use Rattle.std.specs.Prelude.{◌≡◌};
 ghost use Rattle.mh_model.specs.Pages.{page_number, slot_number};
 

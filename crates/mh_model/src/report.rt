@@ -1,3 +1,5 @@
+//! Reports on a trace, for the windows of one length.
+
 /// What is reported of a trace and a window.
 #[derive(Clone, Copy, Debug, PartialEq, Eq)]
 pub struct Report {

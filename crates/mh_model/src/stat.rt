@@ -1,3 +1,4 @@
+//! What a heap has at a moment: its pages, its blocks and its collector's phase.
 use crate::cycle::Phase;
 
 /// What `stat` reports of a heap.

@@ -5,6 +5,7 @@ use Rattle.mh_orders.specs.declared.profile.Profile.{Profile}
 use Rattle.mh_orders.specs.declared.profile.Profile.TheVariants.{Churn, Lists, Trees, Wide, Large, Fragments, Refusals, Mixed}
 use Rattle.mh_orders.specs.declared.profile.UnknownProfile.{UnknownProfile}
 
+-- the name of a profile
 abbrev pub profile_name : Profile → Text
 profile_name Churn = codes "churn"
 profile_name Lists = codes "lists"

@@ -1,4 +1,5 @@
-//! What an interval between two quanta asks for.
+//! What an interval between two quanta asks for. Words count the header, since that is what size classes are of. An
+//! object of more than 60 fields is several such blocks, and its user lists them. The limits are part of the type.
 ghost use Rattle.std.specs.Prelude.{◌≤◌};
 ghost use Rattle.std.specs.List.{All};
 

@@ -1,4 +1,4 @@
-//! How the minimum mutator utilisation of a run is written.
+//! How the minimum mutator utilisation of a run is written, and under which rules a script runs for it.
 use mh_model::config::Rules;
 
 /// What a curve is written as.

@@ -1,3 +1,5 @@
+//! Which random script is asked for. Its limits are part of the type, so `generate` asks for no more of them. It is
+//! always under the second rules.
 ghost use Rattle.std.specs.Prelude.{◌≡◌, ◌<◌, ◌≤◌};
 ghost use Rattle.mh_model.specs.declared.config.Rules.TheVariants.{Second};
 

@@ -1,3 +1,5 @@
+//! Which heap is asked for, by what its intervals ask for. The limits are part of the type, so `heap_text` asks for
+//! no more of them.
 ghost use Rattle.std.specs.Prelude.{◌≤◌, IsTrue};
 ghost use Rattle.mh_orders.specs.Given.{may_be};
 

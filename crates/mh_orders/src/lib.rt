@@ -1,4 +1,7 @@
 //! What the program can be asked for: its orders, with their options.
+//!
+//! The crate knows neither `clap` nor a heap. So the crates of texts take their options without loading `clap`, and
+//! `mh_command_line`, which reads words, loads no heap.
 #![tactic(auto)]
 
 pub mod allocations;

@@ -1,4 +1,6 @@
-//! Orders, and the options of a configuration.
+//! Orders, and the options of a configuration. An order has all that the program needs but its devices. A
+//! configuration in it is within the limits, since its type is. That workers are from 1 to 64 is a clause of
+//! `line_order`.
 use crate::curve::{CurveForm, CurveOptions};
 use crate::generate_options::Options;
 use crate::heap_options::HeapOptions;

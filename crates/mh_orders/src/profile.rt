@@ -1,3 +1,6 @@
+//! The mixes of events that random scripts may have, by their names. A text is read as the profile that it names, and
+//! as none if it names none. The program reads it and not `clap`, since a list of names holds references, which no
+//! definition can name.
 use std::str::FromStr;
 use thiserror::Error;
 

@@ -1,4 +1,5 @@
-//! How the steps of a run are written.
+//! How the steps of a run are written. Whether the deeds of an event are asked for is read off its number. `--from`
+//! and `--to` bound the deeds and not the entries, so each output has as many entries as the script has events.
 ghost use Rattle.std.specs.Prelude.{◌≡◌};
 ghost use Rattle.mh_orders.specs.Steps.{is_asked};
 

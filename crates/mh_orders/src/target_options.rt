@@ -1,3 +1,5 @@
+//! Which share of the mutator is to be kept, and what is given of the configuration that keeps it. The limits of what
+//! is given are part of the type.
 ghost use Rattle.std.specs.Prelude.{IsTrue};
 ghost use Rattle.mh_orders.specs.Given.{is_given_within, may_be};
 

@@ -27,7 +27,7 @@ StartsFromItsView old new = old.collector.phase ≡ Idle → is_start_due old.co
 abbrev pub heap_of : CycleState → ℕ → List Bool → HeapState
 heap_of cycle next_birth ended = record { config = cycle.config; collector = cycle.collector; next_birth = next_birth; ended = ended }
 
--- the heap keeps some snapshot, and its collector is within the bounds of its cycle
+-- what holds of a heap of pages: it keeps some snapshot, and its collector is within the bounds of its cycle
 pub record IsHeap (cycle : CycleState) (next_birth : ℕ) (ended : List Bool) : Type 0 where
   pub keeping : IsKeeping (heap_of cycle next_birth ended)
   pub bounds : IsInBounds cycle.config cycle.collector

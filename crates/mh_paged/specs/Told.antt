@@ -28,7 +28,8 @@ pub record IsQuantum (old : HeapState) (spent : ℕ) (new : HeapState) : Type 0 
   pub starts : StartsFromItsView old new
   pub forwarders : MakesItsForwarders old.config old.collector new.collector
 
--- what a heap shows is closed, commands and a quantum do there what they should, and births are counted
+-- what the laws say of such a heap, from which it meets the laws of `Heap`.
+-- What it shows is closed, commands and a quantum do there what they should, and births are counted
 pub record IsTold (heap : HeapState) : Type 0 where
   pub closed : IsClosed (heap_view heap)
   pub births : births (heap_view heap) ≡ heap.next_birth

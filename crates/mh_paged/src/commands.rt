@@ -1,4 +1,5 @@
-//! The commands of sessions.
+//! The commands of sessions. Each of the twelve answers and leaves what the model's step on the pages does, with its
+//! barriers and refusals. The heap is full exactly when some part of the object has no place.
 ghost use Rattle.std.specs.Prelude.{◌≡◌, ◌<◌};
 ghost use Rattle.mh_model.specs.declared.birth.TheConstants.{LIFE};
 ghost use Rattle.mh_model.specs.declared.command.Command.TheVariants as command;

@@ -1,4 +1,16 @@
 //! A heap that keeps what its sessions may reach.
+//!
+//! It opens as the model's first heap, and after every call it is the model's, with its collector. A quantum is the
+//! model's and spends at most what is configured, whatever the scanner answers. It keeps the snapshot of a running
+//! cycle and ends a cycle with exactly what that reached or was born since (`keeps`). It starts a cycle with what is
+//! reachable in the heap's view (`starts`). It leaves no forwarders but those that it made (`forwarders`).
+//!
+//! `start` asks for a cycle. These are read: free pages, live blocks, forwarders, phase and cycles; the dump of the
+//! table; the root slots; births, the quanta left, the limit of a quantum.
+//!
+//! The heap has a `drop` of its own, which takes it apart and does nothing else. So whoever owns one proves one call
+//! when it is dropped. A derived drop is proved table by table in the proof of each owner, at each of its ends: some 25
+//! steps for a heap, and 15 to 20 s of a processor.
 ghost use Rattle.std.specs.Prelude.{◌≡◌, ◌<◌, [], ◌∷◌, true, false, get_or, nat_le, nat_lt, ◌+◌, ◌≤◌, IfOk, MatchResult, Some, None};
 ghost use Rattle.mh_model.specs.World.{most_fields};
 ghost use Rattle.mh_model.specs.Classes.{parts};

@@ -1,7 +1,7 @@
 //! What commands do with the table and the roots that the collector lends: each function opens it once.
 //!
-//! The collector owns both, and its barriers need it whole. So a command borrows them for one deed at a time, and its proof
-//! sees the collector as one value before and after.
+//! The collector owns both, and its barriers need it whole. So a command borrows them for one deed at a time, and its
+//! proof sees the collector as one value before and after.
 ghost use Rattle.std.specs.Prelude.{◌≡◌, ◌^◌, ◌<◌, ◌≤◌, ◌+◌, Some, None, IsSome, IfOk, OnErr, get_or, length, option_map, filter, not};
 ghost use Rattle.mh_model.specs.Classes.{parts};
 ghost use Rattle.mh_model.specs.Pages.{block_at, free_pages, Leads};

@@ -1,7 +1,12 @@
 //! The heap of pages as its sessions see it.
 //!
-//! It is a type of its own because the laws of `Heap` speak of views and those of `KeptHeap` of pages: it keeps at hand, as a
-//! ghost, what the laws say of the view of its pages.
+//! It is a type of its own because the laws of `Heap` speak of views and those of `KeptHeap` of pages: it keeps at
+//! hand, as a ghost, what the laws say of the view of its pages.
+//!
+//! It meets the laws of `Heap` on its view, and never answers a command that there is no memory. A command takes none,
+//! and keeps each world that is taken as the snapshot of the running cycle (`keeps`). A quantum is that of `KeptHeap`,
+//! as what `Heap::quantum` collects. `start` asks for a cycle. What is read of `KeptHeap` is read here, but for its
+//! root slots.
 ghost use Rattle.std.specs.Prelude.{◌≡◌, ◌<◌, true, IfOk};
 ghost use Rattle.mh_model.specs.declared.birth.TheConstants.{LIFE};
 ghost use Rattle.mh_model.specs.Pages.{free_pages};

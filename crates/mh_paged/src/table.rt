@@ -1,4 +1,4 @@
-//! The blocks of the table in order.
+//! The blocks of the table in order, as a dump has them.
 ghost use Rattle.std.specs.Prelude.{◌≡◌, ◌<◌, ◌++◌, IsSome, IfSome, IfOk, Some, length};
 ghost use Rattle.mh_model.specs.Pages.{slot_number, page_at, block_at, class_at, HaveTheirSlots};
 ghost use Rattle.mh_model.specs.Machine.{dump_block, dump_slots, dump_pages};

@@ -1,4 +1,8 @@
 //! The heap of pages as it tells what it does.
+//!
+//! A command of a session tells where the parts of a new object were placed, and then what its barrier made grey. That
+//! is read off the end of the grey list after the command, in the order of shading. A quantum tells its deeds, whose
+//! units are what it spent. Both are otherwise as those that tell nothing.
 ghost use Rattle.std.specs.Prelude.{◌≡◌, ◌<◌, ◌≤◌, ◌^◌, Some, None, IfOk, OnOk, OnErr, drop, length, map};
 ghost use Rattle.mh_model.specs.declared.birth.TheConstants.{LIFE};
 ghost use Rattle.mh_model.specs.declared.command.Command.TheVariants as command;

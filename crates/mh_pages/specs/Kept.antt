@@ -1,4 +1,4 @@
--- What is kept of the words of pages.
+-- What pages keep: the invariant of `Pages`, and words of private functions. No public contract names them.
 use Rattle.std.specs.Prelude.{◌≡◌, ◌≤◌, ◌<◌, ◌⊎◌, ℕ, ◌+◌, ◌*◌, ◌/◌, ◌==◌, ◌||◌, Bool, true, false, List, length, get_or}
 use Rattle.mh_model.specs.Classes.{is_class_size, slots_in}
 use Rattle.mh_model.specs.Pages.{free_pages}
@@ -22,7 +22,7 @@ pub record AreSized (heads frees words : List ℕ) (sets : List Bool) : Type 0 w
   pub as_many_words : length words ≡ 256 * length heads
   pub as_many_sets : length sets ≡ 4096 * 61
 
--- all that is kept
+-- all that is kept: the words that pages need, their heads and free slots, their indexes, and how many pages are free
 pub record AreStored (heads frees words : List ℕ) (sets : List Bool) (free : ℕ) : Type 0 where
   pub sized : AreSized heads frees words sets
   pub pages : ArePages heads frees

@@ -3,7 +3,7 @@ use Rattle.std.specs.Prelude.{ℕ, List, [], unwrap_or, option_map, set, get_or}
 use Rattle.mh_model.specs.Pages.{Table, block_at, with_block}
 use Rattle.mh_pages.specs.declared.header.Header.{Header}
 
--- the header of a block
+-- the header of a block, which is its first four words
 abbrev pub header_of : List ℕ → Header
 header_of block = record { birth = get_or block 0 0; counts = get_or block 1 0; stamp = get_or block 2 0; forward = get_or block 3 0 }
 

@@ -1,3 +1,5 @@
+//! Addresses of blocks. Calls that read or write several words of one block take one, so the class of the page is
+//! looked up once. Each such call requires that the address is still right.
 use mh_model::place::Place;
 use std::marker::Model;
 

@@ -1,3 +1,5 @@
+//! The sets of pages that the search for a place reads. A page changes what it is a member of with its class and its
+//! flag, and with its first and its last free slot.
 ghost use Rattle.std.specs.Prelude.{◌≡◌, ◌<◌, ◌≤◌, ◌*◌, ◌+◌, ◌%◌, length, get_or, set};
 ghost use Rattle.mh_classes.specs.Numbers.{class_number};
 ghost use Rattle.mh_pages.specs.Indexed.{indexed_again, indexed_after, AllFree, HasRoomFor};

@@ -1,3 +1,24 @@
+//! Pages of blocks of words. They are the model's table after every call.
+//!
+//! A place is taken, or given back with its page or without. A page is freed, flagged or unflagged. A word or a header
+//! is written, and what is read is what is stored. Which slots of a page have a block is given as the bits of a word.
+//! How many places of all pages are free for a class is counted. Reading a word only to load its cache line returns
+//! nothing and changes nothing.
+//!
+//! The least place of a class is the model's, by its three tiers: unflagged pages of the class, free pages, flagged
+//! pages of the class. For moves it is that of the first tier alone. The search reads at most five words. It reads the
+//! summary of the set of each tier to which it comes. In the tier that gives a place it also reads the word of the set,
+//! and of a page in use its free slots. That a search keeps one tally from its beginning to its end is seen by reading
+//! its body. The linear search was never written: contracts don't distinguish one search from another, except by the
+//! words that are read.
+//!
+//! A page has one word for its class and flag, and one for its free slots. Its sets are written only when it changes
+//! what it is a member of. So taking or giving back a place writes one word beside the block's own, if the page had a
+//! free slot and keeps one. A slot that becomes free keeps its words: to clear each one's birth costs `bench/plain.rs`
+//! 3 % on churn (2026-11-27).
+//!
+//! `release` with its page, and `free_page`, require that no other block is there. `free_page` stands beside `release`
+//! for the sweep, whose last slot may have no block.
 ghost use Rattle.std.specs.Prelude.{ℕ, ◌≡◌, ◌<◌, ◌≤◌, ◌*◌, ◌+◌, ◌-◌, ◌/◌, ◌^◌, length, get_or, replicate, set, None, Some, IfOk, is_some, IsSome, IfSome, IsTrue, MatchOption, true, false, option_map};
 ghost use Rattle.mh_bits.specs.Bits.{has_bit};
 ghost use Rattle.mh_model.specs.Classes.{is_class_size, slots_in};

@@ -1,3 +1,4 @@
+//! What is read for the cache alone. Contracts see it as the unit, so it tells nothing, and nothing rests on it.
 ghost use Rattle.std.specs.Prelude.{◌≡◌};
 
 use std::marker::Model;

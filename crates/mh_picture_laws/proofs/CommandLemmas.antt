@@ -1,4 +1,5 @@
--- The deeds of a command draw the picture after it: what its barriers shaded, and the parts that it placed.
+-- The deeds of a command draw the picture after it. What its barriers shaded stands at the end of the grey list, and parts are placed in order.
+-- Their references to children aren't drawn, and are as many as their parts have.
 use Rattle.std.proofs.Common.{◌≡◌, ℕ, zero, suc, ◌+◌, Bool, true, false, if◌then◌else◌, inl, inr, Option, Some, None, option_map, option_and_then, unwrap_or, List, [], ◌∷◌, ◌++◌, length, map, drop, set, get_or, slice_get, ◌≤◌, arith, refl, sym, ap, ◌∙◌, subst, append_assoc}
 use Rattle.std.proofs.lemmas.List.{append-nil, map-append, length-set, length-replicate}
 use Rattle.std.proofs.lemmas.Option.{none-some, same_Some}

@@ -1,4 +1,4 @@
--- The dump and the counts of a heap are those of its picture.
+-- The dump and the counts of a heap are those of its picture: a dump sees no more of a block than is drawn.
 use Rattle.std.proofs.Common.{◌≡◌, ℕ, suc, not, Bool, true, false, cond, Option, Some, None, option_map, List, [], ◌∷◌, ◌++◌, map, filter, length, refl, sym, ap, ◌∙◌}
 use Rattle.std.proofs.lemmas.List.{map-append}
 use Rattle.mh_model.specs.declared.dump.DumpItem.TheVariants as item

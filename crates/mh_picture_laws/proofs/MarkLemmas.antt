@@ -1,4 +1,6 @@
 -- The deeds of a mark step draw what it changes of a picture.
+-- A reference is shaded after it was resolved and written, so where it leads is resolved twice, and the deed names the place of the first time.
+-- Both are one place: a grey block's references lead to blocks that are no forwarders (`references_lead_on`).
 use Rattle.std.proofs.Common.{◌≡◌, ℕ, suc, if◌then◌else◌, nat_lt, inl, Option, Some, None, option_map, option_and_then, unwrap_or, List, [], ◌∷◌, length, get_or, drop, set, refl, sym, ap, ◌∙◌, subst}
 use Rattle.std.proofs.lemmas.List.{length-set}
 use Rattle.mh_model.specs.declared.cycle.Phase.{Phase}

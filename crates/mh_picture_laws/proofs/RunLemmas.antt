@@ -1,4 +1,4 @@
--- The accounts of events and of runs draw the picture after them.
+-- The induction over a run: the accounts of events and of runs draw the picture after them.
 use Rattle.std.proofs.Common.{◌≡◌, ℕ, ◌==◌, Bool, true, false, if◌then◌else◌, List, [], ◌∷◌, refl, ap, ◌∙◌}
 use Rattle.mh_model.specs.declared.command.Command.{Command}
 use Rattle.mh_model.specs.declared.command.Control.TheVariants as control

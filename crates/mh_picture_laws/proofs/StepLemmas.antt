@@ -1,4 +1,4 @@
--- The deeds of each step draw the picture after it.
+-- The deeds of each step draw the picture after it: moves, the phase that follows, and whole steps.
 use Rattle.std.proofs.Common.{◌≡◌, ℕ, ◌==◌, Bool, true, false, if◌then◌else◌, Option, Some, None, option_map, option_and_then, List, [], ◌∷◌, get_or, refl, sym, ap, ◌∙◌}
 use Rattle.mh_model.specs.declared.cycle.Phase.{Phase}
 use Rattle.mh_model.specs.declared.cycle.Phase.TheVariants.{Idle, Roots, Mark, Sweep, Defrag}

@@ -1,4 +1,4 @@
--- The deeds of a sweep step draw what it changes of a picture.
+-- The deeds of a sweep step draw what it changes of a picture: a slot, and then its page.
 use Rattle.std.proofs.Common.{◌≡◌, ℕ, ◌*◌, ◌==◌, ◌⊎◌, inl, inr, nat_le, Bool, true, false, not, ◌&&◌, ◌||◌, if◌then◌else◌, Option, Some, None, is_some, option_map, option_and_then, List, length, get_or, set, refl, sym, ap, ◌∙◌}
 use Rattle.std.proofs.lemmas.List.{set-get_or, set-set, get_or-set_same}
 use Rattle.mh_model.specs.Pages.{Page, Table, page_number, slot_number, page_at, block_in, live_in, has_denser, page_with, with_block, with_flag, flagged_as}

@@ -13,24 +13,26 @@ use Rattle.mh_model.specs.Deeds.{step_deeds, quantum_deeds, command_deeds, accou
 use Rattle.mh_model.specs.Invariant.{IsKeeping, IsSteady}
 use Rattle.mh_picture_laws.specs.Picture.{picture_of, empty_picture, drawn_all, drawn_account, accounts_of, drawn_run, dump_of, stat_of}
 
--- The deeds of a step draw the picture after it, whether the quantum has moved a block or not
+-- The deeds of a step of a steady collector draw the picture after it, whether the quantum has moved a block or not
 abbrev pub StepsTellThePicture : Type 0
 StepsTellThePicture = (collector : Collector) (has_moved : Bool) → IsSteady collector → picture_of (collector_step collector) ≡ drawn_all (picture_of collector) (step_deeds collector has_moved)
 
--- The deeds of a quantum draw the picture after it, in whatever phase it is entered
+-- The deeds of a quantum of a steady collector draw the picture after it, in whatever phase it is entered
 abbrev pub QuantaTellThePicture : Type 0
 QuantaTellThePicture = (config : Config) (collector : Collector) → IsSteady collector → picture_of (quantum config collector).collector ≡ drawn_all (picture_of collector) (quantum_deeds config collector)
 
--- The deeds of a command draw the picture after it, also if it is refused
+-- The deeds of a command of a session on a kept heap draw the picture after it, also if it is refused
 abbrev pub CommandsTellThePicture : Type 0
 CommandsTellThePicture = (heap : HeapState) (who : ℕ) (command : Command) → IsKeeping heap → picture_of (mutator_step heap who command).state.collector ≡ drawn_all (picture_of heap.collector) (command_deeds heap who command)
 
--- The account of an event draws the picture after it, and the deeds of its command draw that of its half step
+-- The account of an event draws the picture after it: first the deeds of its command, which draw that of its half step, and then those of its
+-- quantum. The heap before it is a kept one
 pub record EventsTellThePicture : Type 0 where
   pub half : (machine : Machine) (event : Event) → IsKeeping machine.heap → picture_of (half_step machine event).heap.collector ≡ drawn_all (picture_of machine.heap.collector) (account_of machine event).command
   pub whole : (machine : Machine) (event : Event) → IsKeeping machine.heap → picture_of (event_step machine event).state.heap.collector ≡ drawn_account (picture_of machine.heap.collector) (account_of machine event)
 
--- From the empty picture the accounts of a run draw the picture after it, that after the command of one event more, and so its dump and its counts
+-- For every configuration and every list of events, the accounts draw the picture of the machine's heap, from the empty picture on, half moments
+-- included. The replies to the controls `dump` and `stat` are the dump and the counts of what is drawn
 pub record RunsTellThePicture : Type 0 where
   pub picture : (config : Config) (events : List Event) → picture_of (machine_after (first_machine config) events).heap.collector ≡ drawn_run (empty_picture config) (accounts_of (first_machine config) events)
   pub half : (config : Config) (events : List Event) (event : Event)

@@ -1,4 +1,6 @@
--- The picture of a heap: what is drawn of its blocks, its pages and its collector, and what each deed changes of it.
+-- The picture of a heap: what a map of the heap shows of its blocks, its pages and its collector, and what each deed changes of it. What deeds don't
+-- say is not in a picture: root slots, the cursor, what references and numbers hold, and the counts in headers. The page of `mh_show` writes the
+-- roots of an event beside its deeds. Where a quantum leaves the cursor, its deeds say by a law of that crate.
 use Rattle.std.specs.Prelude.{ℕ, true, false, if◌then◌else◌, Option, Some, None, option_map, List, [], ◌∷◌, ◌++◌, length, set, drop, replicate}
 use Rattle.mh_model.specs.declared.command.Event.{Event}
 use Rattle.mh_model.specs.declared.config.Config.{Config}
@@ -44,7 +46,7 @@ drawn_of block = record { name = name_of block; fields = record { references = l
 abbrev pub picture_of : Collector → Picture
 picture_of collector = record { table = table_map drawn_of collector.table; grey = collector.grey; cycle = collector.cycle; phase = collector.phase }
 
--- before a run all pages are free, no block is grey and no cycle runs
+-- the picture before a run: all pages are free, no block is grey and no cycle runs
 abbrev pub empty_picture : Config → Picture
 empty_picture config = record { table = replicate config.pages None; grey = []; cycle = 0; phase = Idle }
 
@@ -58,11 +60,11 @@ with_table picture table = record picture { table = table }
 abbrev pub marked_in : ℕ → Drawn → Drawn
 marked_in cycle drawn = record drawn { stamp = cycle }
 
--- the block at a place marked in the cycle, and its place appended to the grey list
+-- a place shaded: its block marked in the cycle, and the place appended to the grey list
 abbrev pub shaded : Picture → ℕ → Picture
 shaded picture place = record picture { table = with_block picture.table place (option_map (marked_in picture.cycle) (block_at picture.table place)); grey = picture.grey ++ place ∷ [] }
 
--- the same of the place that a reference leads to, if it leads to one
+-- the place that a reference leads to shaded, if it leads to one
 abbrev pub shaded_at : Picture → Option ℕ → Picture
 shaded_at picture None = picture
 shaded_at picture (Some place) = shaded picture place
@@ -71,7 +73,7 @@ shaded_at picture (Some place) = shaded picture place
 abbrev pub with_edge : Picture → Edge → Picture
 with_edge picture edge = if edge.is_shaded then shaded_at picture edge.target else picture
 
--- a slot is empty after the sweep if its fate frees what it had
+-- the pages after the sweep of a slot, which is empty if its fate frees what it had, a block or a forwarder
 abbrev pub swept_slot : Table Drawn → ℕ → Fate → Table Drawn
 swept_slot table place fate.Empty = table
 swept_slot table place (fate.Kept name) = table
@@ -130,7 +132,7 @@ drawn_run picture (account ∷ accounts) = drawn_run (drawn_account picture acco
 
 -- What pictures show -----------------------------------------------------------------------------
 
--- a block that is drawn so, with null references and the number 0 in each other field
+-- a block that is drawn like this, with empty fields: null references and the numbers 0, and the counts 0 in its header
 abbrev pub bare_block : Drawn → Block
 bare_block drawn = record {
   birth = drawn.name.birth;
@@ -142,11 +144,11 @@ bare_block drawn = record {
   numbers = replicate drawn.fields.numbers 0;
 }
 
--- a collector that is drawn so, with such blocks and no roots
+-- a collector that is drawn like this, with such blocks and no root slots
 abbrev pub bare_collector : Picture → Collector
 bare_collector picture = record { table = table_map bare_block picture.table; slots = []; phase = picture.phase; cursor = 0; grey = picture.grey; cycle = picture.cycle; is_asked = false; quanta = 0 }
 
--- what the dump and the counts of a heap with this picture are
+-- the dump, and the counts, of a heap with this picture
 abbrev pub dump_of : Picture → List DumpItem
 dump_of picture = dump_pages 0 (bare_collector picture).table
 

@@ -10,7 +10,7 @@ use Rattle.mh_command_line.specs.declared.fault.LineFault.{LineFault}
 use Rattle.mh_command_line.specs.declared.fault.LineFault.TheVariants.{Words, NotText, Configuration, NoMemory}
 use Rattle.mh_live.specs.OfScript.ScriptFault.{ScriptFault}
 
--- 0 for a script that was run, 1 for one that was refused, 3 for a fault of memory or of a device, and for a full history
+-- 0 for a script that was run, 1 for one that was refused; 3 for a fault of memory or of a device, and for a full history
 abbrev pub status_of : Result End ScriptFault → ℕ
 status_of (Ok Done) = 0
 status_of (Ok (Refused line)) = 1

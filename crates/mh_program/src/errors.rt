@@ -1,4 +1,5 @@
-//! Standard error.
+//! Standard error. It gets nothing more once a write to it failed. Nobody is left to hear it, and what is answered on
+//! standard output goes on.
 ghost use Rattle.std.specs.Prelude.{◌≡◌, ◌<◌, ◌^◌, false};
 ghost use Rattle.mh_program.specs.Telling.{Tells, fresh};
 ghost use Rattle.mh_live.specs.OfScript.Run.{device};

@@ -1,3 +1,5 @@
+//! The program over its environment and its streams. It has no clause, since it takes its streams by value, of which
+//! nothing is left to speak of. Tests show what it does.
 use crate::errors::Errors;
 use crate::program::program;
 use mh_command_line::words::words;

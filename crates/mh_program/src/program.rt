@@ -1,3 +1,10 @@
+//! What the program does on its words, its text and its three devices, for each of the 11 subcommands and for the
+//! version.
+//!
+//! The contract has what is read and written, the lines on standard error, and the exit status. Of a reason it has
+//! the line and the entry before it, and that it is one line which can be printed. Tests compare the text. Standard
+//! error gets nothing more once a write to it failed. Without an order nothing is read, and standard output gets
+//! nothing.
 ghost use Rattle.std.specs.Prelude.{◌≡◌, ◌<◌, ◌≤◌, ◌^◌, Result, Err, IfOk, MatchResult, map};
 ghost use Rattle.std.specs.String.{string_bytes};
 ghost use Rattle.mh_command_line.specs.declared.fault.LineFault.{LineFault};

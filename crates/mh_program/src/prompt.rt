@@ -1,4 +1,5 @@
-//! A reader that says what it waits for.
+//! A reader that says what it waits for. It is a reader of std around standard input, so no contract of the program
+//! changes. No contract says that the line is written before the first read from a terminal: tests show it.
 use std::io;
 use std::io::{IsTerminal, Read, Write};
 

@@ -1,4 +1,5 @@
-//! The curves that the program draws.
+//! The curves that the program draws, each with its line on standard error and its exit status. They are drawn with
+//! one worker, since `curve` has no option for more.
 ghost use Rattle.std.specs.Prelude.{◌<◌, ◌^◌};
 ghost use Rattle.mh_show.specs.OfCurve.Runs.{IsDrawing, curve_output};
 ghost use Rattle.mh_program.specs.Program.{Obeys};

@@ -1,4 +1,5 @@
-//! The sizes that the program writes.
+//! The sizes that the program writes, each with its line on standard error and its exit status. Of a heap or a share
+//! the text is made before it is written, so out of memory leaves nothing written.
 ghost use Rattle.std.specs.Prelude.{◌<◌, ◌^◌};
 ghost use Rattle.mh_program.specs.Program.{Obeys, WritesSize};
 ghost use Rattle.mh_program.specs.Status.{status_of};

@@ -1,3 +1,5 @@
+//! The exit status of each end. It is 0 if all went well, 1 for a text that is refused, 2 for words that are. It is 3
+//! for a fault, and 4 for a history that isn't legal.
 ghost use Rattle.std.specs.Prelude.{◌≡◌};
 ghost use Rattle.mh_program.specs.Status.{curve_status_of, judgement_status_of, line_status_of, live_status_of, status_of};
 

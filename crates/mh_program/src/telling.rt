@@ -1,4 +1,8 @@
 //! What standard error gets of words, scripts and histories that are refused, and of faults.
+//!
+//! Only a line that quotes its input takes memory. If there is none, a line comes that gives no reason; for words it
+//! is `metroheap: bad command line`. The lines of `ScriptFault` are named once, in `mh_script`. Those of `LineFault`
+//! stand here once more, since a contract names them, with the limits of a configuration.
 ghost use Rattle.std.specs.Prelude.{◌≡◌, ◌+◌, IfOk, MatchResult};
 ghost use Rattle.std.specs.String.{string_bytes};
 ghost use Rattle.mh_model.specs.Bytes.{line_text};

@@ -1,4 +1,5 @@
--- What a run promises of its outcome. If a clause speaks of the events before another, it holds at each moment of the run.
+-- What a run of a list of events promises of its replies, its heap and its trace. By the laws at the end an outcome that is the machine's keeps this
+-- promise. If a clause speaks of the events before another, it holds at each moment of the run. docs/THEOREM.md has the clauses in plain words.
 use Rattle.std.specs.Prelude.{◌≡◌, ℕ, ◌-◌, ◌<◌, ◌≤◌, true, false, Some, None, List, [], ◌∷◌, ◌++◌, length}
 use Rattle.std.specs.List.{AllByRecursion}
 use Rattle.mh_model.specs.declared.command.Command.{Command}
@@ -35,12 +36,13 @@ use Rattle.mh_promise.specs.Runs.{Outcome, machine_at, moment_at, outcome_of, Is
 abbrev pub AreAnswered : List Event → List Reply → Type 0
 AreAnswered events replies = length replies ≡ length events
 
--- Every reply to a session but a full heap is that of a heap that never collects or moves, to which the commands that a full heap refused weren't given
+-- Every reply to a session but a full heap is that of a heap that never collects or moves. The commands that a full heap refused weren't given to it
 abbrev pub AreTheWorlds : Config → List Event → List Reply → Type 0
 AreTheWorlds config events replies = (before : List Event) (who : ℕ) (command : Command) (given : Reply) → IsAnswered events replies before (event.Session who command) given → is_heap_full given ≡ false
     → given ≡ (world_step (world_beside (first_world config) before replies) who command).reply
 
--- A full heap answers new objects alone, only if some part of the object has no place and no other test refuses it, and then always. So the heap that never collects or moves would make it
+-- A full heap answers new objects alone, and exactly those of which some part has no place and which no other test refuses. So the heap that never
+-- collects or moves would make each
 pub record FullIsNoPlace (config : Config) (events : List Event) (replies : List Reply) : Type 0 where
   pub new : (before : List Event) (who : ℕ) (asked : Command) → IsAnswered events replies before (event.Session who asked) (reply.Refused HeapFull) → IsNew asked
   pub only : (before : List Event) (who slot references numbers : ℕ) → IsAnswered events replies before (event.Session who (command.New slot references numbers)) (reply.Refused HeapFull) → new_group (machine_at config before).heap references numbers ≡ None
@@ -51,19 +53,21 @@ pub record FullIsNoPlace (config : Config) (events : List Event) (replies : List
   pub made : (before : List Event) (who slot references numbers : ℕ) → IsAnswered events replies before (event.Session who (command.New slot references numbers)) (reply.Refused HeapFull)
       → (world_step (world_beside (first_world config) before replies) who (command.New slot references numbers)).reply ≡ reply.Done
 
--- A command that is refused, by a full heap too, leaves the heap as it was; only the quantum that it makes due may change it. Its unit counts
+-- A command that is refused, by a full heap too, leaves the heap as it was; only the quantum that it makes due may change it. It is still one unit in
+-- the trace
 abbrev pub RefusedChangesNothing : Config → List Event → List Reply → Type 0
 RefusedChangesNothing config events replies = (before : List Event) (who : ℕ) (command : Command) (refused : Refusal) → IsAnswered events replies before (event.Session who command) (reply.Refused refused)
     → (half_step (machine_at config before) (event.Session who command)).heap ≡ (machine_at config before).heap
 
 -- Quanta -----------------------------------------------------------------------------------------
 
--- No quantum spends more units than are configured: by the greatest of the trace, and by what each reply states
+-- No quantum spends more units than are configured: by the greatest of the trace, and by each reply that states what one spent
 pub record QuantaKeepTheirLimit (config : Config) (events : List Event) (outcome : Outcome) : Type 0 where
   pub greatest : outcome.trace.greatest ≤ config.quantum
   pub spent : (before : List Event) (event : Event) (units : ℕ) (phase : Phase) → IsAnswered events outcome.replies before event (reply.Spent units phase) → units ≤ config.quantum
 
--- Each stretch of the trace has at least the floor of its length in units of the mutator (Cheng and Blelloch 2001)
+-- Each stretch of the trace has at least the floor of its length in units of the mutator
+-- from: Cheng and Blelloch
 abbrev pub MutatorHasItsFloor : Config → Outcome → Type 0
 MutatorHasItsFloor config outcome = (window count : ℕ) → least_mutator window outcome.trace.letters ≡ Some count → floor config.every config.quantum window ≤ count
 
@@ -86,12 +90,13 @@ CyclesMakeTheirForwarders config events = (before : List Event) (event : Event) 
 
 -- Moments ----------------------------------------------------------------------------------------
 
--- a moment keeps the snapshot of its cycle and shows what agrees with the world, and its references lead in one hop at most to held blocks
+-- a moment keeps the snapshot of its cycle and shows what agrees with the world. Its root slots hold the places of held blocks. References of held
+-- blocks lead in one hop at most to held blocks, so to no freed place
 pub record IsSafe (moment : Moment) : Type 0 where
   pub faithful : IsFaithful moment
   pub linked : IsLinked moment.machine.heap.collector
 
--- So is each moment between two events, and each between a command and the quantum that it makes due
+-- Each moment between two events is so, and each half moment, between a command and the quantum that it makes due
 pub record MomentsAreSafe (config : Config) (events : List Event) : Type 0 where
   pub each : (before later : List Event) → events ≡ before ++ later → IsSafe (moment_at config before)
   pub half : (before : List Event) (event : Event) (later : List Event) → events ≡ before ++ event ∷ later → IsSafe (half_moment (moment_at config before) event)
@@ -111,21 +116,22 @@ CyclesEnd config events = (before : List Event) →
     let collector = (machine_at config before).heap.collector in
     is_idle collector.phase ≡ false → EndsAfter config events before (most_quanta config - collector.quanta)
 
--- some quanta are reported, and once so many have been run the cycle has ended
+-- a reply to the control `left` that is true: some quanta are left, at least 1, and once so many have been run the cycle has ended
 pub record TellsTheEnd (config : Config) (events before : List Event) (given : Reply) : Type 0 where
   pub count : ℕ
   pub told : given ≡ reply.Left count
   pub some : 1 ≤ count
   pub ends : EndsAfter config events before count
 
--- Who asks for the quanta left is answered the end of the cycle that runs, and 0 if none does
+-- The control `left` is answered 0 if no cycle runs, and otherwise a number of quanta, at least 1, after which the cycle has ended
 pub record LeftTellsTheEnd (config : Config) (events : List Event) (replies : List Reply) : Type 0 where
   pub running : (before : List Event) (given : Reply) → IsAnswered events replies before (event.Control control.Left) given → is_idle (machine_at config before).heap.collector.phase ≡ false → TellsTheEnd config events before given
   pub idle : (before : List Event) (given : Reply) → IsAnswered events replies before (event.Control control.Left) given → is_idle (machine_at config before).heap.collector.phase ≡ true → given ≡ reply.Left 0
 
 -- Room -------------------------------------------------------------------------------------------
 
--- No reply is a full heap: the replies are those of a heap that never collects or moves, which is given every command, and no new object goes into a flagged page
+-- No reply is a full heap, and no new object goes into a flagged page. So the replies are those of a heap that never collects or moves, which is
+-- given every command
 pub record NeverAnswersFull (config : Config) (events : List Event) (replies : List Reply) : Type 0 where
   pub none : AllByRecursion (λ answer. is_heap_full answer ≡ false) replies
   pub worlds : AnswerAsTheWorld (first_world config) events replies
@@ -137,7 +143,8 @@ pub record HasRoom (config : Config) (events : List Event) (replies : List Reply
   pub room : HasRoomFor config events quanta opened
   pub never_full : NeverAnswersFull config events replies
 
--- A run is never full whose trigger and pages are enough: for what its cycles take and leave, or for what its sessions need, as told by the ever-growing world. Each new part may keep a page, or small parts share pages
+-- A run is never full whose trigger and pages are enough: for what its cycles take and leave, or for what its sessions need, by the ever-growing
+-- world alone. For these needs each new part may keep a page, or small parts share pages. No cycle takes more quanta than its bound
 pub record RoomIsEnough (config : Config) (events : List Event) (replies : List Reply) : Type 0 where
   pub bound : CyclesTakeAtMost (most_quanta config) config events
   pub room : (quanta opened : ℕ) → 1 ≤ quanta → CyclesTakeAtMost quanta config events → HasRoomFor config events quanta opened → NeverAnswersFull config events replies
@@ -146,7 +153,7 @@ pub record RoomIsEnough (config : Config) (events : List Event) (replies : List 
 
 -- The promise ------------------------------------------------------------------------------------
 
--- What a run promises of its outcome
+-- What a run promises of its outcome, in twelve clauses, all of them above. That of the mutator's floor is promised if the scheduler runs quanta
 pub record IsPromised (config : Config) (events : List Event) (outcome : Outcome) : Type 0 where
   -- each event is answered once
   pub answered : AreAnswered events outcome.replies
@@ -173,15 +180,15 @@ pub record IsPromised (config : Config) (events : List Event) (outcome : Outcome
   -- if the scheduler runs quanta, the mutator has its share of the units
   pub share : 0 < config.every → MutatorHasItsFloor config outcome
 
--- What a run that stopped early promises: its replies are the machine's to the first of its events, and all of the above holds of these
+-- What a run that stopped early promises: its replies are the machine's to the first of its events, and all clauses hold of these
 pub record IsPromisedSoFar (config : Config) (events : List Event) (replies : List Reply) : Type 0 where
   pub so_far : AreAnsweredSoFar config events replies
   pub promise : IsPromised config so_far.done (outcome_of (machine_at config so_far.done) replies)
 
--- An outcome that is the machine's keeps the promise
+-- An outcome that is the machine's, in replies, heap, free pages and trace, keeps the promise
 abbrev pub RunsKeepTheirPromise : Type 0
 RunsKeepTheirPromise = (config : Config) (events : List Event) (outcome : Outcome) → IsTheMachines config events outcome → IsPromised config events outcome
 
--- Replies that are the machine's to the first events keep it of these
+-- Replies that are the machine's to the first events of a run that stopped keep the promise of these events
 abbrev pub StoppedRunsKeepTheirPromise : Type 0
 StoppedRunsKeepTheirPromise = (config : Config) (events : List Event) (replies : List Reply) → AreAnsweredSoFar config events replies → IsPromisedSoFar config events replies

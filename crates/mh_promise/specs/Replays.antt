@@ -8,12 +8,14 @@ use Rattle.mh_model.specs.Machine.{Machine, first_machine, event_step, machine_a
 use Rattle.mh_promise.specs.Runs.{machine_at, outcome_of, IsTheMachines}
 use Rattle.mh_promise.specs.Promise.{IsPromised}
 
--- The machine after more events
+-- The machine after one list of events and another is the machine after the first, taken through the other. With one event more it is what that
+-- event's step leaves
 pub record MachineAfterMore : Type 0 where
   pub events : (machine : Machine) (before more : List Event) → machine_after machine (before ++ more) ≡ machine_after (machine_after machine before) more
   pub event : (machine : Machine) (before : List Event) (event : Event) → machine_after machine (before ++ event ∷ []) ≡ (event_step (machine_after machine before) event).state
 
--- The replies to more events
+-- The replies to one list of events and another are those to the first, and then those of the machine after it to the other. With one event more, the
+-- reply to it follows
 pub record MachineRepliesMore : Type 0 where
   pub events : (machine : Machine) (before more : List Event) → machine_replies machine (before ++ more) ≡ machine_replies machine before ++ machine_replies (machine_after machine before) more
   pub event : (machine : Machine) (before : List Event) (event : Event) → machine_replies machine (before ++ event ∷ []) ≡ machine_replies machine before ++ (event_step (machine_after machine before) event).reply ∷ []
@@ -23,7 +25,8 @@ pub record IsReplay (config : Config) (events : List Event) (replies : List Repl
   pub machine_is : machine ≡ machine_at config events
   pub replies_are : replies ≡ machine_replies (first_machine config) events
 
--- The first machine is the replay of no events, an event's step gives the replay with the event and its reply appended, and what a replay shows is the machine's and keeps the promise
+-- An event's step appends the event and its reply to a replay, of which the first machine is that of no events. What a replay shows is the machine's
+-- and keeps the promise
 pub record EventsKeepTheReplay : Type 0 where
   pub first : (config : Config) → IsReplay config [] [] (first_machine config)
   pub step : (config : Config) (events : List Event) (replies : List Reply) (machine next : Machine) (event : Event) (given : Reply) → IsReplay config events replies machine → event_step machine event ≡ says given next → IsReplay config (events ++ event ∷ []) (replies ++ given ∷ []) next

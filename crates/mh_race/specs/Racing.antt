@@ -12,6 +12,7 @@ use Rattle.mh_service.specs.OfState.Stop.{Stop}
 abbrev pub IsNew : ServiceView → LockSeatView Entry → Type 0
 IsNew service seat = IsOf service seat × (seat.log ≡ [])
 
+-- a racer whose seat is such, and to which no call was refused
 abbrev pub IsFresh : ServiceView → Racer → Type 0
 IsFresh service racer = IsNew service racer.seat × (racer.stop ≡ None)
 
@@ -20,6 +21,7 @@ abbrev pub HasRun : List Event → Option Stop → LockSeatView Entry → Type 0
 HasRun events None seat = events_of seat.log ≡ owned_by owner_of seat.number events
 HasRun events (Some stop) seat = (refused : Event) × (later : List Event) × (events_of seat.log ++ refused ∷ later ≡ owned_by owner_of seat.number events)
 
+-- a racer whose seat is one of this service, and has run so
 abbrev pub HasRunIn : ServiceView → List Event → Racer → Type 0
 HasRunIn service events racer = IsOf service racer.seat × HasRun events racer.stop racer.seat
 

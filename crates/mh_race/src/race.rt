@@ -1,4 +1,16 @@
 //! Races over the events of a script.
+//!
+//! Whatever order the threads take, a race leaves a legal history. In it each seat has the calls that it has among the
+//! events, in their order and no others. If one of its calls was refused, it has those before it.
+//!
+//! The calls of each seat alone say what a race leaves, so nothing is said of the order between seats. For each seat by
+//! itself a refusal is reported exactly if not all of its calls are in the history (`each`). A log that gets no memory
+//! may refuse any call, so no contract says when a seat is refused.
+//!
+//! `Raced::stop` reports the gravest refusal. That is refused memory, with 1,000,000 entries only if some seat was
+//! refused it. A full history is reported only with as many. A race that met one, and was never refused memory, looks
+//! whether its history is full: a call's contract says only that the history which it found was. No contract says that
+//! the one left at the end is no shorter. If it were shorter, which no run shows, the race would report `NoMemory`.
 ghost use Rattle.std.specs.Prelude.{◌≡◌, ◌≢◌, ◌<◌, ◌≤◌, ◌+◌, ◌++◌, ℕ, All, IfOk, None, Some, get_or, map, vec_len};
 ghost use Rattle.std.specs.Vec.{vec_capacity};
 ghost use Rattle.mh_model.specs.History.{IsLegal, events_of};

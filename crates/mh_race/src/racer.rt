@@ -1,4 +1,5 @@
-//! What the thread of one seat does.
+//! What the thread of one seat does. It goes over all events and makes its own calls, so no list of them is made for
+//! each seat.
 ghost use Rattle.std.specs.Prelude.{◌≡◌, None};
 ghost use Rattle.mh_race.specs.Racing.{IsFresh, HasRunIn};
 

@@ -1,4 +1,14 @@
 //! Races of the sessions of a script.
+//!
+//! A race that ends well has written a legal history of all calls of its script, in the second version, and nothing
+//! else. Each seat's calls stand in the script's order. Or it has written the one line that refuses the script. A
+//! race whose history is full has written a legal history of 1,000,000 calls. Whatever else ends it, what was written
+//! is a prefix of such a text. A refused script has its reason, and memory is refused, only as for a run.
+//!
+//! The calls of each seat alone say what a race leaves, so nothing is said of the order between seats. A race that is
+//! cut short leaves a prefix of what some race would write whose seats made the first of their calls. The record is
+//! written by a replay, since the stored history has no units. The history is legal, so the replay gives the replies
+//! that were given.
 ghost use Rattle.std.specs.Prelude.{◌≡◌, ◌≢◌, ◌<◌, ◌≤◌, ◌^◌, IfOk, OnOk, OnErr, IsErrOf};
 ghost use Rattle.std.specs.Io.KnownBytes.{Keeps};
 ghost use Rattle.mh_model.specs.Races.{IsRaced, IsRacedFull, IsRaceBegun};

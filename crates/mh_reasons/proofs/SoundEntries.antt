@@ -4,9 +4,7 @@ use Rattle.std.specs.List.{list_all}
 use Rattle.std.proofs.lemmas.Bool.{and_parts, and_from, ltb-true, leb-true}
 use Rattle.std.proofs.lemmas.Bool.Decides.{nat_tests}
 use Rattle.mh_model.specs.declared.command.Command.{Command}
-use Rattle.mh_model.specs.declared.command.Command.TheVariants as command
 use Rattle.mh_model.specs.declared.command.Control.{Control}
-use Rattle.mh_model.specs.declared.command.Control.TheVariants as control
 use Rattle.mh_model.specs.declared.command.Event.{Event}
 use Rattle.mh_model.specs.declared.command.Event.TheVariants as event
 use Rattle.mh_model.specs.declared.reply.Reply.{Reply}
@@ -25,6 +23,7 @@ use Rattle.mh_model.specs.Bytes.{Text, is_digit, number}
 use Rattle.mh_model.specs.Forms.{u32, u64, Phrase, phrase_words, is_sayable, command_phrase, control_phrase, knows_control}
 use Rattle.mh_model.specs.Replies.{refusal_words, phase_word, flag_word, placed_word, item_words, optional_word, reply_words, are_u64, item_numbers, items_in_range, ascends, is_reply}
 use Rattle.mh_model.specs.HistoryTexts.{event_words, entry_words, measured_words, is_event, is_entry, is_measured}
+use Rattle.mh_text_laws.proofs.PhraseLemmas.{command_passes, control_passes}
 use Rattle.mh_text_laws.proofs.ListLemmas.{all-append}
 use Rattle.mh_text_laws.proofs.round_trips.WordRoundTrips.{number-decimal, all-decimals, are_small}
 use Rattle.mh_text_laws.proofs.round_trips.ReplyRoundTrips.{small_numbers}
@@ -70,8 +69,11 @@ next_sound n ns rest h more = and_from _ _ (sound_decimal n (ltb-true n u64 (and
 -- Events -----------------------------------------------------------------------------------------
 
 -- its verb is sound, and its numbers have 64 bits at most
+abbrev is_fine_form : Text → List ℕ → Bool
+is_fine_form verb bounds = is_sound is_printable verb && list_all (λ bound. nat_le bound u64) bounds
+
 abbrev is_fine : Phrase → Bool
-is_fine said = is_sound is_printable said.verb && list_all (λ bound. nat_le bound u64) said.bounds
+is_fine said = is_fine_form said.verb said.bounds
 
 phrase_sound : (said : Phrase) → is_fine said ≡ true → is_sayable said ≡ true → are_sound is_printable (phrase_words said) ≡ true
 phrase_sound said fine h =
@@ -79,26 +81,10 @@ phrase_sound said fine h =
     and_from _ _ both.0 (sound_decimals said.numbers (small_numbers said.bounds said.numbers h both.1))
 
 fine_command : (c : Command) → is_fine (command_phrase c) ≡ true
-fine_command (command.New d r n) = refl
-fine_command (command.Get d s f) = refl
-fine_command (command.Put s f v) = refl
-fine_command (command.Copy d s) = refl
-fine_command (command.Clear d) = refl
-fine_command (command.Read s i) = refl
-fine_command (command.Write s i x) = refl
-fine_command (command.Same a b) = refl
-fine_command (command.Shape s) = refl
-fine_command (command.Post b s) = refl
-fine_command (command.Take d b) = refl
-fine_command command.End = refl
+fine_command c = command_passes is_fine_form refl c
 
 fine_control : (c : Control) → is_fine (control_phrase c) ≡ true
-fine_control control.Quantum = refl
-fine_control control.Start = refl
-fine_control control.Stat = refl
-fine_control control.Dump = refl
-fine_control control.Left = refl
-fine_control (control.Report window) = refl
+fine_control c = control_passes is_fine_form refl c
 
 small_session : (who : ℕ) → nat_le who 8 ≡ true → who < 2 ^ 64
 small_session who few = omega (arith, leb-true who 8 few)

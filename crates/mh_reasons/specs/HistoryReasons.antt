@@ -1,4 +1,4 @@
--- Reasons: what makes the first bad line of a history one that is outside the grammar.
+-- Reasons: why the first bad line of a history is outside the grammar.
 use Rattle.std.specs.Prelude.{◌≡◌, ◌≢◌, ◌⊎◌, ℕ, suc, ◌<◌, Bool, true, false, Some, None, List, [], ◌∷◌, ◌++◌, length, slice_index, ◌||◌, is_some, IsSome, codes}
 use Rattle.mh_model.specs.declared.history.Version.{Version}
 use Rattle.mh_model.specs.declared.history.Version.TheVariants.{One, Two}
@@ -114,11 +114,13 @@ abbrev pub IsUnitsReason : List Text → HistoryLineReason → Type 0
 IsUnitsReason units (reason.Words r) = IsOperandReason verb.Units (verb_bounds verb.Units) units r
 IsUnitsReason units _ = ⊥
 
+-- and of those of an entry with its units
 abbrev pub IsMeasuredReason : List Text → HistoryLineReason → Type 0
 IsMeasuredReason measured reason.NoUnits = halves_at (codes "units") measured ≡ None
 IsMeasuredReason measured r =
     (halves : Halves) × (halves_at (codes "units") measured ≡ Some halves) × (IsUnitsReason halves.after r ⊎ ((fit (verb_bounds verb.Units) halves.after ≡ true) × IsEntryWordsReason Two halves.before r))
 
+-- and of those of an entry of this version
 abbrev pub IsVersionReason : Version → List Text → HistoryLineReason → Type 0
 IsVersionReason One words r = IsEntryWordsReason One words r
 IsVersionReason Two words r = IsMeasuredReason words r

@@ -1,4 +1,4 @@
--- Reasons: what makes the first bad line of a script one that is outside the grammar.
+-- Reasons: why the first bad line of a script is outside the grammar.
 use Rattle.std.specs.Prelude.{◌≡◌, ◌≢◌, ℕ, suc, ◌<◌, ◌≤◌, nat_le, Bool, true, false, not, ◌&&◌, ◌||◌, Some, None, List, [], ◌∷◌, ◌++◌, length, slice_index_or, codes}
 use Rattle.std.specs.List.{list_all}
 use Rattle.mh_model.specs.declared.history.Version.{Version}
@@ -108,7 +108,7 @@ IsLineReason configured line reason = (¬ HasPair line 32 35) × IsPlain line ×
 
 -- Scripts ----------------------------------------------------------------------------------------
 
--- Line n of a text isn't blank, and a line before it, or none, isn't either
+-- Line n of a text, which isn't blank. It stands after the configuration if a line before it isn't blank either, and else before it
 pub record StandsAt (text : Text) (n : ℕ) (configured : Bool) (line : Text) : Type 0 where
   pub before : List Text
   pub after : List Text

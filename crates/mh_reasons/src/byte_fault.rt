@@ -1,3 +1,5 @@
+//! Bytes of a line that are out of place. The leftmost byte that is no printable ASCII comes first. Spaces follow: one
+//! at the start, one at the end, or one after another, in this order.
 ghost use Rattle.std.specs.Prelude.{◌≡◌, ◌↔◌, IsTrue, IfSome, IfNone, find};
 ghost use Rattle.mh_reasons.specs.Lines.{HasByteFault, HasNoneBefore, HasPair, HasSpace, IsPlain, IsSpaced, is_stray};
 

@@ -1,3 +1,4 @@
+//! The reasons of histories: data, of which contracts speak, and their texts, which are tested.
 use crate::byte_fault::ByteFault;
 use crate::quoted::Quoted;
 use crate::reason::{ConfigNumber, LineReason};

@@ -1,4 +1,4 @@
-//! Laws of reasons.
+//! Laws of reasons: a line of a script or of a history that has a reason is outside the grammar.
 ghost use Rattle.mh_reasons.specs.Laws.{EntriesWithReasonsAreWrong, FirstLinesWithReasonsAreWrong, LinesWithReasonsAreWrong};
 
 /// A line of a script with a reason is outside the grammar.

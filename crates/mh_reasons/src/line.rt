@@ -1,3 +1,5 @@
+//! What is wrong with a line of a script. The reason is true of that line. A comment comes first, then the bytes, then
+//! the words. Of a configuration the first number outside its limits is named.
 ghost use Rattle.std.specs.Prelude.{◌≡◌, ℕ, Some, None, true, false, ◌∷◌, IfSome, IfNone, codes};
 ghost use Rattle.mh_model.specs.Limits.{is_configuration};
 ghost use Rattle.mh_model.specs.Bytes.{words, is_text, is_name};

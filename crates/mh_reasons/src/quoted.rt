@@ -1,3 +1,5 @@
+//! Words as messages quote them: at most 80 bytes, in an array of a fixed size. So a reason takes no memory, and
+//! outlives the text.
 ghost use Rattle.mh_reasons.specs.Quotes.{Quotes};
 
 use arrayvec::ArrayVec;

@@ -1,3 +1,4 @@
+//! The reasons of scripts: data, of which contracts speak, and their texts, which are tested.
 use crate::byte_fault::ByteFault;
 use crate::number_fault::NumberFault;
 use crate::quoted::Quoted;

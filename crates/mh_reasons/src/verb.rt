@@ -1,3 +1,5 @@
+//! Words that numbers follow, and the greatest that each number may be, by the tables of the model. The forms of
+//! `mh_text` say only that words are none of them, and a reason says what their verb wants.
 ghost use Rattle.std.specs.Prelude.{codes};
 ghost use Rattle.mh_model.specs.Forms.{command_rows, control_rows};
 ghost use Rattle.mh_reasons.specs.Verbs.{NamesRow};

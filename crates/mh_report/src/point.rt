@@ -1,3 +1,4 @@
+//! Points in the segments of a trace, from which letters that are alike are passed in one go.
 ghost use Rattle.std.specs.Prelude.{◌≡◌, ◌+◌, ◌-◌, ◌<◌, ◌≤◌, ◌++◌, length, replicate};
 ghost use Rattle.mh_report.specs.Segments.{letter_of};
 

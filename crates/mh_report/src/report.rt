@@ -1,3 +1,4 @@
+//! Reports on a trace, for one window each. The numbers of a report are the model's.
 ghost use Rattle.std.specs.Prelude.{◌≡◌};
 ghost use Rattle.mh_model.specs.Machine.{report_on, floor_of};
 

@@ -1,3 +1,4 @@
+//! A stretch that slides over a trace, by letters alike at once, and finds the least that it ever has of the mutator.
 ghost use Rattle.std.specs.Prelude.{◌≡◌, ◌+◌, ◌^◌, ◌<◌, ◌≤◌, ◌++◌, Some, List, length, replicate};
 ghost use Rattle.mh_model.specs.Trace.{Letter, least_mutator};
 ghost use Rattle.mh_report.specs.Segments.{letter_of, letters_of};

@@ -1,3 +1,9 @@
+//! Walks that are kept for the reports to come, for the first 512 windows. They go on as the trace grows, so asking for
+//! the same window again costs what the trace has grown by.
+//!
+//! A walk is kept if there is memory for it, and the report is the same if there is none. No walk is thrown out for
+//! another. So with W windows in turn 512 of W reports stay cheap, and each of the others costs a walk over all
+//! segments.
 ghost use Rattle.std.specs.Prelude.{◌≡◌, ◌<◌, ◌≤◌, [], ℕ, List, length, nat_lt, slice_index_or, IfSome, IsSome};
 ghost use Rattle.std.specs.List.{All, Contains};
 ghost use Rattle.mh_report.specs.declared.segment.Segment.{Segment};

@@ -1,3 +1,5 @@
+//! The 144 root slots: read, written, a session's emptied, and all of them led straight to where they led.
+//! `clear_session` is for who uses the crate by itself, since `end` has a barrier at each slot.
 ghost use Rattle.std.specs.Prelude.{◌≡◌, ◌<◌, ◌++◌, None, length, get_or, set, replicate, take, drop};
 ghost use Rattle.mh_model.specs.Collector.{forwarded_slots};
 ghost use Rattle.mh_model.specs.World.{own_slot};

@@ -17,11 +17,12 @@ pub record HasBegun (config : Config) (events : List Event) (begun : Collector) 
   pub runs : has_quantum (machine_after (first_machine config) before) event ≡ true
   pub begins : let heap = (half_step (machine_after (first_machine config) before) event).heap in BeginsToDefragment heap.config heap.collector begun
 
--- each forwarder of a collector was made since the defragmentation of its cycle began, in a quantum of these events
+-- a collector of a run whose forwarders were all made since the defragmentation of its cycle began, in a quantum of these events
 abbrev pub AreOfItsCycle : Config → List Event → Collector → Type 0
 AreOfItsCycle config events collector = (begun : Collector) × HasBegun config events begun × IsMadeSince begun collector
 
--- Each quantum of a run that ends its cycle leaves only forwarders that were made since the cycle's defragmentation began
+-- If a quantum of a run ends its cycle, the cycle's defragmentation began in it or in an earlier one. At the place of each forwarder that the cycle
+-- leaves there was none then
 abbrev pub FinishedCyclesMadeTheirForwarders : Type 0
 FinishedCyclesMadeTheirForwarders = (config : Config) (events : List Event) (event : Event) → has_quantum (machine_after (first_machine config) events) event ≡ true →
     let heap = (half_step (machine_after (first_machine config) events) event).heap in

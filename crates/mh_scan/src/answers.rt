@@ -1,4 +1,5 @@
-//! What is asked of the blocks of a batch, and what is found of them.
+//! What is asked of the blocks of a batch, and what is found of them. All scanners ask block by block with these
+//! functions. `scan_block` finds where the references of one block lead, in order.
 ghost use Rattle.std.specs.Prelude.{◌≡◌, ◌++◌, [], ◌∷◌, IfOk, map};
 ghost use Rattle.mh_model.specs.Pages.{Leads};
 ghost use Rattle.mh_model.specs.Table.{references_at, target_of};

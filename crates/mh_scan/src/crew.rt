@@ -1,4 +1,8 @@
 //! A crew of workers, who draw the pieces of a batch and ask the blocks of each.
+//!
+//! Whatever the number of workers, 1 to 64, the answers are those of one thread, or there is no memory. A crew starts a
+//! thread for each worker and batch, from the calling thread, which is one of the workers. A thread that can't be
+//! started is no fault: the calling thread does its part. A crew says which blocks need no marking, and marks none.
 ghost use Rattle.std.specs.Prelude.{◌≡◌, ◌<◌, ◌≤◌, ℕ, true, All, IfOk, length, remove, slice_index_or, vec_len};
 ghost use Rattle.mh_model.specs.History.{times_drawn};
 ghost use Rattle.mh_claims.specs.Seats.{IsOf, IsNew, seat_ended};

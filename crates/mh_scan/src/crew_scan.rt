@@ -1,4 +1,16 @@
-//! The scanner that scans by a crew.
+//! The scanner that scans by a crew. With 1 to 64 workers it answers what one thread finds, or that there is no memory.
+//!
+//! With one worker a quantum cuts no batch and calls no hook. It marks block by block itself, which is the same by the
+//! law of batches. A hook that counts pieces needs two workers, or a crew that is asked by itself.
+//!
+//! A small front is marked without a crew. The hook says from which cost on a crew pays (`CrewGate::pays`), so that
+//! tests can have one at any front. In the program that is a cost of 40,000 units, which a front of 1,024 blocks
+//! reaches with 39 references each. So most quanta are run by one thread, whatever `--workers` says. The cost is
+//! guessed: it is for the choice alone and in no contract.
+//!
+//! A thread that calls a hook through a bound has no proof in a method of a trait. So each hook (`Gate`) writes the
+//! call of the crew for its own type (`CrewGate`), with the head of `scan_by_crew`. A scan, a run, a service and a race
+//! ask for a `CrewGate`, since it can be called from the threads of a crew. For one thread `Gate` alone would do.
 ghost use Rattle.std.specs.Prelude.{◌<◌, ◌≤◌, IfOk};
 ghost use Rattle.mh_scan.specs.Scanning.{AreScannable, settled_in, lists};
 ghost use Rattle.mh_scan.specs.Asking.{AreAnswers};

@@ -1,4 +1,5 @@
-//! Where a worker or a session can be held before it goes on.
+//! Where a worker or a session can be held before it goes on. The trait and the gate that holds nobody stand beside the
+//! crew, which calls them. The claims don't call them.
 
 /// What a worker and a session call before they go on. A gate that waits holds them there.
 pub trait Gate {

@@ -1,3 +1,12 @@
+//! Scanners, and the one that does all on the calling thread.
+//!
+//! A scanner finds, for each block of a batch in order, where its references lead, in order. Or it finds whether each
+//! block is settled in a cycle. Or it answers that there is no memory.
+//!
+//! Marking asks `settled`. Lists of where references lead cost the caller as much to write back and shade as marking
+//! alone does. Most blocks of a wide graph are settled when they come up, and a flag says so. `scan` gives such lists
+//! to other callers, and the program has none of these. `OneScan` allocates nothing until it is asked, and a quantum
+//! doesn't ask it.
 ghost use Rattle.std.specs.Prelude.{◌≡◌, IfOk};
 ghost use Rattle.mh_model.specs.Table.{found_in};
 ghost use Rattle.mh_scan.specs.Scanning.{AreScannable, settled_in, lists};

@@ -30,7 +30,7 @@ device bytes failures = record { bytes = bytes; failures = failures }
 
 -- Transcripts ------------------------------------------------------------------------------------
 
--- the replies of the first machine to events, as a text
+-- the replies of the first machine to events, as a text, which is what `run_script` writes of them
 abbrev pub replies_run : Config → List Event → Text
 replies_run config events = replies_text (machine_replies (first_machine config) events)
 

@@ -33,7 +33,7 @@ pub data WantsMemory (Begins : Text → Type 0) (old new : Option Text) : Type 0
   ForBytes : ConsumesSome old new → WantsMemory Begins old new
   ForText : (text : Text) → Consumes old new text → IsAtEnd new → Begins text → WantsMemory Begins old new
 
--- by their counts of failures a device failed only if it is blamed
+-- by their counts of failures a device failed just if it is blamed
 abbrev pub Blames : {X : Type 0} → (source source' sink sink' : ℕ) → Result X ScriptFault → Type 0
 Blames source source' sink sink' (Err Read) = (source < source') × (sink' ≡ sink)
 Blames source source' sink sink' (Err Write) = (source' ≡ source) × (sink < sink')

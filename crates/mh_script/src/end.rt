@@ -1,3 +1,5 @@
+//! How a run of a script ended that no fault cut short. A refused script has its first bad line, and the reason for
+//! which that line is outside the grammar.
 ghost use Rattle.std.specs.Prelude.{◌≡◌};
 ghost use Rattle.mh_model.specs.Script.{BadLine, reading};
 ghost use Rattle.mh_reasons.specs.Reasons.{IsReason};

@@ -1,3 +1,6 @@
+//! Replies that are written through a buffer, which is written whenever 64 KiB wait in it. None is kept, so a script of
+//! dumps takes no more memory than one of them. If memory is refused in the middle of a script, the prefix of the
+//! output that was written stays.
 ghost use Rattle.std.specs.Prelude.{◌≡◌, ◌+◌, ◌<◌, ◌≤◌, ◌^◌, ◌++◌, [], ◌∷◌, suc, length, OnOk, OnErr, IsErrOf};
 ghost use Rattle.std.specs.String.{string_bytes};
 ghost use Rattle.std.specs.Io.KnownBytes.{Appends};

@@ -1,4 +1,16 @@
 //! Runs of scripts that are written as their replies.
+//!
+//! A run that ends well has written exactly the output of its script under its rules, and nothing else. It is done only
+//! if the script is within the grammar and has at most 1,000,000 events. It is refused with line L only if L is the
+//! first bad line. That line is then outside the grammar for the reason that is given (`reason`). It is full only after
+//! the replies to 1,000,000 events, if more are left. A failed source leaves nothing written. A failed sink and out of
+//! memory leave a prefix of the output. The source is read as far as the script goes. A device failed exactly when it
+//! is blamed. Memory is refused only for bytes that the source gave, or for a text that begins with an event or is a
+//! script (`memory`). For a script a machine is opened. The source is read first, and memory may be refused for its
+//! last bytes, so the clause says no more. The number of workers changes nothing of this.
+//!
+//! A run keeps no history and no list of replies: it steps the machine and writes each reply. `State` keeps the
+//! history, for those who ask for it.
 ghost use Rattle.std.specs.Prelude.{◌<◌, ◌≤◌, ◌^◌, IfOk, OnErr, IsErrOf};
 ghost use Rattle.std.specs.Io.KnownBytes.{Keeps};
 ghost use Rattle.mh_model.specs.Output as model;

@@ -1,4 +1,6 @@
-//! Texts that are read whole, and written by lines through a buffer.
+//! Texts that are read whole, and written by lines through a buffer. `read_whole` turns the fault of a reading into
+//! that of a script, once for all that read a text whole. It does nothing else. The line of a verdict, also that of a
+//! refused script, takes no memory.
 ghost use Rattle.std.specs.Prelude.{◌≡◌, ◌<◌, ◌≤◌, ◌^◌, [], length, IfOk, OnOk, OnErr, IsErrOf};
 ghost use Rattle.std.specs.Io.KnownBytes.{Appends, Consumes, IsAtEnd};
 ghost use Rattle.std.specs.String.{string_bytes};

@@ -1,4 +1,11 @@
 //! What a run is written as, and the run of a whole script from its bytes on.
+//!
+//! What `run` says of replies holds of whatever a run is written as: `transcribe` reads the script, and a `Transcript`
+//! writes what is made of its events.
+//!
+//! A source is read until it has given more bytes than a script may have, and no further. The text is then refused with
+//! line 0 whatever comes after. The first 1,000,000 events are answered, as many as a history has entries. If more are
+//! left, the run then ends with `history full`.
 ghost use Rattle.std.specs.Prelude.{◌≡◌, ◌<◌, ◌≤◌, ◌^◌, List, length, take, IfOk, OnOk, OnErr, IsErrOf};
 ghost use Rattle.std.specs.Io.KnownBytes.{Appends, Keeps};
 ghost use Rattle.mh_model.specs.declared.command.Event.{Event};

@@ -1,4 +1,7 @@
--- The rule of the lock, of a table of one word and one slot, and the lock of the model that the table shows.
+-- The rule of the lock, of a table of one word and one slot as `atomic_table` keeps it; and the lock of the model that the table shows. The rule is
+-- about the lock's number of seats and the origin of its value. The crate of the lock, `mh_lock`, cites it.
+-- The value shows an origin beside its entries, which no call changes: for a service the configuration of its state. So at its close a service knows
+-- that the state has the configuration with which it was opened.
 use Rattle.std.specs.Prelude.{◌≡◌, ◌≢◌, ℕ, ◌+◌, ◌<◌, ◌⊎◌, List, [], ◌∷◌, All, Some, None, get_or, length, slice_index, slice_index_or}
 use mathlib.Core.Option.{some}
 use lib.ListN.{get_elem?}
@@ -28,11 +31,12 @@ module _ {E : Type 0} where
   StandIn all (l ∷ ls) = (get_or all l.0 [] ≡ l.1) × StandIn all ls
 
 module _ {E : Type 0} (owner : E → ℕ) where
-  -- each log is what its seat owns of the history
+  -- logs of which each is what its seat owns of the history
   abbrev pub Fits : List E → Logs E → Type 0
   Fits history [] = Unit {0}
   Fits history (l ∷ ls) = (l.1 ≡ owned_by owner l.0 history) × Fits history ls
 
+  -- the logs that all seats know are so
   abbrev pub AllFit : {O : Type 0} → List E → List (SeatView E O) → Type 0
   AllFit {O} history views = (id : ℕ) (view : SeatView E O) → get_elem? views id ≡ some view → Fits history view.logs
 
@@ -41,7 +45,8 @@ module _ {E : Type 0} (owner : E → ℕ) where
   AllOwned seats history = All (λ e. owner e < seats) history
 
   module _ {T O : Type 0} (entries : T → List E) (origin : T → O) where
-    -- with 0 the value is at home with its origin, and no seat has it
+    -- with the word 0 the value is at home with its origin, and no seat has it. Each log is what its seat owns of the value's entries, and one of the
+    -- seats owns each entry
     pub record HasHome (about : ℕ × O) (table : State T (SeatView E O)) : Type 0 where
       pub word : slice_index table.words 0 ≡ 0
       pub value : T
@@ -51,7 +56,8 @@ module _ {E : Type 0} (owner : E → ℕ) where
       pub owned_all : AllOwned about.0 (entries value)
       pub nobody : (id : ℕ) (view : SeatView E O) → get_elem? table.views id ≡ some view → view.found ≡ None
 
-    -- with 1 one seat alone has it, and knows the history and the origin that it found
+    -- with the word 1 one seat alone has the value, and knows the history and the origin that it found. Each log is what its seat owns of that
+    -- history, and one of the seats owns each entry
     pub record HasHolder (about : ℕ × O) (table : State T (SeatView E O)) : Type 0 where
       pub word : slice_index table.words 0 ≡ 1
       pub history : List E
@@ -64,16 +70,17 @@ module _ {E : Type 0} (owner : E → ℕ) where
       pub owned_all : AllOwned about.0 history
       pub others : (id : ℕ) (view : SeatView E O) → get_elem? table.views id ≡ some view → id ≢ holder → view.found ≡ None
 
-    -- The rule, about how many seats there are and the origin: the value is at home or one seat has it, each log is what
-    -- its seat owns of the history, which has no other entries, and there is one log for each seat's number.
-    -- That is said by weights: whatever the numbers weigh, those of all logs weigh what those of the seats weigh
+    -- The rule, about how many seats there are and the origin: the value is at home or one seat has it; each log is what its seat owns of the
+    -- history, which has no other entries; and there is one log for each seat's number. That is said by weights: whatever the numbers weigh, those of
+    -- all logs weigh what those of the seats weigh
     pub record IsLocked (about : ℕ × O) (table : State T (SeatView E O)) : Type 0 where
       pub words : length table.words ≡ 1
       pub slots : length table.homes ≡ 1
       pub numbers : (h : ℕ → ℕ) → total (λ view. weigh_numbers h view.logs) table.views ≡ weigh_below h about.0
       pub place : HasHome about table ⊎ HasHolder about table
 
--- A lock of the model is what a table shows: the same word, each log at its seat's number, the history that a holder found as taken at its number, and the entries of a value at home
+-- the lock of the model that a table shows: the same word; each log at its seat's number; the history that a holder found, as taken at its number;
+-- and the entries of a value at home
 pub record Shows {T E O : Type 0} (entries : T → List E) (seats : ℕ) (table : State T (SeatView E O)) (lock : LockState E) : Type 0 where
   pub word : lock.word ≡ slice_index table.words 0
   pub many : length lock.logs ≡ seats

@@ -7,7 +7,7 @@ pub record StandsFirst {E : Type 0} (logs : List (List E)) (entry : E) : Type 0 
   pub rest : List E
   pub log : get_or logs seat [] ≡ entry ∷ rest
 
--- A merge of logs begins with the first entry of one of them and goes on as a merge of what is then left of the logs; it ends if none has an entry left
+-- A merge of logs begins with the first entry of one of them, and goes on with what is then left of the logs. It ends when none has an entry left
 abbrev pub IsMerge : {E : Type 0} → List (List E) → List E → Type 0
 IsMerge logs [] = (seat : ℕ) → get_or logs seat [] ≡ []
 IsMerge logs (entry ∷ history) = (first : StandsFirst logs entry) × IsMerge (set logs first.seat first.rest) history

@@ -1,4 +1,4 @@
--- Weights of numbers, added up over lists.
+-- Weights of numbers, added up over lists. Two lists have the same numbers, each as often, if they weigh the same whatever each number weighs.
 use Rattle.std.specs.Prelude.{ℕ, zero, suc, ◌+◌, List, [], ◌∷◌}
 
 -- the weights of the numbers in a list, added up
@@ -16,7 +16,7 @@ abbrev pub weigh_below : (ℕ → ℕ) → ℕ → ℕ
 weigh_below h zero = 0
 weigh_below h (suc n) = h n + weigh_below h n
 
--- f of each, added up
+-- what a function gives of each element of a list, added up
 abbrev pub total : {A : Type 0} → (A → ℕ) → List A → ℕ
 total f [] = 0
 total f (v ∷ vs) = f v + total f vs

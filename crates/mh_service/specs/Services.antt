@@ -33,7 +33,7 @@ new_seat service number = record { table = service.table; number = number; log =
 abbrev pub Owns : LockSeatView Entry → Event → Type 0
 Owns seat event = owner_of event ≡ seat.number
 
--- what is promised of an outcome is promised of what a service leaves
+-- what a service leaves, as what is promised of it
 abbrev pub shown : Closed → Outcome
 shown closed = record { replies = replies_of closed.history.items; heap = closed.heap.kept; free = closed.free; trace = closed.trace.trace }
 
@@ -44,7 +44,9 @@ pub record AreMerged (seats : List (LockSeatView Entry)) (history : List Entry) 
   pub each : All (λ seat. get_or logs seat.number [] ≡ seat.log) seats
   pub merge : IsMerge logs history
 
--- A call that took the lock: it found the replay of a history under the service's configuration, and left the replay of one, in each of which the seat owns just its log. If it was answered, its event was done in the state found, and where it was refused, that state is left; a full history is reported as full
+-- A call that took the lock: it found the replay of a history under the service's configuration, and left the replay of one;
+-- in each the seat owns just its log. If it was answered, its event was done in the state found, and where it was refused, that state is left;
+-- a full history is reported as full
 pub record IsServed (service : ServiceView) (before after : LockSeatView Entry) (event : Event) (answer : Result Reply Stop) : Type 0 where
   pub found : Stored
   pub left : Stored

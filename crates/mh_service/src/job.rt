@@ -1,4 +1,6 @@
-//! What one call does with the state.
+//! What one call does with the state, and what the state shows to the lock: its history as entries, and its
+//! configuration as the origin. Its type says that it is the replay of that history, so a call knows this of what it
+//! finds. The items of a dump are taken under the lock, before the event is done.
 ghost use Rattle.std.specs.Prelude.{◌≡◌, IfOk, MatchResult};
 ghost use Rattle.mh_service.specs.Sharing.{IsDone, IsRefused, IsReplayOf};
 ghost use Rattle.mh_state.specs.Storing.{first_stored};

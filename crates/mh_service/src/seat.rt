@@ -1,4 +1,5 @@
-//! The seats of a service.
+//! The seats of a service. A seat's log is kept twice, as a vector and in what proofs know of the seat. An invariant
+//! ties the two.
 ghost use Rattle.std.specs.Prelude.{◌≡◌, ◌↔◌, [], IsTrue};
 ghost use Rattle.mh_service.specs.Services.{Owns};
 

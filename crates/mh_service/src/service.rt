@@ -1,4 +1,21 @@
-//! The service.
+//! The service: how it is opened, called and closed.
+//!
+//! A call that takes the lock finds the replay of a legal history, in which the seat owns exactly its log, and leaves
+//! one (`served`). If it is answered, its event is done in the state that it found, with the reply that was given. The
+//! event is entered there and in the seat's log. If it is refused, state and log stay. Once it has the lock, a call
+//! answers that the history is full exactly when it found 1,000,000 entries. It answers out of memory only if
+//! `State::apply` may.
+//!
+//! A call is promised in some state, and its contract can name no more: others step meanwhile, and the kit shows a seat
+//! the state at its own step alone. `close` has all seats in hand, and shows that they found the states of one history.
+//! A body with a state for each seat could meet `call`, but then `close` would have no proof.
+//!
+//! A service is closed exactly when all nine seats are handed in, and otherwise it comes back with them. What it leaves
+//! is a legal history under its configuration. Heap, free pages and trace are the machine's to that history, which
+//! keeps the promise of `mh_promise`. Each seat's log is what the seat owns of the history, in order, so that the
+//! history is a merge of the nine logs.
+//!
+//! The service borrows the hook, so whoever holds a session or a worker can look at the hook afterwards.
 ghost use Rattle.std.specs.Prelude.{◌≡◌, ◌≢◌, ◌<◌, ◌≤◌, ◌==◌, ◌⊎◌, [], ◌∷◌, ◌++◌, ℕ, All, IfOk, OnOk, IfErr, OnErr, IsErrOf, count_by, slice_index_or, vec_len};
 ghost use Rattle.mh_lock.specs.Seats.{LockSeatView};
 ghost use Rattle.mh_model.specs.History.{IsLegal, owner_of, owned_by, events_of};

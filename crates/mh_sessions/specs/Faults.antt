@@ -18,9 +18,10 @@ abbrev pub IsUnseenReply : World → Event → Reply → EntryFault → Type 0
 IsUnseenReply world (event.Session who command) answer fault = ¬ MayLackRoom world who command answer × IsReplyFault answer (world_step world who command).reply fault
 IsUnseenReply world (event.Control control) answer fault = ⊥
 
+-- what is wrong with an entry that its session may not see
 abbrev pub IsUnseen : World → Entry → EntryFault → Type 0
 IsUnseen world entry fault = IsUnseenReply world entry.event entry.reply fault
 
--- of an entry after others, with the world beside these, whatever pages and quanta it has
+-- the same of an entry after others, with the world beside these, under any configuration with these rules
 abbrev pub IsUnseenAfter : Rules → List Entry → Entry → EntryFault → Type 0
 IsUnseenAfter rules before entry fault = (config : Config) → config.rules ≡ rules → IsUnseen (world_beside (first_world config) (events_of before) (replies_of before)) entry fault

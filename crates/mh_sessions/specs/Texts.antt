@@ -60,6 +60,6 @@ IsSeenFault asked text number fault = wrong (seen_text text) where
 abbrev pub IsSeenExplained : Option Rules → Text → Judgement → Type 0
 IsSeenExplained asked text = IsExplained (IsReasonOf text) (IsSeenFault asked text)
 
--- A history of either version was judged by what its sessions see, under the rules that are asked for or that it names, and how that ended
+-- A history of either version was judged by what its sessions see, and how that ended. Its rules are those that are asked for or that it names
 abbrev pub IsSessionsJudging : Option Rules → (source source' sink sink' : Device) → Result Judgement ScriptFault → Type 0
 IsSessionsJudging asked = IsJudging (IsSeenThrough asked) (IsSeenExplained asked) BeginsWithEither 2147483648

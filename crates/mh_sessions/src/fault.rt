@@ -1,4 +1,8 @@
 //! What is wrong with the first entry that its session may not see.
+//!
+//! That is its reply beside the one of the ever-growing world, or that the entry is one too many. It is found after
+//! the verdict, by following the entries once more up to it. So a legal history costs nothing more. A control's reply
+//! is never wrong.
 ghost use Rattle.std.specs.Prelude.{◌≡◌, ◌≢◌, ◌<◌, ◌≤◌, List, map, IfOk};
 ghost use Rattle.mh_judging.specs.Faults.{HasFault, IsFaultAfter};
 ghost use Rattle.mh_heap.specs.PlainHeap.{world_of};

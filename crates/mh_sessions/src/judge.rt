@@ -1,4 +1,12 @@
-//! The judge of a history by what its sessions see: the heap that never collects answers each session's command once more.
+//! The judge of a history by what its sessions see: the heap that never collects answers each session's command once
+//! more.
+//!
+//! The judge is shown entry after entry, and keeps none. Memory is asked for only if a new object is made.
+//!
+//! A `new` may be answered `heap full` only if the ever-growing world makes its object. Our own heap is full only so,
+//! and the order of refusals is a rule that every heap can follow. Of a control's reply the judge asks only that it
+//! is a reply of the grammar. So a history of another collector has the one form that all histories have. The judge
+//! keeps every object of the history. So a long history of large objects may end with `no memory`.
 ghost use Rattle.std.specs.Prelude.{◌≡◌, ◌<◌, ◌≤◌, ◌+◌, ◌↔◌, List, [], ◌∷◌, ◌++◌, IsSome, IsOk, IsTrue, IfOk, OnOk, OnErr};
 ghost use Rattle.mh_heap.specs.PlainHeap.{world_of};
 ghost use Rattle.mh_model.specs.declared.birth.TheConstants.{LIFE};

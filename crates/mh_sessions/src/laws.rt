@@ -1,4 +1,8 @@
 //! Laws of histories that are judged by what their sessions see.
+//!
+//! A legal history of ours is legal so, under its own rules. One that is legal so has the replies of a heap that
+//! never collects or moves, but for a full heap. That comes only if such a heap makes the object. Of a configuration
+//! only the rules matter. Each text has such a verdict.
 ghost use Rattle.mh_sessions.specs.Laws.{LegalHistoriesAreLegalForSessions, OnlyTheRulesMatter, SessionsSeeTheWorld, TextsAreSeenThrough};
 
 use mh_judging::mh_promise::promise::runs_keep_their_promise;

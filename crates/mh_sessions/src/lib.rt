@@ -1,4 +1,7 @@
 //! Histories of any collector, judged by what their sessions see.
+//!
+//! No machine is wanted for that. The heap that never collects says what each session may see, whatever collector
+//! made the history.
 #![tactic(auto)]
 
 pub use mh_judging;

@@ -1,4 +1,5 @@
-//! Lines of either version, as their sessions see them.
+//! Lines of either version, as their sessions see them. No session sees units, so a line of version 2 is seen as its
+//! entry alone.
 ghost use Rattle.std.specs.Prelude.{◌≡◌};
 ghost use Rattle.mh_model.specs.declared.history.Entry.{Entry};
 

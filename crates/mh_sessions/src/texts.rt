@@ -1,4 +1,16 @@
 //! Whole texts of either version that are judged by what their sessions see.
+//!
+//! The verdict is the one that the text has. What is reported beside it is true of the text: the reason for its bad
+//! line, and what is wrong with its first bad entry. The rules are those that are asked for, or else those that it
+//! names. Version 1 names none, and has the first. So each legal history of ours is legal by this judge, under its
+//! own rules. The line of the verdict was written and nothing else. A failed sink leaves a prefix of that line. A
+//! failed source or out of memory leaves nothing written. A device failed exactly when it is blamed. Memory is
+//! refused only for bytes that the source gave, or for a text that begins with an entry.
+//!
+//! Of a history that was cut off within its last line the whole lines are judged. Its verdict is that of the entries
+//! before, unless these are legal. A crash is when its author most wants the verdict. If nothing before is wrong, the
+//! line that was cut off is refused: nobody knows what it was to be. `check_script` and `audit_script` refuse such a
+//! text in any case.
 ghost use Rattle.std.specs.Prelude.{◌≡◌, ◌≢◌, ◌<◌, ◌^◌, map, IfOk, IfErr, OnErr, IsErrOf};
 ghost use Rattle.std.specs.Io.KnownBytes.{Keeps};
 ghost use Rattle.mh_history.specs.Beginnings.{HasEntry, entries_left};

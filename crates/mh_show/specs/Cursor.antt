@@ -40,6 +40,7 @@ stand_of (deed.Stay place) = Some (Behind place)
 stand_of (deed.Move place to name class_size) = Some (Behind place)
 stand_of _ = None
 
+-- whether it does
 abbrev pub moves_cursor : Deed → Bool
 moves_cursor deed = is_some (stand_of deed)
 
@@ -64,6 +65,7 @@ pub data Cursor : Type 0 where
   RootSlot : ℕ → Cursor
   Place : ℕ → Cursor
 
+-- the cursor in a phase
 abbrev pub cursor_in : Phase → ℕ → Cursor
 cursor_in Roots cursor = RootSlot cursor
 cursor_in Sweep cursor = Place cursor

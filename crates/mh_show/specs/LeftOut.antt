@@ -5,7 +5,7 @@ use Rattle.mh_picture_laws.specs.Picture.{Picture, drawn_all}
 use Rattle.mh_show.specs.Cursor.{Stand, stand_after}
 use Rattle.mh_show.specs.Rows.{is_kept, kept_deeds, shown_deeds}
 
--- The deeds that are written draw what all of them draw
+-- The deeds that are written, all or those alone that are kept of a long run, draw what all of them draw
 abbrev pub LeftOutDeedsDrawNothing : Type 0
 LeftOutDeedsDrawNothing = (is_whole : Bool) (deeds : List Deed) (picture : Picture) → drawn_all picture (shown_deeds is_whole deeds) ≡ drawn_all picture deeds
 

@@ -21,11 +21,12 @@ use Rattle.mh_show.specs.Rows.{Row, row_of, phase_number, row_text, listed, deed
 abbrev pub most_deeds : ℕ
 most_deeds = 200000
 
--- how many deeds an account has
+-- how many deeds a quantum has, if one was run
 abbrev pub ran_deeds : Option Ran → ℕ
 ran_deeds None = 0
 ran_deeds (Some ran) = length ran.deeds
 
+-- how many deeds an account has
 abbrev pub deed_count : Account → ℕ
 deed_count account = length account.command + ran_deeds account.quantum
 
@@ -60,6 +61,7 @@ shown_text is_whole shown =
     codes "[\"" ++ (joined (event_words shown.measured.entry.event) ++ (codes "\",\"" ++ (reply_text shown.measured.entry.reply ++ (codes "\"," ++ (decimal shown.measured.mutator ++ (codes (if is_whole then ",1," else ",0,")
     ++ (deeds_text is_whole shown.account.command ++ 44 ∷ (listed row_text (root_rows 0 shown.before shown.after) ++ 44 ∷ (ran_text is_whole shown.account.quantum ++ codes "]")))))))))
 
+-- what an event of the machine is written of
 abbrev pub shown_of : Machine → Event → Shown
 shown_of machine event =
     let answer = event_step machine event in
@@ -78,9 +80,11 @@ events_text count machine (event ∷ events) =
 
 -- Runs -------------------------------------------------------------------------------------------
 
+-- the rules and the numbers of a configuration
 abbrev pub config_row : Config → Row
 config_row config = row_of (rules_number config.rules) (Some config.pages ∷ Some config.quantum ∷ Some config.trigger ∷ Some config.every ∷ [])
 
+-- a window of the curve, with its least and its floor
 abbrev pub point_row : Point → Row
 point_row point = row_of point.window (Some point.least ∷ point.floor ∷ [])
 
@@ -95,6 +99,7 @@ run_text config events =
     codes "\"config\":" ++ (row_text (config_row config) ++ (codes ",\"events\":[\n" ++ (events_text 0 (first_machine config) events
     ++ (codes "0],\"curve\":" ++ (listed (λ point. row_text (point_row point)) (points_of config machine.trace.letters) ++ codes "}\n")))))
 
+-- the run as an object of JSON: its names and its numbers
 abbrev pub object_text : Text → Config → List Event → Text
 object_text script config events = names_part (names_in script) ++ run_text config events
 

@@ -22,6 +22,7 @@ pub record Row : Type 0 where
 abbrev pub row_of : ℕ → List (Option ℕ) → Row
 row_of kind numbers = record { kind = kind; numbers = numbers }
 
+-- the number of a phase, of a tier and of a flag
 abbrev pub phase_number : Phase → ℕ
 phase_number Idle = 0
 phase_number Roots = 1
@@ -78,6 +79,7 @@ deed_row (deed.Make place name class_size fields tier) = row_of 15 (Some place �
 
 -- Deeds that are left out of long runs ------------------------------------------------------------
 
+-- whether a slot with this fate is freed
 abbrev pub frees : Fate → Bool
 frees fate.Empty = false
 frees (fate.Kept name) = false
@@ -98,6 +100,7 @@ is_drawn _ = true
 abbrev pub is_kept : Deed → List Deed → Bool
 is_kept deed later = is_drawn deed || (moves_cursor deed && not (moves_next later))
 
+-- those of these deeds that are kept of a long run
 abbrev pub kept_deeds : List Deed → List Deed
 kept_deeds [] = []
 kept_deeds (deed ∷ later) = if is_kept deed later then deed ∷ kept_deeds later else kept_deeds later
@@ -122,5 +125,6 @@ row_text row = 91 ∷ (decimal row.kind ++ (flat_map (λ n. 44 ∷ number_text n
 abbrev pub listed : {X : Type 0} → (X → Text) → List X → Text
 listed text_of items = 91 ∷ (flat_map (λ item. text_of item ++ codes ",") items ++ codes "0]")
 
+-- the rows of deeds, all or those alone that are kept of a long run
 abbrev pub deeds_text : Bool → List Deed → Text
 deeds_text is_whole deeds = listed (λ deed. row_text (deed_row deed)) (shown_deeds is_whole deeds)

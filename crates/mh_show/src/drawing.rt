@@ -1,4 +1,6 @@
-//! How the page takes its numbers, what they say of each moment, and how its map is drawn.
+//! How the page takes its numbers, what they say of each moment, and how its map is drawn. It is JavaScript in a
+//! text. The machine is never gone back. A moment has what is new, and the page goes back by what was there before.
+//! So each row names the one that was true before it.
 
 /// What stands after the numbers of a run.
 pub const DRAWING: &[u8] = br##"</script>

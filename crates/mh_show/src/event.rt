@@ -1,4 +1,5 @@
-//! One event of a run: what it was, what it did, and the roots that it changed.
+//! One event of a run: what it was, what it did, and the roots that it changed. It is added as rows of numbers,
+//! exactly those of its account: its units, its deeds, these roots, and its quantum.
 ghost use Rattle.std.specs.Prelude.{◌≡◌, ◌++◌, if◌then◌else◌, codes, decimal, length, OnOk};
 ghost use Rattle.std.specs.String.{string_bytes};
 ghost use Rattle.mh_model.specs.Bytes.{joined};

@@ -1,4 +1,8 @@
 //! The events of a run in turn.
+//!
+//! Once those before had 200,000 deeds, an event lacks deeds that draw nothing. A browser holds some hundred thousand
+//! moments with ease. Each map stays as it is, since no deed is left out that changes it. The cursor needs no number
+//! of its own: the last deed of a quantum that moves it stays.
 ghost use Rattle.std.specs.Prelude.{◌≡◌, ◌+◌, ◌-◌, ◌<◌, ◌≤◌, ◌^◌, ◌++◌, suc, length, nat_lt, codes, IfOk, OnOk, OnErr, IsErrOf};
 ghost use Rattle.std.specs.Io.KnownBytes.{Appends};
 ghost use Rattle.std.specs.String.{string_bytes};

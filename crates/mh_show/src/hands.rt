@@ -1,4 +1,5 @@
-//! How the rest of the page is drawn, and how its reader moves through a run.
+//! How the rest of the page is drawn, and how its reader moves through a run. It is JavaScript in a text: the chosen
+//! page, trace and curve, lists, roots, the map as text, mouse and keys.
 
 /// What stands after that, to the end of the page.
 pub const HANDS: &[u8] =

@@ -1,4 +1,7 @@
 //! Laws of what is written of a long run, and of the cursor.
+//!
+//! The deeds that stay (`kept_deeds`) draw what all of them draw. After each of these, and at last, the cursor stands
+//! where all deeds so far leave it. After a quantum that is where the collector has it.
 ghost use Rattle.mh_show.specs.Cursor.{QuantaTellTheCursor};
 ghost use Rattle.mh_show.specs.LeftOut.{KeptDeedsTellTheCursor, LeftOutDeedsDrawNothing};
 

@@ -1,4 +1,5 @@
-//! The names that a script has for its sessions.
+//! The names that a script has for its sessions. The page has those of the first eight, also where they are `s0` to
+//! `s7`, so that a number finds its name by its place.
 ghost use Rattle.std.specs.Prelude.{◌≡◌, ◌<◌, ◌≤◌, ◌^◌, ◌++◌, codes, IfOk, OnOk, OnErr, IsErrOf, length};
 ghost use Rattle.std.specs.Io.KnownBytes.{Appends};
 ghost use Rattle.mh_show.specs.Page.{names_part};

@@ -1,4 +1,5 @@
-//! The numbers of a run around its events: its configuration before them, and its curve after them.
+//! The numbers of a run around its events: its configuration before them, and its curve after them. The points are
+//! those of `mh_curve`.
 ghost use Rattle.std.specs.Prelude.{◌≡◌, ◌<◌, ◌++◌, length, codes, IfOk, OnOk};
 ghost use Rattle.std.specs.String.{string_bytes};
 ghost use Rattle.mh_curve.specs.Points.{points_of};

@@ -1,4 +1,4 @@
-//! The page up to its numbers: what it is made of, and its style.
+//! The page up to its numbers: what it is made of, and its style. It is HTML and CSS in a text.
 
 /// What stands before the numbers of a run.
 pub const HEAD: &[u8] = br##"<!DOCTYPE html>

@@ -1,4 +1,9 @@
 //! Deeds as rows of numbers.
+//!
+//! The first number of a row says what the row is. So a page is about a fifth as long as the lines of `steps --json`.
+//! A list ends with a 0, so that each element has a comma after it, the last one too. Once 200,000 deeds were
+//! written, some that change nothing drawn are left out (`kept_deeds`). Those that stay draw what all of them draw,
+//! and leave the cursor where all leave it.
 ghost use Rattle.std.specs.Prelude.{◌≡◌, ◌++◌, ◌∷◌, [], Some, OnOk};
 ghost use Rattle.std.specs.String.{string_bytes};
 ghost use Rattle.mh_show.specs.Cursor.{moves_cursor, moves_next};

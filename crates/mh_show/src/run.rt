@@ -1,4 +1,8 @@
-//! Runs of scripts that are written as a page.
+//! Runs of scripts that are written as a page, exactly.
+//!
+//! Three constants draw it. After the first stand the names of sessions, the configuration, each event, and the
+//! points of the curve of its trace. All that is said of `run_script` holds too. What a browser makes of the
+//! constants no clause says.
 ghost use Rattle.std.specs.Prelude.{◌≡◌, ◌<◌, ◌≤◌, ◌^◌, length, IfOk, OnOk, OnErr, IsErrOf};
 ghost use Rattle.std.specs.Io.KnownBytes.{Appends, Keeps};
 ghost use Rattle.mh_model.specs.Limits.{most_entries};

@@ -87,6 +87,7 @@ greatest_percent options = greatest_below (λ percent. has_quantum (demand_scale
 abbrev pub heap_text : Demand → Config → Text
 heap_text demand config = lines_text (demand_lines demand) ++ (lines_text (cycle_lines demand config) ++ floors_text config.every config.quantum)
 
+-- what is written of a heap that is asked for, if a quantum is given or is enough
 abbrev pub IsSizedText : HeapOptions → Text → Type 0
 IsSizedText options text = (config : Config) × IsHeap options config × (text ≡ heap_text (demand_asked options) config)
 
@@ -94,9 +95,11 @@ IsSizedText options text = (config : Config) × IsHeap options config × (text �
 abbrev pub enough_text : Option ℕ → Option ℕ → Text
 enough_text pages percent = lines_text (optional_line (codes "quantum") None ∷ []) ++ (lines_text (optional_line (codes "pages_enough") pages ∷ []) ++ lines_text (optional_line (codes "allocations_enough") percent ∷ []))
 
+-- what is written if no quantum is enough: what sessions need, and that
 abbrev pub small_text : Demand → Option ℕ → Option ℕ → Text
 small_text demand pages percent = lines_text (demand_lines demand) ++ enough_text pages percent
 
+-- the same of the options: none is given, and none is enough for the pages
 abbrev pub IsSmallText : HeapOptions → Text → Type 0
 IsSmallText options text = (quantum_of options.quantum (demand_asked options) options.pages ≡ None) × (text ≡ small_text (demand_asked options) (least_pages (demand_asked options)) (greatest_percent options))
 

@@ -29,6 +29,7 @@ IsCycleBound pages quantum quanta = (config : Config) → config.pages ≡ pages
 abbrev pub AreQuanta : ℕ → Option ℕ → Option ℕ → Type 0
 AreQuanta pages quantum quanta = MatchOption quantum (quanta ≡ None) (λ quantum. IsSomeAnd quanta (IsCycleBound pages quantum))
 
+-- the lines of a quantum and of the units between two, each a number or `none`
 abbrev pub choice_text : Choice → Text
 choice_text choice = lines_text (optional_line (codes "quantum") choice.quantum ∷ []) ++ lines_text (optional_line (codes "every") choice.every ∷ [])
 

@@ -15,6 +15,7 @@ number_line word number = joined (word ∷ decimal number ∷ [])
 abbrev pub optional_line : Text → Option ℕ → Text
 optional_line word number = joined (word ∷ optional_word number ∷ [])
 
+-- `yes` or `no`
 abbrev pub answer_word : Bool → Text
 answer_word true = codes "yes"
 answer_word false = codes "no"

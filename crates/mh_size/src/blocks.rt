@@ -1,4 +1,5 @@
-//! The blocks that an interval between two quanta asks for, by their classes.
+//! The blocks that an interval between two quanta asks for, by their classes. Options have a number for each class in
+//! order, and `mh_sizing` takes each beside its class.
 ghost use Rattle.std.specs.Prelude.{◌≡◌, length, IsTrue};
 ghost use Rattle.mh_model.specs.Classes.{is_class_size};
 ghost use Rattle.mh_size.specs.Blocks.{count_of, counts_of};

@@ -1,4 +1,11 @@
 //! The cycles of a configuration whose sessions need no more than this.
+//!
+//! Whether a configuration is enough is what the promise of room asks for, by either of two laws. By one each new
+//! part may keep a page, by the other small new parts share pages. The lesser of their two numbers of pages is
+//! enough. Both are asked, since neither is always the lesser.
+//!
+//! A cycle is given two bounds on its quanta, that of any cycle and that of what it marks, and takes the lesser. The
+//! second wants quanta of 353 units, since 352 may go to charges and to what is left over.
 ghost use Rattle.std.specs.Prelude.{◌≡◌, ◌≤◌, ◌↔◌, IfSome, IsTrue};
 ghost use Rattle.mh_size.specs.Cycles.{HasEnoughByEither, cycle_quanta, cycle_units, is_enough, lesser_quantum, pages_needed, quantum_needed};
 

@@ -1,4 +1,5 @@
-//! The share of the mutator that is promised in windows of each length.
+//! The share of the mutator that is promised in windows of each length. The first window is a quantum with the units
+//! before it. Each next one is an eighth longer, rounded up, and none is longer than twenty of the first.
 ghost use Rattle.std.specs.Prelude.{◌≡◌, ◌<◌, ◌^◌, ◌≤◌, ◌++◌, ◌∷◌, [], Some, OnOk};
 ghost use Rattle.std.specs.String.{string_bytes};
 ghost use Rattle.mh_model.specs.Bytes.{lines_text};

@@ -1,4 +1,10 @@
-//! The heap for what intervals ask for.
+//! The heap for what intervals ask for, written exactly.
+//!
+//! It has the quantum that is given, or the least that is enough. If none is enough, the text has the least number of
+//! pages for which some quantum is. It also has the greatest share of what is asked for with which one is.
+//!
+//! References are as many as blocks have room for, if they aren't given. That is safe, and for blocks of numbers a
+//! user says 0.
 ghost use Rattle.std.specs.Prelude.{◌≡◌, ◌≤◌, ◌*◌, ◌/◌, ◌++◌, IfOk, IfSome, OnOk, None, Some, length};
 ghost use Rattle.std.specs.String.{string_bytes};
 ghost use Rattle.mh_size.specs.Heaps.{IsHeap, IsHeapText, IsSizedText, IsSmallText, enough_text, greatest_percent, demand_asked, demand_scaled, has_quantum, heap_text, kinds_asked, kinds_counted, least_pages, needs_asked, needs_scaled, quantum_of, references_of, scaled, small_text};

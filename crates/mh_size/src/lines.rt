@@ -1,4 +1,5 @@
-//! Lines that size a heap.
+//! Lines that size a heap: each a word and a number, or `none`, `yes` or `no`. They are apart since the texts of
+//! heaps, shares and scripts have some in common.
 ghost use Rattle.std.specs.Prelude.{◌≡◌, ◌++◌, ◌∷◌, [], ◌≤◌, OnOk};
 ghost use Rattle.std.specs.String.{string_bytes};
 ghost use Rattle.mh_model.specs.Bytes.{lines_text};

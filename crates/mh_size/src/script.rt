@@ -1,4 +1,5 @@
-//! The size of a script's heap.
+//! The size of a script's heap: what its sessions need, whether its own configuration is enough, and the least
+//! quantum with which its pages are.
 ghost use Rattle.std.specs.Prelude.{◌≡◌, IfOk};
 ghost use Rattle.std.specs.String.{string_bytes};
 ghost use Rattle.mh_size.specs.Texts.{size_text};

@@ -1,4 +1,9 @@
 //! Scripts that are read from a source, and what is written of their size.
+//!
+//! A script is refused as by a run, with its reason. One of more than 1,000,000 events ends as a full history, after
+//! the size of the first 1,000,000 was written. Nothing is written if memory is refused or the source fails, and a
+//! prefix if the sink fails. A device failed exactly when it is blamed. A need of more than 32 bits is answered
+//! `needs none`, since no heap of 4,096 pages is enough for it.
 ghost use Rattle.std.specs.Prelude.{◌≡◌, ◌<◌, ◌^◌, ◌∷◌, [], None, take, codes, IfOk, IfSome, IsNone, OnOk, IsErrOf};
 ghost use Rattle.std.specs.Io.KnownBytes.{Keeps};
 ghost use Rattle.std.specs.String.{string_bytes};

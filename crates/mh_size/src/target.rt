@@ -1,4 +1,8 @@
-//! The quantum and the number of units between two that keep a share of the mutator.
+//! The quantum and the number of units between two that keep a share of the mutator, written exactly.
+//!
+//! If EVERY is given, it is the greatest quantum for that; if QUANTUM is, the least EVERY. If neither is, it is the
+//! greatest quantum of all, and the least EVERY for it. What no configuration meets is `none`. With pages comes the
+//! bound of a cycle.
 ghost use Rattle.std.specs.Prelude.{◌≡◌, ◌≤◌, ◌++◌, IfOk, IfSome, IsTrue, OnOk};
 ghost use Rattle.std.specs.String.{string_bytes};
 ghost use Rattle.mh_model.specs.Bytes.{Text};

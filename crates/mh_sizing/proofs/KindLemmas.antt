@@ -1,16 +1,15 @@
 -- The classes that are listed and those that occur among parts: how many there are, and the fewest slots of a page.
-use Rattle.std.proofs.Common.{◌≡◌, inl, inr, ℕ, ◌==◌, ◌<◌, ◌≤◌, ◌||◌, min, Bool, true, false, not, if◌then◌else◌, cond, Option, Some, None, option_map, unwrap_or, List, [], ◌∷◌, length, filter, map, refl, sym, ap, ◌∙◌, arith}
+use Rattle.std.proofs.Common.{◌≡◌, ℕ, ◌==◌, ◌<◌, ◌≤◌, ◌||◌, min, Bool, true, false, not, if◌then◌else◌, Option, Some, None, List, [], ◌∷◌, length, filter, map, refl, sym, ap, ◌∙◌, arith}
 use Rattle.std.specs.List.{list_any}
-use Rattle.std.proofs.lemmas.Bool.{cases_Bool, eqb-true, false≢true}
+use Rattle.std.proofs.lemmas.Bool.{eqb-true, false≢true}
 use Rattle.std.proofs.lemmas.Bool.Decides.{nat_tests}
 use Rattle.std.proofs.lemmas.Cmp.{nat_eq_equiv}
-use Rattle.std.proofs.lemmas.List.Sums.{sum_by-cons}
 use Rattle.std.proofs.lemmas.Map.Made.{length-le_from_is_member}
-use Rattle.mh_model.specs.Classes.{Part, class_sizes, class_of, part_words, slots_in, is_class_size}
+use Rattle.mh_model.specs.Classes.{Part, class_sizes, slots_in}
 use Rattle.mh_model.specs.CycleUnits.{occurs}
-use Rattle.mh_model.specs.Openings.{is_of_class, class_parts}
+use Rattle.mh_model.specs.Openings.{class_parts}
 use Rattle.mh_model.specs.Trace.{lesser, least_of}
-use Rattle.mh_table_laws.proofs.tables.PageSlots.{class_of-class_size}
+use Rattle.mh_sizing_laws.proofs.cycles.Occurring.{parts-class}
 use Rattle.mh_sizing_laws.proofs.openings.MadeParts.{IsAmong}
 use Rattle.mh_sizing_laws.specs.SharpPages.{occurring, fewest_of, fewest_slots}
 use Rattle.mh_sizing_laws.proofs.sharp_pages.ClassesThatOccur.{occurring-once, occurring-parts, fewest-least}
@@ -29,21 +28,6 @@ kept-passes test size (k ∷ sizes) among = go (test k) refl (k == size) refl am
     go true passes true is h rest = ap test (sym (eqb-true k size is)) ∙ passes
     go true passes false is h rest = rest (ap (λ b. b || list_any (λ other. other == size) (filter test sizes)) (sym is) ∙ h)
     go false passes same is h rest = rest h
-
--- a class of which there are parts is one of the classes
-part-class : (size : ℕ) (part : Part) → is_of_class size part ≡ true → is_class_size size ≡ true
-part-class size part e = go (class_of (part_words part)) refl e
-  where
-    go : (class : Option ℕ) → class_of (part_words part) ≡ class → unwrap_or (option_map (λ c. c == size) class) false ≡ true → is_class_size size ≡ true
-    go None is h = absurd (false≢true h)
-    go (Some other) is h = class_of-class_size (part_words part) size (is ∙ ap (λ n. Some n) (eqb-true other size h))
-
-parts-class : (size : ℕ) (list : List Part) → 0 < class_parts size list → is_class_size size ≡ true
-parts-class size [] some = absurd (omega arith)
-parts-class size (part ∷ list) some = elim (cases_Bool (is_of_class size part)) [
-  | inl here ↦ part-class size part here
-  | inr apart ↦ parts-class size list (omega (arith, some, sum_by-cons (λ p. cond (is_of_class size p) 1 0) part list, ap {B = ℕ} (λ b. cond b 1 0) apart))
-]
 
 occurs-some : (list : List Part) (size : ℕ) → occurs list size ≡ true → 0 < class_parts size list
 occurs-some list size is = go (class_parts size list) is

@@ -32,11 +32,11 @@ pub record IsFit (units quanta quantum : ℕ) : Type 0 where
   pub few : quantum ≤ 1000000
   pub fits : units / (quantum - 352) + 1 ≤ quanta
 
--- no quantum is
+-- no quantum is such
 abbrev pub NoneFits : ℕ → ℕ → Type 0
 NoneFits units quanta = (quantum : ℕ) → IsFit units quanta quantum → ⊥
 
--- this one is, and none that is lesser
+-- this quantum is such, and none that is lesser
 pub record IsLeastFit (units quanta quantum : ℕ) : Type 0 where
   pub fit : IsFit units quanta quantum
   pub least : (other : ℕ) → IsFit units quanta other → quantum ≤ other

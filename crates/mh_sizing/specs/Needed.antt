@@ -13,7 +13,8 @@ use Rattle.mh_model.specs.World.{IsNew}
 use Rattle.mh_sizing.specs.Reached.{HasJust}
 use Rattle.mh_sizing.specs.Runs.{most_of}
 
--- The sessions of a run need no more than this, and no number is too large: some world has just so many live parts, some costs just so much to mark, and some interval asks for so many parts and opens so many pages, or there is nothing to ask for
+-- The sessions of a run need no more than this, and no number is too large: some world has just so many live parts, and some costs just so much to mark;
+-- some interval asks for so many parts and some opens so many pages, or there is nothing to ask for
 pub record AreTheNeeds (needs : Needs) (config : Config) (events : List Event) : Type 0 where
   pub enough : NeedNoMore needs config events
   pub live : Any (HasJust object_parts needs.live) (run_worlds (first_run config) events)

@@ -12,7 +12,7 @@ use Rattle.mh_sizing.specs.PageUnits.{page_units_of}
 abbrev pub enough_trigger : Needs → ℕ → ℕ
 enough_trigger needs quanta = quanta * needs.opened - 1
 
--- the pages for live parts, for the parts that come between the first and the last quantum of a cycle, and for the free pages that it leaves
+-- the pages that are enough: for live parts, for parts that come between the first and the last quantum of a cycle, and for the free pages that it leaves
 abbrev pub enough_pages : Needs → ℕ → ℕ
 enough_pages needs quanta = needs.live + (quanta * needs.asked + quanta * needs.opened) - needs.asked
 
@@ -31,7 +31,8 @@ pub record HasEnough (needs : Needs) (pages : ℕ) (config : Config) : Type 0 wh
   pub enough : enough_pages needs (quanta_needed needs config) ≤ config.pages
   pub trigger : enough_trigger needs (quanta_needed needs config) ≤ config.pages
 
--- What sessions need that have so many live parts with so many references at a time, and whose intervals ask for no more parts of each class than are counted: as many pages as these fill, and cycles that find no other classes
+-- What sessions need by counts: so many live parts with so many references at a time, and intervals that ask for no more of each class than is counted.
+-- They open as many pages as such parts fill, and their cycles find no other classes
 abbrev pub needs_of_counts : List ClassParts → ℕ → ℕ → Needs
 needs_of_counts counts live references = record {
   live = live;

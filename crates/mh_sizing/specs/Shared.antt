@@ -1,4 +1,4 @@
--- The pages that are enough for what sessions need, where small parts share pages.
+-- The pages that are enough for what sessions need, where small new parts share pages.
 use Rattle.std.specs.Prelude.{◌≡◌, ℕ, ◌+◌, ◌-◌, ◌*◌, ◌/◌, ◌≤◌, nat_le, Bool, Option}
 use Rattle.mh_model.specs.declared.config.Config.{Config}
 use Rattle.mh_model.specs.declared.needs.Needs.{Needs}
@@ -7,7 +7,8 @@ use Rattle.mh_sizing.specs.declared.kinds.Kinds.{Kinds}
 use Rattle.mh_sizing.specs.Choices.{least_from}
 use Rattle.mh_sizing.specs.Needs.{enough_trigger}
 
--- the pages for live parts, one each and those that they fill, for what the intervals of a cycle of so many quanta open, and one for each class and for each quantum
+-- the pages that are enough: one for each live part, and as many as these would fill; four times what each quantum's interval opens but for three
+-- intervals; and one more for each class and for each quantum but one
 abbrev pub enough_shared_pages : Needs → Kinds → ℕ → ℕ
 enough_shared_pages needs kinds quanta = needs.live + needs.live / kinds.least + 4 * (quanta * needs.opened) + kinds.kinds + quanta - (3 * needs.opened + 1)
 

@@ -4,7 +4,7 @@ use Rattle.mh_model.specs.declared.config.Config.{Config}
 use Rattle.mh_model.specs.Trace.{floor}
 use Rattle.mh_orders.specs.declared.target_options.Target.{Target}
 
--- a quantum of at most so many units after so many of the mutator leaves it the share of a target
+-- a quantum of at most so many units after so many of the mutator leaves it the share of a target: the floor of its window is at least that share
 abbrev pub IsMetBy : Target → ℕ → ℕ → Type 0
 IsMetBy target every quantum = target.percent * target.window ≤ 100 * floor every quantum target.window
 

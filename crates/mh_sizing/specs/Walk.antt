@@ -8,7 +8,8 @@ use Rattle.mh_sizing.specs.Asked.{HasAsked}
 use Rattle.mh_sizing.specs.Runs.{run_after, ended_intervals, running_interval}
 use Rattle.mh_sizing.specs.Worlds.{world_in, HasMost}
 
--- It has the world after these events, the units since the last quantum if the scheduler runs them, the most that was reached, and what the intervals asked for
+-- It has the world after these events, the most that was reached, and what the intervals asked for; and the units since the last quantum if the
+-- scheduler runs them
 pub record HasWalked (walk : Walk) (config : Config) (events : List Event) : Type 0 where
   pub configured : walk.config ≡ config
   pub at_config : (world_in walk.world).config ≡ config

@@ -27,6 +27,7 @@ pub record HasGrown (number : Option Object → ℕ) (old new : Most) (world : W
   pub bound : HasAtMost number new.bound world
   pub most : (new.most ≡ old.most) ⊎ ((old.most ≤ new.most) × HasJust number new.most world)
 
+-- the world that a walk is in
 abbrev pub world_in : RunWorld → World
 world_in run = world_of run.heap
 

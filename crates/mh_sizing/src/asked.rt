@@ -1,4 +1,5 @@
-//! What the events of a run ask for between quanta.
+//! What the events of a run ask for between quanta. It is apart from the world, since an object counts as asked for
+//! also if its command is refused.
 ghost use Rattle.std.specs.Prelude.{◌≡◌, ◌+◌, ◌<◌, ◌^◌, [], ◌∷◌, ◌++◌, false, ℕ, unwrap_or, IsSome, IsTrue, List, length};
 ghost use Rattle.mh_model.specs.declared.command.Event.{Event};
 ghost use Rattle.mh_model.specs.declared.command.Event.TheVariants as events;

@@ -1,4 +1,4 @@
-//! A set of births, in the order in which they were inserted.
+//! A set of births, in the order in which they were inserted. So a search can go through it while it grows.
 ghost use Rattle.std.specs.Prelude.{◌≡◌, ℕ, ◌+◌, ◌<◌, ◌≤◌, [], true, false, not, ◌&&◌, length, get_or, OnOk, OnErr};
 ghost use Rattle.mh_model.specs.Batches.{NoneTwice};
 ghost use Rattle.mh_sizing.specs.Births.{is_in, with_birth};

@@ -1,4 +1,5 @@
-//! How many parts of each class are asked for, and which classes occur.
+//! How many parts of each class are asked for, and which classes occur. Both are kept in arrays of a fixed size, so
+//! counting takes no memory.
 ghost use Rattle.std.specs.Prelude.{◌≡◌, ◌+◌, ◌<◌, ◌^◌, [], ◌∷◌, ◌++◌, List, Some, get_or, length, sum};
 ghost use Rattle.mh_model.specs.Classes.{Part, class_of, class_sizes, part_words};
 ghost use Rattle.mh_model.specs.CycleUnits.{most_slots, most_moves};

@@ -1,4 +1,5 @@
-//! How much the objects count that a world reaches: their parts, and the units of marking these.
+//! How much the objects count that a world reaches: their parts, and the units of marking these. It is apart from the
+//! search, which finds births alone.
 ghost use Rattle.std.specs.Prelude.{◌≡◌, ℕ, ◌+◌, ◌<◌, ◌≤◌, ◌^◌, Some, length};
 ghost use Rattle.mh_heap.specs.PlainHeap.{world_of};
 ghost use Rattle.mh_model.specs.Classes.{parts};

@@ -1,4 +1,9 @@
 //! How many quanta a cycle takes at most.
+//!
+//! One bound is that of any cycle. The other is that of a run with room whose sessions need no more than some numbers,
+//! by what its cycles mark. Both hold, so the lesser may be taken. The second wants quanta of 353 units, since 352 may
+//! go to charges and to what is left over. The first is written here once more, and not taken from `mh_cycle`, since
+//! this crate stands on no collector.
 ghost use Rattle.std.specs.Prelude.{◌≡◌, ◌+◌, ◌*◌, ◌^◌, ◌<◌, ◌≤◌};
 ghost use Rattle.mh_model.specs.Bound.{most_quanta};
 ghost use Rattle.mh_model.specs.Needs.{quanta_needed, units_needed};

@@ -1,4 +1,5 @@
-//! How many classes the parts of a run are of, and how few slots a page of them has.
+//! How many classes the parts of a run are of, and how few slots a page of them has. The sharp law of pages asks for no
+//! more of the classes than these two numbers.
 ghost use Rattle.std.specs.Prelude.{◌≡◌, ◌≤◌, List, length};
 ghost use Rattle.mh_model.specs.declared.command.Event.{Event};
 ghost use Rattle.mh_model.specs.declared.config.Config.{Config};

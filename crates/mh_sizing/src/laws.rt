@@ -1,4 +1,8 @@
 //! The laws by which sized heaps are never full.
+//!
+//! No reply of a run is `heap full` if pages and trigger are enough for what its sessions need: live parts, what
+//! marking them costs, and what each interval asks for and opens. All of these are as the ever-growing world has them.
+//! So it is where small new parts share pages, with as few pages as the sharp law asks for.
 ghost use Rattle.mh_sizing.specs.Sized.{SizedHeapsHaveEnough, SizedRunsAreNeverFull, SharedRunsAreNeverFull};
 
 use mh_sizing_laws::needs::enough_for_needs_suffices;

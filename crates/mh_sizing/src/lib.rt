@@ -1,6 +1,11 @@
 //! Numbers that size a heap in which no new object is refused: pages that an interval opens, quanta of a cycle, the
 //! trigger, the pages, and quanta for a share of the mutator. The laws of sizing say what they are enough for. What the
-//! sessions of a run need is found by the ever-growing world alone, so that a heap can be sized before the run.
+//! sessions of a run need is found by the ever-growing world alone, so that a heap can be sized before the run. It is
+//! found under the scheduler of the configuration, and doesn't depend on pages, quantum or trigger.
+//!
+//! Two numbers of pages are enough: that of the law by which each new part may keep a page (`needs`), and that of the
+//! law by which small new parts share pages (`shared`). The lesser of them is enough, and neither is always the lesser.
+//! The laws of this crate say of the numbers that its calls work out what those of `mh_sizing_laws` say of any.
 #![tactic(auto)]
 
 pub use mh_classes;

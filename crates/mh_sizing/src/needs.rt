@@ -1,4 +1,9 @@
 //! The trigger and the pages that are enough for what sessions need, and the least quantum for them.
+//!
+//! Trigger and pages are those for cycles of so many quanta at most. The quantum is the least of all from 353 on with
+//! which a number of pages is enough. There is none exactly if no configuration of these pages has enough with such a
+//! quantum. `needs_of` is what sessions need whose live parts and references are known, and the parts of each class
+//! that their intervals ask for.
 ghost use Rattle.std.specs.Prelude.{◌≡◌, ℕ, ◌+◌, ◌^◌, ◌<◌, ◌≤◌, ◌↔◌, IfSome, MatchOption, length};
 ghost use Rattle.mh_sizing.specs.Needs.{enough_trigger, enough_pages, least_quantum_of, needs_of_counts, HasEnough};
 ghost use Rattle.mh_sizing.specs.Openings.{parts_of_counts};

@@ -1,4 +1,6 @@
-//! How many pages new objects may open while no quantum is run.
+//! How many pages new objects may open while no quantum is run. They are the pages that parts open whose number is
+//! known by class. If it is known only together, they are a number of pages that suffices however the parts divide
+//! among the classes.
 ghost use Rattle.std.specs.Prelude.{◌≡◌, ◌≤◌, ℕ, List, length, map};
 ghost use Rattle.std.specs.List.{sum_by};
 ghost use Rattle.mh_model.specs.Classes.{Part};

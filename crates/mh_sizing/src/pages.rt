@@ -1,4 +1,5 @@
-//! What a cycle spends at most on a page after marking.
+//! What a cycle spends at most on a page after marking, by the classes that occur. It is the most that a page costs the
+//! sweep, and the most that one costs defragmentation. The two may be of different classes.
 ghost use Rattle.std.specs.Prelude.{◌≡◌, ◌+◌, ◌≤◌, List, max};
 ghost use Rattle.mh_model.specs.Classes.{Part, slots_in};
 ghost use Rattle.mh_model.specs.CycleUnits.{most_moves, most_slots, slots_and_moves};

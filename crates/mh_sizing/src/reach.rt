@@ -1,4 +1,5 @@
-//! The search for what a world reaches.
+//! The search for what a world reaches. The set of what it has found is also the queue of what it has still to look
+//! through.
 ghost use Rattle.std.specs.Prelude.{◌≡◌, ℕ, ◌<◌, ◌≤◌, [], Some, length, get_or, IsSome};
 ghost use Rattle.std.specs.List.{fold};
 ghost use Rattle.mh_heap.specs.PlainHeap.{world_of};

@@ -1,4 +1,6 @@
-//! The pages that are enough for what sessions need where small parts share pages, and the least quantum for them.
+//! The pages that are enough for what sessions need where small parts share pages, and the least quantum for them. They
+//! are as few as the sharp law asks for, by the classes that occur. The trigger is that of `needs`, and the least
+//! quantum is as there.
 ghost use Rattle.std.specs.Prelude.{◌≡◌, ℕ, ◌≤◌, ◌↔◌, IfSome, MatchOption};
 ghost use Rattle.mh_sizing.specs.Choices.{HasNone, IsLeastQuantum};
 ghost use Rattle.mh_sizing.specs.Shared.{enough_shared_pages, least_quantum_shared_of, HasEnoughShared};

@@ -1,4 +1,10 @@
 //! Quanta that leave the mutator a share of each stretch of a length.
+//!
+//! `greatest_quantum_for` has the greatest quantum whose floor is at least a share of a window for one EVERY, and
+//! `greatest_quantum` for any. `least_every_for` has the least EVERY for a quantum. There is none exactly if no
+//! configuration meets that.
+//!
+//! Each is found by halving, since the floor never rises with the quantum and never falls with EVERY.
 ghost use Rattle.std.specs.Prelude.{◌≡◌, ◌≤◌, ◌↔◌, IfSome, IsTrue, MatchOption};
 ghost use Rattle.mh_sizing.specs.Choices.{HasNone, IsGreatestQuantum, IsLeastEvery};
 ghost use Rattle.mh_sizing.specs.Targets.{IsMetBy, Meets, MeetsAfter, MeetsWith};

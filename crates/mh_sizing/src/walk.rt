@@ -1,4 +1,14 @@
-//! The walk of a run's events through the ever-growing world, which finds what its sessions need.
+//! The walk of a run's events through the ever-growing world, which finds what its sessions need, as the model counts
+//! it.
+//!
+//! It finds the most live parts at a time, and the most that marking them costs. Of an interval it finds the most parts
+//! that it asks for, and the most pages that these open. By the classes that occur it finds what a page costs a cycle.
+//! None are given exactly if a number has more than 32 bits: no heap of 4,096 pages is enough for such needs.
+//! `Walk::kinds` says how many classes occur, and the fewest slots of their pages.
+//!
+//! A walk that is refused memory is as it was, and only an event that asks for an object may be. A refused object
+//! counts as asked for, unless it is too large for the rules. So one `new` of a large object that a bad slot refuses
+//! may make the needs far greater than what the run takes.
 ghost use Rattle.std.specs.Prelude.{◌≡◌, ◌+◌, ◌≤◌, ℕ, [], ◌∷◌, ◌++◌, not, ◌&&◌, ◌==◌, List, ◌^◌, IfOk, IfSome, IsNone, MatchOption, OnErr, OnOk, length};
 ghost use Rattle.mh_model.specs.declared.command.Event.{Event};
 ghost use Rattle.mh_model.specs.declared.command.Event.TheVariants as events;

@@ -1,4 +1,6 @@
-//! The ever-growing world of a run, and the most that it has reached.
+//! The ever-growing world of a run, and the most that it has reached. A new object makes a world reach no more than
+//! itself, and no other command makes it reach more. So what is reached is counted only if it may be more than ever
+//! before.
 ghost use Rattle.std.specs.Prelude.{◌≡◌, ℕ, ◌+◌, ◌<◌, ◌≤◌, ◌↔◌, ◌^◌, IsTrue, OnOk, OnErr, IfOk, List, [], ◌∷◌, ◌++◌, option_map};
 ghost use Rattle.mh_heap.specs.PlainHeap.{world_of};
 ghost use Rattle.mh_model.specs.declared.birth.TheConstants.{LIFE};

@@ -6,7 +6,7 @@ use Rattle.mh_model.specs.Machine.{first_machine, machine_after}
 use Rattle.mh_model.specs.Pages.{Page, page_at, block_in}
 use Rattle.mh_model.specs.Table.{Block}
 
--- a page has a slot without a block, and in another a block born from this birth on
+-- a page with a block born from a birth on, and a slot without one
 pub record IsPartlyNew (from : ℕ) (page : Page Block) : Type 0 where
   pub room : ℕ
   pub within : room < length page.slots
@@ -16,7 +16,8 @@ pub record IsPartlyNew (from : ℕ) (page : Page Block) : Type 0 where
   pub there : block_in slot page ≡ Some block
   pub new : from ≤ block.birth
 
--- While no quantum is run, at most one page of a class is partly new: births fill one page of their class before they go into the next
+-- While no quantum is run, at most one page of a class has a block born meanwhile and a slot without one. So births fill one page of their class
+-- before they go into the next
 abbrev pub BirthsFillOnePage : Type 0
 BirthsFillOnePage = (config : Config) (events more : List Event) →
     let machine = machine_after (first_machine config) events in

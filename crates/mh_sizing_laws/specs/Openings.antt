@@ -8,11 +8,12 @@ use Rattle.mh_model.specs.Table.{Block, Made, made_group}
 use Rattle.mh_model.specs.Machine.{first_machine, half_step, machine_after}
 use Rattle.mh_model.specs.Openings.{pages_of_parts, opens_at_most, free_of}
 
--- An object that is made opens no more pages than its parts fill by class
+-- An object that is made opens no more pages than its parts fill if each class has pages of its own
 abbrev pub ObjectsOpenFewPages : Type 0
 ObjectsOpenFewPages = (table : Table Block) (birth stamp : ℕ) (list : List Part) (made : Made) → HaveTheirSlots table → made_group table birth stamp list ≡ Some made → free_pages table ≤ free_pages made.table + pages_of_parts list
 
--- While no quantum is run, a list of events opens no more pages than its parts fill by class; nor does it with a command after it, before the quantum that this makes due
+-- While no quantum is run, events open no more pages than the parts of their objects fill if each class has pages of its own. Nor do they with a
+-- command after them, before the quantum that this makes due
 pub record IntervalsOpenFewPages : Type 0 where
   pub after_events : (config : Config) (events more : List Event) →
       let machine = machine_after (first_machine config) events in

@@ -11,7 +11,7 @@ use Rattle.mh_model.specs.Intervals.{has_ended, CyclesTakeAtMost, HasRoomFor, Is
 use Rattle.mh_model.specs.CycleUnits.{CyclesMarkAtMost, CyclesReachAtMost, quanta_for}
 use Rattle.mh_model.specs.LiveParts.{HasAtMostLive, parts_since, count_blocks, is_plain, HasPagesFor}
 
--- At each moment of a run but in a sweep, no more pages are in use than there are blocks that are no forwarders
+-- At every moment of a run, half moments included, but not in a sweep: no more pages are in use than there are blocks that are no forwarders
 pub record PagesInUseHaveBlocks : Type 0 where
   pub after_events : (config : Config) (events : List Event) →
       let machine = (moment_after (first_moment config) events).machine in
@@ -27,26 +27,36 @@ FinishedCyclesLeaveFewPages = (config : Config) (events : List Event) (event : E
     let after = next_moment before event in
     has_ended before.machine.heap.collector after.machine.heap.collector ≡ true → HasAtMostLive most after.snapshot → config.pages ≤ free_of after.machine + (most + parts_since after.snapshot after.world)
 
--- such a run has room for its cycles, and so is never full
+-- a run that has room for cycles of so many quanta whose intervals open so many pages, and is never full
 pub record NeverFills (config : Config) (events : List Event) (quanta opened : ℕ) : Type 0 where
   pub room : HasRoomFor config events quanta opened
   pub never_full : IsNeverFull config events
 
--- Pages for live parts and for what is asked for while a cycle runs suffice
+-- Let a run have at most L live parts at each moment. Let its intervals ask for q parts and open g pages at most, and its cycles take N quanta at
+-- most. With `L + (N - 1) * q + N * g` pages and a trigger of `N * g - 1` each cycle leaves `N * g` pages free, and no reply is `heap full`
 abbrev pub PagesSuffice : Type 0
 PagesSuffice = (config : Config) (events : List Event) (quanta opened asked most : ℕ) → 1 ≤ quanta → CyclesTakeAtMost quanta config events → HasPagesFor config events quanta opened asked most → NeverFills config events quanta opened
 
--- and so they do for as many quanta as the bound of a cycle
+-- Let a run have at most L live parts at each moment. Let its intervals ask for q parts and open g pages at most. Let N be the bound of a cycle in
+-- quanta, whatever its cycles take. With `L + (N - 1) * q + N * g` pages and a trigger of `N * g - 1` each cycle leaves `N * g` pages free, and no
+-- reply is `heap full`
 abbrev pub PagesForTheBoundSuffice : Type 0
 PagesForTheBoundSuffice = (config : Config) (events : List Event) (opened asked most : ℕ) → HasPagesFor config events (most_quanta config) opened asked most → NeverFills config events (most_quanta config) opened
 
--- and for cycles that mark few blocks, which then take few quanta
+-- Let marking all blocks that are there as a cycle starts cost at most M. Let quanta have at least 353 units. Let a run have at most L live parts at
+-- each moment. Let its intervals ask for q parts and open g pages at most. Let N be `(288 + M + (S + D) * pages) / (quantum - 352) + 1`. With
+-- `L + (N - 1) * q + N * g` pages and a trigger of `N * g - 1` each cycle leaves `N * g` pages free, and no reply is `heap full`; and no cycle takes
+-- more than N quanta. S is what the sweep spends on a page of the classes that occur, and D what defragmentation does: at most 64 and 128
 abbrev pub PagesForMarkingSuffice : Type 0
 PagesForMarkingSuffice = (config : Config) (events : List Event) (marked opened asked most : ℕ) →
     let quanta = quanta_for config marked (flat_map (asked_parts config) events) in
     353 ≤ config.quantum → CyclesMarkAtMost marked config events → HasPagesFor config events quanta opened asked most → CyclesTakeAtMost quanta config events × NeverFills config events quanta opened
 
--- and for the quanta of cycles whose snapshots reach little, however much garbage there is
+-- Let marking the objects that the snapshot of each cycle reaches, each counted once, cost at most M. Let quanta have at least 353 units. Let a run
+-- have at most L live parts at each moment. Let its intervals ask for q parts and open g pages at most. Let N be
+-- `(288 + M + (S + D) * pages) / (quantum - 352) + 1`. With `L + (N - 1) * q + N * g` pages and a trigger of `N * g - 1` each cycle leaves `N * g`
+-- pages free, and no reply is `heap full`; and no cycle takes more than N quanta, however much garbage there is. S is what the sweep spends on a page
+-- of the classes that occur, and D what defragmentation does: at most 64 and 128
 abbrev pub PagesForReachedSuffice : Type 0
 PagesForReachedSuffice = (config : Config) (events : List Event) (marked opened asked most : ℕ) →
     let quanta = quanta_for config marked (flat_map (asked_parts config) events) in

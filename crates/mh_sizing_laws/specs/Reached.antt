@@ -7,7 +7,9 @@ use Rattle.mh_model.specs.Openings.{asked_parts}
 use Rattle.mh_model.specs.Intervals.{CyclesTakeAtMost, HasRoomFor, IsNeverFull}
 use Rattle.mh_model.specs.CycleUnits.{CyclesReachAtMost, quanta_for}
 
--- A run with room for cycles that mark so much is never full, and its cycles take no more quanta, however much garbage there is
+-- Let marking the objects that the snapshot of each cycle reaches, each counted once, cost at most M. Let quanta have at least 353 units. A run with
+-- room for `(288 + M + (S + D) * pages) / (quantum - 352) + 1` intervals has no reply `heap full`, and no cycle takes more quanta. So garbage doesn't
+-- count, however much there is. S is what the sweep spends on a page of the classes that occur, and D what defragmentation does: at most 64 and 128
 abbrev pub RoomForReachedSuffices : Type 0
 RoomForReachedSuffices = (config : Config) (events : List Event) (marked opened : ℕ) →
     let quanta = quanta_for config marked (flat_map (asked_parts config) events) in

@@ -26,7 +26,7 @@ abbrev pub IsTried : Type 0 → Running → Event → Running → Bool → Type 
 IsTried Right old event new true = (old.done ≢ most_entries) × Right × (new.machine ≡ (event_step old.machine event).state) × (new.done ≡ suc old.done)
 IsTried Right old event new false = (old.done ≡ most_entries) ⊎ ¬ Right
 
--- a machine, and the number of the first bad entry, if there was one
+-- a judge's machine, and the number of the first bad entry, if there was one
 pub record Judging : Type 0 where
   pub running : Running
   pub first_bad : Option ℕ

@@ -11,7 +11,7 @@ use Rattle.mh_state.specs.declared.machine.Stop.TheVariants.{HistoryFull}
 use Rattle.mh_state.specs.declared.run.Outcome.{Outcome}
 use Rattle.mh_state.specs.Running.{Running, Does}
 
--- what is promised of an outcome is promised of this
+-- what a run gives back, as what is promised of it
 abbrev pub shown : Outcome → promised.Outcome
 shown outcome = record { replies = outcome.replies.items; heap = outcome.heap.kept; free = outcome.free; trace = outcome.trace.trace }
 

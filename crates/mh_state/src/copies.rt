@@ -1,4 +1,10 @@
 //! Copies of replies, for which memory is asked before an event is done.
+//!
+//! An answer that is given twice is the same both times.
+//!
+//! Only a dump takes memory. History, log and caller share its items, and the dump that the machine makes as it answers
+//! is dropped. Each of the three has a handle to the items (`Arc`). The handles are made before the event too, since a
+//! count of handles can be full. Every other reply is copied without memory.
 ghost use Rattle.std.specs.Prelude.{◌≡◌, IfOk, OnErr};
 ghost use Rattle.mh_model.specs.declared.command.Control.TheVariants as controls;
 ghost use Rattle.mh_model.specs.declared.command.Event.TheVariants as events;

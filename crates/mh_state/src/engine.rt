@@ -1,4 +1,6 @@
-//! What events change: the heap, the units since the last quantum, and the trace.
+//! What events change: the heap, the units since the last quantum, and the trace. Its calls ask that no count is close
+//! to 2^62 (`IsShort`). The machine around it counts events, from which a law gives that. Room in the trace is made
+//! before anything changes.
 ghost use Rattle.std.specs.Prelude.{◌≡◌, ℕ, ◌+◌, ◌<◌, ◌≤◌, IfOk, OnErr, length};
 ghost use Rattle.mh_model.specs.declared.birth.TheConstants.{LIFE};
 ghost use Rattle.mh_model.specs.declared.command.Command.TheVariants as commands;

@@ -1,4 +1,12 @@
 //! The judging of histories: whether each entry has the machine's reply, and in a record its units too.
+//!
+//! A history is legal exactly when it is found to be. Otherwise the number reported is that of its first bad entry: the
+//! least number up to which the history isn't legal. So it is 1,000,001 if the machine's replies are right that far. A
+//! judge that is shown the entries one by one, and keeps none, finds the same of those that it was shown.
+//!
+//! It doesn't keep what is wrong with the bad entry, since it would need the right reply beside each. `fault_in` of
+//! `mh_judging` finds that by a second replay up to the bad entry, so judging costs nothing more for a legal history.
+//! `check` and `audit` open a machine before anything else, so no clause says when memory is refused to them.
 ghost use Rattle.std.specs.Prelude.{◌≡◌, [], ◌∷◌, ◌++◌, List, IsSome, IsOk, IfOk, IfErr, OnOk, OnErr};
 ghost use Rattle.mh_model.specs.declared.config.Config.{Config};
 ghost use Rattle.mh_model.specs.declared.history.Entry.{Entry};

@@ -1,4 +1,17 @@
 //! The machine that runs: the heap of pages, the units since the last quantum, and the trace.
+//!
+//! It does an event, with the quantum that it makes due, exactly as the model's machine does, and answers what that
+//! answers. At 1,000,000 events it answers that the history is full, and never before. It answers out of memory only to
+//! a dump, and to a command or a quantum while the trace has no room for it. Both leave it as it was, and it stops for
+//! nothing else (`Stop`).
+//!
+//! It counts the events that it has done, and stops at 1,000,000: so all its counts stay far from the ends of their
+//! types, and none of its calls asks for a condition. `State` keeps the history beside it; `run` and `run_script` do
+//! without one.
+//!
+//! Its `drop` takes it apart and does nothing else, as does that of `KeptHeap`: whoever owns a machine proves one call
+//! when it is dropped, and not the drop of each table at each of its ends. For the same reason loops over a machine are
+//! in functions that borrow it.
 ghost use Rattle.std.specs.Prelude.{◌≡◌, ◌≤◌, ◌↔◌, IfOk, IsTrue, OnErr, IsErrOf};
 ghost use Rattle.mh_model.specs.Limits.{most_entries};
 ghost use Rattle.mh_state.specs.Running.{first_running, Does, MayAskForMemory};

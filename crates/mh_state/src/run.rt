@@ -1,4 +1,12 @@
 //! Whole runs.
+//!
+//! A run by 1 to 64 workers gives the replies, the heap, the free pages and the trace of the model's machine
+//! (`machine`). So it keeps the promise of `mh_promise` (`promise`). A run that stops promises this of the events that
+//! it did (`so_far`). It stops for a full history exactly when these are 1,000,000, and only if there are more. If it
+//! did any events, it stops only with more left.
+//!
+//! It opens a machine before anything else, so no clause says when memory is refused to it. It asks for a `CrewGate`, a
+//! hook that the threads of a crew can call. For one thread `Gate` alone would do.
 ghost use Rattle.std.specs.Prelude.{◌≡◌, ◌<◌, ◌≤◌, IfOk, OnOk, IfErr, OnErr, IsErrOf, length, vec_len};
 ghost use Rattle.mh_model.specs.Limits.{most_entries};
 ghost use Rattle.mh_promise.specs.Runs.{IsTheMachines, AreAnsweredSoFar};

@@ -1,4 +1,5 @@
-//! Whether two replies are equal.
+//! Whether two replies are equal. They are found equal exactly when they are. It is a function of its own, since
+//! `Reply` has no `==`.
 ghost use Rattle.std.specs.Prelude.{◌≡◌, ◌↔◌, IsTrue};
 
 use mh_model::dump::Dump;

@@ -1,4 +1,12 @@
 //! The state: the machine with the history of what it did.
+//!
+//! It enters each event that it does with its reply. Its history is legal. Heap, free pages and trace are those of the
+//! replay of it, and it keeps the promise of a run for that history. It answers that the history is full exactly at
+//! 1,000,000 entries. It answers out of memory only if the machine asks for memory or the history has no room for an
+//! entry (`memory`). Both leave machine and history as they were.
+//!
+//! All growths come before the event: room in the trace, the entry's place in the history, and the handles of a dump.
+//! If memory for the event is then refused, the room that was made stays, since room is no part of either.
 ghost use Rattle.std.specs.Prelude.{◌≡◌, ◌<◌, ◌⊎◌, IfOk, OnOk, OnErr, IsErrOf, length, vec_len};
 ghost use Rattle.std.specs.Vec.{vec_capacity};
 ghost use Rattle.mh_model.specs.declared.command.Control.TheVariants as controls;

@@ -1,3 +1,8 @@
+//! Steps of the sweep. One step is the model's, on the table and for the place of the next step. Several steps in one
+//! page, or over free pages one after the other, are as many of the model's.
+//!
+//! They are functions over the table and no type of their own, since all that they go on from is the collector's
+//! cursor. A quantum takes several at a time, and one that tells its deeds takes each by itself.
 ghost use Rattle.std.specs.Prelude.{◌≡◌, ◌+◌, ◌<◌, ◌≤◌, Some, length};
 ghost use Rattle.mh_model.specs.Classes.{slots_in};
 ghost use Rattle.mh_model.specs.Pages.{page_number, page_at, class_at};

@@ -4,12 +4,12 @@ use Rattle.std.specs.List.{AllByRecursion}
 use Rattle.mh_model.specs.Collector.{Marking, mark_step}
 use Rattle.mh_model.specs.CycleBounds.{IsMarkedIn}
 
--- a place holds a marked block, and isn't in the grey list
+-- a place with a marked block that isn't in the grey list
 pub record IsSettled (marking : Marking) (place : ℕ) : Type 0 where
   pub marked : IsMarkedIn marking.table marking.cycle place
   pub apart : AllByRecursion (λ other. other ≢ place) marking.grey
 
--- so many mark steps
+-- what marking works on after so many mark steps
 abbrev pub mark_steps : ℕ → Marking → Marking
 mark_steps zero marking = marking
 mark_steps (suc count) marking = mark_steps count (mark_step marking)

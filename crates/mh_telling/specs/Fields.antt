@@ -50,6 +50,7 @@ fate_fields (fate.Kept name) = field (codes "fate") (Word (codes "kept")) ∷ na
 fate_fields (fate.Freed name) = field (codes "fate") (Word (codes "freed")) ∷ name_fields name
 fate_fields (fate.FreedForwarder target) = field (codes "fate") (Word (codes "forwarder")) ∷ field (codes "to") (At target) ∷ []
 
+-- the word of a tier
 abbrev pub tier_word : Tier → Text
 tier_word tier.Dense = codes "dense"
 tier_word tier.Fresh = codes "free"

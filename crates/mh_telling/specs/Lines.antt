@@ -27,16 +27,19 @@ abbrev pub word_text : Form → Text → Text
 word_text form.Text word = word
 word_text form.Json word = quoted word
 
+-- yes or no in words, or as JSON writes it
 abbrev pub flag_text : Form → Bool → Text
 flag_text form.Text true = codes "yes"
 flag_text form.Text false = codes "no"
 flag_text form.Json true = codes "true"
 flag_text form.Json false = codes "false"
 
+-- that there is nothing, in words or as JSON
 abbrev pub nothing_text : Form → Text
 nothing_text form.Text = codes "none"
 nothing_text form.Json = codes "null"
 
+-- a value in words or as JSON
 abbrev pub value_text : Form → Value → Text
 value_text form (Number n) = decimal n
 value_text form (At place) = word_text form (place_text place)
@@ -49,6 +52,7 @@ abbrev pub key_text : Form → Text → Text
 key_text form.Text key = 32 ∷ (key ++ 32 ∷ [])
 key_text form.Json key = 44 ∷ (quoted key ++ 58 ∷ [])
 
+-- a field in words or as JSON, and fields in turn
 abbrev pub field_text : Form → Field → Text
 field_text form field = key_text form field.key ++ value_text form field.value
 
@@ -71,6 +75,7 @@ abbrev pub quantum_head : Form → ℕ → Text
 quantum_head form.Text number = codes "  quantum"
 quantum_head form.Json number = event_key number ++ codes ",\"quantum\":\"ran\""
 
+-- how each of them ends
 abbrev pub line_end : Form → Text
 line_end form.Text = codes "\n"
 line_end form.Json = codes "}\n"

@@ -1,4 +1,6 @@
-//! The verb and the fields of a deed.
+//! The verb and the fields of a deed. They are the same in words and in JSON, so each deed is spelled once. A
+//! reference has `shaded yes` if the grey list grew by it. So the second of two references to one white block has
+//! `shaded no`.
 ghost use Rattle.std.specs.Prelude.{◌≡◌, ◌++◌, ◌∷◌, [], codes, OnOk};
 ghost use Rattle.std.specs.String.{string_bytes};
 ghost use Rattle.mh_model.specs.declared.deed.Deed.TheVariants as deed;

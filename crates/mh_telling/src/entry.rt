@@ -1,4 +1,5 @@
-//! An event with its reply, as it is added to a text.
+//! An event with its reply, as it is added to a text. It begins with the number of its event, which `--from`, `--to`
+//! and the page of `show` ask for.
 ghost use Rattle.std.specs.Prelude.{◌≡◌, ◌++◌, OnOk};
 ghost use Rattle.std.specs.String.{string_bytes};
 ghost use Rattle.mh_telling.specs.Lines.{entry_line};

@@ -1,4 +1,5 @@
-//! Fields as they are added to a line.
+//! Fields as they are added to a line, in words or as members of an object of JSON. No text here has a sign that JSON
+//! would escape.
 ghost use Rattle.std.specs.Prelude.{◌≡◌, ◌++◌, decimal, OnOk};
 ghost use Rattle.std.specs.String.{string_bytes};
 ghost use Rattle.mh_telling.specs.Fields.{At, Flag, Number, Word, field, optional_place};

@@ -1,4 +1,8 @@
 //! Accounts as lines.
+//!
+//! Deeds of a command have no units, since what it costs the mutator doesn't depend on its barriers or on where its
+//! parts went. Those of a quantum have theirs, and what is left of it. In words a deed has no number of an event,
+//! since it stands under its entry; as JSON each object has one.
 ghost use Rattle.std.specs.Prelude.{◌≡◌, ◌++◌, ◌-◌, flat_map, OnOk};
 ghost use Rattle.std.specs.String.{string_bytes};
 ghost use Rattle.mh_deeds.specs.Accounts.{account_in};

@@ -1,4 +1,7 @@
 //! The names that a script has for its sessions, where it doesn't call them `s0` to `s7`.
+//!
+//! Events are named as in histories, by `s0` to `s8`, since an event knows the number of its session and not its
+//! name. A name that the script has instead stands once, at the head.
 ghost use Rattle.std.specs.Prelude.{◌≡◌, ◌<◌, ◌≤◌, ◌^◌, ◌++◌, IfOk, OnOk, OnErr, IsErrOf, length};
 ghost use Rattle.std.specs.Io.KnownBytes.{Appends};
 ghost use Rattle.mh_telling.specs.Names.{name_line, name_text, names_text, session_word};

@@ -1,4 +1,12 @@
-//! Runs of scripts that are written as their steps.
+//! Runs of scripts that are written as their steps, exactly.
+//!
+//! These are the names of its sessions, where they aren't `s0` to `s7`. Then comes each event with its number and its
+//! reply, and below it the deeds of its account. Those of a quantum have their units and what is left. All that is
+//! said of `run_script` holds too. An event whose deeds are asked for is done as `Machine::step_told` does it, and
+//! its account is the model's.
+//!
+//! A quantum never fails because it tells. If memory was refused for a deed, the account isn't whole. That is an
+//! error, and `steps` ends with `no memory`.
 ghost use Rattle.std.specs.Prelude.{◌≡◌, ◌+◌, ◌<◌, ◌≤◌, ◌^◌, ◌++◌, suc, length, if◌then◌else◌, true, [], IfOk, OnOk, OnErr, IsErrOf};
 ghost use Rattle.std.specs.Io.KnownBytes.{Appends, Keeps};
 ghost use Rattle.std.specs.String.{string_bytes};

@@ -25,7 +25,7 @@ cut_then : (end : ℕ) (first next : Text) → cut_after end (first ++ end ∷ n
 cut_then end [] next = rw (eq-eqb end end refl) refl
 cut_then end (byte ∷ first) next = rw (cut_then end first next) (cut_then_by (byte == end) byte (cut_after end first) (cut_after end next))
 
-words_then : (first next : Text) → words (first ++ 32 ∷ next) ≡ words first ++ words next
+pub words_then : (first next : Text) → words (first ++ 32 ∷ next) ≡ words first ++ words next
 words_then first next =
     let a = cut_after 32 first in
     let b = cut_after 32 next in

@@ -3,6 +3,7 @@ use Rattle.mh_model.specs.Script as book
 use Rattle.mh_text.specs.declared.line.Line.{Line}
 use Rattle.mh_text.specs.declared.line.Line.TheVariants.{Blank, Calls, Asks, Wrong}
 
+-- a line of the code as a line of the model
 abbrev pub line_shown : Line → book.Line
 line_shown Blank = book.Blank
 line_shown (Calls name command) = book.Calls name.now command

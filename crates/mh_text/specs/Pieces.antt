@@ -22,6 +22,7 @@ pub record Lines : Type 0 where
   pub lines : List Text
   pub rest : Text
 
+-- the lines of a text with their numbers, of which the first has this one
 abbrev pub lines_from : ℕ → Text → Lines
 lines_from number text = record { number = number; lines = (cut_after 10 text).pieces; rest = (cut_after 10 text).rest }
 

@@ -6,13 +6,15 @@ use Rattle.mh_model.specs.Bytes.{Text, Cut, cut_after}
 use Rattle.mh_model.specs.Script.{Meaning, Reading, Means, reading_map, line_of, script_from, events_from, script_of}
 use Rattle.mh_text.specs.Pieces.{Lines}
 
+-- what is read of a script from the lines that are left, before its configuration
 abbrev pub script_left : Lines → Reading Meaning
 script_left left = script_from left.number left.lines left.rest
 
--- the lines after the configuration
+-- what is read of its events from the lines that are left, after the configuration
 abbrev pub events_left : Lines → Reading (List Event)
 events_left left = events_from [] left.number (map line_of left.lines) left.rest
 
+-- what the events after this configuration make of a script
 abbrev pub with_config : Config → Reading (List Event) → Reading Meaning
 with_config config = reading_map (λ events. record { config = config; events = events })
 

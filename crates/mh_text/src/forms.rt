@@ -1,3 +1,6 @@
+//! The forms of commands and controls: which one words are, if they are one, as the tables of the model say. The first
+//! version doesn't know the control `left`. A form is sought by how many numbers the words have, and then by their
+//! verb.
 ghost use Rattle.std.specs.Prelude.{◌≡◌, nat_lt, [], ◌∷◌};
 ghost use Rattle.mh_model.specs.Forms.{within, u32, command_rows, command_of, control_rows, control_of};
 ghost use Rattle.mh_text.specs.Rows.{said, three_rows, two_rows, one_rows, plain_rows};

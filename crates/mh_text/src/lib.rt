@@ -1,4 +1,7 @@
 //! Texts: devices that bytes come from and go to, scripts, and the texts of replies.
+//!
+//! What is read and written is what the grammar of the model says, byte for byte. It cites no law: that what was
+//! written is read back, and what else holds of texts alone, is in `mh_text_laws`.
 #![tactic(auto)]
 
 pub mod device;

@@ -1,3 +1,6 @@
+//! Lines of scripts. A line is a configuration, a command, a control, blank, or none of these, as the grammar says.
+//! `config` is a lawful session name: after the configuration `config new 0 0 0` is a command, and a second
+//! configuration line is bad.
 ghost use Rattle.std.specs.Prelude.{◌≡◌};
 ghost use Rattle.mh_model.specs.Script.{config_of, config_words, line_words, line_of, is_blank};
 ghost use Rattle.mh_model.specs.Bytes.{words};

@@ -1,4 +1,8 @@
 //! The names that a script has for its sessions.
+//!
+//! The first eight are kept in a set, in the order in which they are seen. The ninth and all later ones are the same
+//! session. Room for eight is made at the first name, so a text that is refused before its first event takes no memory
+//! for names. The name that was looked up last is tried first, so a script of one session looks it up in the set once.
 ghost use Rattle.std.specs.Prelude.{◌≡◌, ◌+◌, ◌<◌, ◌≤◌, ◌^◌, [], length, IfOk, OnOk, OnErr};
 ghost use Rattle.mh_model.specs.Bytes.{is_text};
 ghost use Rattle.mh_model.specs.Script.{session_number, with_name};

@@ -1,3 +1,5 @@
+//! Texts cut into lines, and lines into words, as in the model. Each piece is a part of the text that was given, so
+//! cutting takes no memory.
 ghost use Rattle.std.specs.Prelude.{◌≡◌, ◌==◌, ◌<◌, ◌^◌, ◌+◌, ◌↔◌, [], ◌∷◌, ◌++◌, length, position, Some, None, IfSome, IfNone, IsTrue};
 ghost use Rattle.mh_model.specs.Bytes.{cut_after, words};
 ghost use Rattle.mh_model.specs.HistoryTexts.{halves_at};

@@ -1,3 +1,5 @@
+//! The lines of replies, added to a text. Each is exactly the model's. Short replies are put together from words and
+//! digits, and the long ones by `ReplyText`.
 ghost use Rattle.std.specs.Prelude.{◌≡◌, ◌++◌, [], ◌∷◌, codes, decimal, OnOk};
 ghost use Rattle.std.specs.String.{string_bytes};
 ghost use Rattle.mh_model.specs.Bytes.{line_text};

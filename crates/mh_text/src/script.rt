@@ -1,3 +1,5 @@
+//! Scripts as texts. A text is a script with this configuration and these events exactly when the grammar says so.
+//! Otherwise its first bad line is named. Out of memory is answered only if the text begins with an event (`memory`).
 ghost use Rattle.std.specs.Prelude.{◌≡◌, ◌≢◌, IfOk, IfErr, IsErrOf};
 ghost use Rattle.mh_model.specs.Script.{Means, reading};
 ghost use Rattle.mh_text.specs.Reading.{TakesConfig, HasEvent, BeginsWithEvent, script_left, events_left};

@@ -1,3 +1,6 @@
+//! Where bytes go. What was interrupted is tried again, 2^64 - 1 times at most, and is no failure of a device before
+//! that. A write of 0 bytes is one. Contracts speak of the bytes that were written only if they are known, as over
+//! memory.
 ghost use Rattle.std.specs.Prelude.{◌≡◌, ◌≢◌, ◌≤◌, ◌<◌, ◌+◌, ◌^◌, ℕ, List, Option, length, take, IfOk, IfErr, OnOk, OnErr};
 ghost use Rattle.std.specs.Io.{WritesAtMost};
 ghost use Rattle.std.specs.Io.KnownBytes.{Appends, Keeps, WriteAppends};

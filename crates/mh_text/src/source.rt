@@ -1,3 +1,5 @@
+//! Where bytes come from. What was interrupted is tried again, 2^64 - 1 times at most, and is no failure of a device
+//! before that. Contracts speak of the bytes that are left only if they are known, as over memory.
 ghost use Rattle.std.specs.Prelude.{◌≡◌, ◌≢◌, ◌≤◌, ◌<◌, ◌+◌, ◌^◌, ℕ, List, Option, length, take, IfOk, IfErr, OnOk, OnErr};
 ghost use Rattle.std.specs.Io.{ReadsAtMost};
 ghost use Rattle.std.specs.Io.KnownBytes.{Consumes, Keeps, IsAtEnd, ReadConsumes};

@@ -1,3 +1,8 @@
+//! Whole texts that are read from a source and written to a sink.
+//!
+//! A text is read to its source's end, or until it is too long, and no further. It is written whole, or a prefix of it
+//! if the device failed. A device is blamed only if it failed in that call. Out of memory is answered only if none did
+//! and the source gave some byte. Nothing else stops a reading (`ReadError`).
 ghost use Rattle.std.specs.Prelude.{◌≡◌, ◌≤◌, ◌<◌, ◌^◌, IfOk, OnOk, OnErr, IsErrOf, length};
 ghost use Rattle.std.specs.Io.KnownBytes.{Consumes, Appends, IsAtEnd};
 ghost use Rattle.mh_text.specs.Stream.{AppendsBeginning, ConsumesBeginning, ConsumesSome};

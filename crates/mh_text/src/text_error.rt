@@ -1,3 +1,5 @@
+//! Why a text was not read: it has a bad line, or there is no memory. An error type names what its call can meet, and
+//! no more, so a caller's match has no arm that can't be.
 use mh_model::memory::NoMemory;
 use std::alloc::AllocFailed;
 use thiserror::Error;

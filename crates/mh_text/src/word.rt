@@ -1,3 +1,5 @@
+//! Words as numbers and as names, as in the model. A number that is wider than 64 bits is none, since no form takes
+//! one.
 ghost use Rattle.std.specs.Prelude.{◌≡◌, ◌<◌, ◌≤◌, ◌+◌, ◌*◌, ◌-◌, ◌^◌, ◌∷◌, length, take, Some, IfSome, IfNone, ◌||◌};
 ghost use Rattle.std.specs.List.{list_all, prefix_len, take_while};
 ghost use Rattle.mh_model.specs.Bytes.{is_text, is_digit, is_letter, is_numeral, is_name, value_after, number, numbers, words};

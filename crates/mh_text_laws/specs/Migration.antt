@@ -1,4 +1,5 @@
--- Migration makes a legal record with the same entries.
+-- Migration makes a legal record with the same entries. The length of what it writes is no premise: under the first rules a legal history within its
+-- limit is migrated to a text within the limit of the second version.
 use Rattle.std.specs.Prelude.{◌≡◌, ℕ, List, length, map}
 use Rattle.mh_model.specs.declared.config.Config.{Config}
 use Rattle.mh_model.specs.declared.config.Rules.TheVariants.{First}
@@ -16,19 +17,20 @@ pub record IsMigrated (config : Config) (entries : List Entry) : Type 0 where
   pub count : length (migrated config entries).entries ≡ length entries
   pub same : map (λ measured. measured.entry) (migrated config entries).entries ≡ entries
 
--- for any text that is read as a legal history under the first rules
+-- A text that is read as a legal history of version 1, under the first rules, is migrated to a legal one of version 2; this has the same entries
 abbrev pub MigrationKeepsHistories : Type 0
 MigrationKeepsHistories = (config : Config) (text : Text) (entries : List Entry) → config.rules ≡ First → history_reading text ≡ Means entries → IsLegal config entries
     → IsMigrated config entries
 
--- what is written of a text that is checked and found legal is audited and found legal, with as many entries
+-- What migration writes of a text that is checked as legal, under the first rules, is audited as legal, with as many entries
 abbrev pub MigratedTextsAreLegal : Type 0
 MigratedTextsAreLegal = (config : Config) (text written : Text) (count : ℕ) → config.rules ≡ First → IsMigratedTo config text written → IsChecked config text (Legal count)
     → IsAudited written (Legal count)
 
--- every text is migrated to one text, and to no other
+-- Each text is migrated to some text, under each configuration
 abbrev pub TextsAreMigrated : Type 0
 TextsAreMigrated = (config : Config) (text : Text) → (written : Text) × IsMigratedTo config text written
 
+-- No text is migrated to two texts, under one configuration
 abbrev pub TextsAreMigratedToOne : Type 0
 TextsAreMigratedToOne = (config : Config) (text one other : Text) → IsMigratedTo config text one → IsMigratedTo config text other → one ≡ other

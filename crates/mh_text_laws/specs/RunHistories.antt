@@ -19,12 +19,13 @@ pub record IsRunHistory (config : Config) (events : List Event) (written : Text)
   pub audited : IsAudited written (Legal (length events))
   pub replies : map (λ measured. measured.entry.reply) (recorded_run config events).entries ≡ machine_replies (first_machine config) events
 
--- What is written of a script, under any rules, is so of the events that are taken, if it is no longer than a history may be
+-- Let a run of a script, under any rules, write a history of at most 2,147,483,648 bytes. It is the record of the script's first 1,000,000 events, is
+-- audited as legal, and has the run's replies
 abbrev pub RunHistoriesAreLegal : Type 0
 RunHistoriesAreLegal = (rules : Rules) (text : Text) (script : Meaning) → reading_under rules text ≡ Means script → length (history_output rules text) ≤ 2147483648
     → IsRunHistory script.config (take most_entries script.events) (history_output rules text)
 
--- Without options a script is under the second rules
+-- Without options a script is under the second rules: under these its reading and its output are those without options
 pub record ScriptsAreUnderTheSecondRules : Type 0 where
   pub readings : (text : Text) → reading_under Second text ≡ reading text
   pub outputs : (text : Text) → output_under Second text ≡ output text

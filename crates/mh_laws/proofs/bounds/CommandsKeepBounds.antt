@@ -1,17 +1,16 @@
 -- What each command of a session carries on: roomy pages, the grey list's soundness, what marking still costs, and the classes of pages in use.
-use Rattle.std.proofs.Common.{◌≡◌, ℕ, zero, suc, ◌+◌, ◌≤◌, Bool, true, false, if◌then◌else◌, inl, inr, List, [], ◌∷◌, length, get_or, slice_get, Option, Some, None, option_map, option_and_then, unwrap_or, refl, sym, ap, ◌∙◌, subst, arith}
+-- So no command adds to what is left of a cycle.
+use Rattle.std.proofs.Common.{◌≡◌, ℕ, suc, ◌+◌, ◌≤◌, true, false, inl, inr, List, [], ◌∷◌, length, slice_get, Option, Some, None, option_map, option_and_then, unwrap_or, refl, sym, ap, ◌∙◌, subst, arith}
 use Rattle.std.proofs.lemmas.Bool.{cases_eq, false≢true}
 use Rattle.std.proofs.lemmas.List.{length-replicate}
 use Rattle.std.proofs.lemmas.Option.{none-some, same_Some}
 use Rattle.mh_model.specs.declared.command.Command.{Command}
 use Rattle.mh_model.specs.declared.command.Command.TheVariants as command
-use Rattle.mh_model.specs.declared.reply.Refusal.{Refusal}
-use Rattle.mh_model.specs.World.{own_slot, board_slot, refusal, unless_refused}
 use Rattle.mh_model.specs.Classes.{Part, class_of, part_words, parts}
 use Rattle.mh_model.specs.Pages.{Table, block_at, least_place, with_taken, IsFreeFor}
-use Rattle.mh_model.specs.Table.{Block, Made, MadeParts, Position, new_block, made_in_class, made_part, made_parts, with_block_change, words_of, linked_block, linked_parts, group_of, made_group, reference_in}
+use Rattle.mh_model.specs.Table.{Block, Made, MadeParts, new_block, made_in_class, made_part, made_parts, with_block_change, words_of, linked_block, linked_parts, group_of, made_group}
 use Rattle.mh_model.specs.Collector.{Collector, Marking, shade, marking_of, with_shade}
-use Rattle.mh_model.specs.Mutator.{HeapState, in_roots, in_roots_or_mark, before_field, with_root, with_roots_cleared, with_session_cleared, with_reference_stored, with_number_stored, field_of, number_field, new_group, with_born, heap_sight, heap_effect, mutator_step}
+use Rattle.mh_model.specs.Mutator.{HeapState, in_roots_or_mark, new_group, mutator_step}
 use Rattle.mh_model.specs.CycleBounds.{count_at, grey_weight, IsGreySound, IsMarkedIn}
 use Rattle.mh_table_laws.specs.NewObjects.{AreMade}
 use Rattle.mh_table_laws.proofs.placing.Places.{block_at-with_block_same, block_at-with_block_other, least_place-free, block_at-with_taken_other, block-slot}
@@ -19,7 +18,7 @@ use Rattle.mh_table_laws.proofs.objects.Parts.{children_inside}
 use Rattle.mh_table_laws.proofs.objects.MadeGroups.{length-words_of, made_parts-are, slots_in-class_of}
 use Rattle.mh_table_laws.proofs.tables.BlockRoom.{IsClass, roomy-shaped, with_taken-roomy, class_of-is, class_of-fits}
 use Rattle.mh_table_laws.proofs.marking.GreyList.{Carries, carries_nothing, then_carries, grey_weight-same, all-map, class-with_taken, weight-with_taken, weight-marked, shade-carries, cycle-shade, change-carries, reference-carries}
-use Rattle.mh_laws.proofs.marking.BlockChanges.{roots_mark}
+use Rattle.mh_laws.proofs.commands.EachCommand.{IsKeptByCommands, heap_effect-each, mutator_step-each}
 
 -- New objects ------------------------------------------------------------------------------------
 
@@ -177,78 +176,32 @@ with_shade-carries collector reference sound =
     let shaded : Marking = shade (marking_of collector) reference in
     subst (λ n. Carries (marking_of collector) (record { table = shaded.table; grey = shaded.grey; cycle = n })) (cycle-shade (marking_of collector) reference) (shade-carries (marking_of collector) reference sound)
 
--- shading after a test that holds only in the roots and in marking
-shaded_if-carried : (test : Bool) (collector : Collector) (reference : Option ℕ) → (test ≡ true → in_roots_or_mark collector.phase ≡ true) → IsGreySound (marking_of collector) → Carried collector (if test then with_shade collector reference else collector)
-shaded_if-carried true collector reference inside sound = record { carries = with_shade-carries collector reference sound; grey = λ outside. absurd (false≢true (sym outside ∙ inside refl)) }
-shaded_if-carried false collector reference inside sound = carried_nothing collector sound
-
-with_root-carried : (collector : Collector) (slot : ℕ) (reference : Option ℕ) → IsGreySound (marking_of collector) → Carried collector (with_root collector slot reference)
-with_root-carried collector slot reference sound =
-    let shaded = shaded_if-carried (in_roots collector.phase) collector (get_or collector.slots slot None) (roots_mark collector.phase) sound in
-    let carries = shaded.carries in
-    record { carries = record { sound = record { roomy = carries.sound.roomy; once = carries.sound.once; marked = carries.sound.marked }; longer = carries.longer; settled = λ place s. let t = carries.settled place s in record { marked = t.marked; apart = t.apart }; lighter = carries.lighter; classes = carries.classes }; grey = shaded.grey }
-
 then_carried : (first second third : Collector) → second.phase ≡ first.phase → Carried first second → Carried second third → Carried first third
 then_carried first second third phase one two = record {
   carries = then_carries (marking_of first) (marking_of second) (marking_of third) one.carries two.carries;
   grey = λ outside. two.grey (ap in_roots_or_mark phase ∙ outside) ∙ one.grey outside;
 }
 
-phase-with_root : (collector : Collector) (slot : ℕ) (reference : Option ℕ) → (with_root collector slot reference).phase ≡ collector.phase
-phase-with_root collector slot reference = go (in_roots collector.phase)
-  where
-    go : (test : Bool) → (if test then with_shade collector (get_or collector.slots slot None) else collector).phase ≡ collector.phase
-    go true = refl
-    go false = refl
+-- the same phase, and what is carried on if the grey list is sound
+abbrev CarriesOn : Collector → Collector → Type 0
+CarriesOn old new = (new.phase ≡ old.phase) × (IsGreySound (marking_of old) → Carried old new)
 
-with_roots_cleared-carried : (count : ℕ) (collector : Collector) (slot : ℕ) → IsGreySound (marking_of collector) → Carried collector (with_roots_cleared collector slot count)
-with_roots_cleared-carried zero collector slot sound = carried_nothing collector sound
-with_roots_cleared-carried (suc count) collector slot sound =
-    let one = with_root-carried collector slot None sound in
-    then_carried collector (with_root collector slot None) (with_roots_cleared collector slot (suc count)) (phase-with_root collector slot None) one (with_roots_cleared-carried count (with_root collector slot None) (suc slot) one.carries.sound)
-
-with_session_cleared-carried : (collector : Collector) (who : ℕ) → IsGreySound (marking_of collector) → Carried collector (with_session_cleared collector who)
-unfolding with_session_cleared
-with_session_cleared-carried collector who sound = with_roots_cleared-carried 16 collector (own_slot who 0) sound
-
-with_reference_stored-carried : (collector : Collector) (position : Position) (reference : Option ℕ) → IsGreySound (marking_of collector) → Carried collector (with_reference_stored collector position reference)
-with_reference_stored-carried collector position reference sound =
-    let shaded = shaded_if-carried (in_roots_or_mark collector.phase) collector (reference_in collector.table position) (λ e. e) sound in
-    record { carries = then_carries (marking_of collector) (marking_of (before_field collector position)) _ shaded.carries (reference-carries (marking_of (before_field collector position)) position.place position.index reference shaded.carries.sound); grey = shaded.grey }
-
-with_number_stored-carried : (collector : Collector) (position : Position) (number : ℕ) → IsGreySound (marking_of collector) → Carried collector (with_number_stored collector position number)
-with_number_stored-carried collector position number sound = record { carries = change-carries (marking_of collector) position.place _ (λ block at. (refl, refl)) sound; grey = λ outside. refl }
-
-new-carried : (heap : HeapState) (slot : ℕ) (group : Option Made) → IsGreySound (marking_of heap.collector)
-    → ((made : Made) → group ≡ Some made → Carries (marking_of heap.collector) (marking_of (record (heap.collector) { table = made.table }))) → Carried heap.collector (unwrap_or (option_map (with_born heap slot) group) heap).collector
-new-carried heap slot None sound placed = carried_nothing heap.collector sound
-new-carried heap slot (Some made) sound placed =
-    let one = placed made refl in
-    then_carried heap.collector (record (heap.collector) { table = made.table }) (with_root (record (heap.collector) { table = made.table }) slot (Some made.place)) refl (record { carries = one; grey = λ outside. refl })
-    (with_root-carried (record (heap.collector) { table = made.table }) slot (Some made.place) one.sound)
-
-heap_effect-carried : (heap : HeapState) (who : ℕ) (command : Command) → IsGreySound (marking_of heap.collector) → Carried heap.collector (heap_effect heap who command).state.collector
-unfolding heap_effect
-heap_effect-carried heap who (command.New slot references numbers) sound =
-    new-carried heap (own_slot who slot) (new_group heap references numbers) sound
-    (λ made e. made_group-carries heap.collector.table heap.collector.grey heap.next_birth heap.collector.cycle (parts references numbers) (λ i child part at is. (children_inside references numbers i part child at is).1) sound made e)
-heap_effect-carried heap who (command.Get slot source field) sound = with_root-carried heap.collector (own_slot who slot) _ sound
-heap_effect-carried heap who (command.Put slot field value) sound = with_reference_stored-carried heap.collector (field_of heap (own_slot who slot) field) _ sound
-heap_effect-carried heap who (command.Copy slot source) sound = with_root-carried heap.collector (own_slot who slot) _ sound
-heap_effect-carried heap who (command.Clear slot) sound = with_root-carried heap.collector (own_slot who slot) None sound
-heap_effect-carried heap who (command.Read slot index) sound = carried_nothing heap.collector sound
-heap_effect-carried heap who (command.Write slot index number) sound = with_number_stored-carried heap.collector (number_field heap (own_slot who slot) index) number sound
-heap_effect-carried heap who (command.Same left right) sound = carried_nothing heap.collector sound
-heap_effect-carried heap who (command.Shape slot) sound = carried_nothing heap.collector sound
-heap_effect-carried heap who (command.Post board slot) sound = with_root-carried heap.collector (board_slot board) _ sound
-heap_effect-carried heap who (command.Take slot board) sound = with_root-carried heap.collector (own_slot who slot) _ sound
-heap_effect-carried heap who command.End sound = with_session_cleared-carried heap.collector who sound
+carried_on : IsKeptByCommands CarriesOn
+carried_on = record {
+  same = λ collector. (refl, carried_nothing collector);
+  joined = λ first second third one two. (two.0 ∙ one.0, λ sound. let carried = one.1 sound in then_carried first second third one.0 carried (two.1 carried.carries.sound));
+  shaded = λ collector reference inside. (refl, λ sound. record { carries = with_shade-carries collector reference sound; grey = λ outside. absurd (false≢true (sym outside ∙ inside)) });
+  rooted = λ collector slot reference. (refl, λ sound. record { carries = carries_nothing (marking_of collector) sound; grey = λ outside. refl });
+  referred = λ collector position reference. (refl, λ sound. record { carries = reference-carries (marking_of collector) position.place position.index reference sound; grey = λ outside. refl });
+  numbered = λ collector position number. (refl, λ sound. record { carries = change-carries (marking_of collector) position.place _ (λ block at. (refl, refl)) sound; grey = λ outside. refl });
+}
 
 -- A command of a session carries on what marking keeps
-pub mutator_step-carried : (heap : HeapState) (who : ℕ) (command : Command) → IsGreySound (marking_of heap.collector) → Carried heap.collector (mutator_step heap who command).state.collector
-unfolding mutator_step
-mutator_step-carried heap who command sound = go (refusal (heap_sight heap) who command)
+pub mutator_step-carried : (heap : HeapState) (who : ℕ) (c : Command) → IsGreySound (marking_of heap.collector) → Carried heap.collector (mutator_step heap who c).state.collector
+mutator_step-carried heap who c sound = (mutator_step-each CarriesOn carried_on heap who c (λ allowed. heap_effect-each CarriesOn carried_on heap who c placed)).1 sound
   where
-    go : (refused : Option Refusal) → Carried heap.collector (unless_refused refused heap (heap_effect heap who command)).state.collector
-    go None = heap_effect-carried heap who command sound
-    go (Some refused) = carried_nothing heap.collector sound
+    placed : (slot references numbers : ℕ) → c ≡ command.New slot references numbers → (made : Made) → new_group heap references numbers ≡ Some made → CarriesOn heap.collector (record (heap.collector) { table = made.table })
+    placed slot references numbers is made e = (refl, λ sound. record {
+      carries = made_group-carries heap.collector.table heap.collector.grey heap.next_birth heap.collector.cycle (parts references numbers) (λ i child part at is. (children_inside references numbers i part child at is).1) sound made e;
+      grey = λ outside. refl;
+    })

@@ -1,5 +1,5 @@
 -- What commands, steps, quanta and events leave as it was: the collector's course, the pages, and the heap of a refused command.
-use Rattle.std.proofs.Common.{◌≡◌, ℕ, zero, suc, ◌+◌, ◌-◌, ◌==◌, nat_lt, Bool, true, false, ◌||◌, if◌then◌else◌, inl, inr, Option, Some, None, option_and_then, option_map, unwrap_or, List, [], ◌∷◌, length, get_or, set, slice_get, ◌<◌, ◌≤◌, refl, sym, ap, ◌∙◌, subst, arith, nat_le, is_none}
+use Rattle.std.proofs.Common.{◌≡◌, ℕ, zero, suc, ◌+◌, ◌-◌, ◌==◌, nat_lt, Bool, true, false, ◌||◌, if◌then◌else◌, inl, inr, Option, Some, None, option_and_then, option_map, List, [], ◌∷◌, length, get_or, set, slice_get, ◌<◌, ◌≤◌, refl, sym, ap, ◌∙◌, subst, arith, nat_le, is_none}
 use Rattle.std.proofs.lemmas.Bool.{cases_Bool, ltb-false}
 use Rattle.std.proofs.lemmas.List.{length-replicate, length-set}
 use Rattle.std.proofs.lemmas.Option.{none-some, same_Some}
@@ -12,12 +12,12 @@ use Rattle.mh_model.specs.declared.cycle.Phase.TheVariants.{Idle, Roots, Mark, S
 use Rattle.mh_model.specs.declared.reply.Refusal.{Refusal}
 use Rattle.mh_model.specs.declared.reply.Refusal.TheVariants.{BadSlot, TooLarge, HeapFull, Ended, TooManySessions}
 use Rattle.mh_model.specs.declared.reply.Reply.TheVariants as reply
-use Rattle.mh_model.specs.World.{own_slot, board_slot, refusal, unless_refused, most_fields, first_refusal, is_bad}
+use Rattle.mh_model.specs.World.{refusal, unless_refused, most_fields, first_refusal, is_bad}
 use Rattle.mh_model.specs.Classes.{Part, class_of, part_words, parts, slots_in, is_class_size}
-use Rattle.mh_model.specs.Pages.{Page, Table, page_number, slot_number, page_at, block_in, block_at, least_place, page_with, with_taken, HasItsSlots}
-use Rattle.mh_model.specs.Table.{Block, IsWithinLimits, HasSmallBlocks, number_index, Made, MadeParts, Position, references_at, with_reference_at, resolve, target_of, new_block, made_in_class, made_parts, with_block_change, linked_block, linked_parts, group_of, made_group, reference_in}
-use Rattle.mh_model.specs.Collector.{Collector, first_collector, Marking, is_marked, with_grey, shade_block, shade, mark_reference, mark_references, mark_first, is_last_slot, survivor, judged_page, swept_page, swept_table, next_move, Move, with_move, with_phase, with_shade, marking_of, after_mark, is_past, step_in, phase_after, collector_step, step_cost, is_moving, is_idle, cycle_end, quantum_start, Spending, steps, quantum}
-use Rattle.mh_model.specs.Mutator.{HeapState, in_roots, in_roots_or_mark, before_field, with_root, with_roots_cleared, with_session_cleared, with_reference_stored, with_number_stored, field_of, number_field, new_group, with_born, heap_sight, heap_effect, mutator_step}
+use Rattle.mh_model.specs.Pages.{Page, Table, page_number, slot_number, page_at, block_in, least_place, page_with, with_taken, HasItsSlots}
+use Rattle.mh_model.specs.Table.{Block, IsWithinLimits, HasSmallBlocks, number_index, Made, MadeParts, with_reference_at, with_number_at, new_block, made_in_class, made_parts, with_block_change, linked_block, linked_parts, group_of, made_group}
+use Rattle.mh_model.specs.Collector.{Collector, first_collector, Marking, shade, mark_first, is_last_slot, survivor, judged_page, swept_page, swept_table, next_move, Move, with_move, with_phase, marking_of, after_mark, is_past, step_in, phase_after, collector_step, step_cost, is_moving, is_idle, cycle_end, quantum_start, Spending, steps, quantum}
+use Rattle.mh_model.specs.Mutator.{HeapState, new_group, heap_sight, heap_effect, mutator_step}
 use Rattle.mh_model.specs.Machine.{Machine, first_machine, with_collector, quantum_run, command_step, machine_after}
 use Rattle.mh_model.specs.Invariant.{HasItsPages}
 use Rattle.mh_table_laws.specs.Tables.{KeepsItsPages}
@@ -26,6 +26,7 @@ use Rattle.mh_laws.specs.Commands.{IsOnCourse}
 use Rattle.mh_table_laws.proofs.Lists.{none_at}
 use Rattle.mh_table_laws.proofs.marking.StandingStill.{after_mark-table}
 use Rattle.mh_table_laws.proofs.tables.PageSlots.{IsSmallPage, class_of-class_size, judged_page-is, page_with-slots, page_with-small, small_page, small_block, same_limits, keeps_same, keeps_then, set-keeps, with_block-slots, with_block-limits, with_block-keeps, change-keeps, with_taken-keeps}
+use Rattle.mh_laws.proofs.commands.EachCommand.{IsKeptByWrites, IsKeptByCommands, shade-each, mark_first-each, heap_effect-each, mutator_step-each}
 use Rattle.mh_laws.proofs.runs.EveryMoment.{config-mutator_step, half_step-keeps, event_step-keeps, machine_after-keeps}
 use Rattle.mh_laws.proofs.costs.Quanta.{steps-stop, steps-go}
 use Rattle.mh_laws.proofs.moving.NextMove.{IsNextMove, next_move-is}
@@ -62,14 +63,14 @@ table-if : (test : Bool) (collector other : Collector) → other.table ≡ colle
 table-if true collector other e = e
 table-if false collector other e = refl
 
-table-phase_after : (phase : Phase) (collector : Collector) → (phase_after phase collector).table ≡ collector.table
+pub table-phase_after : (phase : Phase) (collector : Collector) → (phase_after phase collector).table ≡ collector.table
 table-phase_after Idle collector = refl
 table-phase_after Roots collector = table-if (collector.cursor == 144) collector (after_mark collector collector.grey) (after_mark-table collector collector.grey)
 table-phase_after Mark collector = after_mark-table collector collector.grey
 table-phase_after Sweep collector = table-if (is_past collector.table collector.cursor) collector (with_phase collector Defrag 0) refl
 table-phase_after Defrag collector = table-if (is_past collector.table collector.cursor) collector (cycle_end collector) refl
 
-table-quantum_start : (config : Config) (collector : Collector) → (quantum_start config collector).table ≡ collector.table
+pub table-quantum_start : (config : Config) (collector : Collector) → (quantum_start config collector).table ≡ collector.table
 table-quantum_start config collector = elim (begins config collector).case [
   | inl starts ↦ ap (λ c. c.table) starts.2
   | inr other ↦ elim other [ inl runs ↦ ap (λ c. c.table) runs.1 | inr rests ↦ ap (λ c. c.table) rests.2 ]
@@ -97,31 +98,22 @@ swept_page-slots cycle table place page new has e = go (is_last_slot place page)
 module _ (room : ℕ) where
   -- Tables ---------------------------------------------------------------------------------------
 
-  shade_block-keeps : (marking : Marking) (place : ℕ) (block : Option Block) → block_at marking.table place ≡ block → KeepsItsPages room marking.table (shade_block marking place block).table
-  shade_block-keeps marking place None at = keeps_same room marking.table
-  shade_block-keeps marking place (Some block) at = go (is_marked marking.cycle block)
-    where
-      go : (marked : Bool) → KeepsItsPages room marking.table (if marked then marking else with_grey marking place block).table
-      go true = keeps_same room marking.table
-      go false = with_block-keeps room marking.table place _ (λ most large small new e. subst (IsWithinLimits most) (same_Some (record block { stamp = marking.cycle }) new e) (same_limits most block (record block { stamp = marking.cycle }) refl refl (small_block most marking.table place block small at)))
+  kept : IsKeptByWrites (KeepsItsPages room)
+  kept = record {
+    same = keeps_same room;
+    joined = keeps_then room;
+    stamped = λ table place block stamp at.
+        let stamped : Block = record block { stamp = stamp } in
+        with_block-keeps room table place (Some stamped) (λ most large small new e. subst (IsWithinLimits most) (same_Some stamped new e) (same_limits most block stamped refl refl (small_block most table place block small at)));
+    referred = λ table place index reference. change-keeps room table place _ (λ block. (refl, refl));
+    numbered = λ table place index number. change-keeps room table place _ (λ block. (refl, refl));
+  }
 
   pub shade-keeps : (marking : Marking) (reference : Option ℕ) → KeepsItsPages room marking.table (shade marking reference).table
-  shade-keeps marking None = keeps_same room marking.table
-  shade-keeps marking (Some place) = shade_block-keeps marking (resolve marking.table place) (block_at marking.table (resolve marking.table place)) refl
-
-  mark_references-keeps : (marking : Marking) (place index : ℕ) (references : List (Option ℕ)) → KeepsItsPages room marking.table (mark_references marking place index references).table
-  mark_references-keeps marking place index [] = keeps_same room marking.table
-  mark_references-keeps marking place index (reference ∷ references) =
-      let target = target_of marking.table reference in
-      let written : Table Block = with_reference_at marking.table place index target in
-      let next : Marking = mark_reference marking place index reference in
-      keeps_then room marking.table next.table (mark_references next place (suc index) references).table
-      (keeps_then room marking.table written next.table (change-keeps room marking.table place _ (λ block. (refl, refl))) (shade-keeps (record marking { table = written }) target))
-      (mark_references-keeps next place (suc index) references)
+  shade-keeps marking reference = shade-each (KeepsItsPages room) kept marking reference
 
   pub mark_first-keeps : (marking : Marking) (grey : List ℕ) → KeepsItsPages room marking.table (mark_first marking grey).table
-  mark_first-keeps marking [] = keeps_same room marking.table
-  mark_first-keeps marking (place ∷ grey) = mark_references-keeps (record marking { grey = grey }) place 0 (references_at marking.table place)
+  mark_first-keeps marking grey = mark_first-each (KeepsItsPages room) kept marking grey
 
   -- the parts from this number on are within the limits
   abbrev AreSmallParts : ℕ → List Part → Type 0
@@ -192,58 +184,19 @@ module _ (room : ℕ) where
   then_on_course : (first second third : Collector) → IsOnCourse room first second → IsOnCourse room second third → IsOnCourse room first third
   then_on_course first second third one two = record { pages = two.pages ∙ one.pages; slots = λ slots. two.slots (one.slots slots); limits = λ most large small. two.limits most large (one.limits most large small); phase = two.phase ∙ one.phase; cursor = two.cursor ∙ one.cursor; cycle = two.cycle ∙ one.cycle; is_asked = two.is_asked ∙ one.is_asked; quanta = two.quanta ∙ one.quanta }
 
-  with_shade-course : (collector : Collector) (reference : Option ℕ) → IsOnCourse room collector (with_shade collector reference)
-  with_shade-course collector reference = let kept = shade-keeps (marking_of collector) reference in record { pages = kept.pages; slots = kept.slots; limits = kept.limits; phase = refl; cursor = refl; cycle = refl; is_asked = refl; quanta = refl }
+  -- a collector with another table whose pages are kept, and with another grey list and other slots
+  other_table : (collector : Collector) (table : Table Block) (grey : List ℕ) (slots : List (Option ℕ)) → KeepsItsPages room collector.table table → IsOnCourse room collector (record collector { table = table; grey = grey; slots = slots })
+  other_table collector table grey slots pages = record { pages = pages.pages; slots = pages.slots; limits = pages.limits; phase = refl; cursor = refl; cycle = refl; is_asked = refl; quanta = refl }
 
-  if-course : (test : Bool) (collector other : Collector) → IsOnCourse room collector other → IsOnCourse room collector (if test then other else collector)
-  if-course true collector other course = course
-  if-course false collector other course = on_course collector
-
-  with_root-course : (collector : Collector) (slot : ℕ) (reference : Option ℕ) → IsOnCourse room collector (with_root collector slot reference)
-  with_root-course collector slot reference =
-      let course = if-course (in_roots collector.phase) collector (with_shade collector (get_or collector.slots slot None)) (with_shade-course collector (get_or collector.slots slot None)) in
-      record { pages = course.pages; slots = course.slots; limits = course.limits; phase = course.phase; cursor = course.cursor; cycle = course.cycle; is_asked = course.is_asked; quanta = course.quanta }
-
-  with_roots_cleared-course : (count : ℕ) (collector : Collector) (slot : ℕ) → IsOnCourse room collector (with_roots_cleared collector slot count)
-  with_roots_cleared-course zero collector slot = on_course collector
-  with_roots_cleared-course (suc count) collector slot = then_on_course collector (with_root collector slot None) (with_roots_cleared collector slot (suc count)) (with_root-course collector slot None) (with_roots_cleared-course count (with_root collector slot None) (suc slot))
-
-  with_session_cleared-course : (collector : Collector) (who : ℕ) → IsOnCourse room collector (with_session_cleared collector who)
-  unfolding with_session_cleared
-  with_session_cleared-course collector who = with_roots_cleared-course 16 collector (own_slot who 0)
-
-  with_reference_stored-course : (collector : Collector) (position : Position) (reference : Option ℕ) → IsOnCourse room collector (with_reference_stored collector position reference)
-  with_reference_stored-course collector position reference =
-      let shaded : Collector = before_field collector position in
-      let course = if-course (in_roots_or_mark collector.phase) collector (with_shade collector (reference_in collector.table position)) (with_shade-course collector (reference_in collector.table position)) in
-      let kept = change-keeps room shaded.table position.place (λ (block : Block). record block { references = set block.references position.index reference }) (λ block. (refl, refl)) in
-      record { pages = kept.pages ∙ course.pages; slots = λ slots. kept.slots (course.slots slots); limits = λ most large small. kept.limits most large (course.limits most large small); phase = course.phase; cursor = course.cursor; cycle = course.cycle; is_asked = course.is_asked; quanta = course.quanta }
-
-  with_number_stored-course : (collector : Collector) (position : Position) (number : ℕ) → IsOnCourse room collector (with_number_stored collector position number)
-  with_number_stored-course collector position number = let kept = change-keeps room collector.table position.place (λ (block : Block). record block { numbers = set block.numbers (number_index collector.table position) number }) (λ block. (refl, refl)) in record { pages = kept.pages; slots = kept.slots; limits = kept.limits; phase = refl; cursor = refl; cycle = refl; is_asked = refl; quanta = refl }
-
-  new-course : (heap : HeapState) (slot : ℕ) (group : Option Made) → ((made : Made) → group ≡ Some made → KeepsItsPages room heap.collector.table made.table) → IsOnCourse room heap.collector (unwrap_or (option_map (with_born heap slot) group) heap).collector
-  new-course heap slot None pages = on_course heap.collector
-  new-course heap slot (Some made) pages =
-      let course = with_root-course (record (heap.collector) { table = made.table }) slot (Some made.place) in
-      let kept = pages made refl in
-      record { pages = course.pages ∙ kept.pages; slots = λ slots. course.slots (kept.slots slots); limits = λ most large small. course.limits most large (kept.limits most large small); phase = course.phase; cursor = course.cursor; cycle = course.cycle; is_asked = course.is_asked; quanta = course.quanta }
-
-  heap_effect-course : (heap : HeapState) (who : ℕ) (c : Command) → ((slot references numbers : ℕ) → c ≡ command.New slot references numbers → references + numbers ≤ room) → IsOnCourse room heap.collector (heap_effect heap who c).state.collector
-  unfolding heap_effect
-  heap_effect-course heap who (command.New slot references numbers) fields =
-      new-course heap (own_slot who slot) (new_group heap references numbers) (λ made e. made_group-keeps heap.collector.table heap.next_birth heap.collector.cycle references numbers made (fields slot references numbers refl) e)
-  heap_effect-course heap who (command.Get slot source field) fields = with_root-course heap.collector (own_slot who slot) _
-  heap_effect-course heap who (command.Put slot field value) fields = with_reference_stored-course heap.collector (field_of heap (own_slot who slot) field) _
-  heap_effect-course heap who (command.Copy slot source) fields = with_root-course heap.collector (own_slot who slot) _
-  heap_effect-course heap who (command.Clear slot) fields = with_root-course heap.collector (own_slot who slot) None
-  heap_effect-course heap who (command.Read slot index) fields = on_course heap.collector
-  heap_effect-course heap who (command.Write slot index number) fields = with_number_stored-course heap.collector (number_field heap (own_slot who slot) index) number
-  heap_effect-course heap who (command.Same left right) fields = on_course heap.collector
-  heap_effect-course heap who (command.Shape slot) fields = on_course heap.collector
-  heap_effect-course heap who (command.Post board slot) fields = with_root-course heap.collector (board_slot board) _
-  heap_effect-course heap who (command.Take slot board) fields = with_root-course heap.collector (own_slot who slot) _
-  heap_effect-course heap who command.End fields = with_session_cleared-course heap.collector who
+  course : IsKeptByCommands (IsOnCourse room)
+  course = record {
+    same = on_course;
+    joined = then_on_course;
+    shaded = λ collector reference inside. let shaded : Marking = shade (marking_of collector) reference in other_table collector shaded.table shaded.grey collector.slots (shade-keeps (marking_of collector) reference);
+    rooted = λ collector slot reference. other_table collector collector.table collector.grey (set collector.slots slot reference) (keeps_same room collector.table);
+    referred = λ collector position reference. other_table collector (with_reference_at collector.table position.place position.index reference) collector.grey collector.slots (kept.referred collector.table position.place position.index reference);
+    numbered = λ collector position number. other_table collector (with_number_at collector.table position.place (number_index collector.table position) number) collector.grey collector.slots (kept.numbered collector.table position.place (number_index collector.table position) number);
+  }
 
   -- Steps and quanta -----------------------------------------------------------------------------
 
@@ -332,8 +285,11 @@ module _ (room : ℕ) where
 
 -- A command of a session leaves the collector's course: its pages, phase, cursor, cycle number, asking and quanta
 pub mutator_step-course : (heap : HeapState) (who : ℕ) (c : Command) → IsOnCourse (most_fields heap.config) heap.collector (mutator_step heap who c).state.collector
-unfolding mutator_step
-mutator_step-course heap who c = go (refusal (heap_sight heap) who c) refl
+mutator_step-course heap who c =
+    let room : ℕ = most_fields heap.config in
+    mutator_step-each (IsOnCourse room) (course room) heap who c (λ allows. heap_effect-each (IsOnCourse room) (course room) heap who c (λ slot references numbers is made e.
+      let fields = allowed slot references numbers (ap (refusal (heap_sight heap) who) (sym is) ∙ allows) in
+      other_table room heap.collector made.table heap.collector.grey heap.collector.slots (made_group-keeps room heap.collector.table heap.next_birth heap.collector.cycle references numbers made fields e)))
   where
     allowed : (slot references numbers : ℕ) → refusal (heap_sight heap) who (command.New slot references numbers) ≡ None → references + numbers ≤ most_fields heap.config
     allowed slot references numbers e =
@@ -345,10 +301,6 @@ mutator_step-course heap who c = go (refusal (heap_sight heap) who c) refl
         by_tests false false true large full h = absurd (none-some BadSlot (sym h))
         by_tests false false false true full h = absurd (none-some TooLarge (sym h))
         by_tests false false false false full h = refl
-
-    go : (refused : Option Refusal) → refusal (heap_sight heap) who c ≡ refused → IsOnCourse (most_fields heap.config) heap.collector (unless_refused refused heap (heap_effect heap who c)).state.collector
-    go None e = heap_effect-course (most_fields heap.config) heap who c (λ slot references numbers is. allowed slot references numbers (ap (refusal (heap_sight heap) who) (sym is) ∙ e))
-    go (Some refused) e = on_course (most_fields heap.config) heap.collector
 
 effect-refused : (heap : HeapState) (who : ℕ) (command : Command) (refused : Refusal) → (heap_effect heap who command).reply ≡ reply.Refused refused → (heap_effect heap who command).state ≡ heap
 unfolding heap_effect

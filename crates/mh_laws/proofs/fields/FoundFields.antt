@@ -1,4 +1,5 @@
 -- Where the fields of objects lie, what lies there, and what references lead to.
+-- In a kept heap a root slot holds an object. Each of its fields is found behind no spine, one or two, and its references lead on to objects.
 use Rattle.std.proofs.Common.{◌≡◌, ℕ, zero, suc, ◌+◌, ◌/◌, ◌%◌, ◌<◌, Bool, true, false, inl, inr, List, [], ◌∷◌, length, get_or, slice_get, Option, Some, None, is_some, IsSome, option_map, option_and_then, unwrap_or, refl, sym, ap, ◌∙◌, subst, arith}
 use Rattle.std.proofs.lemmas.Bool.{ltb-true}
 use Rattle.std.proofs.lemmas.Option.{none-some, same_Some}

@@ -1,4 +1,6 @@
 -- When a defragmentation begins within a quantum no block is a forwarder, and each that its cycle leaves was made since.
+-- The step that ends the sweep leaves none: the sweep leaves marked blocks alone, and until then no marked block is a forwarder.
+-- A quantum that ends a cycle goes through that step, unless it was entered in the cycle's defragmentation.
 use Rattle.std.proofs.Common.{◌≡◌, ◌⊎◌, ℕ, zero, suc, ◌-◌, ◌==◌, nat_lt, ◌||◌, if◌then◌else◌, Bool, true, false, inl, inr, List, [], ◌∷◌, Option, Some, None, option_and_then, refl, sym, ap, ◌∙◌, subst}
 use Rattle.std.proofs.lemmas.Bool.{false≢true, cases_Bool}
 use Rattle.mh_model.specs.declared.config.Config.{Config}

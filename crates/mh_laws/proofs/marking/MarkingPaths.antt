@@ -1,4 +1,6 @@
--- Ways of marking: what a change has to keep so that each block that is promised is marked or promised still.
+-- Ways of marking, the heart of the proof that a snapshot is kept. Each block that the snapshot reached is marked or *promised*:
+-- a path through unmarked blocks leads to it from a grey block, or from a root that isn't scanned.
+-- The record `Keeps` says what a change has to keep so that each block that is promised is marked or promised still.
 use Rattle.std.proofs.Common.{◌≡◌, ℕ, ◌⊎◌, inl, inr, None, List, [], ◌∷◌, ◌++◌, Some, refl, sym, ap, ◌∙◌, subst}
 use Rattle.std.proofs.lemmas.Option.{same_Some}
 use Rattle.mh_model.specs.Pages.{block_at}

@@ -1,4 +1,4 @@
--- A collector that turns to other roots, to another place or phase or to another grey list, with its table and its cycle.
+-- A collector that turns to other roots, to another place or phase or to another grey list, with its table and its cycle: promises stay.
 use Rattle.std.proofs.Common.{◌≡◌, ℕ, ◌<◌, Bool, true, false, ◌⊎◌, inl, inr, List, [], length, get_or, Option, Some, None, refl}
 use Rattle.std.proofs.lemmas.Bool.{cases_Bool}
 use Rattle.mh_model.specs.declared.cycle.Phase.{Phase}

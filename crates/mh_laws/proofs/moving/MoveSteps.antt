@@ -1,4 +1,6 @@
 -- Steps of defragmentation: a block that moves with all its roots, and the end of the cycle.
+-- A move leaves an equal block, a forwarder in a flagged page, and roots that lead straight.
+-- One hop is enough because a flagged page receives no move.
 use Rattle.std.proofs.Common.{◌≡◌, ◌≢◌, ℕ, zero, suc, ◌<◌, ◌≤◌, true, false, ◌⊎◌, inl, inr, List, [], ◌∷◌, length, get_or, set, Option, Some, None, option_map, option_and_then, unwrap_or, refl, sym, ap, ◌∙◌, subst, arith}
 use Rattle.std.proofs.lemmas.Bool.{cases_eq, false≢true}
 use Rattle.std.proofs.lemmas.Option.{none-some, same_Some}

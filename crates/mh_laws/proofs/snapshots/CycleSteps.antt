@@ -1,4 +1,5 @@
 -- Steps of the collector and quanta: each keeps the snapshot of a running cycle, and the last of them leaves what the cycle keeps.
+-- The invariant is `KeepsSnapshot` of the model: `IsSound` of the state alone, and `KeepsCycle` of the cycle with a world taken as its snapshot.
 use Rattle.std.proofs.Common.{◌≡◌, ℕ, zero, suc, ◌+◌, ◌-◌, ◌==◌, nat_lt, if◌then◌else◌, Bool, true, false, ◌||◌, inl, inr, List, [], ◌∷◌, None, refl, sym, ap, ◌∙◌, subst, arith, eqb-true}
 use Rattle.std.proofs.lemmas.Bool.{false≢true, cases_Bool, or_parts}
 use Rattle.std.proofs.lemmas.Option.{none-some}

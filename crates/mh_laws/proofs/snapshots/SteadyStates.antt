@@ -1,4 +1,4 @@
--- A state that keeps some snapshot keeps one after each start, step, quantum, asking and command.
+-- A state that keeps some snapshot keeps one after each start, step, quantum, asking and command: the form in which code calls the laws.
 use Rattle.std.proofs.Common.{◌+◌, inl, inr, true, false, [], sym, ap, subst}
 use Rattle.std.proofs.lemmas.Bool.{cases_Bool}
 use Rattle.mh_model.specs.declared.config.Config.{Config}

@@ -1,4 +1,4 @@
--- The passage from marking to the sweep, sweep steps, and the passage to defragmentation.
+-- The passage from marking to the sweep, at which all promises have been met; sweep steps, which free nothing that is kept; and the passage to defragmentation.
 use Rattle.std.proofs.Common.{◌≡◌, ℕ, ◌<◌, ◌≤◌, true, inl, inr, List, [], ◌∷◌, length, get_or, Option, Some, None, option_and_then, refl, sym, ap, ◌∙◌, subst, arith}
 use Rattle.std.proofs.lemmas.Bool.{false≢true, leb-true}
 use Rattle.std.proofs.lemmas.Option.{none-some, same_Some}

@@ -21,6 +21,8 @@ entry event reply = record { event = event; reply = reply }
 abbrev posted : Reply → List Entry
 posted told = entry (a (New 0 0 1)) reply.Done ∷ entry (a (Write 0 0 5)) reply.Done ∷ entry (a (Post 0 0)) reply.Done ∷ entry (b (Take 0 0)) reply.Done ∷ entry (b (Shape 0)) told ∷ []
 
+-- a history of two sessions is legal
+-- refuses: the heap's Shape gives fields the other way round; a number is tested by references
 pub legal : IsLegal small (posted (reply.Shape (record { references = 0; numbers = 1 })))
 unfolding worked
 legal = record { few = lit≤ tt; replies = refl }
@@ -32,17 +34,24 @@ is_shape _ = false
 told_of : List Reply → Bool
 told_of replies = is_shape (get_or replies 4 reply.Done)
 
+-- with another last reply it is not
+-- refuses: every short history is legal
 pub illegal : ¬ IsLegal small (posted (reply.Refused Null))
 unfolding worked told_of
 illegal legal = let bad : false ≡ true = ap told_of legal.replies in cc
 
 -- its last entry is the first bad one
+-- refuses: the first bad entry is counted from 0; a number is tested by references
 pub bad_at_last : IsFirstBadOf (IsLegal small) (posted (reply.Refused Null)) 5
 unfolding worked
 bad_at_last = record { counted = lit≤ tt; within = lit≤ tt; before = record { few = lit≤ tt; replies = refl }; bad = illegal }
 
+-- the entries of the first session
+-- refuses: a seat owns the entries of the others
 pub owned_by_first : owned_by (λ (entry : Entry). owner_of entry.event) 0 (posted reply.Done) ≡ take 3 (posted reply.Done)
 owned_by_first = refl
 
+-- the desk owns no entry of a session
+-- refuses: a seat owns the entries of the others
 pub owned_by_desk : owned_by (λ (entry : Entry). owner_of entry.event) 8 (posted reply.Done) ≡ []
 owned_by_desk = refl

@@ -21,7 +21,7 @@ one_page first second = Some (record { class_size = 64; is_flagged = false; slot
 abbrev forwarded : Table Block
 forwarded = one_page (block None) (block (Some 0))
 
--- the forwarder is new if its block was none, and if no block was
+-- a forwarder is new if its block was none, and if no block was at its place
 pub made_since : ForwardersAreNew (one_page (block None) (block None)) forwarded × ForwardersAreNew (one_page (block None) None) forwarded
 made_since = (λ place target e. from_block (page_number place) (slot_number place), λ place target e. from_none (page_number place) (slot_number place))
   where
@@ -41,7 +41,7 @@ made_since = (λ place target e. from_block (page_number place) (slot_number pla
     from_none zero (suc (suc (suc (suc slot)))) = refl
     from_none (suc number) slot = refl
 
--- one that was there already, which the sweep stamped anew and kept, has the stamp of the cycle, as each block has, and isn't new
+-- a forwarder that a sweep found, stamped anew and kept has the cycle's stamp, as each block has, and isn't new
 pub stamped_anew_and_kept : ((place : ℕ) (x : Block) → block_at forwarded place ≡ Some x → x.stamp ≡ 6) × (ForwardersAreNew forwarded forwarded → ⊥)
 stamped_anew_and_kept = (λ place x e. stamped x (page_number place) (slot_number place) e, λ new. none-some 0 (sym (new 1 0 refl)))
   where
@@ -57,7 +57,7 @@ stamped_anew_and_kept = (λ place x e. stamped x (page_number place) (slot_numbe
 abbrev phases : ℕ → ℕ → Option (List Phase)
 phases first second = option_map (λ config. map (λ count. (after_steps config (record (first_collector config) { is_asked = true }) count).phase) (first ∷ second ∷ [])) (configured 1 1000 0 0)
 
--- after 144 roots the sweep begins, which passes the page in one step, and then defragmentation begins, which passes it too
+-- defragmentation begins with the step that passes the last page of the sweep, and one free page takes it one step; so it is after 144 roots and a sweep of one step
 pub begins_after_the_last_page : (phases 143 144 ≡ Some (Roots ∷ Sweep ∷ [])) × (phases 145 146 ≡ Some (Defrag ∷ Idle ∷ []))
 unfolding steps collector_step step_cost
 begins_after_the_last_page = (refl, refl)

@@ -25,22 +25,26 @@ no_slot_names birth (None ∷ slots) none (suc slot) e = no_slot_names birth slo
 no_slot_names birth (Some other ∷ slots) none zero e = let same : other ≡ birth = cc in grind (arith, nat_tests)
 no_slot_names birth (Some other ∷ slots) none (suc slot) e = no_slot_names birth slots (grind (arith, nat_tests)) slot e
 
--- the first object is named
+-- an object that a slot names is reached
+-- refuses: every birth is reached
 pub named : Reachable three_objects 0
 unfolding worked
 named = ([], (0, refl))
 
--- the second is reached through the first
+-- an object that a reached object refers to is reached
+-- refuses: only what is named is reached
 pub reached_through_another : Reachable three_objects 1
 unfolding worked
 reached_through_another = (0 ∷ [], ((0, refl), (0, refl)))
 
 -- a cycle keeps what its snapshot reached
+-- refuses: only what is named is reached
 pub kept_since_reached : IsKept three_objects 3 1
 unfolding worked
 kept_since_reached = inl (0 ∷ [], ((0, refl), (0, refl)))
 
--- and what was born since
+-- a cycle keeps what was born since its snapshot
+-- refuses: a cycle keeps all that was born before its end; a cycle keeps nothing that is born while it runs
 pub kept_since_born : IsKept three_objects 5 4
 unfolding worked
 kept_since_born = inr (lit≤ tt, lit< tt)
@@ -58,17 +62,20 @@ unfolding worked
 no_path [] is = no_slot_names 2 three_objects.slots refl is.0 is.1
 no_path (nearest ∷ path) is = third_unreferred nearest is.0.0 is.0.1
 
--- no path ends at the third
+-- an object that no slot names and no object refers to is not reached
+-- refuses: every birth is reached; every named path reaches every birth
 pub not_reached : ¬ Reachable three_objects 2
 unfolding worked
 not_reached reached = no_path reached.0 reached.1
 
--- so no cycle with this snapshot keeps it
+-- a cycle does not keep what was born before its snapshot and was not reached there
+-- refuses: a cycle keeps all that was born before its end; a cycle keeps nothing that is born while it runs
 pub not_kept : ¬ IsKept three_objects 5 2
 unfolding worked
 not_kept kept = ⊎_elim (λ reached. not_reached reached) (λ born. let low : 3 ≤ 2 = born.0 in omega arith) kept
 
 -- a world whose slot names nothing is not closed
+-- refuses: a slot of a closed world may name nothing
 pub not_closed : ¬ IsClosed (record three_objects { objects = [] })
 unfolding worked
 not_closed closed = let there : IsSome (object_at (record three_objects { objects = [] }) 0) = closed.slots 0 0 refl in cc

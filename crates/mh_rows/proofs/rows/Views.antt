@@ -53,16 +53,20 @@ counted config events = option_map (λ moment. moment.machine.heap.collector.qua
 
 -- Rows -------------------------------------------------------------------------------------------
 
+-- the heap shows the objects, fields and slots of the world
+-- refuses: the world has a slot less; the heap has one slot less
 pub two_objects_agree : is_agreed (configured 4 209 0 0) (a (New 0 1 1) ∷ a (New 1 0 1) ∷ a (Write 1 0 5) ∷ a (Put 0 0 1) ∷ a (Get 2 0 0) ∷ a (Read 2 0) ∷ []) ≡ Some true
 unfolding worked
 two_objects_agree = refl
 
--- an object is written through the stale word of its spine
+-- also of an object whose spine has a stale word
+-- refuses: any part is shown for an object; references are shown as they are stored
 pub stale_spine_agrees : is_agreed (configured 8 1000 0 0) (times 51 (a (New 1 0 1) ∷ []) ++ (a (New 0 0 61) ∷ start ∷ quantum_asked ∷ a (Write 0 60 9) ∷ [])) ≡ Some true
 unfolding worked
 stale_spine_agrees = refl
 
--- and through the stale words of its first part and of a middle spine
+-- and of one whose first part and middle spine have stale words
+-- refuses: a middle spine has 3,601 fields; any part is shown for an object
 pub stale_middle_spine_agrees : is_agreed (configured 24 1000 0 0) (times 51 (a (New 1 0 1) ∷ []) ++ (a (New 0 1 3600) ∷ a (Put 0 0 0) ∷ start ∷ quantum_asked ∷ a (Write 0 3599 9) ∷ [])) ≡ Some true
 unfolding worked
 stale_middle_spine_agrees = refl
@@ -73,19 +77,26 @@ dropping =
     a (New 0 60 0) ∷ a (New 1 60 0) ∷ a (New 2 60 0) ∷ a (New 3 1 0) ∷ a (New 4 0 0) ∷ a (Put 3 0 4) ∷ a (Clear 4) ∷ start ∷ quantum_asked ∷ quantum_asked ∷ a (Put 3 0 15) ∷ a (New 5 0 0) ∷ quantum_asked
     ∷ start ∷ quantum_asked ∷ quantum_asked ∷ quantum_asked ∷ []
 
+-- an object that is dropped while its cycle marks is shown after it
+-- refuses: Put has no barrier in mark; the barrier of a reference shades the new target
 pub kept_by_its_cycle : shown (configured 8 209 0 0) (take 13 dropping) ≡ Some (true ∷ true ∷ true ∷ true ∷ true ∷ true ∷ [])
 unfolding worked
 kept_by_its_cycle = refl
 
+-- and not after the next cycle
+-- refuses: the heap's Put of an empty slot leaves the field; an object is born unmarked
 pub gone_with_the_next : shown (configured 8 209 0 0) dropping ≡ Some (true ∷ true ∷ true ∷ true ∷ false ∷ true ∷ [])
 unfolding worked
 gone_with_the_next = refl
 
--- the snapshot of the first cycle doesn't have the object that is born while it runs
+-- an object that is born while a cycle runs is not in its snapshot
+-- refuses: a snapshot is taken by each quantum; asking starts the cycle at once
 pub snapshot_of_the_first : snapped (configured 8 209 0 0) (take 13 dropping) ≡ Some (true ∷ true ∷ true ∷ true ∷ true ∷ [])
 unfolding worked
 snapshot_of_the_first = refl
 
+-- how many quanta a running cycle has had, event by event
+-- refuses: quanta are counted on over cycles; quanta are counted on and not set by the start
 pub quanta_of_cycles : map (λ n. counted (configured 8 209 0 0) (take n dropping)) (7 ∷ 8 ∷ 9 ∷ 10 ∷ 12 ∷ 13 ∷ 14 ∷ 15 ∷ 17 ∷ []) ≡ Some 0 ∷ Some 0 ∷ Some 1 ∷ Some 2 ∷ Some 2 ∷ Some 0 ∷ Some 0 ∷ Some 1 ∷ Some 0 ∷ []
 unfolding worked
 quanta_of_cycles = refl

@@ -9,6 +9,8 @@ abbrev filled : ℕ → ℕ → List Event
 filled field zero = []
 filled field (suc count) = a (New 1 1 0) ∷ a (Put 0 field 1) ∷ filled (suc field) count
 
+-- 60 objects that one object refers to are marked over two quanta, and a page with a few of them is flagged
+-- refuses: a block moves to any least place; flagged pages are taken with the others
 pub wide_object : lines 8 400 0 0 ((a (New 0 60 0) ∷ []) ++ filled 0 60 ++ (a (Clear 1) ∷ start ∷ quantum_asked ∷ quantum_asked ∷ stat ∷ []))
     ≡ (oks 123 ++ codes "spent 399 phase mark\nspent 239 phase idle\nfree 5 live 61 old 0 phase idle cycle 1\n")
 unfolding worked

@@ -5,30 +5,35 @@ use Rattle.mh_rows.proofs.rows.Worked.{a, session, worked}
 use Rattle.mh_rows.proofs.rows.WorldLines.{world_lines}
 
 -- an object is refused first for its slot, then for its size, which counts references and numbers
+-- refuses: an object is tested for its size first; 216,001 fields are not too large
 pub refusals_of_objects : world_lines (a (New 16 0 216001) ∷ a (New 0 0 216001) ∷ a (New 0 108000 108001) ∷ a (New 0 216001 0) ∷ a (New 15 0 0) ∷ [])
     ≡ codes "refused 1 bad slot\nrefused 4 too large\nrefused 4 too large\nrefused 4 too large\nok\n"
 unfolding worked
 refusals_of_objects = refl
 
 -- a reference is refused for a slot, then for an empty slot, then for its number, which must be below the count of references
+-- refuses: Put is tested for an empty slot before the slot of its value; Get is tested for an empty slot before the slot that it sets
 pub refusals_of_references : world_lines (a (New 0 2 1) ∷ a (Get 16 1 0) ∷ a (Get 0 16 0) ∷ a (Get 1 1 0) ∷ a (Get 1 0 1) ∷ a (Get 1 0 2) ∷ a (Put 16 0 0) ∷ a (Put 1 0 16) ∷ a (Put 1 0 0) ∷ a (Put 0 1 1) ∷ a (Put 0 2 1) ∷ [])
     ≡ codes "ok\nrefused 1 bad slot\nrefused 1 bad slot\nrefused 2 null\nok\nrefused 3 no field\nrefused 1 bad slot\nrefused 1 bad slot\nrefused 2 null\nok\nrefused 3 no field\n"
 unfolding worked
 refusals_of_references = refl
 
 -- a number is refused for a slot, then for an empty slot, then for its number, which must be below the count of numbers
+-- refuses: numbers are counted with references; Write tests no slot
 pub refusals_of_numbers : world_lines (a (New 0 2 1) ∷ a (Read 16 0) ∷ a (Read 1 0) ∷ a (Read 0 0) ∷ a (Read 0 1) ∷ a (Write 16 0 5) ∷ a (Write 1 0 5) ∷ a (Write 0 0 5) ∷ a (Write 0 1 5) ∷ a (Read 0 0) ∷ [])
     ≡ codes "ok\nrefused 1 bad slot\nrefused 2 null\nnumber 0\nrefused 3 no field\nrefused 1 bad slot\nrefused 2 null\nok\nrefused 3 no field\nnumber 5\n"
 unfolding worked
 refusals_of_numbers = refl
 
 -- the other commands are refused for either of their slots, and a shape for an empty slot
+-- refuses: Copy tests one slot; Same tests its first slot alone
 pub refusals_of_slots : world_lines (a (Copy 16 0) ∷ a (Copy 0 16) ∷ a (Clear 16) ∷ a (Same 16 0) ∷ a (Same 0 16) ∷ a (Shape 16) ∷ a (Shape 1) ∷ a (Post 16 0) ∷ a (Post 0 16) ∷ a (Take 16 0) ∷ a (Take 0 16) ∷ a (Copy 15 0) ∷ a (Same 15 0) ∷ a (Post 15 15) ∷ a (Take 15 15) ∷ [])
     ≡ codes "refused 1 bad slot\nrefused 1 bad slot\nrefused 1 bad slot\nrefused 1 bad slot\nrefused 1 bad slot\nrefused 1 bad slot\nrefused 2 null\nrefused 1 bad slot\nrefused 1 bad slot\nrefused 1 bad slot\nrefused 1 bad slot\nok\nyes\nok\nok\n"
 unfolding worked
 refusals_of_slots = refl
 
 -- a session past the eighth is refused first, and then one that has ended, whatever else is wrong
+-- refuses: the world has seven sessions that can end; the world's End ends nothing
 pub refusals_of_sessions : world_lines (a End ∷ a (New 16 0 216001) ∷ a (Get 1 1 0) ∷ a End ∷ session 8 (Clear 16) ∷ session 8 End ∷ session 9 (Shape 0) ∷ session 7 (Clear 16) ∷ session 7 End ∷ session 7 (Clear 16) ∷ [])
     ≡ codes "ok\nrefused 6 ended\nrefused 6 ended\nrefused 6 ended\nrefused 7 too many sessions\nrefused 7 too many sessions\nrefused 7 too many sessions\nrefused 1 bad slot\nok\nrefused 6 ended\n"
 unfolding worked

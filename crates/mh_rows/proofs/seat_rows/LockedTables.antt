@@ -50,7 +50,7 @@ at_home = record { words = 0 ∷ []; homes = some (0 ∷ [], 7) ∷ []; views = 
 abbrev out_from : ℕ → State (List ℕ × ℕ) (SeatView ℕ ℕ)
 out_from start = record { words = 1 ∷ []; homes = none ∷ []; views = with_value start ∷ [] }
 
--- the value is at home with the origin that the lock was opened with
+-- the value is at home with the lock's origin
 pub kept_at_home : IsLockedTable (2, 7) at_home
 kept_at_home = record {
   words = refl;
@@ -67,7 +67,7 @@ kept_at_home = record {
   };
 }
 
--- a seat has it, and found that origin
+-- one seat has the value, which it found with the lock's origin
 pub kept_out : IsLockedTable (2, 7) (out_from 7)
 kept_out = record {
   words = refl;
@@ -87,13 +87,15 @@ kept_out = record {
   };
 }
 
--- the value at home has another origin
+-- a value of another origin at home does not keep the rule
+-- refuses: a rule that says nothing of the origin of a value at home
 pub another_at_home : ¬ IsLockedTable (2, 8) at_home
 another_at_home kept = ⊎_elim
     (λ home. let same : some (some (0 ∷ [], 7)) ≡ some (some home.value) = home.at_home in let value : (0 ∷ [], 7) ≡ home.value = cc in let start : 7 ≡ 8 = ap origin value ∙ home.same_origin in omega arith)
     (λ out. let word : 0 ≡ 1 = out.word in omega arith) kept.place
 
--- the seat that has the value found another origin
+-- nor does a seat that found one of another origin
+-- refuses: a holder may have found any origin
 pub another_found : ¬ IsLockedTable (2, 7) (out_from 8)
 another_found kept = ⊎_elim
     (λ home. let word : 1 ≡ 0 = home.word in omega arith)

@@ -15,15 +15,18 @@ nothing_left zero = refl
 nothing_left (suc zero) = refl
 nothing_left (suc (suc seat)) = refl
 
--- the second log's entry stands between the two of the first
+-- an entry of one log may come between two of another
+-- refuses: a merge may leave entries; an entry stays in its log
 pub merged : IsMerge two_logs (0 ∷ 2 ∷ 1 ∷ [])
 merged = (record { seat = 0; rest = 1 ∷ []; log = refl }, (record { seat = 1; rest = []; log = refl }, (record { seat = 0; rest = []; log = refl }, nothing_left)))
 
--- one after the other is a merge too
+-- one log after the other is a merge too
+-- refuses: a merge may leave entries; a log's last entry goes first
 pub merged_in_turn : IsMerge two_logs (0 ∷ 1 ∷ 2 ∷ [])
 merged_in_turn = (record { seat = 0; rest = 1 ∷ []; log = refl }, (record { seat = 0; rest = []; log = refl }, (record { seat = 1; rest = []; log = refl }, nothing_left)))
 
--- the logs' order is kept
+-- the order of a log is kept
+-- refuses: an entry needs no log; a log's last entry goes first
 pub against_the_order : ¬ IsMerge two_logs (1 ∷ 0 ∷ 2 ∷ [])
 against_the_order merge = none merge.0.seat merge.0.rest merge.0.log
   where
@@ -45,13 +48,16 @@ no_second entry zero rest e next last f = let empty : rest ≡ [] = cc in none_a
 no_second entry (suc seat) rest e next last f = cc
 
 -- no entry of a log is left out
+-- refuses: a merge may leave entries
 pub entry_left_out : ¬ IsMerge (one_log (0 ∷ [])) []
 entry_left_out merge = let bad : get_or (one_log (0 ∷ [])) 0 [] ≡ [] = merge 0 in cc
 
--- none stands twice
+-- none is there twice
+-- refuses: an entry stays in its log; an entry needs no log
 pub entry_twice : ¬ IsMerge (one_log (0 ∷ [])) (0 ∷ 0 ∷ [])
 entry_twice merge = no_second 0 merge.0.seat merge.0.rest merge.0.log merge.1.0.seat merge.1.0.rest merge.1.0.log
 
 -- and none that no log has
+-- refuses: an entry stays in its log; an entry needs no log
 pub entry_of_no_log : ¬ IsMerge (one_log (0 ∷ [])) (0 ∷ 5 ∷ [])
 entry_of_no_log merge = no_second 5 merge.0.seat merge.0.rest merge.0.log merge.1.0.seat merge.1.0.rest merge.1.0.log

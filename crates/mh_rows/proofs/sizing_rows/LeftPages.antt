@@ -36,31 +36,38 @@ abbrev asked : Option Config → List Event → ℕ
 asked None events = 0
 asked (Some config) events = asked_count config events
 
--- an object of one block, and a spine with two arraylets
+-- an object of 60 fields is one part, and one of 61 a spine and two arraylets
+-- refuses: an object is one part
 pub one_block : object_parts (Some (blank 30 30)) ≡ 1
 one_block = refl
 
 pub three_parts : object_parts (Some (blank 0 61)) ≡ 3
 three_parts = refl
 
--- what is too large for the rules is not asked for
+-- events ask for all parts of their objects
+-- refuses: events ask for one part each
 pub asked_parts : asked (configured 5 1000 1 8) (event.Session 0 (New 0 0 61) ∷ wide 2) ≡ 5
 asked_parts = refl
 
+-- and for none of what the rules don't allow
+-- refuses: the parts of any object are asked for
 pub asked_too_large : asked (configured_first 5 1000 1 8) (event.Session 0 (New 0 0 3601) ∷ wide 2) ≡ 2
 asked_too_large = refl
 
--- a cycle within one quantum leaves a page for the one live block
+-- a cycle within one quantum leaves a page for the one live block, and nothing is born since its snapshot
+-- refuses: parts are born since the first world
 pub one_live : left (configured 5 1000 1 8) (wide 16) ≡ 1 ∷ 1 ∷ 0 ∷ []
 unfolding worked
 one_live = refl
 
--- before a cycle starts, all parts are born since the first world
+-- until a cycle starts all parts are born since the first world
+-- refuses: only live parts are born since
 pub before_a_cycle : left (configured 5 1000 1 8) (wide 15) ≡ 4 ∷ 15 ∷ 15 ∷ []
 unfolding worked
 before_a_cycle = refl
 
--- a cycle of two quanta leaves what was born between them too: the first quantum sweeps two pages and three slots, into which eight blocks go
+-- a cycle of two quanta leaves the eight blocks born between them too, of which one is named; the first quantum sweeps two pages and three slots, into which they go
+-- refuses: the same
 pub born_between : left (configured 5 300 1 8) (wide 24) ≡ 4 ∷ 9 ∷ 8 ∷ []
 unfolding worked
 born_between = refl

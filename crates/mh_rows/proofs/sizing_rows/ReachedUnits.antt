@@ -36,20 +36,24 @@ abbrev snapshot_units : Option Config → List Event → List ℕ → List ℕ
 snapshot_units None events list = []
 snapshot_units (Some config) events list = map (λ world. units_of_births world list) (snapshots (first_moment config) events)
 
--- an object of one block costs 1 and 1 for each of its references, and nothing for its numbers
+-- an object of one block costs 1 and 1 for each reference, and nothing for its numbers
+-- refuses: references cost nothing
 pub one_block : object_units (Some (blank 2 3)) ≡ 3
 one_block = refl
 
--- one of 61 references has a spine with two and two arraylets: 3 for the blocks, and 63
+-- the two references of a spine count, and so does each arraylet: 61 references cost 3 for the blocks, and 63
+-- refuses: an object costs 1 and 1 for each of its own references
 pub with_a_spine : object_units (Some (blank 61 0)) ≡ 66
 with_a_spine = refl
 
 -- the snapshot of a cycle has the object of the event before whose quantum it starts
+-- refuses: a snapshot is the world before that event
 pub with_the_last : snapshot_births (configured 5 1000 1 8) (wide 24) ≡ 16 ∷ []
 unfolding shown
 with_the_last = refl
 
--- of 16 objects only the last is named: marking it costs 1, and marking all blocks 16
+-- of 16 objects with one block each only the last is named: marking it costs 1, and marking all blocks 16
+-- refuses: the same
 pub little_reached : snapshot_units (configured 5 1000 1 8) (wide 24) (15 ∷ []) ≡ 1 ∷ []
 unfolding shown
 little_reached = refl

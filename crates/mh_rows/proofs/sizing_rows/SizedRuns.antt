@@ -75,51 +75,60 @@ never (suc count) = false ∷ never count
 pub four_blocks : opened (configured 8 1000 0 0) (wide 4) ≡ 1
 four_blocks = refl
 
--- and the fifth opens another
+-- the fifth opens another
+-- refuses: pages are rounded down
 pub fifth_block : opened (configured 8 1000 0 0) (wide 5) ≡ 2
 fifth_block = refl
 
--- each class has pages of its own: a spine of two references, an arraylet of 60 fields and one of 1
+-- each class has pages of its own: a spine of two references, an arraylet of 60 fields and one of 1 fill three
+-- refuses: pages are rounded down
 pub classes_apart : opened (configured 8 1000 0 0) (a (New 0 0 61) ∷ []) ≡ 3
 classes_apart = refl
 
--- what is too large for the rules opens nothing
+-- an object that is too large for the rules opens none
+-- refuses: the parts of any object are asked for
 pub too_large : opened (configured_first 8 1000 0 0) (a (New 0 0 3601) ∷ []) ≡ 0
 too_large = refl
 
--- an event ends the interval in which its quantum is run, and the last has none yet
+-- an event is the last of the interval whose end has a quantum run; the last interval has none yet
+-- refuses: an interval ends before that event
 pub cut_by_the_scheduler : intervals_opened (configured 5 1000 1 8) (wide 24) ≡ 2 ∷ 2 ∷ 2 ∷ 0 ∷ []
 unfolding worked
 cut_by_the_scheduler = refl
 
+-- the same with quanta on request
+-- refuses: pages are rounded down
 pub cut_on_request : intervals_opened (configured 5 1000 1 0) (wide 5 ++ quantum_asked ∷ a (Clear 0) ∷ quantum_asked ∷ wide 1) ≡ 2 ∷ 0 ∷ 1 ∷ []
 unfolding worked
 cut_on_request = refl
 
--- a cycle that starts and ends in one quantum ends there
+-- a cycle that starts and ends in one quantum has ended there
+-- refuses: a cycle ends only if it ran before the quantum
 pub ended_at_once : left_free (configured 5 1000 1 8) (wide 24) ≡ 4 ∷ []
 unfolding worked
 ended_at_once = refl
 
--- with intervals of two pages and cycles of one quantum a trigger of 1 suffices
+-- intervals of two pages and cycles of one quantum: a trigger of 1 suffices, and with 0 the heap is full
 pub trigger_suffices : full (configured 5 1000 1 8) (wide 24) ≡ never 24
 unfolding worked
 trigger_suffices = refl
 
--- and one of 0 doesn't
 pub trigger_too_low : full (configured 5 1000 0 8) (wide 24) ≡ never 20 ++ true ∷ true ∷ true ∷ true ∷ []
 unfolding worked
 trigger_too_low = refl
 
--- a cycle starts before the quantum that finds no more free pages than the trigger, with 16 blocks without references
+-- a cycle starts before the quantum that finds no more free pages than the trigger, and has all 16 blocks to mark
+-- refuses: each quantum starts a cycle
 pub started_with : started_units (configured 5 1000 1 8) (wide 24) ≡ 16 ∷ []
 unfolding worked
 started_with = refl
 
--- in quanta of 500 units it takes five at most, where the bound of a cycle is 24: its pages have 4 slots, of which one block of 64 words moves
+-- with 16 blocks to mark in pages of 4 slots a cycle takes 5 quanta of 500 units at most, where its bound is 24
+-- refuses: classes that don't occur count; each block of a flagged page may move
 pub fewer_quanta : quanta_of (configured 5 500 1 8) (wide 24) 16 ≡ 5 ∷ 24 ∷ []
 fewer_quanta = refl
 
--- a page of 64 slots costs 64 to sweep and 128 to defragment
+-- one block of the least class makes it 9: a page of 64 slots costs 64 to sweep and 128 to defragment
+-- refuses: each block of a flagged page may move
 pub dearer_pages : quanta_of (configured 5 500 1 8) (a (New 0 0 0) ∷ wide 24) 16 ≡ 9 ∷ 24 ∷ []
 dearer_pages = refl

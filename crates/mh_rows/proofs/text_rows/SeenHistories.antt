@@ -42,7 +42,7 @@ lost_object = record {
   bad = λ legal. elim (legal.seen four_pages refl).1.1.0 [ inl same ↦ cc | inr room ↦ cc ];
 }
 
--- and none that is refused for another reason
+-- a full heap refuses no object that is refused for another reason
 pub full_for_a_bad_slot : IsSeenThrough (Some First) (codes "history 1\ns0 new 16 0 0 = refused 5 heap full\n") (FirstBad 1)
 unfolding history_reading heap_step worked
 full_for_a_bad_slot = record {
@@ -57,12 +57,11 @@ pub named_rules : IsSeenThrough None (codes "history 2 rules 1 4 209 0 0\ns0 new
 unfolding recorded_reading heap_step worked
 named_rules = (record { few = lit≤ tt; seen = λ config rules. (rw rules (inl refl), tt) }, refl)
 
--- a history that was cut off is refused, if its whole lines are legal
+-- a history that was cut off is refused if its whole lines are legal; else their first bad one is found
 pub cut_off : IsSeenThrough None (codes "history 1\ns0 clear 0 = ok\ns0 cl") (Refused 3)
 unfolding history_reading heap_step worked
 cut_off = (refl, record { few = lit≤ tt; seen = λ config rules. (inl refl, tt) })
 
--- and else the first bad one of these is found
 pub cut_off_bad : IsSeenThrough None (codes "history 1\ns0 shape 0 = yes\ns0") (FirstBad 1)
 unfolding history_reading heap_step worked
 cut_off_bad = record {

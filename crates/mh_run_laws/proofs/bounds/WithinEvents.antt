@@ -1,4 +1,5 @@
--- The counts of a run: each command adds so much to them, and each quantum.
+-- The counts of a run: each command adds so much to them, and each quantum, and an event is one of each at most.
+-- So births, cycles, quanta and letters of the trace stay within a small multiple of the number of events.
 use Rattle.std.proofs.Common.{◌≡◌, ℕ, suc, ◌+◌, ◌*◌, ◌==◌, ◌≤◌, nat_le, Bool, true, false, if◌then◌else◌, Option, Some, None, option_map, unwrap_or, List, [], ◌∷◌, length, replicate, refl, sym, ◌∙◌, subst, arith}
 use Rattle.std.proofs.Math.Nat.{suc-mul}
 use Rattle.std.proofs.lemmas.Bool.{leb-true, and_parts}

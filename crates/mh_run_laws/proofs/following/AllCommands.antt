@@ -1,4 +1,4 @@
--- Each of the twelve commands on the pages does what it does on what the heap shows.
+-- Each of the twelve commands answers on the pages what it answers on the view, and leaves there what it leaves on the view.
 use Rattle.mh_model.specs.declared.command.Command.TheVariants as command
 use Rattle.mh_run_laws.specs.Following.{CommandsFollow}
 use Rattle.mh_run_laws.proofs.following.SlotCommands.{copy-follows, clear-follows, post-follows, take-follows, end-follows, same-follows, shape-follows, read-follows, get-follows}

@@ -1,4 +1,5 @@
--- Forwarders over a run: behind a collector in defragmentation lies the moment at which that began.
+-- The induction over a run: before each machine in defragmentation lies the moment at which that defragmentation began.
+-- So each forwarder that a finished cycle leaves was made by it.
 use Rattle.std.proofs.Common.{◌≡◌, if◌then◌else◌, true, false, inl, inr, List, [], ◌∷◌, ◌++◌, None, ℕ, refl, sym, ap, ◌∙◌, subst, append_assoc}
 use Rattle.std.proofs.lemmas.Bool.{false≢true, cases_Bool}
 use Rattle.std.proofs.lemmas.List.{append-nil}

@@ -1,4 +1,5 @@
--- While blocks are marked, what is reachable in the view now is kept by the running cycle.
+-- While blocks are marked, what is reachable in the view now was reached by the snapshot or is born since, so the running cycle keeps it.
+-- That is why nothing reachable is lost as the sweep begins.
 use Rattle.std.proofs.Common.{◌≡◌, ℕ, true, inl, inr, Some, sym, ap, ◌∙◌, subst, arith}
 use Rattle.std.proofs.lemmas.Option.{same_Some}
 use Rattle.mh_model.specs.World.{World, object_at, slot_at, reference_of}

@@ -1,4 +1,6 @@
--- Runs beside the ever-growing world: if each command does on the pages what it does on what the heap shows, the view agrees with the world at each moment, and replies are the world's.
+-- Runs beside the ever-growing world: if each command does on the pages what it does on what the heap shows, the view agrees with the world at each moment,
+-- half moments included: with the world of the commands that a full heap didn't refuse. The running cycle keeps as its snapshot the world as it started.
+-- The laws of `beside_the_world` follow: replies are the world's, moments are faithful, finished cycles are exact.
 use Rattle.std.proofs.Common.{◌≡◌, ℕ, ◌==◌, Bool, true, false, if◌then◌else◌, inl, inr, List, [], ◌∷◌, refl, sym, ap, ◌∙◌}
 use Rattle.std.proofs.lemmas.Bool.{false≢true, and_parts}
 use Rattle.std.proofs.lemmas.Option.{none-some}

@@ -1,4 +1,4 @@
--- The steps of the collector change nothing of what the heap shows.
+-- The steps that scan roots and mark change nothing of what the heap shows.
 use Rattle.std.proofs.Common.{◌≡◌, ℕ, zero, suc, ◌+◌, true, false, inl, List, [], ◌∷◌, get_or, set, map, Option, Some, None, option_map, unwrap_or, refl, sym, ap, ◌∙◌, subst, arith}
 use Rattle.mh_model.specs.declared.cycle.Phase.TheVariants.{Roots}
 use Rattle.mh_model.specs.World.{Object, World}

@@ -1,4 +1,4 @@
--- Steps of the collector and quanta: a view that agrees with a world agrees with it after them.
+-- Steps of the collector: a view that agrees with a world agrees with it after them. Only as the sweep begins may it lose anything, and then only what isn't reachable.
 use Rattle.std.proofs.Common.{◌≡◌, ℕ, ◌==◌, if◌then◌else◌, Bool, true, false, List, [], ◌∷◌, Option, Some, None, option_map, IsSome, refl, sym, ap, ◌∙◌, subst, arith, eqb-true}
 use Rattle.std.proofs.lemmas.Bool.{false≢true}
 use Rattle.std.proofs.lemmas.Option.{none-some, same_Some}

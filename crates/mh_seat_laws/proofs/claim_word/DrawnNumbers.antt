@@ -1,4 +1,4 @@
--- How far the claim word goes past its bound, and which numbers are drawn if a seat has ended.
+-- How far the claim word goes past its bound, at most one for each seat, and which numbers are drawn: once all seats have ended each below the bound, once.
 use Rattle.std.proofs.Common.{◌≡◌, ℕ, zero, suc, ◌+◌, ◌<◌, ◌≤◌, ◌==◌, Bool, true, false, ◌||◌, ◌&&◌, nat_lt, nat_le, if◌then◌else◌, inl, inr, List, [], ◌∷◌, length, get_or, flat_map, count_by, arith, refl, ◌∙◌}
 use Rattle.std.proofs.lemmas.Bool.{cases_lt, false≢true}
 use Rattle.std.proofs.lemmas.Bool.Decides.{nat_tests}

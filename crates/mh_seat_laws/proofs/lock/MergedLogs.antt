@@ -1,4 +1,4 @@
--- Who owns events, and how the logs of all owners merge to the history.
+-- Each event has one of the nine seats as its owner, so logs of what each of these owns of a history merge to it.
 use Rattle.std.proofs.Common.{◌≡◌, ℕ, ◌<◌, ◌≤◌, Bool, cond, nat_lt, if◌then◌else◌, inl, inr, List, [], ◌∷◌, length, get_or, set, refl, ap, ◌∙◌, sym, arith}
 use Rattle.std.proofs.lemmas.Bool.{cases_eq, eq-eqb, ne_eqb}
 use Rattle.std.proofs.lemmas.Bool.Decides.{nat_tests}

@@ -1,4 +1,4 @@
--- Marking all blocks costs no more than the words of all pages.
+-- Marking all blocks costs no more than the words of all pages: there is no more to mark.
 use Rattle.std.proofs.Common.{◌≡◌, ℕ, suc, ◌*◌, ◌<◌, ◌≤◌, Bool, true, false, ◌&&◌, if◌then◌else◌, Option, Some, None, List, [], ◌∷◌, length, get_or, refl, arith}
 use Rattle.std.specs.List.{AllByRecursion, sum_by}
 use Rattle.std.proofs.Math.Nat.{mul-suc}

@@ -19,7 +19,7 @@ part-class size part e = go (class_of (part_words part)) refl e
     go None is h = absurd (false≢true h)
     go (Some other) is h = class_of-class_size (part_words part) size (is ∙ ap (λ n. Some n) (eqb-true other size h))
 
-parts-class : (size : ℕ) (list : List Part) → 0 < class_parts size list → is_class_size size ≡ true
+pub parts-class : (size : ℕ) (list : List Part) → 0 < class_parts size list → is_class_size size ≡ true
 parts-class size [] some = absurd (omega arith)
 parts-class size (part ∷ list) some = elim (cases_Bool (is_of_class size part)) [
   | inl here ↦ part-class size part here

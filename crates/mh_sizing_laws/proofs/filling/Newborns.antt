@@ -4,7 +4,7 @@ use Rattle.std.proofs.lemmas.Bool.{leb-true}
 use Rattle.mh_model.specs.Pages.{Page, Table, page_at, block_at, HaveTheirSlots}
 use Rattle.mh_model.specs.Table.{Block}
 use Rattle.mh_table_laws.proofs.placing.Places.{shaped-slots}
-use Rattle.mh_sizing_laws.proofs.pages_left.Counting.{place-of}
+use Rattle.mh_sizing_laws.proofs.Weighing.{place-of}
 use Rattle.mh_sizing_laws.proofs.filling.Slots.{youngs}
 use Rattle.mh_sizing_laws.proofs.filling.Ages.{birth_of, ages, page-map}
 

@@ -1,19 +1,16 @@
 -- Pages that are partly new, of which a class has one at most while no quantum is run.
 use Rattle.std.proofs.Common.{◌≡◌, inl, inr, ℕ, zero, suc, ◌+◌, ◌<◌, ◌≤◌, nat_lt, ◌==◌, ◌&&◌, Bool, true, false, if◌then◌else◌, Option, Some, None, option_map, List, [], ◌∷◌, length, get_or, map, refl, sym, ap, ◌∙◌, subst, arith}
-use Rattle.std.proofs.lemmas.Bool.{cases_Bool, cases_eq, le-leb, lt-ltb, and_from, true≢false}
+use Rattle.std.proofs.lemmas.Bool.{cases_eq, le-leb, lt-ltb, and_from, true≢false}
 use Rattle.std.proofs.lemmas.Option.{none-some, same_Some}
-use Rattle.mh_model.specs.declared.command.Command.{Command}
 use Rattle.mh_model.specs.declared.command.Event.{Event}
 use Rattle.mh_model.specs.declared.command.Event.TheVariants as event
-use Rattle.mh_model.specs.Machine.{Machine, first_machine, quantum_run, command_step, half_step, event_step, machine_after}
+use Rattle.mh_model.specs.Machine.{Machine, first_machine, command_step, half_step, event_step, machine_after}
 use Rattle.mh_model.specs.Pages.{Page, Table, page_at, block_at, HaveTheirSlots}
-use Rattle.mh_model.specs.Snapshot.{has_quantum}
 use Rattle.mh_model.specs.Table.{Block}
 use Rattle.mh_table_laws.proofs.Lists.{below_length}
 use Rattle.mh_table_laws.proofs.TableMapLemmas.{length-table_map, page_at-table_map}
 use Rattle.mh_laws.proofs.commands.LeftUnchanged.{event-keeps, machine_after-pages}
-use Rattle.mh_laws.proofs.runs.EveryMoment.{machine_after-keeps}
-use Rattle.mh_sizing_laws.proofs.openings.Intervals.{quiet-event, quantum-event}
+use Rattle.mh_sizing_laws.proofs.openings.Intervals.{half-count, event-quiet, quiet-event}
 use Rattle.mh_sizing_laws.proofs.openings.Rooms.{empties}
 use Rattle.mh_sizing_laws.proofs.pages_left.BlocksInUse.{run-blocks}
 use Rattle.mh_sizing_laws.specs.Filling.{IsPartlyNew, BirthsFillOnePage}
@@ -61,38 +58,7 @@ half-fills from machine (event.Session who command) slots fill =
     fills-any from _ (half_step machine (event.Session who command)).heap.collector.table (mutator_step-fill (new_family from) (λ k. 0) (λ k. 1) machine.heap who command (λ k. newness-allows from k machine.heap.next_birth) slots fill)
 half-fills from machine (event.Control control) slots fill = fill
 
--- Counts of quanta -------------------------------------------------------------------------------
-
-module _ (count : ℕ) where
-  command-counts : (machine : Machine) (who : ℕ) (command : Command) → count ≤ machine.trace.quanta → count ≤ (command_step machine who command).state.trace.quanta
-  unfolding command_step
-  command-counts machine who command has = has
-
-  quantum-counts : (machine : Machine) → count ≤ machine.trace.quanta → count ≤ (quantum_run machine).state.trace.quanta
-  unfolding quantum_run
-  quantum-counts machine has = omega (arith, has)
-
-  events-count : (events : List Event) (machine : Machine) → count ≤ machine.trace.quanta → count ≤ (machine_after machine events).trace.quanta
-  events-count events machine has = machine_after-keeps (λ m. count ≤ m.trace.quanta) command-counts quantum-counts (λ m h. h) events machine has
-
-half-count : (machine : Machine) (event : Event) → (half_step machine event).trace.quanta ≡ machine.trace.quanta
-unfolding command_step
-half-count machine (event.Session who command) = refl
-half-count machine (event.Control control) = refl
-
-run-count : (machine : Machine) → (quantum_run machine).state.trace.quanta ≡ suc machine.trace.quanta
-unfolding quantum_run
-run-count machine = omega arith
-
--- an event that leaves the count of quanta runs none
-event-quiet : (machine : Machine) (event : Event) (events : List Event) → (machine_after (event_step machine event).state events).trace.quanta ≡ machine.trace.quanta → has_quantum machine event ≡ false
-event-quiet machine event events same = elim (cases_Bool (has_quantum machine event)) [
-  | inl runs ↦
-      let next : Machine = (event_step machine event).state in
-      let more : next.trace.quanta ≡ suc (machine.trace.quanta) = ap (λ (m : Machine). m.trace.quanta) (quantum-event machine event runs) ∙ run-count (half_step machine event) ∙ ap suc (half-count machine event) in
-      absurd (omega (arith, more, same, events-count next.trace.quanta events next (omega arith)))
-  | inr quiet ↦ quiet
-]
+-- Events ----------------------------------------------------------------------------------------
 
 events-fill : (from : ℕ) (events : List Event) (machine : Machine) → HaveTheirSlots machine.heap.collector.table → (machine_after machine events).trace.quanta ≡ machine.trace.quanta → FillsOne from machine.heap.collector.table → FillsOne from (machine_after machine events).heap.collector.table
 unfolding machine_after

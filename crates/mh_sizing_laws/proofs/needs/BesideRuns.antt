@@ -1,4 +1,5 @@
 -- Runs that were never full so far, beside the ever-growing world: what holds of the world's intervals and worlds holds of the machine's, up to the first event that a full heap may refuse.
+-- So what sessions need is read off the world alone: its live parts, what these cost to mark, and what its intervals ask for.
 use Rattle.std.proofs.Common.{◌≡◌, ℕ, ◌==◌, nat_le, not, Bool, true, false, ◌&&◌, if◌then◌else◌, List, [], ◌∷◌, ◌++◌, refl, sym, ap, ap₂, ◌∙◌, subst, arith}
 use Rattle.std.specs.List.{AllByRecursion}
 use Rattle.mh_model.specs.declared.command.Command.{Command}

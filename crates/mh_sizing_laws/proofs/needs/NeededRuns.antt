@@ -1,4 +1,5 @@
--- Runs with enough for what their sessions need: each part of a run has what the whole needs, so it is never full, so the next event is answered as by the world.
+-- The induction over the first events of a run with enough for what its sessions need: each part of it has what the whole needs, so it is never full,
+-- so the next event is answered as by the world.
 use Rattle.std.proofs.Common.{◌≡◌, inl, inr, ℕ, ◌+◌, ◌-◌, ◌*◌, ◌<◌, ◌≤◌, false, List, [], ◌∷◌, ◌++◌, length, flat_map, refl, sym, ap, ◌∙◌, subst, arith}
 use Rattle.std.specs.List.{AllByRecursion}
 use Rattle.std.proofs.Math.Nat.{mul-le-mul_right}

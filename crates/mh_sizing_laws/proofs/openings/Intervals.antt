@@ -1,4 +1,5 @@
 -- Between two quanta: what events open is no more than their parts fill by class.
+-- An *interval* is the events between two quanta; the event that has the second one run is its last.
 use Rattle.std.proofs.Common.{◌≡◌, inl, inr, ℕ, suc, ◌+◌, ◌==◌, ◌≤◌, nat_le, nat_lt, Bool, true, false, if◌then◌else◌, Option, Some, None, option_map, option_and_then, unwrap_or, List, [], ◌∷◌, ◌++◌, get_or, cond, refl, sym, ap, ◌∙◌, subst, arith}
 use Rattle.std.specs.List.{flat_map}
 use Rattle.std.proofs.lemmas.Bool.{cases_Bool, true≢false, false≢true}
@@ -209,7 +210,7 @@ module _ (count : ℕ) where
   events-count : (events : List Event) (machine : Machine) → count ≤ machine.trace.quanta → count ≤ (machine_after machine events).trace.quanta
   events-count events machine has = machine_after-keeps (λ m. count ≤ m.trace.quanta) command-counts quantum-counts (λ m h. h) events machine has
 
-half-count : (machine : Machine) (event : Event) → (half_step machine event).trace.quanta ≡ machine.trace.quanta
+pub half-count : (machine : Machine) (event : Event) → (half_step machine event).trace.quanta ≡ machine.trace.quanta
 unfolding command_step
 half-count machine (event.Session who command) = refl
 half-count machine (event.Control control) = refl
@@ -219,7 +220,7 @@ unfolding quantum_run
 run-count machine = omega arith
 
 -- an event that leaves the count of quanta runs none
-event-quiet : (machine : Machine) (event : Event) (events : List Event) → (machine_after (event_step machine event).state events).trace.quanta ≡ machine.trace.quanta → has_quantum machine event ≡ false
+pub event-quiet : (machine : Machine) (event : Event) (events : List Event) → (machine_after (event_step machine event).state events).trace.quanta ≡ machine.trace.quanta → has_quantum machine event ≡ false
 event-quiet machine event events same = elim (cases_Bool (has_quantum machine event)) [
   | inl runs ↦
       let next : Machine = (event_step machine event).state in

@@ -1,14 +1,14 @@
 -- What leaves free pages and room as they are: barriers, marking, and each command but a new object.
-use Rattle.std.proofs.Common.{◌≡◌, ℕ, zero, suc, Bool, true, false, if◌then◌else◌, Option, Some, None, is_some, option_map, List, [], ◌∷◌, get_or, refl, sym, ap}
+use Rattle.std.proofs.Common.{◌≡◌, ℕ, Bool, true, false, Option, Some, None, is_some, option_map, List, [], ◌∷◌, refl, sym, ap, ◌∙◌}
 use Rattle.std.proofs.lemmas.Bool.{false≢true}
 use Rattle.mh_model.specs.declared.command.Command.{Command}
 use Rattle.mh_model.specs.declared.command.Command.TheVariants as command
-use Rattle.mh_model.specs.World.{own_slot, board_slot}
 use Rattle.mh_model.specs.Classes.{Part}
 use Rattle.mh_model.specs.Pages.{Table, block_at}
-use Rattle.mh_model.specs.Table.{Block, Position, references_at, with_block_change, with_reference_at, resolve, target_of, linked_block, linked_parts, reference_in, loaded_reference}
-use Rattle.mh_model.specs.Collector.{Collector, Marking, is_marked, with_grey, shade_block, shade, mark_reference, mark_references, mark_first, marking_of, with_shade}
-use Rattle.mh_model.specs.Mutator.{HeapState, in_roots, in_roots_or_mark, before_field, with_root, with_roots_cleared, with_session_cleared, with_reference_stored, with_number_stored, field_of, root_at, number_field, heap_effect}
+use Rattle.mh_model.specs.Table.{Block, with_block_change, linked_block, linked_parts}
+use Rattle.mh_model.specs.Collector.{Collector, Marking, mark_first, marking_of, with_shade}
+use Rattle.mh_model.specs.Mutator.{HeapState, with_root, heap_effect}
+use Rattle.mh_laws.proofs.commands.EachCommand.{IsKeptByWrites, shade-each, mark_first-each, over_tables, with_root-each, heap_effect-each}
 use Rattle.mh_sizing_laws.proofs.openings.Rooms.{HasSameRoom, same_room, same_room-then, same_room-with_block}
 
 -- Blocks changed ---------------------------------------------------------------------------------
@@ -27,65 +27,25 @@ linked_parts-room all (place ∷ places) (part ∷ parts) table =
     let next : Table Block = with_block_change table place (linked_block all part) in
     same_room-then table next (linked_parts all next places parts) (change-room table place (linked_block all part)) (linked_parts-room all places parts next)
 
--- Marking ----------------------------------------------------------------------------------------
+room : IsKeptByWrites HasSameRoom
+room = record {
+  same = same_room;
+  joined = same_room-then;
+  stamped = λ table place block stamp at. same_room-with_block table place (Some (record block { stamp = stamp })) (sym (ap is_some at));
+  referred = λ table place index reference. change-room table place _;
+  numbered = λ table place index number. change-room table place _;
+}
 
-shade_block-room : (marking : Marking) (place : ℕ) (block : Option Block) → block_at marking.table place ≡ block → HasSameRoom marking.table (shade_block marking place block).table
-shade_block-room marking place None at = same_room marking.table
-shade_block-room marking place (Some block) at = go (is_marked marking.cycle block)
-  where
-    go : (marked : Bool) → HasSameRoom marking.table (if marked then marking else with_grey marking place block).table
-    go true = same_room marking.table
-    go false = same_room-with_block marking.table place (Some (record block { stamp = marking.cycle })) (sym (ap is_some at))
-
-shade-room : (marking : Marking) (reference : Option ℕ) → HasSameRoom marking.table (shade marking reference).table
-shade-room marking None = same_room marking.table
-shade-room marking (Some place) = shade_block-room marking (resolve marking.table place) (block_at marking.table (resolve marking.table place)) refl
-
-mark_references-room : (marking : Marking) (place index : ℕ) (references : List (Option ℕ)) → HasSameRoom marking.table (mark_references marking place index references).table
-mark_references-room marking place index [] = same_room marking.table
-mark_references-room marking place index (reference ∷ references) =
-    let target : Option ℕ = target_of marking.table reference in
-    let written : Table Block = with_reference_at marking.table place index target in
-    let next : Marking = mark_reference marking place index reference in
-    same_room-then marking.table next.table (mark_references next place (suc index) references).table
-    (same_room-then marking.table written next.table (change-room marking.table place _) (shade-room (record marking { table = written }) target))
-    (mark_references-room next place (suc index) references)
+-- Marking and barriers ---------------------------------------------------------------------------
 
 pub mark_first-room : (marking : Marking) (grey : List ℕ) → HasSameRoom marking.table (mark_first marking grey).table
-mark_first-room marking [] = same_room marking.table
-mark_first-room marking (place ∷ grey) = mark_references-room (record marking { grey = grey }) place 0 (references_at marking.table place)
-
--- Barriers ---------------------------------------------------------------------------------------
+mark_first-room marking grey = mark_first-each HasSameRoom room marking grey
 
 pub with_shade-room : (collector : Collector) (reference : Option ℕ) → HasSameRoom collector.table (with_shade collector reference).table
-with_shade-room collector reference = shade-room (marking_of collector) reference
-
-if-room : (test : Bool) (collector other : Collector) → HasSameRoom collector.table other.table → HasSameRoom collector.table (if test then other else collector).table
-if-room true collector other same = same
-if-room false collector other same = same_room collector.table
+with_shade-room collector reference = shade-each HasSameRoom room (marking_of collector) reference
 
 pub with_root-room : (collector : Collector) (slot : ℕ) (reference : Option ℕ) → HasSameRoom collector.table (with_root collector slot reference).table
-with_root-room collector slot reference = if-room (in_roots collector.phase) collector (with_shade collector (get_or collector.slots slot None)) (with_shade-room collector (get_or collector.slots slot None))
-
-with_roots_cleared-room : (count : ℕ) (collector : Collector) (slot : ℕ) → HasSameRoom collector.table (with_roots_cleared collector slot count).table
-with_roots_cleared-room zero collector slot = same_room collector.table
-with_roots_cleared-room (suc count) collector slot =
-    let next : Collector = with_root collector slot None in
-    same_room-then collector.table next.table (with_roots_cleared next (suc slot) count).table (with_root-room collector slot None) (with_roots_cleared-room count next (suc slot))
-
-with_session_cleared-room : (collector : Collector) (who : ℕ) → HasSameRoom collector.table (with_session_cleared collector who).table
-unfolding with_session_cleared
-with_session_cleared-room collector who = with_roots_cleared-room 16 collector (own_slot who 0)
-
-with_reference_stored-room : (collector : Collector) (position : Position) (reference : Option ℕ) → HasSameRoom collector.table (with_reference_stored collector position reference).table
-with_reference_stored-room collector position reference =
-    let shaded : Collector = before_field collector position in
-    same_room-then collector.table shaded.table (with_reference_stored collector position reference).table
-    (if-room (in_roots_or_mark collector.phase) collector (with_shade collector (reference_in collector.table position)) (with_shade-room collector (reference_in collector.table position)))
-    (change-room shaded.table position.place _)
-
-with_number_stored-room : (collector : Collector) (position : Position) (number : ℕ) → HasSameRoom collector.table (with_number_stored collector position number).table
-with_number_stored-room collector position number = change-room collector.table position.place _
+with_root-room collector slot reference = with_root-each _ (over_tables HasSameRoom room) collector slot reference
 
 -- Commands ---------------------------------------------------------------------------------------
 
@@ -94,18 +54,10 @@ abbrev pub makes_none : Command → Bool
 makes_none (command.New slot references numbers) = false
 makes_none _ = true
 
+-- such a command is no new object
+pub makes_none-new : (c : Command) (slot references numbers : ℕ) → makes_none c ≡ true → c ≡ command.New slot references numbers → ⊥
+makes_none-new c slot references numbers none is = false≢true (sym (ap makes_none is) ∙ none)
+
 -- Each other command leaves free pages and room
 pub heap_effect-room : (heap : HeapState) (who : ℕ) (c : Command) → makes_none c ≡ true → HasSameRoom heap.collector.table (heap_effect heap who c).state.collector.table
-unfolding heap_effect
-heap_effect-room heap who (command.New slot references numbers) none = absurd (false≢true none)
-heap_effect-room heap who (command.Get slot source field) none = with_root-room heap.collector (own_slot who slot) (loaded_reference heap.collector.table (field_of heap (own_slot who source) field))
-heap_effect-room heap who (command.Put slot field value) none = with_reference_stored-room heap.collector (field_of heap (own_slot who slot) field) _
-heap_effect-room heap who (command.Copy slot source) none = with_root-room heap.collector (own_slot who slot) (root_at heap (own_slot who source))
-heap_effect-room heap who (command.Clear slot) none = with_root-room heap.collector (own_slot who slot) None
-heap_effect-room heap who (command.Read slot index) none = same_room heap.collector.table
-heap_effect-room heap who (command.Write slot index number) none = with_number_stored-room heap.collector (number_field heap (own_slot who slot) index) number
-heap_effect-room heap who (command.Same left right) none = same_room heap.collector.table
-heap_effect-room heap who (command.Shape slot) none = same_room heap.collector.table
-heap_effect-room heap who (command.Post board slot) none = with_root-room heap.collector (board_slot board) (root_at heap (own_slot who slot))
-heap_effect-room heap who (command.Take slot board) none = with_root-room heap.collector (own_slot who slot) (root_at heap (board_slot board))
-heap_effect-room heap who command.End none = with_session_cleared-room heap.collector who
+heap_effect-room heap who c none = heap_effect-each _ (over_tables HasSameRoom room) heap who c (λ slot references numbers is. absurd (makes_none-new c slot references numbers none is))

@@ -1,10 +1,8 @@
--- What a finished cycle leaves: its blocks that are no forwarders are parts of what the snapshot reached or is born since, each of them at most once.
-use Rattle.std.proofs.Common.{◌≡◌, inl, inr, ℕ, zero, suc, ◌+◌, ◌==◌, ◌<◌, ◌≤◌, nat_lt, not, Bool, true, false, if◌then◌else◌, Option, Some, None, is_some, List, [], ◌∷◌, length, get_or, refl, sym, ap, ◌∙◌, subst, arith}
-use Rattle.std.specs.List.{AllByRecursion, IsDistinct, sum_by}
-use Rattle.std.proofs.lemmas.Bool.{and_parts, eqb-true, ne_eqb, ltb-true, ltb-false, false≢true}
+-- What a finished cycle leaves, counted by birth and part: its blocks that are no forwarders are parts of what the snapshot reached or is born since, each of them at most once.
+use Rattle.std.proofs.Common.{◌≡◌, inl, inr, ℕ, suc, ◌+◌, ◌==◌, ◌<◌, ◌≤◌, not, Bool, true, false, Option, Some, None, is_some, List, [], ◌∷◌, length, get_or, refl, sym, ap, ◌∙◌, subst, arith}
+use Rattle.std.proofs.lemmas.Bool.{and_parts, eqb-true, false≢true}
 use Rattle.std.proofs.lemmas.List.Sums.{sum_by-cons}
 use Rattle.std.proofs.lemmas.Option.{slice_get_within}
-use Rattle.mh_model.specs.Batches.{NoneTwice}
 use Rattle.mh_model.specs.Classes.{parts}
 use Rattle.mh_model.specs.Collector.{Collector}
 use Rattle.mh_model.specs.Mutator.{HeapState}
@@ -20,7 +18,9 @@ use Rattle.mh_table_laws.proofs.objects.JoinedFields.{shape_is}
 use Rattle.mh_laws.proofs.showing.FoundBlocks.{live_held}
 use Rattle.mh_laws.proofs.snapshots.CycleStarts.{births-view, first-view}
 use Rattle.mh_model.specs.LiveParts.{object_parts, parts_of_births, HasAtMostLive, parts_since, count_blocks, is_plain}
-use Rattle.mh_sizing_laws.proofs.pages_left.Counting.{sum_to, sum_to-ones, count-some, count-one, with_key, count-keys}
+use Rattle.mh_sizing_laws.proofs.Sums.{sum_to, sum_to-ones, present, present-once, present-all, present-sum}
+use Rattle.mh_sizing_laws.proofs.Weighing.{with_key}
+use Rattle.mh_sizing_laws.proofs.pages_left.Counting.{count-some, count-one, count-keys}
 use Rattle.mh_sizing_laws.proofs.pages_left.GrownWorlds.{total, HasGrown, births-grown, parts-before, parts-after, since-grown}
 
 -- Sums -------------------------------------------------------------------------------------------
@@ -36,52 +36,9 @@ sum_to-more f (count ∷ more) from few =
     later : (index : ℕ) → f (suc from + index) ≤ get_or more index 0
     later index = let same : from + suc index ≡ suc from + index = omega arith in omega (arith, few (suc index), ap f same)
 
--- the numbers below this one of which a count isn't 0
-abbrev present : (ℕ → ℕ) → ℕ → List ℕ
-present f zero = []
-present f (suc n) = if nat_lt 0 (f n) then n ∷ present f n else present f n
-
-module _ (f : ℕ → ℕ) where
-  present-below : (n most : ℕ) → n ≤ most → AllByRecursion (λ birth. birth < most) (present f n)
-  present-below zero most few = tt
-  present-below (suc n) most few = go (nat_lt 0 (f n)) (present-below n most (omega (arith, few)))
-    where
-      go : (some : Bool) → AllByRecursion (λ birth. birth < most) (present f n) → AllByRecursion (λ birth. birth < most) (if some then n ∷ present f n else present f n)
-      go true rest = (omega (arith, few), rest)
-      go false rest = rest
-
-  apart : (n : ℕ) (list : List ℕ) → AllByRecursion (λ birth. birth < n) list → AllByRecursion (λ birth. (n == birth) ≡ false) list
-  apart n [] below = tt
-  apart n (birth ∷ list) below = (ne_eqb n birth (λ same. omega (arith, same, below.0)), apart n list below.1)
-
-  present-once : (n : ℕ) → NoneTwice (present f n)
-  unfolding IsDistinct
-  present-once zero = tt
-  present-once (suc n) = go (nat_lt 0 (f n)) (present-once n)
-    where
-      go : (some : Bool) → NoneTwice (present f n) → NoneTwice (if some then n ∷ present f n else present f n)
-      go true rest = (apart n (present f n) (present-below n n (omega arith)), rest)
-      go false rest = rest
-
-  present-all : (P : ℕ → Type 0) (most : ℕ) → ((birth : ℕ) → birth < most → 0 < f birth → P birth) → (n : ℕ) → n ≤ most → AllByRecursion P (present f n)
-  present-all P most each zero few = tt
-  present-all P most each (suc n) few = go (nat_lt 0 (f n)) refl (present-all P most each n (omega (arith, few)))
-    where
-      go : (some : Bool) → nat_lt 0 (f n) ≡ some → AllByRecursion P (present f n) → AllByRecursion P (if some then n ∷ present f n else present f n)
-      go true is rest = (each n (omega (arith, few)) (ltb-true 0 (f n) is), rest)
-      go false is rest = rest
-
-  present-sum : (g : ℕ → ℕ) (most : ℕ) → ((birth : ℕ) → birth < most → f birth ≤ g birth) → (n : ℕ) → n ≤ most → sum_to f n ≤ sum_by g (present f n)
-  present-sum g most below zero few = omega arith
-  present-sum g most below (suc n) few = go (nat_lt 0 (f n)) refl (present-sum g most below n (omega (arith, few)))
-    where
-      go : (some : Bool) → nat_lt 0 (f n) ≡ some → sum_to f n ≤ sum_by g (present f n) → sum_to f n + f n ≤ sum_by g (if some then n ∷ present f n else present f n)
-      go true is rest = omega (arith, rest, below n (omega (arith, few)), sum_by-cons g n (present f n))
-      go false is rest = omega (arith, rest, ltb-false 0 (f n) is)
-
 -- Blocks -----------------------------------------------------------------------------------------
 
-plain-live : (block : Block) → is_plain block ≡ true → block.forward ≡ None
+pub plain-live : (block : Block) → is_plain block ≡ true → block.forward ≡ None
 plain-live block plain = go block.forward refl plain
   where
     go : (forward : Option ℕ) → block.forward ≡ forward → not (is_some forward) ≡ true → block.forward ≡ None
@@ -89,7 +46,7 @@ plain-live block plain = go block.forward refl plain
     go (Some place) is e = absurd (false≢true e)
 
 -- the blocks of a birth that are no forwarders
-abbrev is_of : ℕ → Block → Bool
+abbrev pub is_of : ℕ → Block → Bool
 is_of birth = with_key is_plain (λ block. block.birth) birth
 
 module _ (snapshot world : World) (heap : HeapState) (sound : IsSound heap.next_birth heap.collector) (quiet : in_sweep heap.collector.phase ≡ false) (agrees : Agrees (heap_view heap) world) (finished : IsFinished snapshot heap.next_birth heap.collector) where
@@ -112,7 +69,7 @@ module _ (snapshot world : World) (heap : HeapState) (sound : IsSound heap.next_
       omega (arith, count, slice_get_within (parts (sound.shapes block.birth).references (sound.shapes block.birth).numbers) block.part is.part is.is)
 
   -- so a birth has no more of them than parts
-  birth-few : (birth : ℕ) → of_birth birth ≤ object_parts (object_at world birth)
+  pub birth-few : (birth : ℕ) → of_birth birth ≤ object_parts (object_at world birth)
   birth-few birth = omega (arith, keys, ones)
     where
       of_birth-is : (block : Block) → is_of birth block ≡ true → (block.forward ≡ None) × (block.birth ≡ birth)
@@ -135,7 +92,7 @@ module _ (snapshot world : World) (heap : HeapState) (sound : IsSound heap.next_
           sound.one place other block same there there' live live' (is ∙ sym is') (eqb-true block.part part first_part ∙ sym (eqb-true same.part part second_part))))
 
   -- a birth before the snapshot that has one was reached by it
-  birth-reached : (birth : ℕ) → birth < births snapshot → 0 < of_birth birth → Reachable snapshot birth
+  pub birth-reached : (birth : ℕ) → birth < births snapshot → 0 < of_birth birth → Reachable snapshot birth
   birth-reached birth before some =
       let is = count-some (is_of birth) c.table sound.narrow some in
       let (plain, same) = and_parts (is_plain is.block) (is.block.birth == birth) is.passes in

@@ -65,7 +65,7 @@ quanta-more config marked old new large few =
 
 -- Parts of runs ----------------------------------------------------------------------------------
 
-starts-before : (P : Machine → Type 0) (done rest : List Event) (machine : Machine) → AllByRecursion P (cycle_starts machine (done ++ rest)) → AllByRecursion P (cycle_starts machine done)
+pub starts-before : (P : Machine → Type 0) (done rest : List Event) (machine : Machine) → AllByRecursion P (cycle_starts machine (done ++ rest)) → AllByRecursion P (cycle_starts machine done)
 starts-before P [] rest machine all = tt
 starts-before P (event ∷ done) rest machine all = go (has_quantum machine event && is_start_due half.heap.config half.heap.collector) all (λ later. starts-before P done rest next later)
   where
@@ -80,7 +80,7 @@ starts-before P (event ∷ done) rest machine all = go (has_quantum machine even
     go true h more = (h.0, more h.1)
     go false h more = more h
 
-last-moment : (P : Machine → Type 0) (done : List Event) (machine : Machine) → AllByRecursion P (moments machine done) → P (machine_after machine done)
+pub last-moment : (P : Machine → Type 0) (done : List Event) (machine : Machine) → AllByRecursion P (moments machine done) → P (machine_after machine done)
 unfolding machine_after
 last-moment P [] machine all = all.0
 last-moment P (event ∷ done) machine all = last-moment P done (event_step machine event).state all.1
@@ -100,7 +100,7 @@ module _ (config : Config) (quanta opened : ℕ) where
       more : opens_at_most config before ≤ opens_at_most config (before ++ event ∷ [])
       more = pages_of-more (asked_of config before) (asked_of config (before ++ event ∷ [])) (λ k. omega (arith, asked-append config before (event ∷ []) k))
 
-  short-before : (done rest before : List Event) (machine : Machine) → AllByRecursion Short (intervals before machine (done ++ rest)) → AllByRecursion Short (intervals before machine done)
+  pub short-before : (done rest before : List Event) (machine : Machine) → AllByRecursion Short (intervals before machine (done ++ rest)) → AllByRecursion Short (intervals before machine done)
   short-before [] rest before machine all = (short-now rest before machine all, tt)
   short-before (event ∷ done) rest before machine all = go (has_quantum machine event) all (λ now later. short-before done rest now (event_step machine event).state later)
     where
@@ -114,7 +114,7 @@ module _ (config : Config) (quanta opened : ℕ) where
       go false h more = more (before ++ event ∷ []) h
 
 -- Parts of runs have no more snapshots either
-snapshots-before : (P : World → Type 0) (done rest : List Event) (moment : Moment) → AllByRecursion P (snapshots moment (done ++ rest)) → AllByRecursion P (snapshots moment done)
+pub snapshots-before : (P : World → Type 0) (done rest : List Event) (moment : Moment) → AllByRecursion P (snapshots moment (done ++ rest)) → AllByRecursion P (snapshots moment done)
 snapshots-before P [] rest moment all = tt
 snapshots-before P (event ∷ done) rest moment all = go (has_quantum moment.machine event && is_start_due half.machine.heap.config half.machine.heap.collector) all (λ later. snapshots-before P done rest next later)
   where

@@ -1,4 +1,5 @@
--- Runs with pages for their cycles: what is born while a cycle runs is no more than its intervals ask for, so each cycle leaves enough pages free.
+-- The induction over a run with pages for its cycles. A cycle of so many quanta lies in one interval fewer.
+-- What is born in it is no more than these ask for, so it leaves the free pages that its trigger asks for.
 use Rattle.std.proofs.Common.{◌≡◌, inl, inr, ℕ, suc, ◌+◌, ◌*◌, ◌<◌, ◌≤◌, Bool, true, false, if◌then◌else◌, List, [], ◌∷◌, ◌++◌, length, flat_map, refl, sym, ap, ◌∙◌, subst, arith}
 use Rattle.std.specs.List.{AllByRecursion}
 use Rattle.std.proofs.Math.Nat.{suc-mul, mul-le-mul_right}
@@ -39,17 +40,17 @@ asked-push config before event = omega (arith, ap (λ list. length list) (flat_m
     one : length (flat_map (asked_parts config) (event ∷ [])) ≡ length (asked_parts config event)
     one = ap (λ list. length list) (flat_map-cons (asked_parts config) event []) ∙ ap (λ list. length list) (append-nil (asked_parts config event))
 
-moment-push : (done : List Event) (moment : Moment) (event : Event) → moment_after moment (done ++ event ∷ []) ≡ next_moment (moment_after moment done) event
+pub moment-push : (done : List Event) (moment : Moment) (event : Event) → moment_after moment (done ++ event ∷ []) ≡ next_moment (moment_after moment done) event
 unfolding moment_after
 moment-push [] moment event = refl
 moment-push (first ∷ done) moment event = moment-push done (next_moment moment first) event
 
-head-world : (P : World → Type 0) (events : List Event) (moment : Moment) → AllByRecursion P (worlds moment events) → P moment.world
+pub head-world : (P : World → Type 0) (events : List Event) (moment : Moment) → AllByRecursion P (worlds moment events) → P moment.world
 head-world P [] moment all = all.0
 head-world P (event ∷ events) moment all = all.0
 
 -- the ends of cycles with one event more
-ends-push : (P : Machine → Type 0) (done : List Event) (start : Machine) (event : Event) → AllByRecursion P (run.cycle_ends start done)
+pub ends-push : (P : Machine → Type 0) (done : List Event) (start : Machine) (event : Event) → AllByRecursion P (run.cycle_ends start done)
     → (has_ended (machine_after start done).heap.collector (event_step (machine_after start done) event).state.heap.collector ≡ true → P (event_step (machine_after start done) event).state) → AllByRecursion P (run.cycle_ends start (done ++ event ∷ []))
 unfolding machine_after
 ends-push P [] start event left here = go (has_ended start.heap.collector next.heap.collector) here
@@ -291,7 +292,7 @@ room-of config events quanta opened asked most some so_far has =
       left = ends-enough config quanta opened asked most events events [] [] first some has.pages so_far refl refl sized has.parts has.live tt;
     }
 
-moments-at : (P : Machine → Type 0) (done rest : List Event) (start : Machine) → AllByRecursion P (moments start (done ++ rest)) → P (machine_after start done)
+pub moments-at : (P : Machine → Type 0) (done rest : List Event) (start : Machine) → AllByRecursion P (moments start (done ++ rest)) → P (machine_after start done)
 unfolding machine_after
 moments-at P [] [] start all = all.0
 moments-at P [] (event ∷ rest) start all = all.0

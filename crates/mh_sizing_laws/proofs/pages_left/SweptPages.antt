@@ -1,4 +1,5 @@
--- Steps of the collector: what the sweep has passed has a block, and after it no page in use is without one that is no forwarder.
+-- Steps of the collector. This is the heart: each page in use that the sweep has passed has a block, and what it has passed is marked.
+-- So after the sweep there are as many blocks that are no forwarders as pages in use, or more. A move takes such a block from one page and gives it to another.
 use Rattle.std.proofs.Common.{◌≡◌, inl, inr, ℕ, suc, ◌+◌, ◌==◌, ◌<◌, ◌≤◌, Bool, true, false, if◌then◌else◌, Option, Some, None, is_some, option_and_then, List, [], ◌∷◌, length, get_or, set, refl, sym, ap, ◌∙◌, subst, arith}
 use Rattle.std.proofs.lemmas.Bool.{cases_eq, cases_lt, eqb-false, leb-true, true≢false}
 use Rattle.std.proofs.lemmas.List.{get_or-set_same, get_or-set_other, length-set, set-get_or}
@@ -19,7 +20,8 @@ use Rattle.mh_laws.proofs.moving.NextMove.{next_move-is}
 use Rattle.mh_laws.proofs.sweeping.SweepSteps.{snapshot-sweep_step}
 use Rattle.mh_model.specs.LiveParts.{slot_count, page_count, count_blocks, is_plain}
 use Rattle.mh_sizing_laws.proofs.openings.Rooms.{if_free, free_pages-set, same_room-with_block}
-use Rattle.mh_sizing_laws.proofs.pages_left.Counting.{count-set, count-with_block, place-of}
+use Rattle.mh_sizing_laws.proofs.Weighing.{place-of}
+use Rattle.mh_sizing_laws.proofs.pages_left.Counting.{count-set, count-with_block}
 use Rattle.mh_sizing_laws.proofs.pages_left.FedTables.{HasBlock, IsWithin, Feeds, plain-is, taken-counts}
 use Rattle.mh_sizing_laws.proofs.pages_left.FedCommands.{with_shade-feeds, mark_first-feeds}
 

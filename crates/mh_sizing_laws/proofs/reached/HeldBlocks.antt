@@ -1,20 +1,19 @@
--- What marking, barriers and commands leave of blocks that are older than a cycle: each stays where it is, with its part and as many references.
-use Rattle.std.proofs.Common.{◌≡◌, inl, inr, ℕ, zero, suc, ◌<◌, ◌≤◌, Bool, true, false, if◌then◌else◌, Option, Some, None, option_map, unwrap_or, List, [], ◌∷◌, length, get_or, refl, sym, ap, ◌∙◌, subst, arith}
+-- What marking, barriers and commands leave of blocks that are older than a cycle: until marking ends each stays where it is, with its part and as many references.
+-- So what such blocks cost is shared by those that are marked and those that aren't.
+use Rattle.std.proofs.Common.{◌≡◌, inl, inr, ℕ, ◌<◌, ◌≤◌, Option, Some, None, option_map, List, length, refl, sym, ap, ◌∙◌, subst, arith}
 use Rattle.std.proofs.lemmas.Bool.{cases_eq}
 use Rattle.std.proofs.lemmas.List.{length-set}
 use Rattle.std.proofs.lemmas.Option.{same_Some}
 use Rattle.mh_model.specs.declared.command.Command.{Command}
-use Rattle.mh_model.specs.declared.command.Command.TheVariants as command
-use Rattle.mh_model.specs.declared.reply.Refusal.{Refusal}
 use Rattle.mh_model.specs.declared.shape.Shape.{Shape}
-use Rattle.mh_model.specs.World.{own_slot, board_slot, refusal, unless_refused}
 use Rattle.mh_model.specs.Classes.{parts}
 use Rattle.mh_model.specs.Pages.{Table, block_at, with_block}
-use Rattle.mh_model.specs.Table.{Block, Made, made_group, Position, references_at, with_reference_at, with_block_change, resolve, target_of, reference_in, loaded_reference}
-use Rattle.mh_model.specs.Collector.{Collector, Marking, is_marked, with_grey, shade_block, shade, mark_reference, mark_references, mark_first, marking_of, with_shade}
-use Rattle.mh_model.specs.Mutator.{HeapState, in_roots, in_roots_or_mark, before_field, with_root, with_roots_cleared, with_session_cleared, with_reference_stored, with_number_stored, field_of, root_at, number_field, new_group, with_born, heap_sight, heap_effect, mutator_step}
+use Rattle.mh_model.specs.Table.{Block, Made, made_group, with_reference_at, with_block_change}
+use Rattle.mh_model.specs.Collector.{Collector, Marking, mark_first, marking_of, with_shade}
+use Rattle.mh_model.specs.Mutator.{HeapState, mutator_step}
 use Rattle.mh_table_laws.proofs.placing.Places.{IsShaped, block-slot, with_block-self, block_at-with_block_same, block_at-with_block_other}
 use Rattle.mh_laws.proofs.objects.NewbornBlocks.{made_group-born}
+use Rattle.mh_laws.proofs.commands.EachCommand.{IsKeptByWrites, shade-each, mark_first-each, over_tables, heap_effect-each, mutator_step-each}
 
 -- Blocks -----------------------------------------------------------------------------------------
 
@@ -76,65 +75,22 @@ module _ (most : ℕ) where
   reference-holds : (table : Table Block) (place index : ℕ) (reference : Option ℕ) → Holds most table (with_reference_at table place index reference)
   reference-holds table place index reference = holds-change table place _ (λ block. record { birth = refl; part = refl; forward = refl; references = length-set block.references index reference })
 
-  -- Marking --------------------------------------------------------------------------------------
+  held : IsKeptByWrites (Holds most)
+  held = record {
+    same = holds-same;
+    joined = holds-then;
+    stamped = λ table place block stamp at. holds-with_block table place block (record block { stamp = stamp }) at (record { birth = refl; part = refl; forward = refl; references = refl });
+    referred = reference-holds;
+    numbered = λ table place index number. holds-change table place _ (λ block. record { birth = refl; part = refl; forward = refl; references = refl });
+  }
 
-  shade_block-holds : (marking : Marking) (place : ℕ) (block : Option Block) → block_at marking.table place ≡ block → Holds most marking.table (shade_block marking place block).table
-  shade_block-holds marking place None at = holds-same marking.table
-  shade_block-holds marking place (Some block) at = go (is_marked marking.cycle block)
-    where
-      go : (marked : Bool) → Holds most marking.table (if marked then marking else with_grey marking place block).table
-      go true = holds-same marking.table
-      go false = holds-with_block marking.table place block (record block { stamp = marking.cycle }) at (record { birth = refl; part = refl; forward = refl; references = refl })
-
-  shade-holds : (marking : Marking) (reference : Option ℕ) → Holds most marking.table (shade marking reference).table
-  shade-holds marking None = holds-same marking.table
-  shade-holds marking (Some place) = shade_block-holds marking (resolve marking.table place) (block_at marking.table (resolve marking.table place)) refl
-
-  mark_references-holds : (marking : Marking) (place index : ℕ) (references : List (Option ℕ)) → Holds most marking.table (mark_references marking place index references).table
-  mark_references-holds marking place index [] = holds-same marking.table
-  mark_references-holds marking place index (reference ∷ references) =
-      let target : Option ℕ = target_of marking.table reference in
-      let written : Table Block = with_reference_at marking.table place index target in
-      let next : Marking = mark_reference marking place index reference in
-      holds-then marking.table next.table (mark_references next place (suc index) references).table
-      (holds-then marking.table written next.table (reference-holds marking.table place index target) (shade-holds (record marking { table = written }) target))
-      (mark_references-holds next place (suc index) references)
+  -- Marking and barriers -------------------------------------------------------------------------
 
   pub mark_first-holds : (marking : Marking) (grey : List ℕ) → Holds most marking.table (mark_first marking grey).table
-  mark_first-holds marking [] = holds-same marking.table
-  mark_first-holds marking (place ∷ grey) = mark_references-holds (record marking { grey = grey }) place 0 (references_at marking.table place)
-
-  -- Barriers -------------------------------------------------------------------------------------
+  mark_first-holds marking grey = mark_first-each (Holds most) held marking grey
 
   pub with_shade-holds : (collector : Collector) (reference : Option ℕ) → Holds most collector.table (with_shade collector reference).table
-  with_shade-holds collector reference = shade-holds (marking_of collector) reference
-
-  if-holds : (test : Bool) (collector other : Collector) → Holds most collector.table other.table → Holds most collector.table (if test then other else collector).table
-  if-holds true collector other same = same
-  if-holds false collector other same = holds-same collector.table
-
-  with_root-holds : (collector : Collector) (slot : ℕ) (reference : Option ℕ) → Holds most collector.table (with_root collector slot reference).table
-  with_root-holds collector slot reference = if-holds (in_roots collector.phase) collector (with_shade collector (get_or collector.slots slot None)) (with_shade-holds collector (get_or collector.slots slot None))
-
-  with_roots_cleared-holds : (count : ℕ) (collector : Collector) (slot : ℕ) → Holds most collector.table (with_roots_cleared collector slot count).table
-  with_roots_cleared-holds zero collector slot = holds-same collector.table
-  with_roots_cleared-holds (suc count) collector slot =
-      let next : Collector = with_root collector slot None in
-      holds-then collector.table next.table (with_roots_cleared next (suc slot) count).table (with_root-holds collector slot None) (with_roots_cleared-holds count next (suc slot))
-
-  with_session_cleared-holds : (collector : Collector) (who : ℕ) → Holds most collector.table (with_session_cleared collector who).table
-  unfolding with_session_cleared
-  with_session_cleared-holds collector who = with_roots_cleared-holds 16 collector (own_slot who 0)
-
-  with_reference_stored-holds : (collector : Collector) (position : Position) (reference : Option ℕ) → Holds most collector.table (with_reference_stored collector position reference).table
-  with_reference_stored-holds collector position reference =
-      let shaded : Collector = before_field collector position in
-      holds-then collector.table shaded.table (with_reference_stored collector position reference).table
-      (if-holds (in_roots_or_mark collector.phase) collector (with_shade collector (reference_in collector.table position)) (with_shade-holds collector (reference_in collector.table position)))
-      (reference-holds shaded.table position.place position.index reference)
-
-  with_number_stored-holds : (collector : Collector) (position : Position) (number : ℕ) → Holds most collector.table (with_number_stored collector position number).table
-  with_number_stored-holds collector position number = holds-change collector.table position.place _ (λ block. record { birth = refl; part = refl; forward = refl; references = refl })
+  with_shade-holds collector reference = shade-each (Holds most) held (marking_of collector) reference
 
   -- Commands -------------------------------------------------------------------------------------
 
@@ -153,33 +109,7 @@ module _ (most : ℕ) where
         ];
       }
 
-  born-holds : (heap : HeapState) (slot references numbers : ℕ) → IsShaped heap.collector.table → most ≤ heap.next_birth → (group : Option Made) → new_group heap references numbers ≡ group
-      → Holds most heap.collector.table (unwrap_or (option_map (with_born heap slot) group) heap).collector.table
-  born-holds heap slot references numbers shaped later None is = holds-same heap.collector.table
-  born-holds heap slot references numbers shaped later (Some made) is =
-      let born : Collector = record (heap.collector) { table = made.table } in
-      holds-then heap.collector.table made.table (with_born heap slot made).collector.table (group-holds heap.collector.table heap.next_birth heap.collector.cycle references numbers shaped later made is) (with_root-holds born slot (Some made.place))
-
-  heap_effect-holds : (heap : HeapState) (who : ℕ) (c : Command) → IsShaped heap.collector.table → most ≤ heap.next_birth → Holds most heap.collector.table (heap_effect heap who c).state.collector.table
-  unfolding heap_effect
-  heap_effect-holds heap who (command.New slot references numbers) shaped later = born-holds heap (own_slot who slot) references numbers shaped later (new_group heap references numbers) refl
-  heap_effect-holds heap who (command.Get slot source field) shaped later = with_root-holds heap.collector (own_slot who slot) (loaded_reference heap.collector.table (field_of heap (own_slot who source) field))
-  heap_effect-holds heap who (command.Put slot field value) shaped later = with_reference_stored-holds heap.collector (field_of heap (own_slot who slot) field) _
-  heap_effect-holds heap who (command.Copy slot source) shaped later = with_root-holds heap.collector (own_slot who slot) (root_at heap (own_slot who source))
-  heap_effect-holds heap who (command.Clear slot) shaped later = with_root-holds heap.collector (own_slot who slot) None
-  heap_effect-holds heap who (command.Read slot index) shaped later = holds-same heap.collector.table
-  heap_effect-holds heap who (command.Write slot index number) shaped later = with_number_stored-holds heap.collector (number_field heap (own_slot who slot) index) number
-  heap_effect-holds heap who (command.Same left right) shaped later = holds-same heap.collector.table
-  heap_effect-holds heap who (command.Shape slot) shaped later = holds-same heap.collector.table
-  heap_effect-holds heap who (command.Post board slot) shaped later = with_root-holds heap.collector (board_slot board) (root_at heap (own_slot who slot))
-  heap_effect-holds heap who (command.Take slot board) shaped later = with_root-holds heap.collector (own_slot who slot) (root_at heap (board_slot board))
-  heap_effect-holds heap who command.End shaped later = with_session_cleared-holds heap.collector who
-
   -- A command leaves the blocks of births that were there, and adds none of them
   pub mutator_step-holds : (heap : HeapState) (who : ℕ) (c : Command) → IsShaped heap.collector.table → most ≤ heap.next_birth → Holds most heap.collector.table (mutator_step heap who c).state.collector.table
-  unfolding mutator_step
-  mutator_step-holds heap who c shaped later = go (refusal (heap_sight heap) who c)
-    where
-      go : (refused : Option Refusal) → Holds most heap.collector.table (unless_refused refused heap (heap_effect heap who c)).state.collector.table
-      go None = heap_effect-holds heap who c shaped later
-      go (Some refused) = holds-same heap.collector.table
+  mutator_step-holds heap who c shaped later = mutator_step-each _ (over_tables (Holds most) held) heap who c (λ allowed. heap_effect-each _ (over_tables (Holds most) held) heap who c
+      (λ slot references numbers is made e. group-holds heap.collector.table heap.next_birth heap.collector.cycle references numbers shaped later made e))

@@ -1,10 +1,9 @@
 -- What a cycle has marked of the blocks that are older than it: parts of objects that the snapshot reaches, each at most once.
-use Rattle.std.proofs.Common.{◌≡◌, ◌⊎◌, inl, inr, ℕ, zero, suc, ◌+◌, ◌*◌, ◌==◌, ◌<◌, ◌≤◌, ◌&&◌, nat_lt, not, Bool, true, false, if◌then◌else◌, Option, Some, None, option_and_then, List, [], ◌∷◌, length, get_or, slice_get, refl, sym, ap, ◌∙◌, subst, arith}
-use Rattle.std.specs.List.{AllByRecursion, IsDistinct, sum_by}
-use Rattle.std.proofs.lemmas.Bool.{and_parts, and_from, eqb-true, ne_eqb, ltb-true, ltb-false, lt-ltb}
+use Rattle.std.proofs.Common.{◌≡◌, ◌⊎◌, inl, inr, ℕ, suc, ◌+◌, ◌*◌, ◌==◌, ◌<◌, ◌≤◌, ◌&&◌, nat_lt, not, Bool, true, false, if◌then◌else◌, Option, Some, None, option_and_then, List, [], ◌∷◌, length, get_or, slice_get, refl, sym, ap, ◌∙◌, subst, arith}
+use Rattle.std.specs.List.{sum_by}
+use Rattle.std.proofs.lemmas.Bool.{and_parts, and_from, eqb-true, ltb-true, lt-ltb}
 use Rattle.std.proofs.lemmas.List.Sums.{sum_by-cons, sum_by-le-sum_by}
 use Rattle.std.proofs.lemmas.Option.{same_Some, slice_get_within}
-use Rattle.mh_model.specs.Batches.{NoneTwice}
 use Rattle.mh_model.specs.Classes.{Part}
 use Rattle.mh_model.specs.Collector.{Collector, is_marked, is_idle}
 use Rattle.mh_model.specs.CycleBounds.{slot_weight, page_weight, table_weight, in_units}
@@ -17,7 +16,9 @@ use Rattle.mh_table_laws.proofs.Lists.{below_length}
 use Rattle.mh_table_laws.proofs.placing.Places.{IsShaped}
 use Rattle.mh_model.specs.CycleUnits.{slot_units, page_units, marking_units}
 use Rattle.mh_model.specs.CycleUnits.{part_units, parts_of, object_units, units_of_births, ReachesAtMost}
-use Rattle.mh_sizing_laws.proofs.reached.Counting.{block_units, slot_sum, page_sum, sum_blocks, sum_to, sum_by-pointwise, count-below, count-some, count-one, with_key, count-keys}
+use Rattle.mh_sizing_laws.proofs.Sums.{sum_to, sum_by-pointwise, present, present-once, present-all, present-sum}
+use Rattle.mh_sizing_laws.proofs.Weighing.{with_key}
+use Rattle.mh_sizing_laws.proofs.reached.Counting.{block_units, slot_sum, page_sum, sum_blocks, count-below, count-some, count-one, count-keys}
 use Rattle.mh_sizing_laws.proofs.reached.HeldBlocks.{Holds}
 
 -- Sums -------------------------------------------------------------------------------------------
@@ -32,49 +33,6 @@ sum_to-list f g (x ∷ list) from few =
   where
     later : (index : ℕ) (y : _) → slice_get list index ≡ Some y → f (suc from + index) ≤ g y
     later index y at = let same : from + suc index ≡ suc from + index = omega arith in omega (arith, few (suc index) y at, ap f same)
-
--- the numbers below this one of which a value isn't 0
-abbrev present : (ℕ → ℕ) → ℕ → List ℕ
-present f zero = []
-present f (suc n) = if nat_lt 0 (f n) then n ∷ present f n else present f n
-
-module _ (f : ℕ → ℕ) where
-  present-below : (n most : ℕ) → n ≤ most → AllByRecursion (λ birth. birth < most) (present f n)
-  present-below zero most few = tt
-  present-below (suc n) most few = go (nat_lt 0 (f n)) (present-below n most (omega (arith, few)))
-    where
-      go : (some : Bool) → AllByRecursion (λ birth. birth < most) (present f n) → AllByRecursion (λ birth. birth < most) (if some then n ∷ present f n else present f n)
-      go true rest = (omega (arith, few), rest)
-      go false rest = rest
-
-  apart : (n : ℕ) (list : List ℕ) → AllByRecursion (λ birth. birth < n) list → AllByRecursion (λ birth. (n == birth) ≡ false) list
-  apart n [] below = tt
-  apart n (birth ∷ list) below = (ne_eqb n birth (λ same. omega (arith, same, below.0)), apart n list below.1)
-
-  present-once : (n : ℕ) → NoneTwice (present f n)
-  unfolding IsDistinct
-  present-once zero = tt
-  present-once (suc n) = go (nat_lt 0 (f n)) (present-once n)
-    where
-      go : (some : Bool) → NoneTwice (present f n) → NoneTwice (if some then n ∷ present f n else present f n)
-      go true rest = (apart n (present f n) (present-below n n (omega arith)), rest)
-      go false rest = rest
-
-  present-all : (P : ℕ → Type 0) (most : ℕ) → ((birth : ℕ) → birth < most → 0 < f birth → P birth) → (n : ℕ) → n ≤ most → AllByRecursion P (present f n)
-  present-all P most each zero few = tt
-  present-all P most each (suc n) few = go (nat_lt 0 (f n)) refl (present-all P most each n (omega (arith, few)))
-    where
-      go : (some : Bool) → nat_lt 0 (f n) ≡ some → AllByRecursion P (present f n) → AllByRecursion P (if some then n ∷ present f n else present f n)
-      go true is rest = (each n (omega (arith, few)) (ltb-true 0 (f n) is), rest)
-      go false is rest = rest
-
-  present-sum : (g : ℕ → ℕ) (most : ℕ) → ((birth : ℕ) → birth < most → f birth ≤ g birth) → (n : ℕ) → n ≤ most → sum_to f n ≤ sum_by g (present f n)
-  present-sum g most below zero few = omega arith
-  present-sum g most below (suc n) few = go (nat_lt 0 (f n)) refl (present-sum g most below n (omega (arith, few)))
-    where
-      go : (some : Bool) → nat_lt 0 (f n) ≡ some → sum_to f n ≤ sum_by g (present f n) → sum_to f n + f n ≤ sum_by g (if some then n ∷ present f n else present f n)
-      go true is rest = omega (arith, rest, below n (omega (arith, few)), sum_by-cons g n (present f n))
-      go false is rest = omega (arith, rest, ltb-false 0 (f n) is)
 
 -- Tables -----------------------------------------------------------------------------------------
 

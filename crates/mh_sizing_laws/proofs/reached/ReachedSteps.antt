@@ -1,4 +1,4 @@
--- Steps of a cycle until marking ends: the blocks that it leaves unmarked are what it needn't spend.
+-- Steps of a cycle until marking ends: the blocks that it leaves unmarked are what it needn't spend. So garbage doesn't count.
 use Rattle.std.proofs.Common.{◌≡◌, inl, inr, ℕ, zero, suc, ◌+◌, ◌-◌, ◌*◌, ◌==◌, ◌≤◌, ◌<◌, ◌||◌, nat_lt, Bool, true, false, if◌then◌else◌, None, List, [], ◌∷◌, length, get_or, refl, sym, ap, ◌∙◌, subst, arith}
 use Rattle.std.proofs.Math.Nat.{mul-suc, add-mul}
 use Rattle.std.proofs.lemmas.Bool.{cases_Bool, or_parts, true≢false, false≢true}

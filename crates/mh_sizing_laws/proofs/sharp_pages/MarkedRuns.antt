@@ -1,88 +1,24 @@
 -- Sharp pages for cycles that mark few blocks, or whose snapshots reach little: each part of a run has room, so its cycles take few quanta, so the next one leaves enough.
-use Rattle.std.proofs.Common.{◌≡◌, ℕ, ◌+◌, ◌*◌, ◌<◌, ◌≤◌, Bool, true, false, ◌&&◌, if◌then◌else◌, List, [], ◌∷◌, ◌++◌, refl, sym, subst, arith}
+use Rattle.std.proofs.Common.{◌≡◌, ℕ, ◌+◌, ◌*◌, ◌<◌, ◌≤◌, false, List, [], ◌++◌, refl, sym, subst, arith}
 use Rattle.std.specs.List.{AllByRecursion}
 use Rattle.std.proofs.Math.Nat.{mul-le-mul_right}
 use Rattle.mh_model.specs.declared.command.Event.{Event}
 use Rattle.mh_model.specs.declared.config.Config.{Config}
-use Rattle.mh_model.specs.Collector.{is_idle, is_start_due}
-use Rattle.mh_model.specs.Machine.{Machine, first_machine, half_step, event_step, machine_after}
-use Rattle.mh_model.specs.Snapshot.{Moment, first_moment, half_moment, next_moment, has_quantum, snapshot_at}
-use Rattle.mh_model.specs.World.{World}
-use Rattle.mh_model.specs.Openings.{opens_at_most, free_of}
-use Rattle.mh_model.specs.Intervals.{moments, intervals, cycle_ends, CyclesTakeAtMost, HasRoomFor, IsNeverFull}
-use Rattle.mh_model.specs.CycleUnits.{marking_units, cycle_starts, CyclesMarkAtMost, quanta_for}
+use Rattle.mh_model.specs.Collector.{is_idle}
+use Rattle.mh_model.specs.Machine.{Machine, first_machine}
+use Rattle.mh_model.specs.Snapshot.{first_moment}
+use Rattle.mh_model.specs.Openings.{free_of}
+use Rattle.mh_model.specs.Intervals.{intervals, cycle_ends, CyclesTakeAtMost, HasRoomFor, IsNeverFull}
+use Rattle.mh_model.specs.CycleUnits.{marking_units, CyclesMarkAtMost, quanta_for}
 use Rattle.mh_model.specs.CycleUnits.{ReachesAtMost, snapshots, CyclesReachAtMost}
 use Rattle.mh_sizing_laws.specs.PagesLeft.{NeverFills}
-use Rattle.mh_sizing_laws.proofs.openings.Intervals.{asked_of, asked-append}
-use Rattle.mh_sizing_laws.proofs.openings.MadeParts.{pages_of-more}
-use Rattle.mh_sizing_laws.proofs.triggers.SizedRuns.{IsShort, event-short}
+use Rattle.mh_sizing_laws.proofs.openings.Intervals.{asked-append}
+use Rattle.mh_sizing_laws.proofs.triggers.SizedRuns.{IsShort}
 use Rattle.mh_sizing_laws.proofs.cycles.SharperRuns.{marking-suffices}
 use Rattle.mh_sizing_laws.proofs.reached.ReachedRuns.{reached-suffices}
-use Rattle.mh_sizing_laws.proofs.pages_left.MarkedPages.{quanta-more, weaker}
+use Rattle.mh_sizing_laws.proofs.pages_left.MarkedPages.{quanta-more, starts-before, last-moment, weaker, short-before, snapshots-before}
 use Rattle.mh_sizing_laws.specs.SharpPages.{all_asked, HasSharpPagesFor, SharpPagesForMarkingSuffice, SharpPagesForReachedSuffice}
 use Rattle.mh_sizing_laws.proofs.sharp_pages.SharpRuns.{FewerSoFar, sharp-room}
-
--- Parts of runs ----------------------------------------------------------------------------------
-
-starts-before : (P : Machine → Type 0) (done rest : List Event) (machine : Machine) → AllByRecursion P (cycle_starts machine (done ++ rest)) → AllByRecursion P (cycle_starts machine done)
-starts-before P [] rest machine all = tt
-starts-before P (event ∷ done) rest machine all = go (has_quantum machine event && is_start_due half.heap.config half.heap.collector) all (λ later. starts-before P done rest next later)
-  where
-    half : Machine
-    half = half_step machine event
-
-    next : Machine
-    next = (event_step machine event).state
-
-    go : (starts : Bool) → AllByRecursion P (if starts then half ∷ cycle_starts next (done ++ rest) else cycle_starts next (done ++ rest)) → (AllByRecursion P (cycle_starts next (done ++ rest)) → AllByRecursion P (cycle_starts next done))
-        → AllByRecursion P (if starts then half ∷ cycle_starts next done else cycle_starts next done)
-    go true h more = (h.0, more h.1)
-    go false h more = more h
-
-last-moment : (P : Machine → Type 0) (done : List Event) (machine : Machine) → AllByRecursion P (moments machine done) → P (machine_after machine done)
-unfolding machine_after
-last-moment P [] machine all = all.0
-last-moment P (event ∷ done) machine all = last-moment P done (event_step machine event).state all.1
-
-module _ (config : Config) (quanta opened : ℕ) where
-  abbrev Short : List Event → Type 0
-  Short = IsShort config quanta opened
-
-  short-now : (rest before : List Event) (machine : Machine) → AllByRecursion Short (intervals before machine rest) → Short before
-  short-now [] before machine all = all.0
-  short-now (event ∷ rest) before machine all = omega (arith, event-short config quanta opened rest before machine event all, more)
-    where
-      more : opens_at_most config before ≤ opens_at_most config (before ++ event ∷ [])
-      more = pages_of-more (asked_of config before) (asked_of config (before ++ event ∷ [])) (λ k. omega (arith, asked-append config before (event ∷ []) k))
-
-  short-before : (done rest before : List Event) (machine : Machine) → AllByRecursion Short (intervals before machine (done ++ rest)) → AllByRecursion Short (intervals before machine done)
-  short-before [] rest before machine all = (short-now rest before machine all, tt)
-  short-before (event ∷ done) rest before machine all = go (has_quantum machine event) all (λ now later. short-before done rest now (event_step machine event).state later)
-    where
-      next : Machine
-      next = (event_step machine event).state
-
-      go : (cut : Bool) → AllByRecursion Short (if cut then (before ++ event ∷ []) ∷ intervals [] next (done ++ rest) else intervals (before ++ event ∷ []) next (done ++ rest))
-          → ((now : List Event) → AllByRecursion Short (intervals now next (done ++ rest)) → AllByRecursion Short (intervals now next done))
-          → AllByRecursion Short (if cut then (before ++ event ∷ []) ∷ intervals [] next done else intervals (before ++ event ∷ []) next done)
-      go true h more = (h.0, more [] h.1)
-      go false h more = more (before ++ event ∷ []) h
-
--- Parts of runs have no more snapshots either
-snapshots-before : (P : World → Type 0) (done rest : List Event) (moment : Moment) → AllByRecursion P (snapshots moment (done ++ rest)) → AllByRecursion P (snapshots moment done)
-snapshots-before P [] rest moment all = tt
-snapshots-before P (event ∷ done) rest moment all = go (has_quantum moment.machine event && is_start_due half.machine.heap.config half.machine.heap.collector) all (λ later. snapshots-before P done rest next later)
-  where
-    half : Moment
-    half = half_moment moment event
-
-    next : Moment
-    next = next_moment moment event
-
-    go : (starts : Bool) → AllByRecursion P (if starts then snapshot_at half ∷ snapshots next (done ++ rest) else snapshots next (done ++ rest)) → (AllByRecursion P (snapshots next (done ++ rest)) → AllByRecursion P (snapshots next done))
-        → AllByRecursion P (if starts then snapshot_at half ∷ snapshots next done else snapshots next done)
-    go true h more = (h.0, more h.1)
-    go false h more = more h
 
 -- Pages ------------------------------------------------------------------------------------------
 

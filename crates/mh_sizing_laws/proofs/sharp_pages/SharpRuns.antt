@@ -1,29 +1,28 @@
--- Runs with pages where small parts share them: each cycle leaves enough pages free.
-use Rattle.std.proofs.Common.{◌≡◌, inl, inr, ℕ, zero, suc, ◌==◌, cond, Option, Some, None, option_map, unwrap_or, replicate, ◌+◌, ◌*◌, ◌/◌, ◌<◌, ◌≤◌, Bool, true, false, if◌then◌else◌, List, [], ◌∷◌, ◌++◌, length, flat_map, refl, sym, ap, ◌∙◌, subst, arith}
+-- The induction over a run with pages where small parts share them: each cycle leaves enough pages free. What is carried bounds the pages of a cycle by three sums:
+-- the pages that its own births fill, those that older blocks fill which it found, and one of each class for each interval.
+-- With N of 3, one live part and 64 small parts an interval, which fill one page, 13 pages suffice, where each part may keep a page 132. For cycles of one quantum that other law is the better.
+use Rattle.std.proofs.Common.{◌≡◌, inl, ℕ, zero, suc, None, replicate, ◌+◌, ◌*◌, ◌/◌, ◌≤◌, Bool, true, false, if◌then◌else◌, List, [], ◌∷◌, ◌++◌, length, flat_map, refl, sym, ap, ◌∙◌, subst, arith}
 use Rattle.std.specs.List.{AllByRecursion}
 use Rattle.std.proofs.Math.Nat.{mul-add, mul-le-mul_right}
-use Rattle.std.proofs.lemmas.Bool.{and_parts, cases_Bool, eqb-true, false≢true}
-use Rattle.std.proofs.lemmas.List.Sums.{sum_by-cons}
+use Rattle.std.proofs.lemmas.Bool.{and_parts, false≢true}
 use Rattle.std.proofs.lemmas.List.{append-nil, append_assoc}
 use Rattle.std.proofs.lemmas.Option.{none-some}
 use Rattle.mh_model.specs.declared.command.Event.{Event}
 use Rattle.mh_model.specs.declared.config.Config.{Config}
 use Rattle.mh_model.specs.Bound.{most_quanta}
-use Rattle.mh_model.specs.Classes.{Part, class_of, part_words, is_class_size}
+use Rattle.mh_model.specs.Classes.{Part}
 use Rattle.mh_model.specs.Collector.{is_idle}
 use Rattle.mh_model.specs.LiveParts.{HasAtMostLive, worlds}
 use Rattle.mh_model.specs.Machine.{Machine, first_machine, event_step, machine_after}
-use Rattle.mh_model.specs.Openings.{asked_parts, class_parts, is_of_class}
+use Rattle.mh_model.specs.Openings.{asked_parts}
 use Rattle.mh_model.specs.Intervals.{moments, intervals, has_ended, HasRoomFor}
 use Rattle.mh_model.specs.Intervals as run
 use Rattle.mh_model.specs.Snapshot.{Moment, first_moment, next_moment, moment_after, has_quantum}
-use Rattle.mh_model.specs.World.{World}
 use Rattle.mh_laws.proofs.bounds.CyclesInTime.{run-stays}
 use Rattle.mh_laws.proofs.commands.LeftUnchanged.{machine_after-pages}
 use Rattle.mh_run_laws.proofs.worlds.Moments.{machine-moment_after}
 use Rattle.mh_table_laws.proofs.Lists.{none_at}
 use Rattle.mh_table_laws.proofs.TableMapLemmas.{free-table_map}
-use Rattle.mh_table_laws.proofs.tables.PageSlots.{class_of-class_size}
 use Rattle.mh_sizing_laws.proofs.cycles.Classes.{PartsFit}
 use Rattle.mh_sizing_laws.proofs.openings.Intervals.{asked-cons}
 use Rattle.mh_sizing_laws.proofs.openings.MadeParts.{IsAmong}
@@ -34,41 +33,10 @@ use Rattle.mh_sizing_laws.specs.SharpPages.{occurring, fewest_of, all_asked, Has
 use Rattle.mh_sizing_laws.proofs.filling.Ages.{birth_of, ages}
 use Rattle.mh_sizing_laws.proofs.filling.PageWeights.{roomy}
 use Rattle.mh_sizing_laws.proofs.filling.Weights.{weights, weigh}
+use Rattle.mh_sizing_laws.proofs.cycles.Occurring.{parts-class}
+use Rattle.mh_sizing_laws.proofs.pages_left.SizedPages.{moment-push, head-world, ends-push, moments-at}
 use Rattle.mh_sizing_laws.proofs.sharp_pages.ClassesThatOccur.{occurring-parts, sum-none}
 use Rattle.mh_sizing_laws.proofs.sharp_pages.SharpEvents.{IsSharp, left, left-few, sharp-quiet, sharp-quantum}
-
--- Lists ------------------------------------------------------------------------------------------
-
-moment-push : (done : List Event) (moment : Moment) (event : Event) → moment_after moment (done ++ event ∷ []) ≡ next_moment (moment_after moment done) event
-unfolding moment_after
-moment-push [] moment event = refl
-moment-push (first ∷ done) moment event = moment-push done (next_moment moment first) event
-
-head-world : (P : World → Type 0) (events : List Event) (moment : Moment) → AllByRecursion P (worlds moment events) → P moment.world
-head-world P [] moment all = all.0
-head-world P (event ∷ events) moment all = all.0
-
--- the ends of cycles with one event more
-ends-push : (P : Machine → Type 0) (done : List Event) (start : Machine) (event : Event) → AllByRecursion P (run.cycle_ends start done)
-    → (has_ended (machine_after start done).heap.collector (event_step (machine_after start done) event).state.heap.collector ≡ true → P (event_step (machine_after start done) event).state) → AllByRecursion P (run.cycle_ends start (done ++ event ∷ []))
-unfolding machine_after
-ends-push P [] start event all here = go (has_ended start.heap.collector next.heap.collector) here
-  where
-    next : Machine
-    next = (event_step start event).state
-
-    go : (ended : Bool) → (ended ≡ true → P next) → AllByRecursion P (if ended then next ∷ [] else [])
-    go true is = (is refl, tt)
-    go false is = tt
-ends-push P (first ∷ done) start event all here = go (has_ended start.heap.collector next.heap.collector) all (λ rest. ends-push P done next event rest here)
-  where
-    next : Machine
-    next = (event_step start first).state
-
-    go : (ended : Bool) → AllByRecursion P (if ended then next ∷ run.cycle_ends next done else run.cycle_ends next done) → (AllByRecursion P (run.cycle_ends next done) → AllByRecursion P (run.cycle_ends next (done ++ event ∷ [])))
-        → AllByRecursion P (if ended then next ∷ run.cycle_ends next (done ++ event ∷ []) else run.cycle_ends next (done ++ event ∷ []))
-    go true all more = (all.0, more all.1)
-    go false all more = more all
 
 -- The first table --------------------------------------------------------------------------------
 
@@ -76,21 +44,6 @@ ends-push P (first ∷ done) start event all here = go (has_ended start.heap.col
 zeros : (k pages : ℕ) → weights (weigh k roomy) (replicate pages None) ≤ 0
 zeros k zero = omega arith
 zeros k (suc pages) = omega (arith, zeros k pages)
-
--- a class of which there are parts is one of the classes
-part-class : (size : ℕ) (part : Part) → is_of_class size part ≡ true → is_class_size size ≡ true
-part-class size part e = go (class_of (part_words part)) refl e
-  where
-    go : (class : Option ℕ) → class_of (part_words part) ≡ class → unwrap_or (option_map (λ c. c == size) class) false ≡ true → is_class_size size ≡ true
-    go None is h = absurd (false≢true h)
-    go (Some other) is h = class_of-class_size (part_words part) size (is ∙ ap (λ n. Some n) (eqb-true other size h))
-
-parts-class : (size : ℕ) (list : List Part) → 0 < class_parts size list → is_class_size size ≡ true
-parts-class size [] some = absurd (omega arith)
-parts-class size (part ∷ list) some = elim (cases_Bool (is_of_class size part)) [
-  | inl here ↦ part-class size part here
-  | inr apart ↦ parts-class size list (omega (arith, some, sum_by-cons (λ p. cond (is_of_class size p) 1 0) part list, ap {B = ℕ} (λ b. cond b 1 0) apart))
-]
 
 -- Runs -------------------------------------------------------------------------------------------
 
@@ -199,12 +152,6 @@ sharp-room config events quanta opened most some so_far has =
       left = ends-enough config quanta opened most unit refl list events events [] [] first some (omega (arith, has.pages)) so_far refl refl
           (first-sharp config quanta opened most unit refl list some (head-world (HasAtMostLive most) events first has.live)) (λ size one. occurring-parts list size (parts-class size list one) one) has.intervals has.live tt;
     }
-
-moments-at : (P : Machine → Type 0) (done rest : List Event) (start : Machine) → AllByRecursion P (moments start (done ++ rest)) → P (machine_after start done)
-unfolding machine_after
-moments-at P [] [] start all = all.0
-moments-at P [] (event ∷ rest) start all = all.0
-moments-at P (event ∷ done) rest start all = moments-at P done rest (event_step start event).state all.1
 
 -- Pages suffice where small parts share them
 pub sharp-pages-suffice : SharpPagesSuffice

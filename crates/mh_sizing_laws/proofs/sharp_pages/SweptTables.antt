@@ -15,7 +15,7 @@ use Rattle.mh_table_laws.proofs.tables.PageSlots.{slots_in-class_size}
 use Rattle.mh_sizing_laws.proofs.cycles.Classes.{HasClasses}
 use Rattle.mh_sizing_laws.proofs.openings.MadeParts.{IsAmong}
 use Rattle.mh_sizing_laws.proofs.openings.Rooms.{empties}
-use Rattle.mh_sizing_laws.proofs.pages_left.Counting.{place-of}
+use Rattle.mh_sizing_laws.proofs.Weighing.{place-of}
 use Rattle.mh_sizing_laws.proofs.filling.Weights.{weights, weigh, weigh-own, weigh-less}
 use Rattle.mh_sizing_laws.proofs.filling.Slots.{youngs, olds, olds-youngs}
 use Rattle.mh_sizing_laws.proofs.filling.PageWeights.{traced_by, traced, roomy}

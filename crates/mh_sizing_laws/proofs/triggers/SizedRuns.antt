@@ -1,4 +1,6 @@
--- Runs with room for their intervals and cycles: at each moment enough pages were free as the interval began.
+-- The induction over a run with room for its intervals and cycles: as an interval begins, the free pages suffice for it and for those that the cycle may still have.
+-- Between cycles this holds for one of three reasons: the run has just begun, the last quantum found more free pages than the trigger, or it ended a cycle.
+-- So it doesn't matter who starts a cycle, the trigger or a session, nor who runs quanta, the scheduler or the control.
 use Rattle.std.proofs.Common.{◌≡◌, ◌⊎◌, inl, inr, ℕ, zero, suc, ◌+◌, ◌-◌, ◌*◌, ◌/◌, ◌<◌, ◌≤◌, min, nat_le, nat_lt, not, Bool, true, false, ◌||◌, if◌then◌else◌, Option, None, List, [], ◌∷◌, ◌++◌, replicate, refl, sym, ap, ◌∙◌, subst, arith}
 use Rattle.std.specs.List.{AllByRecursion}
 use Rattle.std.proofs.Math.Nat.{suc-mul, mul-le-mul_right}

@@ -1,4 +1,4 @@
--- A run that is never full beside the ever-growing world, which is given all its commands.
+-- A run that is never full is answered as the ever-growing world answers all its commands.
 use Rattle.std.proofs.Common.{◌≡◌, false, if◌then◌else◌, List, [], ◌∷◌, ◌++◌, refl, subst}
 use Rattle.std.specs.List.{AllByRecursion}
 use Rattle.mh_model.specs.declared.command.Event.{Event}

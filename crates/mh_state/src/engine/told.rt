@@ -1,4 +1,5 @@
-//! Events that tell what they do.
+//! Events that tell what they do: those of the engine, with the deeds of command and quantum added to an account. They
+//! are calls of their own, so an event that tells nothing keeps no account.
 ghost use Rattle.std.specs.Prelude.{◌≡◌, ◌<◌, ◌==◌, IfOk, OnErr, Some, None};
 ghost use Rattle.mh_model.specs.declared.command.Control.TheVariants as controls;
 ghost use Rattle.mh_model.specs.declared.command.Event.TheVariants as events;

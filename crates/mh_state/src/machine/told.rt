@@ -1,4 +1,6 @@
-//! Events that tell what they do.
+//! Events that tell what they do. Such an event answers and leaves the same as one that tells nothing. Its account is
+//! the model's, unless memory was refused for a deed, and then the account says so. An event that isn't done leaves an
+//! empty account.
 ghost use Rattle.std.specs.Prelude.{◌≡◌, IfOk, OnErr, IsErrOf};
 ghost use Rattle.mh_model.specs.Limits.{most_entries};
 ghost use Rattle.mh_deeds.specs.Accounts.{empty_account, Tells};

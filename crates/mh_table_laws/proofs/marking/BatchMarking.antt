@@ -1,4 +1,4 @@
--- Marking by batches is marking block by block: writing back and shading change no forward, nor the references of other blocks.
+-- Marking by batches is marking block by block, however a front is cut: writing back and shading change no forward, nor the references of other blocks.
 use Rattle.std.proofs.Common.{◌≡◌, ◌≢◌, ℕ, suc, ◌==◌, Bool, true, false, if◌then◌else◌, inl, inr, List, [], ◌∷◌, ◌++◌, length, map, set, Option, Some, None, is_some, IsSome, option_map, option_and_then, unwrap_or, refl, sym, ap, ◌∙◌, append_assoc}
 use Rattle.std.specs.List.{AllByRecursion, IsDistinct}
 use Rattle.std.proofs.lemmas.Bool.{cases_eq, false≢true, eq-eqb}

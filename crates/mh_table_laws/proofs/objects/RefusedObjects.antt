@@ -1,4 +1,4 @@
--- An object that isn't made: the first of its parts that finds no place.
+-- An object that isn't made: the first of its parts that finds no place. It isn't made exactly when there is one.
 use Rattle.std.proofs.Common.{◌≡◌, ℕ, zero, suc, ◌<◌, List, [], ◌∷◌, length, Option, Some, None, option_map, option_and_then, IsSome, refl, sym, ap, ◌∙◌, arith, slice_get, take}
 use Rattle.std.proofs.lemmas.Option.{none-some, same_Some}
 use Rattle.mh_model.specs.Classes.{Part, class_of, part_words, parts}

@@ -1,4 +1,4 @@
--- A text is refused with its first bad line, which is one alone.
+-- A text is refused with its first bad line, which is one alone. The lines before it begin a text that can be read, and no text that can be read begins with the lines up to it.
 use Rattle.std.proofs.Common.{◌≡◌, ◌∙◌, ℕ, suc, ◌-◌, ◌<◌, ◌≤◌, List, ◌++◌, length, take, drop, ap, sym, refl, arith, inl, inr, append_assoc, ◌↔◌}
 use Rattle.std.proofs.lemmas.Bool.{le-ltb, cases_order}
 use Rattle.std.proofs.lemmas.List.{take-append-drop, take-take}

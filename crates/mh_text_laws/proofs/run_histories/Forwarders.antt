@@ -1,30 +1,26 @@
 -- Forwarders of a run lead to places of 4,096 pages: each is made with the place of its copy, and no other step writes one.
-use Rattle.std.proofs.Common.{◌≡◌, ℕ, zero, suc, ◌-◌, ◌==◌, ◌<◌, ◌||◌, nat_lt, Bool, true, false, if◌then◌else◌, inl, inr, List, [], ◌∷◌, get_or, set, Option, Some, None, option_map, option_and_then, unwrap_or, refl, sym, ap, ◌∙◌, subst, arith}
+use Rattle.std.proofs.Common.{◌≡◌, ℕ, zero, suc, ◌-◌, ◌<◌, ◌||◌, nat_lt, Bool, true, false, if◌then◌else◌, inl, inr, List, [], ◌∷◌, get_or, set, Option, Some, None, option_map, option_and_then, refl, sym, ap, ◌∙◌, subst, arith}
 use Rattle.std.proofs.lemmas.Bool.{cases_Bool}
 use Rattle.std.proofs.lemmas.Option.{none-some, same_Some}
 use Rattle.mh_model.specs.declared.command.Command.{Command}
-use Rattle.mh_model.specs.declared.command.Command.TheVariants as command
 use Rattle.mh_model.specs.declared.command.Event.{Event}
 use Rattle.mh_model.specs.declared.config.Config.{Config}
 use Rattle.mh_model.specs.declared.cycle.Phase.{Phase}
 use Rattle.mh_model.specs.declared.cycle.Phase.TheVariants.{Idle, Roots, Mark, Sweep, Defrag}
-use Rattle.mh_model.specs.declared.reply.Refusal.{Refusal}
-use Rattle.mh_model.specs.World.{own_slot, board_slot, refusal, unless_refused}
 use Rattle.mh_model.specs.Classes.{Part, class_of, part_words, parts, slots_in}
 use Rattle.mh_model.specs.Pages.{Page, Table, page_number, slot_number, page_at, block_in, block_at, least_place, page_with, with_block, page_for, with_taken}
-use Rattle.mh_model.specs.Table.{Block, Made, MadeParts, Position, references_at, with_reference_at, resolve, target_of, new_block, made_in_class, made_part, made_parts, with_block_change, linked_block, linked_parts, group_of, made_group, reference_in, loaded_reference}
-use Rattle.mh_model.specs.Collector.{Collector, first_collector, Marking, is_marked, with_grey, shade_block, shade, mark_reference, mark_references, mark_first, is_last_slot, survivor, judged_page, swept_page, swept_table, next_move, Move, with_move, with_phase, with_shade, marking_of, after_mark, is_past, step_in, phase_after, collector_step, step_cost, is_moving, is_idle, cycle_end, quantum_start, Spending, steps, quantum}
-use Rattle.mh_model.specs.Mutator.{HeapState, in_roots, in_roots_or_mark, before_field, with_root, with_roots_cleared, with_session_cleared, with_reference_stored, with_number_stored, root_at, field_of, number_field, new_group, with_born, heap_sight, heap_effect, mutator_step}
+use Rattle.mh_model.specs.Table.{Block, Made, MadeParts, new_block, made_in_class, made_part, made_parts, with_block_change, linked_block, linked_parts, group_of, made_group}
+use Rattle.mh_model.specs.Collector.{Collector, first_collector, is_last_slot, survivor, judged_page, swept_page, swept_table, next_move, Move, with_move, marking_of, step_in, collector_step, step_cost, is_moving, is_idle, quantum_start, Spending, steps, quantum}
+use Rattle.mh_model.specs.Mutator.{HeapState, mutator_step}
 use Rattle.mh_model.specs.Machine.{Machine, first_machine, with_collector, quantum_run, command_step, machine_after}
 use Rattle.mh_model.specs.Invariant.{HasItsPages}
 use Rattle.mh_table_laws.proofs.Lists.{below_length, get_or-set_either, none_at}
-use Rattle.mh_table_laws.proofs.marking.StandingStill.{after_mark-table}
 use Rattle.mh_table_laws.proofs.placing.Places.{least_dense_place-page, shaped-slots}
 use Rattle.mh_table_laws.proofs.tables.BlockRoom.{survivor-same}
 use Rattle.mh_table_laws.proofs.tables.PageSlots.{judged_page-is}
-use Rattle.mh_laws.proofs.commands.LeftUnchanged.{tables-keep, first_table-pages}
+use Rattle.mh_laws.proofs.commands.EachCommand.{IsKeptByWrites, shade-each, mark_first-each, over_tables, heap_effect-each, mutator_step-each}
+use Rattle.mh_laws.proofs.commands.LeftUnchanged.{table-phase_after, table-quantum_start, tables-keep, first_table-pages}
 use Rattle.mh_laws.proofs.costs.Quanta.{steps-stop, steps-go}
-use Rattle.mh_laws.proofs.costs.QuantumStarts.{begins}
 use Rattle.mh_laws.proofs.moving.NextMove.{IsNextMove, next_move-is}
 use Rattle.mh_laws.proofs.runs.EveryMoment.{config-mutator_step, machine_after-keeps}
 use Rattle.mh_text_laws.proofs.round_trips.HeaderRoundTrips.{config_limits}
@@ -108,34 +104,20 @@ with_taken-near table size place block here near = set-near table (page_number p
         subst IsNearPage (same_Some (page_with (slot_number place) (Some block) taken) page e)
         (page_with-near taken (slot_number place) (Some block) (page_for-near size (page_at table (page_number place)) (near.pages (page_number place))) (λ b same. subst IsNear (same_Some block b same) here))
 
--- Marking ----------------------------------------------------------------------------------------
+-- the forwarders of the second are near if those of the first are
+abbrev StaysNear : Table Block → Table Block → Type 0
+StaysNear old new = IsNearTable old → IsNearTable new
 
-shade_block-near : (marking : Marking) (place : ℕ) (block : Option Block) → block_at marking.table place ≡ block → IsNearTable marking.table → IsNearTable (shade_block marking place block).table
-shade_block-near marking place None at near = near
-shade_block-near marking place (Some block) at near = go (is_marked marking.cycle block)
-  where
-    marked : Block
-    marked = record block { stamp = marking.cycle }
-
-    go : (test : Bool) → IsNearTable (if test then marking else with_grey marking place block).table
-    go true = near
-    go false = with_block-near marking.table place (Some marked) (λ new e. subst IsNear (same_Some marked new e) (same_near block marked refl (near_block marking.table place block near at))) near
-
-shade-near : (marking : Marking) (reference : Option ℕ) → IsNearTable marking.table → IsNearTable (shade marking reference).table
-shade-near marking None near = near
-shade-near marking (Some place) near = shade_block-near marking (resolve marking.table place) (block_at marking.table (resolve marking.table place)) refl near
-
-mark_references-near : (marking : Marking) (place index : ℕ) (references : List (Option ℕ)) → IsNearTable marking.table → IsNearTable (mark_references marking place index references).table
-mark_references-near marking place index [] near = near
-mark_references-near marking place index (reference ∷ references) near =
-    let target = target_of marking.table reference in
-    let written : Table Block = with_reference_at marking.table place index target in
-    mark_references-near (mark_reference marking place index reference) place (suc index) references
-    (shade-near (record marking { table = written }) target (change-near marking.table place _ (λ block. refl) near))
-
-mark_first-near : (marking : Marking) (grey : List ℕ) → IsNearTable marking.table → IsNearTable (mark_first marking grey).table
-mark_first-near marking [] near = near
-mark_first-near marking (place ∷ grey) near = mark_references-near (record marking { grey = grey }) place 0 (references_at marking.table place) near
+stays_near : IsKeptByWrites StaysNear
+stays_near = record {
+  same = λ table near. near;
+  joined = λ first second third one two near. two (one near);
+  stamped = λ table place block stamp at near.
+      let stamped : Block = record block { stamp = stamp } in
+      with_block-near table place (Some stamped) (λ new e. subst IsNear (same_Some stamped new e) (same_near block stamped refl (near_block table place block near at))) near;
+  referred = λ table place index reference near. change-near table place _ (λ block. refl) near;
+  numbered = λ table place index number near. change-near table place _ (λ block. refl) near;
+}
 
 -- New objects ------------------------------------------------------------------------------------
 
@@ -230,28 +212,10 @@ module _ (config : Config) where
 
   step_in-near : (phase : Phase) (collector : Collector) → HasItsPages config collector.table → IsNearTable collector.table → IsNearTable (step_in phase collector).table
   step_in-near Idle collector has near = near
-  step_in-near Roots collector has near = shade-near (marking_of collector) _ near
-  step_in-near Mark collector has near = mark_first-near (marking_of collector) collector.grey near
+  step_in-near Roots collector has near = shade-each StaysNear stays_near (marking_of collector) _ near
+  step_in-near Mark collector has near = mark_first-each StaysNear stays_near (marking_of collector) collector.grey near
   step_in-near Sweep collector has near = swept_table-near collector.cycle collector.table collector.cursor near
   step_in-near Defrag collector has near = with_move-near collector (next_move collector.table collector.cursor) refl has near
-
-  -- what follows a step leaves the table
-  table-if : (test : Bool) (collector other : Collector) → other.table ≡ collector.table → (if test then other else collector).table ≡ collector.table
-  table-if true collector other e = e
-  table-if false collector other e = refl
-
-  table-phase_after : (phase : Phase) (collector : Collector) → (phase_after phase collector).table ≡ collector.table
-  table-phase_after Idle collector = refl
-  table-phase_after Roots collector = table-if (collector.cursor == 144) collector (after_mark collector collector.grey) (after_mark-table collector collector.grey)
-  table-phase_after Mark collector = after_mark-table collector collector.grey
-  table-phase_after Sweep collector = table-if (is_past collector.table collector.cursor) collector (with_phase collector Defrag 0) refl
-  table-phase_after Defrag collector = table-if (is_past collector.table collector.cursor) collector (cycle_end collector) refl
-
-  table-quantum_start : (collector : Collector) → (quantum_start config collector).table ≡ collector.table
-  table-quantum_start collector = elim (begins config collector).case [
-    | inl starts ↦ ap (λ c. c.table) starts.2
-    | inr other ↦ elim other [ inl runs ↦ ap (λ c. c.table) runs.1 | inr rests ↦ ap (λ c. c.table) rests.2 ]
-  ]
 
   collector_step-near : (collector : Collector) → HasItsPages config collector.table → IsNearTable collector.table → IsNearTable (collector_step collector).table
   unfolding collector_step
@@ -270,68 +234,14 @@ module _ (config : Config) where
   quantum-near : (collector : Collector) → HasItsPages config collector.table → IsNearTable collector.table → IsNearTable (quantum config collector).collector.table
   unfolding quantum
   quantum-near collector has near =
-      let same = sym (table-quantum_start collector) in
+      let same = sym (table-quantum_start config collector) in
       steps-near config.quantum config.quantum false (quantum_start config collector) (subst (HasItsPages config) same has) (subst IsNearTable same near)
 
 -- Commands ---------------------------------------------------------------------------------------
 
-with_shade-near : (collector : Collector) (reference : Option ℕ) → IsNearTable collector.table → IsNearTable (with_shade collector reference).table
-with_shade-near collector reference near = shade-near (marking_of collector) reference near
-
-if-near : (test : Bool) (collector other : Collector) → IsNearTable collector.table → IsNearTable other.table → IsNearTable (if test then other else collector).table
-if-near true collector other near shaded = shaded
-if-near false collector other near shaded = near
-
-with_root-near : (collector : Collector) (slot : ℕ) (reference : Option ℕ) → IsNearTable collector.table → IsNearTable (with_root collector slot reference).table
-with_root-near collector slot reference near =
-    if-near (in_roots collector.phase) collector (with_shade collector (get_or collector.slots slot None)) near (with_shade-near collector (get_or collector.slots slot None) near)
-
-with_roots_cleared-near : (count : ℕ) (collector : Collector) (slot : ℕ) → IsNearTable collector.table → IsNearTable (with_roots_cleared collector slot count).table
-with_roots_cleared-near zero collector slot near = near
-with_roots_cleared-near (suc count) collector slot near = with_roots_cleared-near count (with_root collector slot None) (suc slot) (with_root-near collector slot None near)
-
-with_session_cleared-near : (collector : Collector) (who : ℕ) → IsNearTable collector.table → IsNearTable (with_session_cleared collector who).table
-unfolding with_session_cleared
-with_session_cleared-near collector who near = with_roots_cleared-near 16 collector (own_slot who 0) near
-
-with_reference_stored-near : (collector : Collector) (position : Position) (reference : Option ℕ) → IsNearTable collector.table → IsNearTable (with_reference_stored collector position reference).table
-with_reference_stored-near collector position reference near =
-    let shaded : Collector = before_field collector position in
-    let old : Option ℕ = reference_in collector.table position in
-    change-near shaded.table position.place _ (λ block. refl) (if-near (in_roots_or_mark collector.phase) collector (with_shade collector old) near (with_shade-near collector old near))
-
-with_number_stored-near : (collector : Collector) (position : Position) (number : ℕ) → IsNearTable collector.table → IsNearTable (with_number_stored collector position number).table
-with_number_stored-near collector position number near = change-near collector.table position.place _ (λ block. refl) near
-
-new-near : (heap : HeapState) (slot : ℕ) (group : Option Made) → ((made : Made) → group ≡ Some made → IsNearTable made.table) → IsNearTable heap.collector.table
-    → IsNearTable (unwrap_or (option_map (with_born heap slot) group) heap).collector.table
-new-near heap slot None made near = near
-new-near heap slot (Some group) made near = with_root-near (record (heap.collector) { table = group.table }) slot (Some group.place) (made group refl)
-
-heap_effect-near : (heap : HeapState) (who : ℕ) (c : Command) → IsNearTable heap.collector.table → IsNearTable (heap_effect heap who c).state.collector.table
-unfolding heap_effect
-heap_effect-near heap who (command.New slot references numbers) near =
-    new-near heap (own_slot who slot) (new_group heap references numbers)
-    (λ made e. made_group-near heap.collector.table heap.next_birth heap.collector.cycle (parts references numbers) made e near) near
-heap_effect-near heap who (command.Get slot source field) near = with_root-near heap.collector (own_slot who slot) (loaded_reference heap.collector.table (field_of heap (own_slot who source) field)) near
-heap_effect-near heap who (command.Put slot field value) near = with_reference_stored-near heap.collector (field_of heap (own_slot who slot) field) (root_at heap (own_slot who value)) near
-heap_effect-near heap who (command.Copy slot source) near = with_root-near heap.collector (own_slot who slot) (root_at heap (own_slot who source)) near
-heap_effect-near heap who (command.Clear slot) near = with_root-near heap.collector (own_slot who slot) None near
-heap_effect-near heap who (command.Read slot index) near = near
-heap_effect-near heap who (command.Write slot index number) near = with_number_stored-near heap.collector (number_field heap (own_slot who slot) index) number near
-heap_effect-near heap who (command.Same left right) near = near
-heap_effect-near heap who (command.Shape slot) near = near
-heap_effect-near heap who (command.Post board slot) near = with_root-near heap.collector (board_slot board) (root_at heap (own_slot who slot)) near
-heap_effect-near heap who (command.Take slot board) near = with_root-near heap.collector (own_slot who slot) (root_at heap (board_slot board)) near
-heap_effect-near heap who command.End near = with_session_cleared-near heap.collector who near
-
 mutator_step-near : (heap : HeapState) (who : ℕ) (c : Command) → IsNearTable heap.collector.table → IsNearTable (mutator_step heap who c).state.collector.table
-unfolding mutator_step
-mutator_step-near heap who c near = go (refusal (heap_sight heap) who c)
-  where
-    go : (refused : Option Refusal) → IsNearTable (unless_refused refused heap (heap_effect heap who c)).state.collector.table
-    go None = heap_effect-near heap who c near
-    go (Some refused) = near
+mutator_step-near heap who c near = mutator_step-each _ (over_tables StaysNear stays_near) heap who c
+    (λ allowed. heap_effect-each _ (over_tables StaysNear stays_near) heap who c (λ slot references numbers is made e. made_group-near heap.collector.table heap.next_birth heap.collector.cycle (parts references numbers) made e)) near
 
 -- Runs -------------------------------------------------------------------------------------------
 
