@@ -201,7 +201,10 @@ pub mutator_step-carried : (heap : HeapState) (who : ℕ) (c : Command) → IsGr
 mutator_step-carried heap who c sound = (mutator_step-each CarriesOn carried_on heap who c (λ allowed. heap_effect-each CarriesOn carried_on heap who c placed)).1 sound
   where
     placed : (slot references numbers : ℕ) → c ≡ command.New slot references numbers → (made : Made) → new_group heap references numbers ≡ Some made → CarriesOn heap.collector (record (heap.collector) { table = made.table })
-    placed slot references numbers is made e = (refl, λ sound. record {
-      carries = made_group-carries heap.collector.table heap.collector.grey heap.next_birth heap.collector.cycle (parts references numbers) (λ i child part at is. (children_inside references numbers i part child at is).1) sound made e;
-      grey = λ outside. refl;
-    })
+    placed slot references numbers is made e = (
+      refl,
+      λ sound. record {
+        carries = made_group-carries heap.collector.table heap.collector.grey heap.next_birth heap.collector.cycle (parts references numbers) (λ i child part at is. (children_inside references numbers i part child at is).1) sound made e;
+        grey = λ outside. refl;
+      },
+    )

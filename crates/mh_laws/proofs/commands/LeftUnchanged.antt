@@ -288,8 +288,8 @@ pub mutator_step-course : (heap : HeapState) (who : ℕ) (c : Command) → IsOnC
 mutator_step-course heap who c =
     let room : ℕ = most_fields heap.config in
     mutator_step-each (IsOnCourse room) (course room) heap who c (λ allows. heap_effect-each (IsOnCourse room) (course room) heap who c (λ slot references numbers is made e.
-      let fields = allowed slot references numbers (ap (refusal (heap_sight heap) who) (sym is) ∙ allows) in
-      other_table room heap.collector made.table heap.collector.grey heap.collector.slots (made_group-keeps room heap.collector.table heap.next_birth heap.collector.cycle references numbers made fields e)))
+    let fields = allowed slot references numbers (ap (refusal (heap_sight heap) who) (sym is) ∙ allows) in
+    other_table room heap.collector made.table heap.collector.grey heap.collector.slots (made_group-keeps room heap.collector.table heap.next_birth heap.collector.cycle references numbers made fields e)))
   where
     allowed : (slot references numbers : ℕ) → refusal (heap_sight heap) who (command.New slot references numbers) ≡ None → references + numbers ≤ most_fields heap.config
     allowed slot references numbers e =
