@@ -52,7 +52,7 @@ def signature(text, at):
     """A function from its name to its body."""
     place = at
     while place < len(text):
-        if text[place] == ";" and "{" not in text[at:place].rpartition("ensures")[2].rpartition("requires")[2]:
+        if text[place] == ";" and text.count("[", at, place) == text.count("]", at, place):
             break
         if text[place] == "{":
             if not CLAUSE.search(text[at:place]):

@@ -1,5 +1,6 @@
 //! Graphs that are made by commands.
 
+use mh_groups::group::NoLog;
 use mh_model::birth::LIFE;
 use mh_model::reply::Refusal;
 use mh_paged::kept::KeptHeap;
@@ -70,7 +71,7 @@ fn make(heap: &mut KeptHeap, slot: u32, references: u32) -> Result<(), Refusal> 
     if heap.births() >= LIFE {
         return Err(Refusal::HeapFull);
     }
-    heap.make(0, slot, references, 0)
+    heap.make(0, slot, references, 0, &mut NoLog)
 }
 
 fn make_nodes(heap: &mut KeptHeap, graph: Graph) -> Result<(), Refusal> {

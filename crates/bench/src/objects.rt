@@ -4,7 +4,7 @@ ghost use Rattle.mh_model.specs.Pages.{block_at};
 
 use mh_blocks::blocks::Blocks;
 use mh_classes::parts::{Parts, parts};
-use mh_groups::group::{PartPlaces, make_group};
+use mh_groups::group::{NoLog, PartPlaces, make_group};
 use mh_model::birth::Birth;
 use mh_model::config::Rules;
 use mh_model::place::Place;
@@ -13,7 +13,7 @@ use std::time::Instant;
 
 /// Makes one object of these parts, if it finds a place.
 fn make_one(blocks: &mut Blocks, room: &mut PartPlaces, parts: &Parts, birth: u32) -> bool {
-    make_group(blocks, room, parts, Birth(u64::from(birth)), 1).is_ok()
+    make_group(blocks, room, parts, Birth(u64::from(birth)), 1, &mut NoLog).is_ok()
 }
 
 /// Makes so many objects of these parts, or as many as find a place.

@@ -1,6 +1,6 @@
 //! A service whose seats make one call after the other.
 ghost use Rattle.std.specs.Prelude.{All};
-ghost use Rattle.mh_service.specs.Services.{IsOf};
+ghost use Rattle.mh_service.specs.Services.{IsOfService};
 
 use crate::sweep::Attempt;
 use mh_model::command::Event;
@@ -25,7 +25,7 @@ pub struct Called<'a, R> {
     service: Service<'static, Open>,
     seats: Vec<Seat>,
     events: &'a [Event],
-    ghost own: { All (IsOf service) seats.items },
+    ghost own: { All (IsOfService service) seats.items },
 }
 
 /// The number of the seat that makes the call of an event.
@@ -43,8 +43,8 @@ fn is_answered<R: Threads + Wait>(
     seats: &mut [Seat],
     event: Event,
 ) -> bool
-    requires { All (IsOf service.now) seats.old }
-    ensures { All (IsOf service.now) seats.new }
+    requires { All (IsOfService service.now) seats.old }
+    ensures { All (IsOfService service.now) seats.new }
 {
     let index = owner_of(&event);
     if index >= seats.len() || !seats[index].owns(&event) {

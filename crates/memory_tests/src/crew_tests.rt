@@ -214,7 +214,7 @@ fn quanta_of_a_chain_are_the_same_without_memory(rt: HostRuntime) -> Result<(), 
     Ok(())
 }
 
-/// A gate that takes all memory when the second piece of a batch is begun.
+/// A hook that takes all memory when the second piece of a batch is begun.
 #[derive(Drop)]
 struct Taking {
     alloc: Global,
@@ -259,7 +259,7 @@ fn take_all(alloc: Global, taken: &OnceLock<Famine>) {
     }
 }
 
-/// A crew of two runs the quanta, and its gate takes all memory.
+/// A crew of two runs the quanta, and its hook takes all memory.
 #[derive(Drop)]
 struct WhereMemoryEnds<'a, R> {
     rt: &'a R,

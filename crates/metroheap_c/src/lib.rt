@@ -5,7 +5,7 @@
 
 ghost use Rattle.std.specs.Prelude.{◌≡◌, None};
 ghost use Rattle.mh_model.specs.Script.{line_of};
-ghost use Rattle.mh_embed.specs.Configs.{config_of};
+ghost use Rattle.mh_embed.specs.Configs.{numbered_config};
 ghost use Rattle.mh_embed.specs.Endings.{AnswerEnds, ItemEnds, ReplyEnds, StepEnds, TextEnds};
 ghost use Rattle.metroheap_c.specs.Calls.{IsUntold, OnHandle, Opens, Reads};
 
@@ -30,7 +30,7 @@ pub extern "C" fn metroheap_open(
     every: u32,
     rules: u32,
 ) -> i32
-    ensures { Opens (config_of pages quantum trigger every rules) heap.old.value heap.new.value result }
+    ensures { Opens (numbered_config pages quantum trigger every rules) heap.old.value heap.new.value result }
 {
     let Some(config) = config_of(pages, quantum, trigger, every, rules) else {
         return Status::BadConfig.code();

@@ -9,7 +9,7 @@ use Rattle.mh_seat_laws.specs.ClaimWord.{Lists, IsClaimed, claim_of}
 use Rattle.mh_seat_laws.proofs.TotalLemmas.{total-set}
 use Rattle.mh_seat_laws.proofs.claim_word.ShownClaims.{claim_of-drawn}
 use Rattle.mh_seat_laws.proofs.claim_word.DrawnNumbers.{ended-drawn_once}
-use Rattle.mh_claims.specs.Seats.{ClaimsView, DrawSeatView, IsOf, seat_ended}
+use Rattle.mh_claims.specs.Seats.{ClaimsView, DrawSeatView, DrawsFrom, seat_ended}
 use Rattle.mh_claims.proofs.ClaimSteps.{all_of, length-all_of}
 
 -- the lists of seats, in their order
@@ -19,7 +19,7 @@ lists_of seats = map (λ seat. seat.drawn) seats
 abbrev pub AllEnded : ℕ → Lists → Type 0
 AllEnded bound lists = (seat : ℕ) → seat < length lists → has_ended bound (get_or lists seat []) ≡ true
 
-pub lists_of-ended : (claims : ClaimsView) (seats : List DrawSeatView) → All (λ seat. IsOf claims seat × (seat_ended seat ≡ true)) seats → AllEnded claims.bound (lists_of seats)
+pub lists_of-ended : (claims : ClaimsView) (seats : List DrawSeatView) → All (λ seat. DrawsFrom claims seat × (seat_ended seat ≡ true)) seats → AllEnded claims.bound (lists_of seats)
 lists_of-ended claims [] ended number inside = absurd (omega arith)
 lists_of-ended claims (seat ∷ seats) ended zero inside =
     let first = ended 0 seat (omega arith) in subst (λ bound. has_ended bound seat.drawn ≡ true) first.0.1 first.1

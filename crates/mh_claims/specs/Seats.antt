@@ -16,16 +16,16 @@ pub record DrawSeatView : Type 0 where
   pub drawn : List ℕ
 
 -- a seat draws from these claims
-abbrev pub IsOf : ClaimsView → DrawSeatView → Type 0
-IsOf claims seat = (seat.table ≡ claims.table) × (seat.bound ≡ claims.bound)
+abbrev pub DrawsFrom : ClaimsView → DrawSeatView → Type 0
+DrawsFrom claims seat = (seat.table ≡ claims.table) × (seat.bound ≡ claims.bound)
 
 -- a seat has ended: it was answered with nothing
 abbrev pub seat_ended : DrawSeatView → Bool
 seat_ended seat = has_ended seat.bound seat.drawn
 
 -- a seat of these claims before its first draw
-pub record IsNew (claims : ClaimsView) (seat : DrawSeatView) : Type 0 where
-  pub own : IsOf claims seat
+pub record IsBeforeItsDraws (claims : ClaimsView) (seat : DrawSeatView) : Type 0 where
+  pub own : DrawsFrom claims seat
   pub drawn : seat.drawn ≡ []
   pub going : seat_ended seat ≡ false
 

@@ -18,7 +18,7 @@
 //! `draw` takes neither a handle nor an allocator, so a body of it that waits or asks for memory doesn't compile.
 ghost use Rattle.std.specs.Prelude.{◌≡◌, ◌+◌, ◌^◌, ◌<◌, ◌≤◌, [], ◌∷◌, ◌++◌, ℕ, true, false, is_none, map, vec_len, All, IfOk, IfSome, MatchOption};
 ghost use Rattle.mh_model.specs.History.{has_ended, times_drawn};
-ghost use Rattle.mh_claims.specs.Seats.{IsOf, IsNew, IsDrawnByRule, seat_ended, next_of};
+ghost use Rattle.mh_claims.specs.Seats.{DrawsFrom, IsBeforeItsDraws, IsDrawnByRule, seat_ended, next_of};
 ghost use Rattle.mh_claims.specs.Steps.{alone, first_list, HasDrawn};
 
 use atomic_table::{Join, Play, Seat, Split, Table, TableRule};
@@ -163,7 +163,7 @@ impl Claims {
         requires room { bound + seats < 2 ^ 64 }
         ensures claims { IfOk result (λ made. (made.0.bound ≡ bound) × (made.0.seats ≡ seats)) }
         ensures count { IfOk result (λ made. vec_len made.1 ≡ seats) }
-        ensures each { IfOk result (λ made. All (IsNew made.0) made.1.items) }
+        ensures each { IfOk result (λ made. All (IsBeforeItsDraws made.0) made.1.items) }
     {
         let (table, mut rest) = Table::of_words(alloc, &[0], &(bound, seats as u64))?;
         let mut all = Vec::new(alloc);
@@ -194,9 +194,9 @@ impl Claims {
 
     /// The next number, if it is below the bound. A draw is one atomic step, asks for no memory and never waits.
     pub fn draw(&self, seat: &mut DrawSeat) -> Option<u64>
-        requires own { IsOf self.now seat.old }
+        requires own { DrawsFrom self.now seat.old }
         requires going { seat_ended seat.old ≡ false }
-        ensures own { IsOf self.now seat.new }
+        ensures own { DrawsFrom self.now seat.new }
         ensures drawn { MatchOption result ((number : ℕ) × (self.now.bound ≤ number) × (seat.new.drawn ≡ seat.old.drawn ++ number ∷ [])) (λ number. (number < self.now.bound) × (seat.new.drawn ≡ seat.old.drawn ++ number ∷ [])) }
         ensures ended { seat_ended seat.new ≡ is_none result }
         ensures rule { IsDrawnByRule self.now.bound self.now.seats seat.old.drawn seat.new.drawn result }
@@ -213,7 +213,7 @@ impl Claims {
     /// The end of the claims, once every seat has ended.
     pub fn finish(self, mut seats: Vec<DrawSeat>)
         requires count { vec_len seats ≡ self.seats }
-        requires each { All (λ seat. IsOf self seat × (seat_ended seat ≡ true)) seats.items }
+        requires each { All (λ seat. DrawsFrom self seat × (seat_ended seat ≡ true)) seats.items }
         ensures { (number : ℕ) → number < self.bound → times_drawn number (map (λ seat. seat.drawn) seats.items) ≡ 1 }
     {
         let Claims {

@@ -4,11 +4,14 @@
 //! The class of so many words is the least that has as many. There is none exactly for 0 words and for more than 64. A
 //! class has its words, its slots in a page and its number.
 ghost use Rattle.std.specs.Prelude.{◌≡◌, ◌<◌, ◌≤◌, IsTrue, unwrap_or};
-ghost use Rattle.mh_model.specs.Classes.{class_of, is_class_size, slots_in};
+ghost use Rattle.mh_model.specs.Classes.{class_of, class_sizes, is_class_size, slots_in};
 ghost use Rattle.mh_classes.specs.Numbers.{class_number};
 
 use mh_model::limits::PAGE_WORDS;
 use std::marker::Model;
+/// How many classes there are.
+pub const CLASSES: usize = 20;
+
 /// The size of the class for each number of words up to 64, and 0 for none.
 const SIZES: [u8; 65] = [
     0, 4, 4, 4, 4, 5, 6, 7, 8, 9, 11, 11, 13, 13, 15, 15, 17, 17, 20, 20, 20, 23, 23, 23, 26, 26,
@@ -103,5 +106,34 @@ impl Class {
         ensures { result ≡ size }
     {
         Class { size: size as u8 }
+    }
+
+    /// All classes, by their numbers.
+    #[tactic(auto, unfolding(mh_model::specs::Classes::is_class_size))]
+    pub fn all() -> [Class; CLASSES]
+        ensures { result ≡ class_sizes }
+    {
+        [
+            Class { size: 4 },
+            Class { size: 5 },
+            Class { size: 6 },
+            Class { size: 7 },
+            Class { size: 8 },
+            Class { size: 9 },
+            Class { size: 11 },
+            Class { size: 13 },
+            Class { size: 15 },
+            Class { size: 17 },
+            Class { size: 20 },
+            Class { size: 23 },
+            Class { size: 26 },
+            Class { size: 30 },
+            Class { size: 34 },
+            Class { size: 39 },
+            Class { size: 44 },
+            Class { size: 50 },
+            Class { size: 57 },
+            Class { size: 64 },
+        ]
     }
 }

@@ -9,10 +9,10 @@ use Rattle.clap.proofs.WalkLemmas.{both}
 use Rattle.clap.specs.Matches.{ReadsOne}
 use Rattle.clap.specs.Walk.{Row, Text, one_of}
 use Rattle.mh_model.specs.Configs.{configured_by, configured_under}
-use Rattle.mh_model.specs.Limits.{is_configuration}
+use Rattle.mh_model.specs.Limits.{is_configuration, least_quantum}
 use Rattle.mh_model.specs.declared.config.Config.{Config}
 use Rattle.mh_model.specs.declared.config.Rules.{Rules}
-use Rattle.mh_command_line.specs.Line.{HoldsNumber, IsHeld, IsNumber, ReadsNumber, number_in}
+use Rattle.mh_command_line.specs.Line.{HoldsNumber, IsHeld, IsNumber, ReadsNumber, number_in_digits}
 use Rattle.mh_command_line.specs.Orders.{AreOutside, HasNumbers, IsBlamed, IsOutsideBy, MakesConfig, ConfigNumbers, config_under}
 use Rattle.mh_command_line.specs.declared.options.OptionNumber.{OptionNumber}
 use Rattle.mh_orders.specs.declared.order.ConfigOption.{ConfigOption}
@@ -35,7 +35,7 @@ some-none e = cc
 
 -- What the option of the matches is read as ----------------------------------------------------------
 
-pub number-held : (found : Option Text) (number : OptionNumber) → (found ≡ None → Some number ≡ None) → ((t : Text) → found ≡ Some t → ReadsOne ReadsNumber t (Some number)) → IsSomeAnd found (λ text. IsNumber text × IsHeld (number_in text) number.value)
+pub number-held : (found : Option Text) (number : OptionNumber) → (found ≡ None → Some number ≡ None) → ((t : Text) → found ≡ Some t → ReadsOne ReadsNumber t (Some number)) → IsSomeAnd found (λ text. IsNumber text × IsHeld (number_in_digits text) number.value)
 number-held None number none reads = absurd (some-none (none refl))
 number-held (Some text) number none reads = reads text refl
 
@@ -76,12 +76,12 @@ same_config rules p q t e p' q' t' e' (inl a) (inl b) (inl c) (inl d) =
 -- the number that is held
 record IsExact (found : Option Text) (held : ℕ) : Type 0 where
   number : ℕ
-  given : IsSomeAnd found (λ text. IsNumber text × (number_in text ≡ number))
+  given : IsSomeAnd found (λ text. IsNumber text × (number_in_digits text ≡ number))
   is_held : IsHeld number held
 
-exact : (found : Option Text) (held : ℕ) → IsSomeAnd found (λ text. IsNumber text × IsHeld (number_in text) held) → IsExact found held
+exact : (found : Option Text) (held : ℕ) → IsSomeAnd found (λ text. IsNumber text × IsHeld (number_in_digits text) held) → IsExact found held
 exact None held h = absurd h
-exact (Some text) held h = record { number = number_in text; given = (h.0, refl); is_held = h.1 }
+exact (Some text) held h = record { number = number_in_digits text; given = (h.0, refl); is_held = h.1 }
 
 -- the numbers that are held as these
 record AreHeld (rows : List Row) (p q t e : ℕ) : Type 0 where
@@ -119,10 +119,10 @@ makes rules rows p q t e config hp hq ht he is =
 -- The option that is blamed ------------------------------------------------------------------------
 
 -- the trigger, if these are no configuration and all else is within its limits
-trigger_outside : (p q t e : ℕ) → (is_configuration p q t e ≡ true → ⊥) → 1 ≤ p → p ≤ 4096 → 209 ≤ q → q ≤ 1000000 → e ≤ 1000000 → p < t
+trigger_outside : (p q t e : ℕ) → (is_configuration p q t e ≡ true → ⊥) → 1 ≤ p → p ≤ 4096 → least_quantum ≤ q → q ≤ 1000000 → e ≤ 1000000 → p < t
 trigger_outside p q t e never a b c d f = go (nat_le t p) refl where
   go : (x : Bool) → nat_le t p ≡ x → p < t
-  go true is = absurd (never (rw (le-leb 1 p a, le-leb p 4096 b, le-leb 209 q c, le-leb q 1000000 d, is, le-leb e 1000000 f) refl))
+  go true is = absurd (never (rw (le-leb 1 p a, le-leb p 4096 b, le-leb least_quantum q c, le-leb q 1000000 d, is, le-leb e 1000000 f) refl))
   go false is = leb-false t p is
 
 beyond : (option : ConfigOption) (n : ConfigNumbers) (p' q' t' e' : ℕ) → IsHeld n.pages p' → IsHeld n.quantum q' → IsHeld n.trigger t' → IsHeld n.every e' → (is_configuration p' q' t' e' ≡ true → ⊥) → IsBlamed p' q' e' option → IsOutsideBy option n

@@ -13,7 +13,7 @@ use Rattle.clap.specs.Walk.{Row, Text, one_of, row_text, rows_of}
 use Rattle.mh_orders.specs.Profiles.{NamesProfile, profile_name}
 use Rattle.mh_orders.specs.declared.profile.Profile.{Profile}
 use Rattle.mh_orders.specs.declared.profile.Profile.TheVariants.{Mixed}
-use Rattle.mh_command_line.specs.Line.{IsNumber, number_in, rules_numbered}
+use Rattle.mh_command_line.specs.Line.{IsNumber, number_in_digits, rules_numbered}
 use Rattle.std.specs.Option.{option_map_or}
 use Rattle.std.proofs.lemmas.Bool.Decides.{nat_tests}
 use Rattle.mh_command_line.specs.Blocks.{ReadsAllocations, allocations_in, counted_of}
@@ -22,29 +22,29 @@ use Rattle.mh_command_line.specs.declared.blocks.AskedAllocations.{AskedAllocati
 
 -- a number that fits is read
 module _ {E : Type 0} (k : ℕ) (gives : Text → Result ℕ E → Type 0) (parses : (text : Text) (r : Result ℕ E) → gives text r → ParsesUnsigned k 10 text r) where
-  number-read : (text : Text) (got : Option ℕ) → IsNumeral 10 (without_leading_plus text) → number_in text < 2 ^ k → ReadsOne gives text got → got ≡ Some (number_in text)
+  number-read : (text : Text) (got : Option ℕ) → IsNumeral 10 (without_leading_plus text) → number_in_digits text < 2 ^ k → ReadsOne gives text got → got ≡ Some (number_in_digits text)
   number-read text None numeral fits reads = absurd (parses text (Err reads.0) reads.1 (numeral, fits))
   number-read text (Some n) numeral fits reads = ap Some (parses text (Ok n) reads).1
 
   -- an option that may be left out
   pub may-read : (least most other : ℕ) (found : Option Text) (got : Option ℕ) → most < 2 ^ k → IfSome found (IsUnsignedIn least most) → (found ≡ None → got ≡ None) → ((t : Text) → found ≡ Some t → ReadsOne gives t got)
-      → unwrap_or got other ≡ option_map_or number_in found other
+      → unwrap_or got other ≡ option_map_or number_in_digits found other
   may-read least most other None got below given none some = ap (λ o. unwrap_or o other) (none refl)
   may-read least most other (Some text) got below given none some = ap (λ o. unwrap_or o other) (number-read text got given.0 (omega (arith, given.3, below)) (some text refl))
 
   -- and so is its number
-  pub optional-read : (least most : ℕ) (found : Option Text) (got : Option ℕ) → most < 2 ^ k → IfSome found (IsUnsignedIn least most) → (found ≡ None → got ≡ None) → ((t : Text) → found ≡ Some t → ReadsOne gives t got) → got ≡ option_map number_in found
+  pub optional-read : (least most : ℕ) (found : Option Text) (got : Option ℕ) → most < 2 ^ k → IfSome found (IsUnsignedIn least most) → (found ≡ None → got ≡ None) → ((t : Text) → found ≡ Some t → ReadsOne gives t got) → got ≡ option_map number_in_digits found
   optional-read least most None got below given none some = none refl
   optional-read least most (Some text) got below given none some = number-read text got given.0 (omega (arith, given.3, below)) (some text refl)
 
   -- the rules by such an option, if it is given
   pub rules-read : (found : Option Text) (got : Option ℕ) → 2 < 2 ^ k → IfSome found (IsUnsignedIn 1 2) → (found ≡ None → got ≡ None) → ((t : Text) → found ≡ Some t → ReadsOne gives t got)
-      → option_map rules_numbered got ≡ option_map (λ text. rules_numbered (number_in text)) found
+      → option_map rules_numbered got ≡ option_map (λ text. rules_numbered (number_in_digits text)) found
   rules-read None got below given none some = ap (λ o. option_map rules_numbered o) (none refl)
   rules-read (Some text) got below given none some = ap (λ o. option_map rules_numbered o) (number-read text got given.0 (omega (arith, given.3, below)) (some text refl))
 
 -- it is within its bounds
-pub within-bounds : (least most other : ℕ) (found : Option Text) → least ≤ other → other ≤ most → IfSome found (IsUnsignedIn least most) → (least ≤ option_map_or number_in found other) × (option_map_or number_in found other ≤ most)
+pub within-bounds : (least most other : ℕ) (found : Option Text) → least ≤ other → other ≤ most → IfSome found (IsUnsignedIn least most) → (least ≤ option_map_or number_in_digits found other) × (option_map_or number_in_digits found other ≤ most)
 within-bounds least most other None low high given = (low, high)
 within-bounds least most other (Some text) low high given = (given.2, given.3)
 
@@ -104,7 +104,7 @@ widened least most None few given = tt
 widened least most (Some text) few given = (given.0, given.1, omega arith, omega (arith, given.3, few))
 
 -- a number that is given is the one that is read
-pub has-number : (least most other n : ℕ) (found : Option Text) → IsSomeAnd found (IsUnsignedIn least most) → n ≡ option_map_or number_in found other → IsSomeAnd found (λ text. IsNumber text × (number_in text ≡ n))
+pub has-number : (least most other n : ℕ) (found : Option Text) → IsSomeAnd found (IsUnsignedIn least most) → n ≡ option_map_or number_in_digits found other → IsSomeAnd found (λ text. IsNumber text × (number_in_digits text ≡ n))
 has-number least most other n None given is = absurd given
 has-number least most other n (Some text) given is = (given.0, sym is)
 
@@ -122,18 +122,18 @@ profile-lacking (Some other) text there reads = (reads other refl).1
 
 -- Options of `size` --------------------------------------------------------------------------------
 
-pub given-number : (least most n : ℕ) (found : Option Text) → IfSome found (IsUnsignedIn least most) → Some n ≡ option_map number_in found → IsSomeAnd found (λ text. IsNumber text × (number_in text ≡ n))
+pub given-number : (least most n : ℕ) (found : Option Text) → IfSome found (IsUnsignedIn least most) → Some n ≡ option_map number_in_digits found → IsSomeAnd found (λ text. IsNumber text × (number_in_digits text ≡ n))
 given-number least most n None given is = absurd (some-none is)
 given-number least most n (Some text) given is = (given.0, sym (same_some is))
   where
     same_some : {x y : ℕ} → Some x ≡ Some y → x ≡ y
     same_some e = cc
 
-pub no-number : (found : Option Text) → None ≡ option_map number_in found → found ≡ None
+pub no-number : (found : Option Text) → None ≡ option_map number_in_digits found → found ≡ None
 no-number None is = refl
 no-number (Some text) is = absurd (some-none (sym is))
 
-pub number-is_some : (n : ℕ) (found : Option Text) → Some n ≡ option_map number_in found → IsSome found
+pub number-is_some : (n : ℕ) (found : Option Text) → Some n ≡ option_map number_in_digits found → IsSome found
 number-is_some n None is = absurd (some-none is)
 number-is_some n (Some text) is = refl
 
@@ -142,7 +142,7 @@ has-is_some P None is = absurd is
 has-is_some P (Some text) is = refl
 
 -- a number that is given is within its bounds
-pub has-between : (least most n : ℕ) (found : Option Text) → IfSome found (IsUnsignedIn least most) → IsSomeAnd found (λ text. IsNumber text × (number_in text ≡ n)) → (least ≤ n) × (n ≤ most)
+pub has-between : (least most n : ℕ) (found : Option Text) → IfSome found (IsUnsignedIn least most) → IsSomeAnd found (λ text. IsNumber text × (number_in_digits text ≡ n)) → (least ≤ n) × (n ≤ most)
 has-between least most n None within has = absurd has
 has-between least most n (Some text) within has = (omega (arith, within.2, has.1), omega (arith, within.3, has.1))
 
@@ -150,9 +150,9 @@ pub between : (least most n : ℕ) → least ≤ n → n ≤ most → is_between
 between least most n above below = grind (arith, nat_tests)
 
 -- and so is one that may be given
-pub may-between : (least most : ℕ) (found : Option Text) (number : Option ℕ) → IfSome found (IsUnsignedIn least most) → number ≡ option_map number_in found → may_be least most number ≡ true
+pub may-between : (least most : ℕ) (found : Option Text) (number : Option ℕ) → IfSome found (IsUnsignedIn least most) → number ≡ option_map number_in_digits found → may_be least most number ≡ true
 may-between least most None number within is = ap (may_be least most) is
-may-between least most (Some text) number within is = ap (may_be least most) is ∙ between least most (number_in text) within.2 within.3
+may-between least most (Some text) number within is = ap (may_be least most) is ∙ between least most (number_in_digits text) within.2 within.3
 
 pub allocations-read : (found : Option Text) (asked : AskedAllocations) → (found ≡ None → Some asked ≡ None) → ((t : Text) → found ≡ Some t → ReadsOne ReadsAllocations t (Some asked)) → IsSomeAnd found (λ text. allocations_in text ≡ Some (counted_of asked.allocations))
 allocations-read None asked none reads = absurd (some-none (none refl))

@@ -28,8 +28,8 @@ use Rattle.mh_orders.specs.declared.order.ConfigOption.{ConfigOption}
 use Rattle.mh_command_line.specs.declared.options.OptionFault.{OptionFault}
 use Rattle.mh_command_line.specs.declared.options.OptionFault.TheVariants.{NoNumber, NoProfile, NoBlocks, Missing, Lacking, Unwanted, Beside, Outside}
 use Rattle.clap.specs.declared.error.kind.ErrorKind.{ErrorKind}
-use Rattle.mh_command_line.specs.Orders.{AreAmiss, AreNoBlocks, AskAmiss, AsksOutside, AsksVersion, GivesOrder, HasFewWorkers, HasFirstRules, HasOptionFault, IsBeside, IsFault, IsLacking, IsMissing, IsNoNumber, IsNoProfile, IsOrder, IsOutside, IsUnwanted, Named, NotMet, NotTaken, Refuses, RefusesOptions, kind_of_fault}
-use Rattle.mh_command_line.specs.Line.{AsksForFew, AsksForRules, Checks, Generates, HasFlag, IsAsked, NamesOne, Nothing, Runs, Shows, TakesWorkers, Tells, Workers, any_text, check_app, event_numbers, every_numbers, flag_rule, generate_app, metroheap, page_numbers, quantum_numbers, rules_numbers, run_app, seeds, session_numbers, show_app, steps_app, step_numbers, worker_numbers, workers_app, Curves, curve_app, Sizes, block_numbers, percents, scheduled_numbers, size_app, window_numbers}
+use Rattle.mh_command_line.specs.Orders.{AreAmiss, AreNoBlocks, AskAmiss, AsksOutside, AsksVersion, GivesOrder, HasFewWorkers, HasFirstRules, HasOptionFault, IsBeside, IsFault, IsLacking, IsMissing, IsNoNumber, IsNoProfile, IsOrder, IsOutside, IsUnwanted, Named, NotMet, NotTaken, IsSaidOfRefusal, RefusesOptions, kind_of_fault}
+use Rattle.mh_command_line.specs.Line.{AsksForFew, AsksForRules, Checks, Generates, HasFlag, IsSubcommand, NamesOne, Nothing, Runs, Shows, TakesWorkers, Tells, Workers, any_text, check_app, event_numbers, every_numbers, flag_rule, generate_app, metroheap, page_numbers, quantum_numbers, rules_numbers, run_app, seeds, session_numbers, show_app, steps_app, step_numbers, worker_numbers, workers_app, Curves, curve_app, Sizes, block_numbers, percents, scheduled_numbers, size_app, window_numbers}
 use Rattle.mh_command_line.proofs.OptionLemmas.{AreRead, IsSafe, level-read, never, none-missing, none_first, none_next, safe-flag, safe-given, safe-help, safe-value, value-given, value-may, value_rule}
 
 -- Options ----------------------------------------------------------------------------------------
@@ -81,7 +81,7 @@ svg-may rows all = flag-may (one_of (codes "svg") rows) (value-may option_parser
 
 -- in words that the subcommand takes, its options are as they may be
 abbrev IsSound : Shape → Type 0
-IsSound s = (words : List Text) → level_fault s [] nothing_held words false [] ≡ [] → IsAsked s.name (rows_after s.rules [] words)
+IsSound s = (words : List Text) → level_fault s [] nothing_held words false [] ≡ [] → IsSubcommand s.name (rows_after s.rules [] words)
 
 abbrev AreSound : List Shape → Type 0
 AreSound [] = Unit {0}
@@ -259,7 +259,7 @@ AreSound-find test (s ∷ shapes) sound = go (test s) (AreSound-find test shapes
 
 -- what is said of a subcommand, if one is named
 abbrev IfAsked : Option (Text × List Row) → Type 0
-IfAsked matched = IfSome matched (λ subcommand. IsAsked subcommand.0 subcommand.1)
+IfAsked matched = IfSome matched (λ subcommand. IsSubcommand subcommand.0 subcommand.1)
 
 module _ (a : App) (sound : AreSound a.subs) where
   shape-asked : (s : Option Shape) (words : List Text) → IfSome s IsSound → option_map_or (λ s. level_fault s [] nothing_held words false []) s [] ≡ [] → IfAsked (option_map (λ s. rows_at s words) s)
@@ -411,7 +411,7 @@ refuses a words e is has other = go (subst (λ a. HasKind (fault_of a words) e) 
   go (inr among) = among
 
 -- words that `clap` doesn't take are refused so
-pub words_refused : (a : App) (words : List Text) (e : Error) (line : LineFault) → a ≡ metroheap → (is_simple_and_free a ≡ true → HasKind (fault_of a words) e) → kind_of e ≢ kind.DisplayVersion → Refuses (kind_of e) line → IsFault words line
+pub words_refused : (a : App) (words : List Text) (e : Error) (line : LineFault) → a ≡ metroheap → (is_simple_and_free a ≡ true → HasKind (fault_of a words) e) → kind_of e ≢ kind.DisplayVersion → IsSaidOfRefusal (kind_of e) line → IsFault words line
 words_refused a words e (Words told) is has asks refused =
     let P : ErrorKind → Type 0 = λ k. IsAmong k (fault_of metroheap words) in
     ((λ version. asks (sym refused.1 ∙ version)), NotTaken (subst P (sym refused.1) (refuses a words e is has refused.0)))

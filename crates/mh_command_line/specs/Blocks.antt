@@ -45,13 +45,13 @@ blocks_cut (words ∷ []) count = blocks_numbered (number words) (number count)
 blocks_cut (words ∷ more ∷ pieces) count = None
 
 -- `WORDS:COUNT`
-abbrev pub blocks_of : Text → Option Blocks
-blocks_of text = let cut = cut_after 58 text in blocks_cut cut.pieces cut.rest
+abbrev pub asked_blocks : Text → Option Blocks
+asked_blocks text = let cut = cut_after 58 text in blocks_cut cut.pieces cut.rest
 
 -- the counts with the blocks of each text
 abbrev pub counted_in : Counted → List Text → Option Counted
 counted_in counted [] = Some counted
-counted_in counted (text ∷ texts) = option_and_then (λ blocks. option_and_then (λ more. counted_in more texts) (counted_with counted blocks)) (blocks_of text)
+counted_in counted (text ∷ texts) = option_and_then (λ blocks. option_and_then (λ more. counted_in more texts) (counted_with counted blocks)) (asked_blocks text)
 
 -- `WORDS:COUNT,WORDS:COUNT..`
 abbrev pub allocations_in : Text → Option Counted

@@ -11,6 +11,7 @@ use Rattle.clap.specs.declared.builder.action.ArgAction.TheVariants.{SetTrue}
 use Rattle.clap.specs.declared.builder.value_parser.ValueParser.TheVariants.{String, Unsigned}
 use Rattle.mh_model.specs.declared.config.Rules.{Rules}
 use Rattle.mh_model.specs.declared.config.Rules.TheVariants.{First, Second}
+use Rattle.mh_model.specs.Limits.{least_quantum}
 
 -- Options ----------------------------------------------------------------------------------------
 
@@ -41,7 +42,7 @@ abbrev pub page_numbers : ValueParser
 page_numbers = Unsigned 1 4096
 
 abbrev pub quantum_numbers : ValueParser
-quantum_numbers = Unsigned 209 1000000
+quantum_numbers = Unsigned least_quantum 1000000
 
 abbrev pub every_numbers : ValueParser
 every_numbers = Unsigned 0 1000000
@@ -177,12 +178,12 @@ metroheap = let app : App = versioned optional_app in record app { top = record 
 -- Numbers ----------------------------------------------------------------------------------------
 
 -- the number that a text of digits is, after a plus if it has one
-abbrev pub number_in : Text → ℕ
-number_in text = digits_value 10 (without_leading_plus text)
+abbrev pub number_in_digits : Text → ℕ
+number_in_digits text = digits_value 10 (without_leading_plus text)
 
 -- how many workers the matches ask for, which is 1 if they don't say
 abbrev pub workers_of : List Row → ℕ
-workers_of rows = option_map_or number_in (one_of (codes "workers") rows) 1
+workers_of rows = option_map_or number_in_digits (one_of (codes "workers") rows) 1
 
 -- the rules with a number: the first with 1
 abbrev pub rules_numbered : ℕ → Rules
@@ -190,19 +191,19 @@ rules_numbered number = if number == 1 then First else Second
 
 -- the rules that the matches ask for, if they say
 abbrev pub rules_given : List Row → Option Rules
-rules_given rows = option_map (λ text. rules_numbered (number_in text)) (one_of (codes "rules") rows)
+rules_given rows = option_map (λ text. rules_numbered (number_in_digits text)) (one_of (codes "rules") rows)
 
 -- and these others if they don't
-abbrev pub rules_of : Rules → List Row → Rules
-rules_of other rows = unwrap_or (rules_given rows) other
+abbrev pub rules_chosen : Rules → List Row → Rules
+rules_chosen other rows = unwrap_or (rules_given rows) other
 
 -- the number of an option, which is this other one if the matches don't say
 abbrev pub number_or : ℕ → Text → List Row → ℕ
-number_or other name rows = option_map_or number_in (one_of name rows) other
+number_or other name rows = option_map_or number_in_digits (one_of name rows) other
 
 -- the number of an option that may be left out, if the matches say
 abbrev pub optional_number : Text → List Row → Option ℕ
-optional_number name rows = option_map number_in (one_of name rows)
+optional_number name rows = option_map number_in_digits (one_of name rows)
 
 -- the flag is given
 abbrev pub is_flagged : Text → List Row → Bool
@@ -214,7 +215,7 @@ IsNumber text = IsNumeral 10 (without_leading_plus text)
 
 -- the option is given with this number
 abbrev pub HasNumber : List Row → Text → ℕ → Type 0
-HasNumber rows name n = IsSomeAnd (one_of name rows) (λ text. IsNumber text × (number_in text ≡ n))
+HasNumber rows name n = IsSomeAnd (one_of name rows) (λ text. IsNumber text × (number_in_digits text ≡ n))
 
 -- the option is given with a text that is no number
 abbrev pub LacksNumber : List Row → Text → Type 0
@@ -230,12 +231,12 @@ IsHeld n held = ((n ≤ 4294967295) × (held ≡ n)) ⊎ ((4294967295 < n) × (h
 
 -- what a text is read as, if it is a number
 abbrev pub ReadsNumber : Text → Result OptionNumber NotNumber → Type 0
-ReadsNumber text (Ok number) = IsNumber text × IsHeld (number_in text) number.value
+ReadsNumber text (Ok number) = IsNumber text × IsHeld (number_in_digits text) number.value
 ReadsNumber text (Err fault) = ¬ (IsNumber text)
 
 -- the option is given with a number that is held so
 abbrev pub HoldsNumber : List Row → Text → ℕ → Type 0
-HoldsNumber rows name held = IsSomeAnd (one_of name rows) (λ text. IsNumber text × IsHeld (number_in text) held)
+HoldsNumber rows name held = IsSomeAnd (one_of name rows) (λ text. IsNumber text × IsHeld (number_in_digits text) held)
 
 -- What `clap` has seen to -------------------------------------------------------------------------
 
@@ -299,17 +300,17 @@ abbrev pub WantsConfig : Text → List Row → Type 0
 WantsConfig name rows = ((name ≡ codes "check") × (is_flagged (codes "sessions") rows ≡ false)) ⊎ (name ≡ codes "migrate")
 
 -- a subcommand of the program, with what its options may be
-pub data IsAsked (name : Text) (rows : List Row) : Type 0 where
-  Runs : name ≡ codes "run" → AsksToRun rows → IsAsked name rows
-  Tells : name ≡ codes "steps" → AsksToTell rows → IsAsked name rows
-  Shows : name ≡ codes "show" → AsksForRules rows → IsAsked name rows
-  Workers : TakesWorkers name → AsksForFew rows → IsAsked name rows
-  Checks : name ≡ codes "check" → AsksToCheck rows → IsAsked name rows
-  Generates : name ≡ codes "generate" → AsksToGenerate rows → IsAsked name rows
-  Curves : name ≡ codes "curve" → AsksToCurve rows → IsAsked name rows
-  Sizes : name ≡ codes "size" → AsksToSize rows → IsAsked name rows
-  Nothing : (name ≡ codes "audit") ⊎ (name ≡ codes "migrate") → IsAsked name rows
+pub data IsSubcommand (name : Text) (rows : List Row) : Type 0 where
+  Runs : name ≡ codes "run" → AsksToRun rows → IsSubcommand name rows
+  Tells : name ≡ codes "steps" → AsksToTell rows → IsSubcommand name rows
+  Shows : name ≡ codes "show" → AsksForRules rows → IsSubcommand name rows
+  Workers : TakesWorkers name → AsksForFew rows → IsSubcommand name rows
+  Checks : name ≡ codes "check" → AsksToCheck rows → IsSubcommand name rows
+  Generates : name ≡ codes "generate" → AsksToGenerate rows → IsSubcommand name rows
+  Curves : name ≡ codes "curve" → AsksToCurve rows → IsSubcommand name rows
+  Sizes : name ≡ codes "size" → AsksToSize rows → IsSubcommand name rows
+  Nothing : (name ≡ codes "audit") ⊎ (name ≡ codes "migrate") → IsSubcommand name rows
 
 -- the words name one
 abbrev pub NamesOne : Option (Text × List Row) → Type 0
-NamesOne matched = IsSomeAnd matched (λ subcommand. IsAsked subcommand.0 subcommand.1)
+NamesOne matched = IsSomeAnd matched (λ subcommand. IsSubcommand subcommand.0 subcommand.1)

@@ -13,6 +13,7 @@ use Rattle.mh_model.specs.Configs.{configured, configured_under}
 use Rattle.mh_model.specs.declared.config.Config.{Config}
 use Rattle.mh_model.specs.declared.config.Rules.{Rules}
 use Rattle.mh_model.specs.declared.config.Rules.TheVariants.{First, Second}
+use Rattle.mh_model.specs.Limits.{least_quantum}
 use Rattle.mh_command_line.specs.declared.fault.LineFault.{LineFault}
 use Rattle.mh_command_line.specs.declared.fault.LineFault.TheVariants.{Words, NotText, Configuration, NoMemory}
 use Rattle.mh_orders.specs.declared.order.Order.{Order}
@@ -28,8 +29,8 @@ use Rattle.mh_orders.specs.declared.order.ConfigOption.{ConfigOption}
 use Rattle.mh_orders.specs.declared.order.ConfigOption.TheVariants.{Pages, Quantum, Trigger, Every}
 use Rattle.mh_command_line.specs.declared.options.OptionFault.{OptionFault}
 use Rattle.mh_command_line.specs.declared.options.OptionFault.TheVariants.{NoNumber, NoProfile, NoBlocks, Missing, Lacking, Unwanted, Beside, Outside}
-use Rattle.mh_command_line.specs.Sizes.{AreHeapOptions, AreTargetOptions, IsApart, IsWanted, LacksAllocations, has_size}
-use Rattle.mh_command_line.specs.Line.{HasNumber, IsConfigOption, LacksNumber, WantsConfig, is_flagged, metroheap, number_or, rules_given, rules_of, workers_of}
+use Rattle.mh_command_line.specs.Sizes.{AreHeapOptions, AreTargetOptions, IsAlone, IsWanted, LacksAllocations, has_size}
+use Rattle.mh_command_line.specs.Line.{HasNumber, IsConfigOption, LacksNumber, WantsConfig, is_flagged, metroheap, number_or, rules_given, rules_chosen, workers_of}
 
 -- Orders -----------------------------------------------------------------------------------------
 
@@ -65,14 +66,14 @@ pub record HasNoConfig (rows : List Row) : Type 0 where
   pub every : one_of (codes "every") rows ≡ None
 
 -- what a run writes: its replies, or its history if the flag is given
-abbrev pub form_of : List Row → Form
-form_of rows = if is_flagged (codes "history") rows then History else Replies
+abbrev pub form_of_run : List Row → Form
+form_of_run rows = if is_flagged (codes "history") rows then History else Replies
 
 -- the options of a run: under the second rules if the matches don't say
 pub record AreRunOptions (rows : List Row) (options : RunOptions) : Type 0 where
   pub workers : options.workers ≡ workers_of rows
-  pub rules : options.rules ≡ rules_of Second rows
-  pub form : options.form ≡ form_of rows
+  pub rules : options.rules ≡ rules_chosen Second rows
+  pub form : options.form ≡ form_of_run rows
 
 -- how steps are written: in words, or as JSON if the flag is given
 abbrev pub steps_form_of : List Row → steps.Form
@@ -83,7 +84,7 @@ pub record AreStepsOptions (rows : List Row) (options : StepsOptions) : Type 0 w
   pub form : options.steps.form ≡ steps_form_of rows
   pub from : options.steps.from ≡ number_or 1 (codes "from") rows
   pub to : options.steps.to ≡ number_or 4294967295 (codes "to") rows
-  pub rules : options.rules ≡ rules_of Second rows
+  pub rules : options.rules ≡ rules_chosen Second rows
 
 -- what a curve is written as: a table, or a picture if the flag is given
 abbrev pub curve_form_of : List Row → CurveForm
@@ -91,7 +92,7 @@ curve_form_of rows = if is_flagged (codes "svg") rows then Picture else Table
 
 -- the options of the curve of a script
 pub record AreCurveOptions (rows : List Row) (options : CurveOptions) : Type 0 where
-  pub rules : options.rules ≡ rules_of Second rows
+  pub rules : options.rules ≡ rules_chosen Second rows
   pub form : options.form ≡ curve_form_of rows
 
 -- the configuration of a random script: what the matches don't say is by default, and cycles start once half of the pages are free at most
@@ -114,10 +115,10 @@ pub record AreGenerateOptions (rows : List Row) (options : Options) : Type 0 whe
 abbrev pub IsOrder : Text → List Row → Order → Type 0
 IsOrder name rows (Run options) = (name ≡ codes "run") × AreRunOptions rows options
 IsOrder name rows (Steps options) = (name ≡ codes "steps") × AreStepsOptions rows options
-IsOrder name rows (Show rules) = (name ≡ codes "show") × (rules ≡ rules_of Second rows)
+IsOrder name rows (Show rules) = (name ≡ codes "show") × (rules ≡ rules_chosen Second rows)
 IsOrder name rows (Live workers) = (name ≡ codes "live") × (workers ≡ workers_of rows)
 IsOrder name rows (Race workers) = (name ≡ codes "race") × (workers ≡ workers_of rows)
-IsOrder name rows (Check config) = (name ≡ codes "check") × (is_flagged (codes "sessions") rows ≡ false) × MakesConfig (rules_of First rows) rows config
+IsOrder name rows (Check config) = (name ≡ codes "check") × (is_flagged (codes "sessions") rows ≡ false) × MakesConfig (rules_chosen First rows) rows config
 IsOrder name rows (CheckSessions asked) = (name ≡ codes "check") × (is_flagged (codes "sessions") rows ≡ true) × HasNoConfig rows × (asked ≡ rules_given rows)
 IsOrder name rows Audit = name ≡ codes "audit"
 IsOrder name rows (Migrate config) = (name ≡ codes "migrate") × MakesConfig First rows config
@@ -126,13 +127,13 @@ IsOrder name rows (CurveHistory form) = (name ≡ codes "curve") × (is_flagged 
 IsOrder name rows (Generate options) = (name ≡ codes "generate") × AreGenerateOptions rows options
 IsOrder name rows (Size options) = (name ≡ codes "size") × AreHeapOptions rows options
 IsOrder name rows (SizeTarget options) = (name ≡ codes "size") × AreTargetOptions rows options
-IsOrder name rows (SizeScript rules) = (name ≡ codes "size") × (has_size rows ≡ false) × (rules ≡ rules_of Second rows)
+IsOrder name rows (SizeScript rules) = (name ≡ codes "size") × (has_size rows ≡ false) × (rules ≡ rules_chosen Second rows)
 IsOrder name rows Version = ⊥
 
 -- an option of a configuration is outside its limits: that of the trigger if it is above that of the pages
 abbrev pub IsOutsideBy : ConfigOption → ConfigNumbers → Type 0
 IsOutsideBy Pages numbers = (numbers.pages < 1) ⊎ (4096 < numbers.pages)
-IsOutsideBy Quantum numbers = (numbers.quantum < 209) ⊎ (1000000 < numbers.quantum)
+IsOutsideBy Quantum numbers = (numbers.quantum < least_quantum) ⊎ (1000000 < numbers.quantum)
 IsOutsideBy Trigger numbers = numbers.pages < numbers.trigger
 IsOutsideBy Every numbers = 1000000 < numbers.every
 
@@ -163,7 +164,7 @@ HasFirstRules order = Unit {0}
 
 -- the option that is blamed of numbers that are no configuration: one that is outside its limits, and that of the trigger if no other is
 abbrev pub IsBlamed : (pages quantum every : ℕ) → ConfigOption → Type 0
-IsBlamed pages quantum every Trigger = (1 ≤ pages) × (pages ≤ 4096) × (209 ≤ quantum) × (quantum ≤ 1000000) × (every ≤ 1000000)
+IsBlamed pages quantum every Trigger = (1 ≤ pages) × (pages ≤ 4096) × (least_quantum ≤ quantum) × (quantum ≤ 1000000) × (every ≤ 1000000)
 IsBlamed pages quantum every option = IsOutsideBy option (record { pages = pages; quantum = quantum; trigger = 0; every = every })
 
 -- the text of the profile that is asked for names none
@@ -187,7 +188,7 @@ HasOptionFault subcommand rows (Unwanted name) = (subcommand ≡ codes "check") 
 HasOptionFault subcommand rows (NoProfile text) = (subcommand ≡ codes "generate") × LacksProfile rows
 HasOptionFault subcommand rows (NoBlocks text) = (subcommand ≡ codes "size") × LacksAllocations rows
 HasOptionFault subcommand rows (Lacking name) = (subcommand ≡ codes "size") × IsWanted rows name.now × (one_of name.now rows ≡ None)
-HasOptionFault subcommand rows (Beside name other) = (subcommand ≡ codes "size") × IsApart rows name.now other.now × IsSome (one_of name.now rows) × IsSome (one_of other.now rows)
+HasOptionFault subcommand rows (Beside name other) = (subcommand ≡ codes "size") × IsAlone rows name.now other.now × IsSome (one_of name.now rows) × IsSome (one_of other.now rows)
 HasOptionFault subcommand rows fault = WantsConfig subcommand rows × IsNumberFault rows fault
 
 -- `clap` takes the options of a subcommand, and one of a configuration, a profile or one of `size` is amiss: the kind of fault that this is
@@ -197,7 +198,7 @@ pub data AreAmiss (name : Text) (rows : List Row) : ErrorKind → Type 0 where
   IsNoProfile : name ≡ codes "generate" → LacksProfile rows → AreAmiss name rows ValueValidation
   AreNoBlocks : name ≡ codes "size" → LacksAllocations rows → AreAmiss name rows ValueValidation
   IsLacking : name ≡ codes "size" → (option : Text) → IsWanted rows option → one_of option rows ≡ None → AreAmiss name rows MissingRequiredArgument
-  IsBeside : name ≡ codes "size" → (option other : Text) → IsApart rows option other → IsSome (one_of option rows) → IsSome (one_of other rows) → AreAmiss name rows ArgumentConflict
+  IsBeside : name ≡ codes "size" → (option other : Text) → IsAlone rows option other → IsSome (one_of option rows) → IsSome (one_of other rows) → AreAmiss name rows ArgumentConflict
   IsUnwanted : name ≡ codes "check" → (option : Text) → IsConfigOption option → is_flagged (codes "sessions") rows ≡ true → IsSome (one_of option rows) → AreAmiss name rows ArgumentConflict
 
 -- Words ------------------------------------------------------------------------------------------
@@ -269,7 +270,7 @@ RefusesOptions (Outside option) (Configuration refused) = refused ≡ option
 RefusesOptions fault line = ⊥
 
 -- what is said of words that `clap` refuses with this kind of fault: that, or that memory was refused
-abbrev pub Refuses : ErrorKind → LineFault → Type 0
-Refuses kind (Words error) = (kind ≢ OutOfMemory) × (kind_of error ≡ kind)
-Refuses kind NoMemory = Unit {0}
-Refuses kind line = ⊥
+abbrev pub IsSaidOfRefusal : ErrorKind → LineFault → Type 0
+IsSaidOfRefusal kind (Words error) = (kind ≢ OutOfMemory) × (kind_of error ≡ kind)
+IsSaidOfRefusal kind NoMemory = Unit {0}
+IsSaidOfRefusal kind line = ⊥

@@ -27,16 +27,16 @@ pub record AreHeapOptions (rows : List Row) (options : HeapOptions) : Type 0 whe
   pub quantum : options.quantum ≡ optional_number (codes "quantum") rows
 
 -- what is given beside a target: one number or none
-abbrev pub IsGiven : List Row → Given → Type 0
-IsGiven rows Nothing = (one_of (codes "every") rows ≡ None) × (one_of (codes "quantum") rows ≡ None)
-IsGiven rows (Every every) = HasNumber rows (codes "every") every × (one_of (codes "quantum") rows ≡ None)
-IsGiven rows (Quantum quantum) = (one_of (codes "every") rows ≡ None) × HasNumber rows (codes "quantum") quantum
+abbrev pub IsGivenBesideTarget : List Row → Given → Type 0
+IsGivenBesideTarget rows Nothing = (one_of (codes "every") rows ≡ None) × (one_of (codes "quantum") rows ≡ None)
+IsGivenBesideTarget rows (Every every) = HasNumber rows (codes "every") every × (one_of (codes "quantum") rows ≡ None)
+IsGivenBesideTarget rows (Quantum quantum) = (one_of (codes "every") rows ≡ None) × HasNumber rows (codes "quantum") quantum
 
 -- the options of a share of the mutator
 pub record AreTargetOptions (rows : List Row) (options : TargetOptions) : Type 0 where
   pub percent : HasNumber rows (codes "target") options.target.percent
   pub window : HasNumber rows (codes "window") options.target.window
-  pub given : IsGiven rows options.given
+  pub given : IsGivenBesideTarget rows options.given
   pub pages : options.pages ≡ optional_number (codes "pages") rows
   pub allocates : one_of (codes "allocates") rows ≡ None
   pub live : one_of (codes "live") rows ≡ None
@@ -57,9 +57,9 @@ pub data IsWanted (rows : List Row) (name : Text) : Type 0 where
   ForHeap : (name ≡ codes "pages") ⊎ (name ≡ codes "every") ⊎ (name ≡ codes "allocates") ⊎ (name ≡ codes "live") → one_of (codes "target") rows ≡ None → has_size rows ≡ true → IsWanted rows name
 
 -- an option that is not to stand beside another: none of a heap's blocks beside a target, and then no two numbers of a configuration
-pub data IsApart (rows : List Row) (name other : Text) : Type 0 where
-  FromTarget : (name ≡ codes "allocates") ⊎ (name ≡ codes "live") ⊎ (name ≡ codes "references") → other ≡ codes "target" → IsApart rows name other
-  FromQuantum : name ≡ codes "every" → other ≡ codes "quantum" → IsSome (one_of (codes "target") rows) → IsApart rows name other
+pub data IsAlone (rows : List Row) (name other : Text) : Type 0 where
+  FromTarget : (name ≡ codes "allocates") ⊎ (name ≡ codes "live") ⊎ (name ≡ codes "references") → other ≡ codes "target" → IsAlone rows name other
+  FromQuantum : name ≡ codes "every" → other ≡ codes "quantum" → IsSome (one_of (codes "target") rows) → IsAlone rows name other
 
 -- the text of what an interval asks for has no blocks
 abbrev pub LacksAllocations : List Row → Type 0

@@ -1,7 +1,7 @@
 //! The blocks that an interval between two quanta asks for. Words count the header, since that is what size classes
 //! are of. The program reads them and not `clap`, which takes any text here.
 ghost use Rattle.std.specs.Prelude.{◌≡◌, IfSome, IsTrue, option_map};
-ghost use Rattle.mh_command_line.specs.Blocks.{ReadsAllocations, allocations_in, are_blocks, blocks_of, counted_of, counted_with, none_counted};
+ghost use Rattle.mh_command_line.specs.Blocks.{ReadsAllocations, allocations_in, are_blocks, asked_blocks, counted_of, counted_with, none_counted};
 
 use mh_classes::class::class_of;
 use mh_orders::allocations::Allocations;
@@ -31,7 +31,7 @@ pub(crate) struct NotBlocks;
 
 /// The blocks of `WORDS:COUNT`.
 fn blocks_in(text: &[u8]) -> Option<Blocks>
-    ensures value { result ≡ blocks_of text.now }
+    ensures value { result ≡ asked_blocks text.now }
     ensures within { IfSome result (λ blocks. IsTrue (are_blocks blocks.words blocks.count)) }
 {
     let (words, count) = split_at_byte(text, b':')?;

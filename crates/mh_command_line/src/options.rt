@@ -20,7 +20,8 @@ ghost use Rattle.std.specs.Str.Parse.{without_leading_plus};
 ghost use Rattle.clap.specs.Words.{IsUnsignedIn, found_of, one_of, rows_of};
 ghost use Rattle.mh_model.specs.Configs.{configured};
 ghost use Rattle.mh_model.specs.declared.config.Rules.TheVariants.{Second};
-ghost use Rattle.mh_command_line.specs.Line.{AsksForFew, AsksForRules, AsksToCheck, AsksToGenerate, AsksToRun, AsksToTell, HasFlag, HasNumber, HoldsNumber, IsConfigOption, IsNumber, ReadsNumber, is_flagged, number_or, rules_given, rules_numbered, rules_of, workers_of};
+ghost use Rattle.mh_model.specs.Limits.{least_quantum};
+ghost use Rattle.mh_command_line.specs.Line.{AsksForFew, AsksForRules, AsksToCheck, AsksToGenerate, AsksToRun, AsksToTell, HasFlag, HasNumber, HoldsNumber, IsConfigOption, IsNumber, ReadsNumber, is_flagged, number_or, rules_given, rules_numbered, rules_chosen, workers_of};
 ghost use Rattle.mh_command_line.specs.Orders.{AreGenerateOptions, AreRunOptions, AreStepsOptions, AsksProfile, HasFewWorkers, HasFirstRules, HasOptionFault, IsBlamed, IsNumberFault, IsOrder, MakesConfig, generated_config};
 
 use clap::ArgMatches;
@@ -132,7 +133,7 @@ fn rules_given(matches: &ArgMatches<'_>) -> Option<Rules>
 /// The rules that are asked for, and these others if none are.
 pub(crate) fn rules_asked(matches: &ArgMatches<'_>, other: Rules) -> Rules
     requires { AsksForRules (rows_of (found_of matches.now)) }
-    ensures { result ≡ rules_of other (rows_of (found_of matches.now)) }
+    ensures { result ≡ rules_chosen other (rows_of (found_of matches.now)) }
 {
     rules_given(matches).unwrap_or(other)
 }
@@ -277,7 +278,7 @@ fn sessions_asked(matches: &ArgMatches<'_>) -> u8
 /// The configuration of a random script, in which cycles start once half of the pages are free at most.
 fn script_config(pages: u32, quantum: u32, every: u32) -> Config
     requires pages { (1 ≤ pages) × (pages ≤ 4096) }
-    requires quantum { (209 ≤ quantum) × (quantum ≤ 1000000) }
+    requires quantum { (least_quantum ≤ quantum) × (quantum ≤ 1000000) }
     requires every { every ≤ 1000000 }
     ensures config { configured pages quantum (pages / 2) every ≡ Some result }
     ensures second { result.rules ≡ Second }

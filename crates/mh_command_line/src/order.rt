@@ -17,8 +17,8 @@ ghost use Rattle.std.specs.Prelude.{◌≡◌, IfOk, IfErr, IsSomeAnd, Err, map}
 ghost use Rattle.std.specs.String.{string_bytes};
 ghost use Rattle.clap.specs.Words.{found_of, kind_of, rows_of, subcommand_rows_of};
 ghost use Rattle.clap.specs.declared.error.kind.ErrorKind.TheVariants.{ArgumentConflict, MissingRequiredArgument, ValueValidation};
-ghost use Rattle.mh_command_line.specs.Line.{IsAsked, NamesOne};
-ghost use Rattle.mh_command_line.specs.Orders.{GivesOrder, HasFewWorkers, HasFirstRules, HasOptionFault, IsFault, IsOrder, Refuses, RefusesOptions};
+ghost use Rattle.mh_command_line.specs.Line.{IsSubcommand, NamesOne};
+ghost use Rattle.mh_command_line.specs.Orders.{GivesOrder, HasFewWorkers, HasFirstRules, HasOptionFault, IsFault, IsOrder, IsSaidOfRefusal, RefusesOptions};
 
 use crate::command::{command, command_of};
 use crate::curve::curve_asked;
@@ -38,7 +38,7 @@ use std::alloc::{AllocError, Global};
 use std::convert::AsStr;
 
 fn order_named<'a>(name: &str, matches: &ArgMatches<'a>) -> Result<Order, OptionFault<'a>>
-    requires { IsAsked name.now (rows_of (found_of matches.now)) }
+    requires { IsSubcommand name.now (rows_of (found_of matches.now)) }
     ensures order { IfOk result (IsOrder name.now (rows_of (found_of matches.now))) }
     ensures few { IfOk result HasFewWorkers }
     ensures rules { IfOk result HasFirstRules }
@@ -218,7 +218,7 @@ fn quoted_refusal<T: AsStr>(
 }
 
 fn refused_words<T: AsStr>(alloc: Global, words: &[T], error: clap::Error) -> LineFault
-    ensures { Refuses (kind_of error) result }
+    ensures { IsSaidOfRefusal (kind_of error) result }
 {
     if error.kind() == ErrorKind::OutOfMemory {
         return LineFault::NoMemory;

@@ -6,7 +6,7 @@ ghost use Rattle.clap.specs.Words.{IsUnsignedIn, app_of, found_of, one_of, rows_
 ghost use Rattle.clap.specs.declared.builder.command.Command.TheViews.{out-Command};
 ghost use Rattle.mh_command_line.specs.Line.{AsksToSize, HasNumber, any_text, blocks_app, optional_number, parsed_rule, share_app, size_app, sized_app};
 ghost use Rattle.mh_command_line.specs.Orders.{HasFewWorkers, HasFirstRules, HasOptionFault, IsOrder};
-ghost use Rattle.mh_command_line.specs.Sizes.{AreHeapOptions, AreTargetOptions, AsksAllocations, IsApart, IsGiven, IsWanted, has_size};
+ghost use Rattle.mh_command_line.specs.Sizes.{AreHeapOptions, AreTargetOptions, AsksAllocations, IsAlone, IsGivenBesideTarget, IsWanted, has_size};
 ghost use Rattle.mh_orders.specs.Given.{is_given_within};
 
 use crate::blocks::AskedAllocations;
@@ -124,7 +124,7 @@ fn not_beside<'a>(
     name: &'static str,
     other: &'static str,
 ) -> Result<(), OptionFault<'a>>
-    requires apart { IsApart (rows_of (found_of matches.now)) name.now other.now }
+    requires apart { IsAlone (rows_of (found_of matches.now)) name.now other.now }
     requires other { IsSome (one_of other.now (rows_of (found_of matches.now))) }
     ensures none { OnOk result (one_of name.now (rows_of (found_of matches.now)) ≡ None) }
     ensures fault { IfErr result (HasOptionFault (codes "size") (rows_of (found_of matches.now))) }
@@ -205,7 +205,7 @@ fn window_asked<'a>(matches: &ArgMatches<'a>) -> Result<u64, OptionFault<'a>>
 fn every_asked(matches: &ArgMatches<'_>) -> Given
     requires asks { AsksToSize (rows_of (found_of matches.now)) }
     requires quantum { one_of (codes "quantum") (rows_of (found_of matches.now)) ≡ None }
-    ensures given { IsGiven (rows_of (found_of matches.now)) result }
+    ensures given { IsGivenBesideTarget (rows_of (found_of matches.now)) result }
     ensures within { IsTrue (is_given_within result) }
 {
     match number(matches, "every") {
@@ -218,7 +218,7 @@ fn every_asked(matches: &ArgMatches<'_>) -> Given
 fn given_asked<'a>(matches: &ArgMatches<'a>) -> Result<Given, OptionFault<'a>>
     requires asks { AsksToSize (rows_of (found_of matches.now)) }
     requires target { IsSome (one_of (codes "target") (rows_of (found_of matches.now))) }
-    ensures given { IfOk result (IsGiven (rows_of (found_of matches.now))) }
+    ensures given { IfOk result (IsGivenBesideTarget (rows_of (found_of matches.now))) }
     ensures within { IfOk result (λ given. IsTrue (is_given_within given)) }
     ensures fault { IfErr result (HasOptionFault (codes "size") (rows_of (found_of matches.now))) }
 {

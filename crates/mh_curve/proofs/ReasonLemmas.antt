@@ -23,7 +23,7 @@ use Rattle.mh_curve.specs.declared.end.CurveEnd.{CurveEnd}
 use Rattle.mh_curve.specs.declared.end.CurveEnd.TheVariants.{Done, Refused, TooLong}
 use Rattle.mh_orders.specs.declared.curve.CurveForm.{CurveForm}
 use Rattle.mh_curve.specs.Histories.{TakesToDraw, history_curve, recorded_curve, short_reading}
-use Rattle.mh_curve.specs.Runs.{BeginsToDraw, Draws, EndsSo}
+use Rattle.mh_curve.specs.Runs.{BeginsToDraw, DrawsCurve, EndsSo}
 
 -- a reason of a text that is too long is that of a longer one
 reason-long : (text rest : Text) (reason : HistoryReason) → 2147483648 < length text → IsHistoryReason Two text 0 reason → IsHistoryReason Two (text ++ rest) 0 reason
@@ -60,7 +60,7 @@ curve-same form text other same = ap (λ (r : Reading Recorded). recorded_curve 
 
 -- what was drawn of the text that was read
 pub draws_read : (form : CurveForm) (known rest old new : Option Text) (items text : Text) (ended : CurveEnd) → text ≡ items → Consumes known rest items → (length items ≤ 2147483648 → IsAtEnd rest) → EndsSo text ended
-    → Appends old new (history_curve form text) → Draws form known old new ended
+    → Appends old new (history_curve form text) → DrawsCurve form known old new ended
 draws_read form None rest old new items text ended same consumed whole ends wrote = record { text = text; is_text = tt; ends = ends; wrote = wrote }
 draws_read form (Some bytes) None old new items text ended same consumed whole ends wrote = absurd consumed
 draws_read form (Some bytes) (Some left) old new items text ended same consumed whole ends wrote =

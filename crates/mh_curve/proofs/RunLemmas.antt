@@ -7,7 +7,7 @@ use Rattle.mh_model.specs.declared.command.Event.{Event}
 use Rattle.mh_model.specs.declared.config.Config.{Config}
 use Rattle.mh_model.specs.Limits.{most_entries}
 use Rattle.mh_model.specs.Machine.{Machine, event_step, first_machine, machine_after}
-use Rattle.mh_script.proofs.OfPromise.RunsByEvents.{after_more}
+use Rattle.mh_run_laws.proofs.runs.RunsByEvents.{after_more}
 use Rattle.mh_run_laws.specs.Bounds.{RunsStayWithinTheirEvents, most_letters}
 
 pub after_none : (first : Machine) → first ≡ machine_after first []

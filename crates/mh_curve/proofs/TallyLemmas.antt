@@ -12,26 +12,26 @@ use Rattle.mh_model.specs.HistoryTexts.{Recorded, recorded_reading}
 use Rattle.mh_model.specs.Script.{Reading, BadLine, Means}
 use Rattle.mh_model.specs.Trace.{Letter, M, C, TraceState}
 use Rattle.mh_text.specs.Pieces.{Lines}
-use Rattle.mh_history.specs.Beginnings.{TakesEntry, measured_line, with_header}
+use Rattle.mh_history.specs.Beginnings.{TakesEntry, line_as_measured, after_header}
 use Rattle.mh_history.proofs.LineLemmas.{Walked, walked_more}
 use Rattle.mh_curve.specs.declared.tally.Tally.{Tally}
 use Rattle.mh_orders.specs.declared.curve.CurveForm.{CurveForm}
-use Rattle.mh_curve.specs.Histories.{Extends, IsBounded, IsLongHistory, IsShortHistory, TakesToDraw, history_curve, recorded_curve, short_reading, traced_curve, IsTallyOf, IsTraceIf, IsTraceOf, greatest_of, letters_of, units_of}
+use Rattle.mh_curve.specs.Histories.{Extends, IsShortTrace, IsLongHistory, IsShortHistory, TakesToDraw, history_curve, recorded_curve, short_reading, traced_curve, IsTallyOf, IsTraceIf, IsTraceOf, greatest_spent, letters_of_entries, letters_of_entry}
 
-pub letters_of-more : (entries : List Measured) (measured : Measured) → letters_of (entries ++ measured ∷ []) ≡ letters_of entries ++ units_of measured
-letters_of-more entries measured = flat_map-append units_of entries (measured ∷ []) ∙ ap (λ (ls : List Letter). letters_of entries ++ ls) (append-nil (units_of measured))
+pub letters_of-more : (entries : List Measured) (measured : Measured) → letters_of_entries (entries ++ measured ∷ []) ≡ letters_of_entries entries ++ letters_of_entry measured
+letters_of-more entries measured = flat_map-append letters_of_entry entries (measured ∷ []) ∙ ap (λ (ls : List Letter). letters_of_entries entries ++ ls) (append-nil (letters_of_entry measured))
 
-pub greatest_of-more : (entries : List Measured) (measured : Measured) → greatest_of (entries ++ measured ∷ []) ≡ max (greatest_of entries) measured.collector
+pub greatest_of-more : (entries : List Measured) (measured : Measured) → greatest_spent (entries ++ measured ∷ []) ≡ max (greatest_spent entries) measured.collector
 greatest_of-more [] measured = omega arith
 greatest_of-more (entry ∷ entries) measured = omega (arith, greatest_of-more entries measured)
 
-pub units_of-length : (measured : Measured) → length (units_of measured) ≡ measured.mutator + measured.collector
+pub units_of-length : (measured : Measured) → length (letters_of_entry measured) ≡ measured.mutator + measured.collector
 units_of-length measured = omega (arith, length-append (replicate measured.mutator M) (replicate measured.collector C), length-replicate measured.mutator M, length-replicate measured.collector C)
 
 -- the trace with the units of one entry more
 pub trace_more : (entries : List Measured) (measured : Measured) (old new : TraceState) → IsTraceOf entries old → Extends old measured.mutator measured.collector new → IsTraceOf (entries ++ measured ∷ []) new
 trace_more entries measured old new is extends = record {
-  letters = extends.letters ∙ (ap (λ (ls : List Letter). ls ++ units_of measured) is.letters ∙ sym (letters_of-more entries measured));
+  letters = extends.letters ∙ (ap (λ (ls : List Letter). ls ++ letters_of_entry measured) is.letters ∙ sym (letters_of-more entries measured));
   greatest = extends.greatest ∙ (ap (λ g. max g measured.collector) is.greatest ∙ sym (greatest_of-more entries measured));
 }
 
@@ -40,25 +40,25 @@ pub tally_more : (entries : List Measured) (measured : Measured) (is_short : Boo
 tally_more entries measured is_short old new short extends is = rw short (trace_more entries measured old new (rw short at is) extends)
 
 -- a trace that is too long with one entry more, or already without it
-pub long_with : (entries : List Measured) (measured : Measured) (trace : TraceState) → IsTraceOf entries trace → LIFE ≤ length trace.letters + (measured.mutator + measured.collector) → LIFE ≤ length (letters_of (entries ++ measured ∷ []))
+pub long_with : (entries : List Measured) (measured : Measured) (trace : TraceState) → IsTraceOf entries trace → LIFE ≤ length trace.letters + (measured.mutator + measured.collector) → LIFE ≤ length (letters_of_entries (entries ++ measured ∷ []))
 long_with entries measured trace is long =
-    omega (arith, ap length (letters_of-more entries measured), length-append (letters_of entries) (units_of measured), units_of-length measured, ap length is.letters)
+    omega (arith, ap length (letters_of-more entries measured), length-append (letters_of_entries entries) (letters_of_entry measured), units_of-length measured, ap length is.letters)
 
-pub long_more : (entries : List Measured) (measured : Measured) → LIFE ≤ length (letters_of entries) → LIFE ≤ length (letters_of (entries ++ measured ∷ []))
-long_more entries measured long = omega (arith, ap length (letters_of-more entries measured), length-append (letters_of entries) (units_of measured))
+pub long_more : (entries : List Measured) (measured : Measured) → LIFE ≤ length (letters_of_entries entries) → LIFE ≤ length (letters_of_entries (entries ++ measured ∷ []))
+long_more entries measured long = omega (arith, ap length (letters_of-more entries measured), length-append (letters_of_entries entries) (letters_of_entry measured))
 
 -- entries were read, and this is their tally
 pub record HasTallied (old now : Lines) (kept : Tally) : Type 0 where
   pub seen : List Measured
-  pub walked : Walked measured_line old now seen
+  pub walked : Walked line_as_measured old now seen
   pub tally : IsTallyOf seen kept
-  pub bounded : IsBounded kept.trace.trace
+  pub bounded : IsShortTrace kept.trace.trace
 
-pub tallied_more : (old mid new : Lines) (before after : Tally) (measured : Measured) → HasTallied old mid before → TakesEntry measured_line mid new measured
-    → ((entries : List Measured) → IsTallyOf entries before → IsTallyOf (entries ++ measured ∷ []) after) → IsBounded after.trace.trace → HasTallied old new after
+pub tallied_more : (old mid new : Lines) (before after : Tally) (measured : Measured) → HasTallied old mid before → TakesEntry line_as_measured mid new measured
+    → ((entries : List Measured) → IsTallyOf entries before → IsTallyOf (entries ++ measured ∷ []) after) → IsShortTrace after.trace.trace → HasTallied old new after
 tallied_more old mid new before after measured has took tallies bounded = record {
   seen = has.seen ++ measured ∷ [];
-  walked = walked_more measured_line old mid new has.seen (has.seen ++ measured ∷ []) measured has.walked took refl;
+  walked = walked_more line_as_measured old mid new has.seen (has.seen ++ measured ∷ []) measured has.walked took refl;
   tally = tallies has.seen has.tally;
   bounded = bounded;
 }
@@ -69,9 +69,9 @@ pub record HasRead (config : Config) (text : Text) (kept : Tally) : Type 0 where
   pub reads : recorded_reading text ≡ Means (record { config = config; entries = entries })
   pub tally : IsTallyOf entries kept
 
-pub has_read : (config : Config) (text : Text) (r : Reading (List Measured)) (kept : Tally) → recorded_reading text ≡ with_header config r → (entries : List Measured) × (r ≡ Means entries) × IsTallyOf entries kept
+pub has_read : (config : Config) (text : Text) (r : Reading (List Measured)) (kept : Tally) → recorded_reading text ≡ after_header config r → (entries : List Measured) × (r ≡ Means entries) × IsTallyOf entries kept
     → HasRead config text kept
-has_read config text r kept is (entries, means, tally) = record { entries = entries; reads = is ∙ ap (with_header config) means; tally = tally }
+has_read config text r kept is (entries, means, tally) = record { entries = entries; reads = is ∙ ap (after_header config) means; tally = tally }
 
 module _ {config : Config} {text : Text} {kept : Tally} (read : HasRead config text kept) where
   pub takes_read : TakesToDraw text
@@ -80,13 +80,13 @@ module _ {config : Config} {text : Text} {kept : Tally} (read : HasRead config t
   pub long_read : kept.is_short ≡ false → IsLongHistory text
   long_read long = (record { config = config; entries = read.entries }, read.reads, rw long at read.tally)
 
-  module _ (short : kept.is_short ≡ true) (bounded : IsBounded kept.trace.trace) where
+  module _ (short : kept.is_short ≡ true) (bounded : IsShortTrace kept.trace.trace) where
     trace_is : IsTraceOf read.entries kept.trace.trace
     trace_is = rw short at read.tally
 
     is_read : short_reading (recorded_reading text) ≡ Means (record { config = config; entries = read.entries })
     is_read =
-        let few : nat_lt (length (letters_of read.entries)) LIFE ≡ true = grind (arith, nat_tests, ap length (trace_is.letters), bounded.short) in
+        let few : nat_lt (length (letters_of_entries read.entries)) LIFE ≡ true = grind (arith, nat_tests, ap length (trace_is.letters), bounded.short) in
         let recorded : Recorded = record { config = config; entries = read.entries } in
         ap short_reading read.reads ∙ ap (λ (b : Bool). if b then Means recorded else BadLine 0) few
 
@@ -97,7 +97,7 @@ module _ {config : Config} {text : Text} {kept : Tally} (read : HasRead config t
     curve_read form bytes is =
         let curve : List Letter → ℕ → Text = λ letters greatest. traced_curve form config (record { letters = letters; quanta = 0; greatest = greatest }) in
         is ∙ (ap (λ (letters : List Letter). curve letters kept.trace.trace.greatest) trace_is.letters
-        ∙ (ap (curve (letters_of read.entries)) trace_is.greatest
+        ∙ (ap (curve (letters_of_entries read.entries)) trace_is.greatest
         ∙ sym (ap (recorded_curve form) is_read)))
 
 -- what holds anyway holds of an error

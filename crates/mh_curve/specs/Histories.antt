@@ -14,38 +14,38 @@ use Rattle.mh_curve.specs.declared.drawing.Drawing.{Drawing}
 use Rattle.mh_curve.specs.declared.drawing.Drawing.TheVariants.{Curve, Refused, TooLong}
 use Rattle.mh_orders.specs.declared.curve.CurveForm.{CurveForm}
 use Rattle.mh_curve.specs.declared.tally.Tally.{Tally}
-use Rattle.mh_curve.specs.Points.{counts_of, points_of}
+use Rattle.mh_curve.specs.Points.{trace_counts, points_of}
 use Rattle.mh_curve.specs.Texts.{curve_text}
 
 -- Traces -----------------------------------------------------------------------------------------
 
 -- the units of an entry: those of the mutator, and then those of the collector
-abbrev pub units_of : Measured → List Letter
-units_of measured = replicate measured.mutator M ++ replicate measured.collector C
+abbrev pub letters_of_entry : Measured → List Letter
+letters_of_entry measured = replicate measured.mutator M ++ replicate measured.collector C
 
 -- the units of entries, whatever is replied
-abbrev pub letters_of : List Measured → List Letter
-letters_of entries = flat_map units_of entries
+abbrev pub letters_of_entries : List Measured → List Letter
+letters_of_entries entries = flat_map letters_of_entry entries
 
 -- the most that the collector spent at an entry
-abbrev pub greatest_of : List Measured → ℕ
-greatest_of [] = 0
-greatest_of (measured ∷ entries) = max measured.collector (greatest_of entries)
+abbrev pub greatest_spent : List Measured → ℕ
+greatest_spent [] = 0
+greatest_spent (measured ∷ entries) = max measured.collector (greatest_spent entries)
 
 -- the trace of a history: entry by entry its units, and the most that the collector spent at one
 abbrev pub recorded_trace : List Measured → TraceState
-recorded_trace entries = record { letters = letters_of entries; quanta = 0; greatest = greatest_of entries }
+recorded_trace entries = record { letters = letters_of_entries entries; quanta = 0; greatest = greatest_spent entries }
 
 -- Texts ------------------------------------------------------------------------------------------
 
 -- a history whose trace has 2 ^ 62 units or more is refused with line 0
 abbrev pub short_reading : Reading Recorded → Reading Recorded
 short_reading (BadLine line) = BadLine line
-short_reading (Means recorded) = if nat_lt (length (letters_of recorded.entries)) LIFE then Means recorded else BadLine 0
+short_reading (Means recorded) = if nat_lt (length (letters_of_entries recorded.entries)) LIFE then Means recorded else BadLine 0
 
 -- the curve of such a trace: how many quanta spent its units isn't known
 abbrev pub traced_curve : CurveForm → Config → TraceState → Text
-traced_curve form config trace = curve_text form (record (counts_of trace) { quanta = None }) (points_of config trace.letters)
+traced_curve form config trace = curve_text form (record (trace_counts trace) { quanta = None }) (points_of config trace.letters)
 
 -- the curve of a history that is read, or the first bad line
 abbrev pub recorded_curve : CurveForm → Reading Recorded → Text
@@ -64,20 +64,20 @@ TakesToDraw text = BeginsWithMeasured text ⊎ ((recorded : Recorded) × (record
 
 -- the trace of some entries
 pub record IsTraceOf (entries : List Measured) (trace : TraceState) : Type 0 where
-  pub letters : trace.letters ≡ letters_of entries
-  pub greatest : trace.greatest ≡ greatest_of entries
+  pub letters : trace.letters ≡ letters_of_entries entries
+  pub greatest : trace.greatest ≡ greatest_spent entries
 
 -- it is kept as long as it has fewer than 2 ^ 62 units
 abbrev pub IsTraceIf : Bool → List Measured → TraceState → Type 0
 IsTraceIf true entries trace = IsTraceOf entries trace
-IsTraceIf false entries trace = LIFE ≤ length (letters_of entries)
+IsTraceIf false entries trace = LIFE ≤ length (letters_of_entries entries)
 
 -- the same of what a tally has
 abbrev pub IsTallyOf : List Measured → Tally → Type 0
 IsTallyOf entries tally = IsTraceIf tally.is_short entries tally.trace.trace
 
 -- a trace is short, and has no more quanta than letters
-pub record IsBounded (trace : TraceState) : Type 0 where
+pub record IsShortTrace (trace : TraceState) : Type 0 where
   pub short : length trace.letters < LIFE
   pub few : trace.quanta ≤ length trace.letters
 
@@ -91,10 +91,10 @@ abbrev pub IsShortHistory : Text → Type 0
 IsShortHistory text = (recorded : Recorded) × (short_reading (recorded_reading text) ≡ Means recorded)
 
 abbrev pub IsLongHistory : Text → Type 0
-IsLongHistory text = (recorded : Recorded) × (recorded_reading text ≡ Means recorded) × (LIFE ≤ length (letters_of recorded.entries))
+IsLongHistory text = (recorded : Recorded) × (recorded_reading text ≡ Means recorded) × (LIFE ≤ length (letters_of_entries recorded.entries))
 
 -- what is drawn of a text, before it is written
-abbrev pub IsDrawn : CurveForm → Text → Drawing → Type 0
-IsDrawn form text (Curve written) = IsShortHistory text × (string_bytes written ≡ history_curve form text)
-IsDrawn form text (Refused line) = recorded_reading text ≡ BadLine line
-IsDrawn form text TooLong = IsLongHistory text
+abbrev pub IsDrawnText : CurveForm → Text → Drawing → Type 0
+IsDrawnText form text (Curve written) = IsShortHistory text × (string_bytes written ≡ history_curve form text)
+IsDrawnText form text (Refused line) = recorded_reading text ≡ BadLine line
+IsDrawnText form text TooLong = IsLongHistory text

@@ -2,5 +2,5 @@ pub mod Points
 pub mod Texts
 pub mod Histories
 pub mod Runs
-pub mod OfState
+pub mod OfMachine
 pub mod OfScript

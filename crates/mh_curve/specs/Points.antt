@@ -1,19 +1,16 @@
 -- The minimum mutator utilisation of a trace (Cheng and Blelloch 2001): of each of some windows the least share that the mutator has in any stretch as long.
-use Rattle.std.specs.Prelude.{◌≡◌, ℕ, zero, suc, ◌+◌, ◌*◌, ◌/◌, ◌==◌, nat_lt, max, if◌then◌else◌, Some, unwrap_or, List, [], ◌∷◌, length, map}
+use Rattle.std.specs.Prelude.{◌≡◌, ℕ, zero, suc, ◌==◌, nat_lt, if◌then◌else◌, Some, unwrap_or, List, [], ◌∷◌, length, map}
 use Rattle.mh_model.specs.declared.config.Config.{Config}
 use Rattle.mh_model.specs.Machine.{floor_of}
 use Rattle.mh_model.specs.Trace.{Letter, TraceState, mutator_count, collector_count, least_mutator}
+use Rattle.mh_report.specs.Windows.{next_window_rounded_down}
 use Rattle.mh_curve.specs.declared.point.Counts.{Counts}
 use Rattle.mh_curve.specs.declared.point.Point.{Point}
-
--- the window after one: it is an eighth longer, and 1 longer at least
-abbrev pub next_window : ℕ → ℕ
-next_window window = window + max 1 (window / 8)
 
 -- the windows from one on that are shorter than a trace, so many at most, and then the whole trace
 abbrev pub windows_from : ℕ → ℕ → ℕ → List ℕ
 windows_from zero window letters = letters ∷ []
-windows_from (suc most) window letters = if nat_lt window letters then window ∷ windows_from most (next_window window) letters else letters ∷ []
+windows_from (suc most) window letters = if nat_lt window letters then window ∷ windows_from most (next_window_rounded_down window) letters else letters ∷ []
 
 -- The windows of a trace of so many letters: from 1 on each an eighth longer, and the last is the whole trace. A trace of no letter has none
 abbrev pub windows : ℕ → List ℕ
@@ -32,9 +29,5 @@ abbrev pub HasLeast : List Letter → Point → Type 0
 HasLeast letters point = least_mutator point.window letters ≡ Some point.least
 
 -- what a trace counts
-abbrev pub counts_of : TraceState → Counts
-counts_of trace = record { mutator = mutator_count trace.letters; collector = collector_count trace.letters; quanta = Some trace.quanta; greatest = trace.greatest }
-
--- units of a window as parts of ten thousand of it, rounded down
-abbrev pub share_of : ℕ → ℕ → ℕ
-share_of units window = units * 10000 / window
+abbrev pub trace_counts : TraceState → Counts
+trace_counts trace = record { mutator = mutator_count trace.letters; collector = collector_count trace.letters; quanta = Some trace.quanta; greatest = trace.greatest }

@@ -19,7 +19,7 @@ use Rattle.mh_curve.specs.declared.end.CurveEnd.{CurveEnd}
 use Rattle.mh_curve.specs.declared.end.CurveEnd.TheVariants.{Done, Refused, TooLong}
 use Rattle.mh_orders.specs.declared.curve.CurveForm.{CurveForm}
 use Rattle.mh_curve.specs.Histories.{IsLongHistory, IsShortHistory, TakesToDraw, history_curve}
-use Rattle.mh_curve.specs.Points.{counts_of, points_of}
+use Rattle.mh_curve.specs.Points.{trace_counts, points_of}
 use Rattle.mh_curve.specs.Texts.{curve_text}
 
 -- Scripts ----------------------------------------------------------------------------------------
@@ -28,7 +28,7 @@ use Rattle.mh_curve.specs.Texts.{curve_text}
 abbrev pub curve_run : CurveForm → Config → List Event → Text
 curve_run form config events =
     let trace = (machine_after (first_machine config) events).trace in
-    curve_text form (counts_of trace) (points_of config trace.letters)
+    curve_text form (trace_counts trace) (points_of config trace.letters)
 
 -- What is written of a script: the curve of the run of its first 1,000,000 events under these rules, or its first bad line
 abbrev pub curve_output : CurveForm → Rules → Text → Text
@@ -43,7 +43,7 @@ EndsSo text (Refused line reason) = (recorded_reading text ≡ BadLine line) × 
 EndsSo text TooLong = IsLongHistory text
 
 -- the curve of the text of a source was written, and nothing else, and it ended so
-pub record Draws (form : CurveForm) (known old new : Option Text) (ended : CurveEnd) : Type 0 where
+pub record DrawsCurve (form : CurveForm) (known old new : Option Text) (ended : CurveEnd) : Type 0 where
   pub text : Text
   pub is_text : IsTextOf known text
   pub ends : EndsSo text ended
@@ -57,7 +57,7 @@ pub record BeginsToDraw (form : CurveForm) (known old new : Option Text) : Type 
 
 -- The curve of a history of a source was drawn in a form, and how that ended
 pub record IsDrawing (form : CurveForm) (source source' sink sink' : Device) (ended : Result CurveEnd ScriptFault) : Type 0 where
-  pub drawn : IfOk ended (Draws form source.bytes sink.bytes sink'.bytes)
+  pub drawn : IfOk ended (DrawsCurve form source.bytes sink.bytes sink'.bytes)
   pub begun : OnErr ended (BeginsToDraw form source.bytes sink.bytes sink'.bytes)
   pub never_full : ended ≢ Err HistoryFull
   pub unread : IsErrOf ended Read → Keeps sink.bytes sink'.bytes

@@ -9,13 +9,9 @@ use Rattle.mh_curve.specs.declared.parts.Part.TheVariants.{Row, Share, Floor, Ti
 use Rattle.mh_orders.specs.declared.curve.CurveForm.{CurveForm}
 use Rattle.mh_orders.specs.declared.curve.CurveForm.TheVariants.{Table, Picture}
 use Rattle.mh_curve.specs.declared.skeleton.TheConstants.{HEAD, COUNTS, AXES, WINDOWS, LEGEND, FLOOR_LEGEND, SHARES, END}
-use Rattle.mh_curve.specs.Points.{share_of}
+use Rattle.mh_report.specs.Windows.{percent_text, share_of}
 
 -- Tables -----------------------------------------------------------------------------------------
-
--- a share in per cent with two decimals
-abbrev pub percent_text : ℕ → Text
-percent_text share = decimal (share / 100) ++ codes "." ++ decimal (share / 10 % 10) ++ decimal (share % 10)
 
 -- a point as a line of the table
 abbrev pub point_words : Point → List Text
@@ -28,8 +24,8 @@ quanta_words None = []
 quanta_words (Some quanta) = codes "quanta" ∷ decimal quanta ∷ []
 
 -- what a trace counts as a line; of a history the quanta aren't counted
-abbrev pub counts_words : Counts → List Text
-counts_words counts =
+abbrev pub counts_line_words : Counts → List Text
+counts_line_words counts =
     codes "mutator" ∷ decimal counts.mutator ∷ codes "collector" ∷ decimal counts.collector ∷ (quanta_words counts.quanta ++ codes "greatest" ∷ decimal counts.greatest ∷ [])
 
 -- Pictures ---------------------------------------------------------------------------------------
@@ -87,11 +83,11 @@ legend_of (point ∷ points) = legend point.floor where
 
 -- a curve as a table
 abbrev pub table_text : Counts → List Point → Text
-table_text counts points = line_text (joined (counts_words counts)) ++ parts_text Row points
+table_text counts points = line_text (joined (counts_line_words counts)) ++ parts_text Row points
 
 -- as a picture in SVG: its title and axes, its labels, and its two lines
 abbrev pub head_text : Counts → Text
-head_text counts = HEAD.now ++ (joined (counts_words counts) ++ (COUNTS.now ++ (joined (counts_words counts) ++ AXES.now)))
+head_text counts = HEAD.now ++ (joined (counts_line_words counts) ++ (COUNTS.now ++ (joined (counts_line_words counts) ++ AXES.now)))
 
 abbrev pub labels_text : List Point → Text
 labels_text points = parts_text Tick points ++ (WINDOWS.now ++ (legend_of points ++ LEGEND.now))

@@ -2,7 +2,7 @@
 //! it.
 ghost use Rattle.std.specs.Prelude.{◌≡◌, IfOk, OnErr};
 ghost use Rattle.std.specs.String.{string_bytes};
-ghost use Rattle.mh_curve.specs.Histories.{IsBounded, IsDrawn, TakesToDraw, traced_curve};
+ghost use Rattle.mh_curve.specs.Histories.{IsShortTrace, IsDrawnText, TakesToDraw, traced_curve};
 
 use crate::form::curve_text;
 use crate::point::Counts;
@@ -34,7 +34,7 @@ fn recorded_text(
     config: Config,
     trace: &mut Trace,
 ) -> Result<String, NoMemory>
-    requires { IsBounded trace.old.trace }
+    requires { IsShortTrace trace.old.trace }
     ensures { IfOk result (λ text. string_bytes text ≡ traced_curve form config trace.old.trace) }
 {
     let counts = Counts {
@@ -49,7 +49,7 @@ fn recorded_text(
 
 /// What is drawn of a text of version 2. It takes no memory for one that is refused before its first entry.
 pub(crate) fn drawn(alloc: Global, form: CurveForm, text: &[u8]) -> Result<Drawing, NoMemory>
-    ensures drawn { IfOk result (IsDrawn form text.now) }
+    ensures drawn { IfOk result (IsDrawnText form text.now) }
     ensures memory { OnErr result (TakesToDraw text.now) }
 {
     let (config, lines) = match record_lines(text) {

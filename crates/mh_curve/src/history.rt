@@ -11,7 +11,7 @@
 ghost use Rattle.std.specs.Prelude.{◌≡◌, ◌≢◌, ◌<◌, ◌^◌, Err, IfOk, OnOk, OnErr, IsErrOf};
 ghost use Rattle.std.specs.Io.KnownBytes.{Appends, Keeps};
 ghost use Rattle.mh_curve.specs.Histories.{TakesToDraw, history_curve};
-ghost use Rattle.mh_curve.specs.Runs.{BeginsToDraw, Draws, EndsSo};
+ghost use Rattle.mh_curve.specs.Runs.{BeginsToDraw, DrawsCurve, EndsSo};
 ghost use Rattle.mh_script.specs.Texts.{Blames, LeavesSource, WantsMemory};
 ghost use Rattle.mh_text.specs.Stream.{AppendsBeginning};
 
@@ -71,7 +71,7 @@ pub fn curve_history<S: Source, W: Sink>(
 ) -> Result<CurveEnd, ScriptFault>
     requires source_count { S.failures source.old < 2 ^ 62 }
     requires sink_count { W.failures sink.old < 2 ^ 62 }
-    ensures drawn { IfOk result (Draws form (S.rest source.old) (W.written sink.old) (W.written sink.new)) }
+    ensures drawn { IfOk result (DrawsCurve form (S.rest source.old) (W.written sink.old) (W.written sink.new)) }
     ensures begun { OnErr result (BeginsToDraw form (S.rest source.old) (W.written sink.old) (W.written sink.new)) }
     ensures never_full { result ≢ Err ScriptFault.HistoryFull }
     ensures unread { IsErrOf result ScriptFault.Read → Keeps (W.written sink.old) (W.written sink.new) }

@@ -4,9 +4,10 @@ ghost use Rattle.std.specs.Prelude.{◌≡◌, ◌+◌, ◌<◌, ◌≤◌, ◌+
 ghost use Rattle.std.specs.String.{string_bytes};
 ghost use Rattle.mh_curve.specs.Texts.{floor_step, part_text, parts_text, place_x, place_y, step_text, tick_text};
 
-use crate::point::{Point, share};
+use crate::point::Point;
 use crate::table::PointText;
 use mh_model::memory::NoMemory;
+use mh_report::windows::share;
 use std::fmt::Write;
 
 /// A part of the text of a curve.

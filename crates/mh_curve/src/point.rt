@@ -1,8 +1,4 @@
-//! What a curve says of one window, and what its trace counts. A share is in hundredths of a per cent, rounded down,
-//! since all numbers here are whole.
-ghost use Rattle.std.specs.Prelude.{◌≡◌};
-ghost use Rattle.mh_curve.specs.Points.{share_of};
-
+//! What a curve says of one window, and what its trace counts.
 /// What a curve says of one window.
 #[derive(Clone, Copy, Debug, PartialEq, Eq)]
 pub struct Point {
@@ -24,14 +20,4 @@ pub struct Counts {
     pub quanta: Option<u64>,
     /// The most that a quantum spent, 0 if none was run.
     pub greatest: u64,
-}
-
-/// Units of a window as parts of ten thousand of it, rounded down.
-pub fn share(units: u64, window: u64) -> u128
-    ensures { result ≡ share_of units window }
-{
-    if window == 0 {
-        return 0;
-    }
-    u128::from(units) * 10_000 / u128::from(window)
 }

@@ -7,13 +7,14 @@
 ghost use Rattle.std.specs.Prelude.{◌≡◌, ◌<◌, IfOk, length};
 ghost use Rattle.std.specs.List.{All};
 ghost use Rattle.mh_model.specs.declared.birth.TheConstants.{LIFE};
-ghost use Rattle.mh_curve.specs.Points.{HasLeast, next_window, point_at, points_of};
+ghost use Rattle.mh_curve.specs.Points.{HasLeast, point_at, points_of};
 
 use crate::point::Point;
 use mh_model::config::Config;
 use mh_model::memory::NoMemory;
 use mh_report::report::report;
 use mh_report::trace::Trace;
+use mh_report::windows::next_window_rounded_down;
 use std::alloc::Global;
 
 /// How many units a trace has.
@@ -23,14 +24,6 @@ fn letter_count(trace: &Trace) -> u64
     ensures { result ≡ length trace.now.trace.letters }
 {
     trace.mutator_count() + trace.collector_count()
-}
-
-/// The window after one.
-fn next_window(window: u64) -> u64
-    requires { window < LIFE }
-    ensures { result ≡ next_window window }
-{
-    window + (window / 8).max(1)
 }
 
 fn point_at(config: &Config, trace: &mut Trace, window: u64) -> Point
@@ -64,7 +57,7 @@ pub fn curve_points(
     let mut window = 1;
     while window < letters {
         points.push(point_at(config, trace, window))?;
-        window = next_window(window);
+        window = next_window_rounded_down(window);
     }
     points.push(point_at(config, trace, letters))?;
     Ok(points)

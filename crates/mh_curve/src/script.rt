@@ -3,13 +3,13 @@
 //! What is written is exactly the curve of the trace of the run, and all that is said of `run_script` holds of it. A
 //! script is refused as by a run, and a failed sink and out of memory leave a prefix. The trace of a run has fewer
 //! than 2 ^ 62 units by a law, so no script is too long for its curve.
-ghost use Rattle.std.specs.Prelude.{◌≡◌, ◌<◌, ◌≤◌, ◌^◌, suc, length, IfOk, OnOk, OnErr, IsErrOf};
+ghost use Rattle.std.specs.Prelude.{◌≡◌, ◌<◌, ◌≤◌, ◌^◌, length, IfOk, OnOk, OnErr, IsErrOf};
 ghost use Rattle.std.specs.Io.KnownBytes.{Appends, Keeps};
 ghost use Rattle.std.specs.String.{string_bytes};
-ghost use Rattle.mh_curve.specs.Points.{counts_of};
+ghost use Rattle.mh_curve.specs.Points.{trace_counts};
 ghost use Rattle.mh_curve.specs.Runs.{curve_output, curve_run};
 ghost use Rattle.mh_model.specs.Limits.{most_entries};
-ghost use Rattle.mh_model.specs.Machine.{event_step, first_machine, machine_after};
+ghost use Rattle.mh_model.specs.Machine.{first_machine, machine_after};
 ghost use Rattle.mh_model.specs.Output as model;
 ghost use Rattle.mh_text.specs.Stream.{AppendsBeginning};
 ghost use Rattle.mh_script.specs.Run.{EndsAs, HasReason, Outputs, TakesToRun, WritesBeginning};
@@ -26,9 +26,9 @@ use mh_report::trace::Trace;
 use mh_run_laws::bounds::runs_stay_within_their_events;
 use mh_script::end::End;
 use mh_script::fault::{ScriptFault, WriteError};
+use mh_script::mh_machine::machine::Machine;
 use mh_script::mh_scan::crew_scan::{CrewGate, CrewScan};
 use mh_script::mh_scan::scan::Scanner;
-use mh_script::mh_state::machine::{Machine, Stop};
 use mh_script::texts::flush;
 use mh_script::transcript::{Transcript, transcribe};
 use mh_text::script::SCRIPT_BYTES;
@@ -38,26 +38,13 @@ use std::alloc::Global;
 use std::thread::Threads;
 
 fn counts_of(trace: &Trace) -> Counts
-    ensures { result ≡ counts_of trace.now.trace }
+    ensures { result ≡ trace_counts trace.now.trace }
 {
     Counts {
         mutator: trace.mutator_count(),
         collector: trace.collector_count(),
         quanta: Some(trace.quanta()),
         greatest: trace.greatest(),
-    }
-}
-
-/// Does an event, and lets its reply go.
-fn pass<C: Scanner>(machine: &mut Machine, event: Event, scanner: &mut C) -> Result<(), NoMemory>
-    requires { machine.old.done < most_entries }
-    ensures machine { OnOk result (machine.new.machine ≡ (event_step machine.old.machine event).state) }
-    ensures done { OnOk result (machine.new.done ≡ suc machine.old.done) }
-{
-    match machine.step(event, scanner) {
-        Ok(_) => Ok(()),
-        Err(Stop::NoMemory) => Err(NoMemory),
-        Err(Stop::HistoryFull) => unreachable!(),
     }
 }
 
@@ -73,7 +60,7 @@ fn machine_after<C: Scanner>(
 {
     let mut machine = Machine::open(alloc, config)?;
     for event in events {
-        pass(&mut machine, *event, scanner)?;
+        machine.step_in_room(*event, scanner)?;
     }
     Ok(machine)
 }
@@ -143,7 +130,7 @@ impl Transcript for Drawn {
 
 /// Reads a whole script, and then writes the curve of its run under these rules. Of a script that is outside the grammar it
 /// writes the one line that names the first bad line. At most `workers` threads scan at a time, the calling one among them.
-/// Neither their number nor the gate changes what is written.
+/// Neither their number nor the hook changes what is written.
 pub fn curve_script<R: Threads, S: Source, W: Sink, G: CrewGate>(
     rt: &R,
     alloc: Global,

@@ -3,11 +3,12 @@ ghost use Rattle.std.specs.Prelude.{◌≡◌, ◌++◌, Some, OnOk};
 ghost use Rattle.std.specs.String.{string_bytes};
 ghost use Rattle.mh_model.specs.Bytes.{joined};
 ghost use Rattle.mh_model.specs.Replies.{optional_word};
-ghost use Rattle.mh_curve.specs.Texts.{counts_words, percent_text, point_words, table_text};
+ghost use Rattle.mh_curve.specs.Texts.{counts_line_words, point_words, table_text};
 
 use crate::parts::{Part, push_parts};
-use crate::point::{Counts, Point, share};
+use crate::point::{Counts, Point};
 use mh_model::memory::NoMemory;
+use mh_report::windows::{PercentText, share};
 use std::fmt;
 use std::fmt::Write;
 
@@ -16,7 +17,7 @@ use std::fmt::Write;
 pub(crate) struct CountsText(pub(crate) Counts);
 
 impl fmt::Display for CountsText {
-    ghost output = { λ text. Some (joined (counts_words text.0)) };
+    ghost output = { λ text. Some (joined (counts_line_words text.0)) };
 
     fn fmt<W: fmt::Write>(&self, f: &mut fmt::Formatter<W>) -> fmt::Result {
         let Counts {
@@ -57,21 +58,6 @@ impl fmt::Display for PointText {
             f,
             "window {window} least {least} share {share} floor {floor}"
         )
-    }
-}
-
-/// Parts of ten thousand in per cent.
-#[derive(Clone, Copy)]
-struct PercentText(u128);
-
-impl fmt::Display for PercentText {
-    ghost output = { λ text. Some (percent_text text.0) };
-
-    fn fmt<W: fmt::Write>(&self, f: &mut fmt::Formatter<W>) -> fmt::Result {
-        let whole = self.0 / 100;
-        let tenths = self.0 / 10 % 10;
-        let hundredths = self.0 % 10;
-        write!(f, "{whole}.{tenths}{hundredths}")
     }
 }
 

@@ -4,8 +4,8 @@
 //! collector. No entry is kept. From 2 ^ 62 units on no more are counted, but lines are still read, so that a bad one
 //! is found.
 ghost use Rattle.std.specs.Prelude.{◌≡◌, ◌+◌, ◌<◌, ◌↔◌, List, ◌∷◌, ◌++◌, [], length, IsTrue, IfOk, IfErr, OnOk, IsErrOf};
-ghost use Rattle.mh_curve.specs.Histories.{Extends, IsBounded, IsTallyOf};
-ghost use Rattle.mh_history.specs.Beginnings.{HasEntry, entries_left, measured_line};
+ghost use Rattle.mh_curve.specs.Histories.{Extends, IsShortTrace, IsTallyOf};
+ghost use Rattle.mh_history.specs.Beginnings.{HasEntry, entries_left, line_as_measured};
 ghost use Rattle.mh_model.specs.declared.birth.TheConstants.{LIFE};
 ghost use Rattle.mh_model.specs.declared.history.Measured.{Measured};
 ghost use Rattle.mh_model.specs.Script.{Means};
@@ -41,9 +41,9 @@ fn is_short_with(trace: &Trace, mutator: u64, collector: u64) -> bool
 /// Adds the units of an entry to a trace.
 fn extend(trace: &mut Trace, mutator: u64, collector: u64) -> Result<(), NoMemory>
     requires short { length trace.old.trace.letters + (mutator + collector) < LIFE }
-    requires bounded { IsBounded trace.old.trace }
+    requires bounded { IsShortTrace trace.old.trace }
     ensures trace { OnOk result (Extends trace.old.trace mutator collector trace.new.trace) }
-    ensures bounded { OnOk result (IsBounded trace.new.trace) }
+    ensures bounded { OnOk result (IsShortTrace trace.new.trace) }
 {
     trace.room()?;
     trace.mutator(mutator);
@@ -57,7 +57,7 @@ impl Tally {
     /// The tally of no entry, which takes no memory.
     fn open(alloc: Global) -> Tally
         ensures tally { IsTallyOf [] result }
-        ensures bounded { IsBounded result.trace.trace }
+        ensures bounded { IsShortTrace result.trace.trace }
     {
         Tally {
             trace: Trace::open(alloc),
@@ -67,9 +67,9 @@ impl Tally {
 
     /// Adds the units of an entry.
     fn add(&mut self, measured: &Measured) -> Result<(), NoMemory>
-        requires { IsBounded self.old.trace.trace }
+        requires { IsShortTrace self.old.trace.trace }
         ensures tally { OnOk result ((entries : List Measured) → IsTallyOf entries self.old → IsTallyOf (entries ++ measured.now ∷ []) self.new) }
-        ensures bounded { OnOk result (IsBounded self.new.trace.trace) }
+        ensures bounded { OnOk result (IsShortTrace self.new.trace.trace) }
     {
         if !self.is_short {
             return Ok(());
@@ -84,10 +84,10 @@ impl Tally {
 
 /// The tally of the entries that are left of a history, each of which is counted as it is read.
 pub(crate) fn tally_lines(alloc: Global, mut lines: Lines<'_>) -> Result<Tally, TextError>
-    ensures tally { IfOk result (λ tally. (entries : List Measured) × (entries_left measured_line lines.entry ≡ Means entries) × IsTallyOf entries tally) }
-    ensures bounded { IfOk result (λ tally. IsBounded tally.trace.trace) }
-    ensures line { IfErr result (Refuses (entries_left measured_line lines.entry)) }
-    ensures memory { IsErrOf result TextError.NoMemory → HasEntry measured_line lines.entry }
+    ensures tally { IfOk result (λ tally. (entries : List Measured) × (entries_left line_as_measured lines.entry ≡ Means entries) × IsTallyOf entries tally) }
+    ensures bounded { IfOk result (λ tally. IsShortTrace tally.trace.trace) }
+    ensures line { IfErr result (Refuses (entries_left line_as_measured lines.entry)) }
+    ensures memory { IsErrOf result TextError.NoMemory → HasEntry line_as_measured lines.entry }
 {
     let mut tally = Tally::open(alloc);
     while let Some(measured) = next_entry::<Measured>(alloc, &mut lines)? {

@@ -13,7 +13,7 @@ use Rattle.mh_laws.specs.Batches.{AnyCutIntoBatchesIsTheSame}
 use Rattle.mh_mark.specs.OfGrey.Queue.{Queue}
 use Rattle.mh_mark.specs.Batched.{front_of, front_marked}
 use Rattle.mh_cycle.specs.State.{IsFramed}
-use Rattle.mh_cycle.specs.Advance.{IsStride, IsRun}
+use Rattle.mh_cycle.specs.Advance.{IsStride, IsStretch}
 use Rattle.mh_cycle.proofs.StepLemmas.{cost-is, after-mark}
 use Rattle.mh_cycle.proofs.StrideLemmas.{stride-none, over}
 
@@ -70,10 +70,10 @@ pub framed-as : (config : Config) (table other : Table Block) (phase : Phase) (c
 framed-as config table other phase cursor grey same frame a b = rw (a, b) frame
 
 -- no block fits
-pub run-none : AnyCutIntoBatchesIsTheSame → (left cost : ℕ) (c : Collector) → c.phase ≡ Mark → 0 < length c.grey → cost ≡ batch_cost c.table (front_of left (marking_of c)) → cost ≡ 0 → IsRun left c 0 (with_marking c (front_marked left (marking_of c)))
+pub run-none : AnyCutIntoBatchesIsTheSame → (left cost : ℕ) (c : Collector) → c.phase ≡ Mark → 0 < length c.grey → cost ≡ batch_cost c.table (front_of left (marking_of c)) → cost ≡ 0 → IsStretch left c 0 (with_marking c (front_marked left (marking_of c)))
 run-none law left cost c phase some price none =
     let same : with_marking c (front_marked left (marking_of c)) ≡ c = ap (with_marking c) (none-marked left cost (marking_of c) price none) in
-    subst (IsRun left c 0) (sym same) (record {
+    subst (IsStretch left c 0) (sym same) (record {
       fits = omega arith;
       goes = λ moved. stride-none moved c;
       dear = λ e. over left (step_cost c false) false c refl (batch-stops law left c phase some (sym price ∙ none) false);
@@ -81,7 +81,7 @@ run-none law left cost c phase some price none =
 
 -- some blocks fit
 pub run-some : AnyCutIntoBatchesIsTheSame → (left : ℕ) (c : Collector) (cost : ℕ) (phase : Phase) → c.phase ≡ Mark → NoneTwice c.grey → cost ≡ batch_cost c.table (front_of left (marking_of c)) → cost ≤ left → (cost ≡ 0 → ⊥)
-    → phase ≡ (if length (front_marked left (marking_of c)).grey == 0 then Sweep else Mark) → IsRun left c cost (with_phase (with_marking c (front_marked left (marking_of c))) phase 0)
+    → phase ≡ (if length (front_marked left (marking_of c)).grey == 0 then Sweep else Mark) → IsStretch left c cost (with_phase (with_marking c (front_marked left (marking_of c))) phase 0)
 run-some law left c cost phase in_mark once price fits some next = record {
   fits = fits;
   goes = λ moved. subst (IsStride cost moved c moved) (batch-after left c phase next) (subst (λ u. IsStride u moved c moved (after_batch c (front_of left (marking_of c)) (rest_of left c))) (sym price) (batch-goes law left c in_mark once (omega arith) moved));

@@ -8,7 +8,7 @@ use Rattle.mh_laws.specs.Snapshots.{CollectorsStaySteady}
 use Rattle.mh_roots.specs.Roots.{SlotsLead}
 use Rattle.mh_defrag.specs.Moves.{IsTarget, moved}
 use Rattle.mh_defrag.proofs.MoveLemmas.{none-moves}
-use Rattle.mh_cycle.specs.State.{CycleState, with_collector, with_slots, with_forwarded, step_beside_slots, forwarded_state}
+use Rattle.mh_cycle.specs.State.{CycleState, state_with_collector, with_slots, with_forwarded, step_beside_slots, forwarded_state}
 use Rattle.mh_cycle.specs.Advance.{order, is_over, IsFrom, IsStride, IsAdvance}
 use Rattle.mh_cycle.proofs.StepLemmas.{cost-is, moving-defrag}
 use Rattle.mh_cycle.proofs.StrideLemmas.{stride-none, advance-step, advance-stride, later-step}
@@ -20,7 +20,7 @@ pub steady-same : (c : Collector) → IsSteady c → with_forwarded c ≡ c
 steady-same c steady = ap (with_slots c) (steady-forwarded c steady)
 
 pub advance-none : (left : ℕ) (state : CycleState) → IsSteady state.collector → IsAdvance left state 0 false (forwarded_state state)
-advance-none left state steady = subst (IsAdvance left state 0 false) (ap (with_collector state) (sym (steady-same state.collector steady))) (record {
+advance-none left state steady = subst (IsAdvance left state 0 false) (ap (state_with_collector state) (sym (steady-same state.collector steady))) (record {
   config = refl;
   steady = steady;
   fits = omega arith;
@@ -35,7 +35,7 @@ from-none left c steady (inr over) = let e : left - 0 ≡ left = omega arith in 
 
 -- steps that move no block, whatever the slots are
 pub record IsPassed (count : ℕ) (old new : CycleState) : Type 0 where
-  pub state : new ≡ with_collector old new.collector
+  pub state : new ≡ state_with_collector old new.collector
   pub table : new.collector.table ≡ old.collector.table
   pub slots : new.collector.slots ≡ old.collector.slots
   pub stride : (slots : List (Option ℕ)) (moved : Bool) → IsStride count moved (with_slots old.collector slots) moved (with_slots new.collector slots)
@@ -58,12 +58,12 @@ still-passed count old new is still = same-slots old new is.table is.slots ∙ s
 
 -- Steps that may move a block ----------------------------------------------------------------------
 
-pub is-step : (mid new : CycleState) (target : Option ℕ) → mid.collector.phase ≡ Defrag → IsTarget mid.collector.table mid.collector.cursor target → IsSteady (with_forwarded mid.collector) → new ≡ with_collector mid (step_beside_slots mid.collector)
-    → forwarded_state new ≡ with_collector (forwarded_state mid) (collector_step (with_forwarded mid.collector))
-is-step mid new target phase of steady is = ap forwarded_state is ∙ ap (with_collector mid) (step-once mid.collector target phase of steady)
+pub is-step : (mid new : CycleState) (target : Option ℕ) → mid.collector.phase ≡ Defrag → IsTarget mid.collector.table mid.collector.cursor target → IsSteady (with_forwarded mid.collector) → new ≡ state_with_collector mid (step_beside_slots mid.collector)
+    → forwarded_state new ≡ state_with_collector (forwarded_state mid) (collector_step (with_forwarded mid.collector))
+is-step mid new target phase of steady is = ap forwarded_state is ∙ ap (state_with_collector mid) (step-once mid.collector target phase of steady)
 
 pub advance-moved : CollectorsStaySteady → (left units cost all : ℕ) (m1 m2 : Bool) (old mid new : CycleState) (target : Option ℕ) → IsAdvance left old units m1 (forwarded_state mid) → all ≡ units + cost → cost ≤ left - units
-    → mid.collector.phase ≡ Defrag → IsTarget mid.collector.table mid.collector.cursor target → cost ≡ step_cost mid.collector m1 → m2 ≡ (m1 || is_some target) → new ≡ with_collector mid (step_beside_slots mid.collector)
+    → mid.collector.phase ≡ Defrag → IsTarget mid.collector.table mid.collector.cursor target → cost ≡ step_cost mid.collector m1 → m2 ≡ (m1 || is_some target) → new ≡ state_with_collector mid (step_beside_slots mid.collector)
     → IsAdvance left old all m2 (forwarded_state new)
 advance-moved law left units cost all m1 m2 old mid new target before sum fits phase of price moves is =
     let c : Collector = with_forwarded mid.collector in
@@ -72,21 +72,21 @@ advance-moved law left units cost all m1 m2 old mid new target before sum fits p
     (moves ∙ ap (λ b. m1 || b) (moving-defrag c target phase of))
     (is-step mid new target phase of before.steady is)
 
-pub from-moved : (mid new : CycleState) (target : Option ℕ) → mid.collector.phase ≡ Defrag → IsTarget mid.collector.table mid.collector.cursor target → IsSteady (with_forwarded mid.collector) → new ≡ with_collector mid (step_beside_slots mid.collector) → order Defrag ≤ order new.collector.phase
+pub from-moved : (mid new : CycleState) (target : Option ℕ) → mid.collector.phase ≡ Defrag → IsTarget mid.collector.table mid.collector.cursor target → IsSteady (with_forwarded mid.collector) → new ≡ state_with_collector mid (step_beside_slots mid.collector) → order Defrag ≤ order new.collector.phase
 from-moved mid new target phase of steady is = later-step Defrag (forwarded_state mid) (forwarded_state new) phase (is-step mid new target phase of steady is)
 
-table-is : (mid new : CycleState) → mid.collector.phase ≡ Defrag → new ≡ with_collector mid (step_beside_slots mid.collector) → new.collector.table ≡ moved mid.collector.table mid.collector.cursor (next_move mid.collector.table mid.collector.cursor)
+table-is : (mid new : CycleState) → mid.collector.phase ≡ Defrag → new ≡ state_with_collector mid (step_beside_slots mid.collector) → new.collector.table ≡ moved mid.collector.table mid.collector.cursor (next_move mid.collector.table mid.collector.cursor)
 table-is mid new phase is = ap (λ s. s.collector.table) is ∙ table-after mid.collector phase
 
-slots-are : (mid new : CycleState) → new ≡ with_collector mid (step_beside_slots mid.collector) → new.collector.slots ≡ mid.collector.slots
+slots-are : (mid new : CycleState) → new ≡ state_with_collector mid (step_beside_slots mid.collector) → new.collector.slots ≡ mid.collector.slots
 slots-are mid new is = ap (λ s. s.collector.slots) is
 
-pub lead-moved : (mid new : CycleState) (target : Option ℕ) → mid.collector.phase ≡ Defrag → IsTarget mid.collector.table mid.collector.cursor target → new ≡ with_collector mid (step_beside_slots mid.collector) → SlotsLead mid.collector.table mid.collector.slots → SlotsLead new.collector.table new.collector.slots
+pub lead-moved : (mid new : CycleState) (target : Option ℕ) → mid.collector.phase ≡ Defrag → IsTarget mid.collector.table mid.collector.cursor target → new ≡ state_with_collector mid (step_beside_slots mid.collector) → SlotsLead mid.collector.table mid.collector.slots → SlotsLead new.collector.table new.collector.slots
 lead-moved mid new target phase of is lead =
     subst (λ t. SlotsLead t new.collector.slots) (sym (table-is mid new phase is)) (subst (SlotsLead (moved mid.collector.table mid.collector.cursor (next_move mid.collector.table mid.collector.cursor))) (sym (slots-are mid new is)) (lead-on mid.collector.table mid.collector.cursor target mid.collector.slots of lead))
 
 -- where no block moved, slots are as they were
-pub still-moved : (m1 m2 : Bool) (mid new : CycleState) (target : Option ℕ) → mid.collector.phase ≡ Defrag → IsTarget mid.collector.table mid.collector.cursor target → new ≡ with_collector mid (step_beside_slots mid.collector) → m2 ≡ (m1 || is_some target)
+pub still-moved : (m1 m2 : Bool) (mid new : CycleState) (target : Option ℕ) → mid.collector.phase ≡ Defrag → IsTarget mid.collector.table mid.collector.cursor target → new ≡ state_with_collector mid (step_beside_slots mid.collector) → m2 ≡ (m1 || is_some target)
     → (m1 ≡ false → forwarded_slots mid.collector.table mid.collector.slots ≡ mid.collector.slots) → m2 ≡ false → forwarded_slots new.collector.table new.collector.slots ≡ new.collector.slots
 still-moved m1 m2 mid new target phase of is moves still rests = go m1 target (sym moves ∙ rests) of still
   where

@@ -7,6 +7,7 @@ use Rattle.mh_model.specs.declared.cycle.Phase.TheVariants.{Roots, Mark, Sweep, 
 use Rattle.mh_model.specs.Pages.{Table, block_at}
 use Rattle.mh_model.specs.Table.{Block, resolve, target_of, references_at, with_reference_at}
 use Rattle.mh_model.specs.Collector.{Marking, is_marked, with_grey, shade_block, shade, mark_reference, mark_references, mark_first, mark_step}
+use Rattle.mh_model.specs.Limits.{root_slots}
 use Rattle.mh_mark.proofs.OfGrey.StampLemmas.{length-with_block}
 use Rattle.mh_mark.specs.OfGrey.Queue.{Queue}
 use Rattle.mh_mark.specs.OfGrey.Shading.{marking}
@@ -78,7 +79,7 @@ framed-shaded config table phase cursor cycle grey reference frame =
     }
 
 -- a step of the roots keeps it, if more slots are left
-pub framed-roots : (config : Config) (table : Table Block) (phase : Phase) (cursor cycle : ℕ) (grey : Queue) (reference : Option ℕ) → IsFramed config table phase cursor grey → phase ≡ Roots → cursor + 1 ≢ 144
+pub framed-roots : (config : Config) (table : Table Block) (phase : Phase) (cursor cycle : ℕ) (grey : Queue) (reference : Option ℕ) → IsFramed config table phase cursor grey → phase ≡ Roots → cursor + 1 ≢ root_slots
     → IsFramed config (shade (marking table grey.places cycle) reference).table phase (cursor + 1) (record { places = (shade (marking table grey.places cycle) reference).grey; pages = grey.pages })
 framed-roots config table phase cursor cycle grey reference frame is more =
     let shaded = framed-shaded config table phase cursor cycle grey reference frame in

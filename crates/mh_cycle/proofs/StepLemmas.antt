@@ -7,6 +7,7 @@ use Rattle.mh_model.specs.declared.cycle.Phase.TheVariants.{Roots, Mark, Sweep, 
 use Rattle.mh_model.specs.Pages.{Table}
 use Rattle.mh_model.specs.Table.{Block, references_at}
 use Rattle.mh_model.specs.Collector.{Collector, Move, cycle_end, next_move, next_place, flagged_page, with_move, moved_table, forwarded_slots, is_moving, is_moving_in, is_past, roots_step, mark_step, sweep_step, defrag_step, with_phase, with_marking, marking_of, after_mark, phase_after, step_in, cost_in, first_mark_cost, step_cost, collector_step}
+use Rattle.mh_model.specs.Limits.{root_slots}
 use Rattle.mh_defrag.specs.Moves.{IsTarget, moved}
 use Rattle.mh_cycle.specs.State.{with_slots, step_beside_slots}
 
@@ -34,12 +35,12 @@ after-mark r phase (place ∷ grey) next =
     never : (grey : List ℕ) → suc (length grey) ≡ 0 → ⊥
     never grey e = omega arith
 
-pub roots-after : (c : Collector) (phase : Phase) → c.phase ≡ Roots → c.cursor + 1 ≡ 144 → phase ≡ (if length (roots_step c).grey == 0 then Sweep else Mark) → collector_step c ≡ with_phase (roots_step c) phase 0
+pub roots-after : (c : Collector) (phase : Phase) → c.phase ≡ Roots → c.cursor + 1 ≡ root_slots → phase ≡ (if length (roots_step c).grey == 0 then Sweep else Mark) → collector_step c ≡ with_phase (roots_step c) phase 0
 roots-after c phase in_roots last next =
-    step-is c Roots in_roots ∙ ap (λ b. if b then after_mark (roots_step c) (roots_step c).grey else roots_step c) (eq-eqb (c.cursor + 1) 144 last) ∙ after-mark (roots_step c) phase (roots_step c).grey next
+    step-is c Roots in_roots ∙ ap (λ b. if b then after_mark (roots_step c) (roots_step c).grey else roots_step c) (eq-eqb (c.cursor + 1) root_slots last) ∙ after-mark (roots_step c) phase (roots_step c).grey next
 
-pub roots-stay : (c : Collector) → c.phase ≡ Roots → c.cursor + 1 ≢ 144 → collector_step c ≡ roots_step c
-roots-stay c in_roots more = step-is c Roots in_roots ∙ ap (λ b. if b then after_mark (roots_step c) (roots_step c).grey else roots_step c) (ne_eqb (c.cursor + 1) 144 more)
+pub roots-stay : (c : Collector) → c.phase ≡ Roots → c.cursor + 1 ≢ root_slots → collector_step c ≡ roots_step c
+roots-stay c in_roots more = step-is c Roots in_roots ∙ ap (λ b. if b then after_mark (roots_step c) (roots_step c).grey else roots_step c) (ne_eqb (c.cursor + 1) root_slots more)
 
 pub mark-after : (c : Collector) (phase : Phase) → c.phase ≡ Mark → phase ≡ (if length (mark_step (marking_of c)).grey == 0 then Sweep else Mark)
     → collector_step c ≡ with_phase (with_marking c (mark_step (marking_of c))) phase 0

@@ -8,8 +8,8 @@ use Rattle.mh_model.specs.Invariant.{IsSteady}
 use Rattle.mh_laws.specs.Snapshots.{CollectorsStaySteady}
 use Rattle.mh_laws.proofs.marking.BatchSteps.{with_units-twice}
 use Rattle.mh_laws.proofs.costs.Quanta.{steps-stop, steps-go, steps-enough, step_cost-positive}
-use Rattle.mh_cycle.specs.State.{CycleState, with_collector}
-use Rattle.mh_cycle.specs.Advance.{is_over, order, IsFrom, IsStride, IsRun, IsTurn, IsAdvance, IsRest}
+use Rattle.mh_cycle.specs.State.{CycleState, state_with_collector}
+use Rattle.mh_cycle.specs.Advance.{is_over, order, IsFrom, IsStride, IsStretch, IsMarkingTurn, IsAdvance, IsRest}
 
 no-units : (s : Spending) → with_units 0 s ≡ s
 no-units s = ap (λ u. record s { units = u }) (omega arith)
@@ -146,31 +146,31 @@ advance-on left units cost all m1 m2 old mid new before sum fits config steady s
 
 -- one step more
 pub advance-step : CollectorsStaySteady → (left units cost all : ℕ) (m1 m2 : Bool) (old mid new : CycleState) → IsAdvance left old units m1 mid → all ≡ units + cost → cost ≤ left - units
-    → is_idle mid.collector.phase ≡ false → cost ≡ step_cost mid.collector m1 → m2 ≡ (m1 || is_moving mid.collector) → new ≡ with_collector mid (collector_step mid.collector) → IsAdvance left old all m2 new
+    → is_idle mid.collector.phase ≡ false → cost ≡ step_cost mid.collector m1 → m2 ≡ (m1 || is_moving mid.collector) → new ≡ state_with_collector mid (collector_step mid.collector) → IsAdvance left old all m2 new
 advance-step law left units cost all m1 m2 old mid new before sum fits runs price moving is =
     let collector : new.collector ≡ collector_step mid.collector = ap (λ s. s.collector) is in
     advance-on left units cost all m1 m2 old mid new before sum fits (ap (λ s. s.config) is) (subst IsSteady (sym collector) (law.steps mid.collector before.steady)) (stride-one cost m1 m2 mid.collector new.collector runs price moving collector)
 
 -- some steps more
-pub advance-run : CollectorsStaySteady → (left units cost all : ℕ) (old mid new : CycleState) → IsAdvance left old units false mid → all ≡ units + cost → new ≡ with_collector mid new.collector → IsRun (left - units) mid.collector cost new.collector
+pub advance-run : CollectorsStaySteady → (left units cost all : ℕ) (old mid new : CycleState) → IsAdvance left old units false mid → all ≡ units + cost → new ≡ state_with_collector mid new.collector → IsStretch (left - units) mid.collector cost new.collector
     → IsAdvance left old all false new
 advance-run law left units cost all old mid new before sum state run =
     advance-on left units cost all false false old mid new before sum run.fits (ap (λ s. s.config) state) (stride-steady law cost false false mid.collector new.collector (run.goes false) before.steady) (run.goes false)
 
 -- a stride more, by whether the quantum has moved a block
-pub advance-stride : CollectorsStaySteady → (left units cost all : ℕ) (moved : Bool) (old mid new : CycleState) → IsAdvance left old units moved mid → all ≡ units + cost → cost ≤ left - units → new ≡ with_collector mid new.collector → IsStride cost moved mid.collector moved new.collector
+pub advance-stride : CollectorsStaySteady → (left units cost all : ℕ) (moved : Bool) (old mid new : CycleState) → IsAdvance left old units moved mid → all ≡ units + cost → cost ≤ left - units → new ≡ state_with_collector mid new.collector → IsStride cost moved mid.collector moved new.collector
     → IsAdvance left old all moved new
 advance-stride law left units cost all moved old mid new before sum fits state stride =
     advance-on left units cost all moved moved old mid new before sum fits (ap (λ s. s.config) state) (stride-steady law cost moved moved mid.collector new.collector stride before.steady) stride
 
 -- Turns --------------------------------------------------------------------------------------------
 
-pub turn-none : (left : ℕ) (state : CycleState) → IsSteady state.collector → IsTurn left state 0 state
+pub turn-none : (left : ℕ) (state : CycleState) → IsSteady state.collector → IsMarkingTurn left state 0 state
 turn-none left state steady = record { config = refl; steady = steady; fits = omega arith; goes = λ moved. stride-none moved state.collector }
 
 -- one step more
-pub turn-step : CollectorsStaySteady → (left units cost all : ℕ) (old mid new : CycleState) → IsTurn left old units mid → all ≡ units + cost → cost ≤ left - units
-    → is_idle mid.collector.phase ≡ false → ((moved : Bool) → cost ≡ step_cost mid.collector moved) → ((moved : Bool) → moved ≡ (moved || is_moving mid.collector)) → new ≡ with_collector mid (collector_step mid.collector) → IsTurn left old all new
+pub turn-step : CollectorsStaySteady → (left units cost all : ℕ) (old mid new : CycleState) → IsMarkingTurn left old units mid → all ≡ units + cost → cost ≤ left - units
+    → is_idle mid.collector.phase ≡ false → ((moved : Bool) → cost ≡ step_cost mid.collector moved) → ((moved : Bool) → moved ≡ (moved || is_moving mid.collector)) → new ≡ state_with_collector mid (collector_step mid.collector) → IsMarkingTurn left old all new
 turn-step law left units cost all old mid new before sum fits runs price moving is =
     let collector : new.collector ≡ collector_step mid.collector = ap (λ s. s.collector) is in
     record {
@@ -181,7 +181,7 @@ turn-step law left units cost all old mid new before sum fits runs price moving 
     }
 
 -- some steps
-pub turn-run : CollectorsStaySteady → (left units : ℕ) (old new : CycleState) → IsSteady old.collector → new ≡ with_collector old new.collector → IsRun left old.collector units new.collector → IsTurn left old units new
+pub turn-run : CollectorsStaySteady → (left units : ℕ) (old new : CycleState) → IsSteady old.collector → new ≡ state_with_collector old new.collector → IsStretch left old.collector units new.collector → IsMarkingTurn left old units new
 turn-run law left units old new steady state run = record {
   config = ap (λ s. s.config) state;
   steady = stride-steady law units false false old.collector new.collector (run.goes false) steady;
@@ -190,30 +190,30 @@ turn-run law left units old new steady state run = record {
 }
 
 -- with more left
-pub turn-wider : (less left units : ℕ) (old new : CycleState) → IsTurn less old units new → less ≤ left → IsTurn left old units new
+pub turn-wider : (less left units : ℕ) (old new : CycleState) → IsMarkingTurn less old units new → less ≤ left → IsMarkingTurn left old units new
 turn-wider less left units old new turn fits = record { config = turn.config; steady = turn.steady; fits = omega (arith, turn.fits); goes = turn.goes }
 
 -- a turn begins a quantum, and goes on with one
-pub advance-turn : (left units : ℕ) (old new : CycleState) → IsTurn left old units new → IsAdvance left old units false new
+pub advance-turn : (left units : ℕ) (old new : CycleState) → IsMarkingTurn left old units new → IsAdvance left old units false new
 advance-turn left units old new turn = record { config = turn.config; steady = turn.steady; fits = turn.fits; goes = turn.goes false left turn.fits }
 
-pub advance-by_turn : (left units cost all : ℕ) (old mid new : CycleState) → IsAdvance left old units false mid → all ≡ units + cost → IsTurn (left - units) mid cost new → IsAdvance left old all false new
+pub advance-by_turn : (left units cost all : ℕ) (old mid new : CycleState) → IsAdvance left old units false mid → all ≡ units + cost → IsMarkingTurn (left - units) mid cost new → IsAdvance left old all false new
 advance-by_turn left units cost all old mid new before sum turn = advance-on left units cost all false false old mid new before sum turn.fits turn.config turn.steady (turn.goes false)
 
-pub from-turn : (phase : Phase) (left most units : ℕ) (old new : CycleState) → old.collector.phase ≡ phase → IsTurn most old units new → IsFrom phase left new.collector
+pub from-turn : (phase : Phase) (left most units : ℕ) (old new : CycleState) → old.collector.phase ≡ phase → IsMarkingTurn most old units new → IsFrom phase left new.collector
 from-turn phase left most units old new is turn = from-stride phase left units false false old.collector new.collector is (turn.goes false)
 
 -- in this phase or past it after a step, and after some steps
-pub later-step : (phase : Phase) (mid new : CycleState) → mid.collector.phase ≡ phase → new ≡ with_collector mid (collector_step mid.collector) → order phase ≤ order new.collector.phase
+pub later-step : (phase : Phase) (mid new : CycleState) → mid.collector.phase ≡ phase → new ≡ state_with_collector mid (collector_step mid.collector) → order phase ≤ order new.collector.phase
 later-step phase mid new is by = rw (by, ← is) (step-later mid.collector)
 
 pub later-stride : (phase : Phase) (units : ℕ) (moved : Bool) (old new : Collector) → old.phase ≡ phase → IsStride units moved old moved new → order phase ≤ order new.phase
 later-stride phase units moved old new is stride = subst (λ p. order p ≤ order new.phase) is (stride-later units moved moved old new stride)
 
-pub from-step : (phase : Phase) (left : ℕ) (mid new : CycleState) → mid.collector.phase ≡ phase → new ≡ with_collector mid (collector_step mid.collector) → IsFrom phase left new.collector
+pub from-step : (phase : Phase) (left : ℕ) (mid new : CycleState) → mid.collector.phase ≡ phase → new ≡ state_with_collector mid (collector_step mid.collector) → IsFrom phase left new.collector
 from-step phase left mid new is by = inl (later-step phase mid new is by)
 
-pub from-run : (phase : Phase) (left most units : ℕ) (old new : Collector) → old.phase ≡ phase → IsRun most old units new → IsFrom phase left new
+pub from-run : (phase : Phase) (left most units : ℕ) (old new : Collector) → old.phase ≡ phase → IsStretch most old units new → IsFrom phase left new
 from-run phase left most units old new is run = from-stride phase left units false false old new is (run.goes false)
 
 -- no phase but defragmentation moves a block
@@ -255,19 +255,19 @@ advance-rest left units more old mid new before rest = record {
 -- what a quantum spent, and what it left
 pub record IsQuantum (old : CycleState) (units : ℕ) (new : CycleState) : Type 0 where
   pub spent : units ≡ (quantum old.config old.collector).units
-  pub after : new ≡ with_collector old (quantum old.config old.collector).collector
+  pub after : new ≡ state_with_collector old (quantum old.config old.collector).collector
 
-quantum-is : (old begun new : CycleState) (most units : ℕ) → most ≡ old.config.quantum → begun ≡ with_collector old (quantum_start old.config old.collector) → IsRest most begun units new → IsQuantum old units new
+quantum-is : (old begun new : CycleState) (most units : ℕ) → most ≡ old.config.quantum → begun ≡ state_with_collector old (quantum_start old.config old.collector) → IsRest most begun units new → IsQuantum old units new
 unfolding quantum
 quantum-is old begun new most units limit start rest =
     let all : quantum old.config old.collector ≡ record { units = units; collector = new.collector } = ap (λ n. steps n n false (quantum_start old.config old.collector)) (sym limit) ∙ ap (λ (s : CycleState). steps most most false s.collector) (sym start) ∙ rest.all in
     record {
       spent = sym (ap (λ s. s.units) all);
-      after = ap (λ f. record { config = f; collector = new.collector }) (rest.config ∙ ap (λ s. s.config) start) ∙ ap (λ (s : Spending). with_collector old s.collector) (sym all);
+      after = ap (λ f. record { config = f; collector = new.collector }) (rest.config ∙ ap (λ s. s.config) start) ∙ ap (λ (s : Spending). state_with_collector old s.collector) (sym all);
     }
 
 -- a quantum is its start and the four phases
-pub quantum-made : (old begun s1 s2 s3 new : CycleState) (most u1 u2 u3 u4 : ℕ) → most ≡ old.config.quantum → begun ≡ with_collector old (quantum_start old.config old.collector)
+pub quantum-made : (old begun s1 s2 s3 new : CycleState) (most u1 u2 u3 u4 : ℕ) → most ≡ old.config.quantum → begun ≡ state_with_collector old (quantum_start old.config old.collector)
     → IsAdvance most begun u1 false s1 → IsAdvance (most - u1) s1 u2 false s2 → IsAdvance (most - u1 - u2) s2 u3 false s3 → IsRest (most - u1 - u2 - u3) s3 u4 new
     → IsQuantum old (most - (most - u1 - u2 - u3 - u4)) new
 quantum-made old begun s1 s2 s3 new most u1 u2 u3 u4 limit start a1 a2 a3 rest =

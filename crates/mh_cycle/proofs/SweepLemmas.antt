@@ -3,7 +3,7 @@ use Rattle.std.proofs.Common.{◌≡◌, ℕ, zero, suc, ◌+◌, ◌*◌, ◌/�
 use Rattle.mh_model.specs.declared.cycle.Phase.TheVariants.{Sweep, Defrag}
 use Rattle.mh_model.specs.Collector.{Collector, with_phase, is_idle, is_moving, is_moving_in, collector_step}
 use Rattle.mh_sweep.specs.Swept.{Sweeping, swept_on, IsSweptTo}
-use Rattle.mh_cycle.specs.Advance.{IsStride, IsRun}
+use Rattle.mh_cycle.specs.Advance.{IsStride, IsStretch}
 use Rattle.mh_cycle.proofs.StepLemmas.{cost-is, sweep-past, sweep-stays}
 use Rattle.mh_cycle.proofs.StrideLemmas.{stride-then, stride-one, stride-many}
 
@@ -32,7 +32,7 @@ sweep-stride c last n moved phase inside ends =
     let e : suc n ≡ n * 1 + 1 = omega arith in
     rw e (stride-then (n * 1) 1 moved moved moved c (run c n) last before one)
 
-sweep-run : (c last : Collector) (new : Sweeping) (count left : ℕ) → c.phase ≡ Sweep → IsSweptTo c.cycle (sweeping_of c) new count → count ≤ left → ((n : ℕ) → count ≡ suc n → last ≡ collector_step (run c n)) → IsRun left c count last
+sweep-run : (c last : Collector) (new : Sweeping) (count left : ℕ) → c.phase ≡ Sweep → IsSweptTo c.cycle (sweeping_of c) new count → count ≤ left → ((n : ℕ) → count ≡ suc n → last ≡ collector_step (run c n)) → IsStretch left c count last
 sweep-run c last new zero left phase swept fits ends = absurd (omega (arith, swept.some))
 sweep-run c last new (suc n) left phase swept fits ends = record {
   fits = fits;
@@ -40,13 +40,13 @@ sweep-run c last new (suc n) left phase swept fits ends = record {
   dear = λ e. absurd (omega arith);
 }
 
-pub sweep-goes_past : (c : Collector) (new : Sweeping) (count left : ℕ) → c.phase ≡ Sweep → IsSweptTo c.cycle (sweeping_of c) new count → count ≤ left → length new.table ≤ new.place / 64 → IsRun left c count (with_phase (with_sweep c new) Defrag 0)
+pub sweep-goes_past : (c : Collector) (new : Sweeping) (count left : ℕ) → c.phase ≡ Sweep → IsSweptTo c.cycle (sweeping_of c) new count → count ≤ left → length new.table ≤ new.place / 64 → IsStretch left c count (with_phase (with_sweep c new) Defrag 0)
 sweep-goes_past c new count left phase swept fits past = sweep-run c (with_phase (with_sweep c new) Defrag 0) new count left phase swept fits (λ n is. sym (ends n (swept.is ∙ ap (λ k. swept_on c.cycle k (sweeping_of c)) is)))
   where
     ends : (n : ℕ) → new ≡ swept_on c.cycle (suc n) (sweeping_of c) → collector_step (run c n) ≡ with_phase (with_sweep c new) Defrag 0
     ends n e = sweep-past (run c n) phase (subst (λ (s : Sweeping). length s.table ≤ s.place / 64) e past) ∙ ap (λ s. with_phase (with_sweep c s) Defrag 0) (sym e)
 
-pub sweep-goes_on : (c : Collector) (new : Sweeping) (count left : ℕ) → c.phase ≡ Sweep → IsSweptTo c.cycle (sweeping_of c) new count → count ≤ left → new.place / 64 < length new.table → IsRun left c count (with_sweep c new)
+pub sweep-goes_on : (c : Collector) (new : Sweeping) (count left : ℕ) → c.phase ≡ Sweep → IsSweptTo c.cycle (sweeping_of c) new count → count ≤ left → new.place / 64 < length new.table → IsStretch left c count (with_sweep c new)
 sweep-goes_on c new count left phase swept fits inside = sweep-run c (with_sweep c new) new count left phase swept fits (λ n is. sym (ends n (swept.is ∙ ap (λ k. swept_on c.cycle k (sweeping_of c)) is)))
   where
     ends : (n : ℕ) → new ≡ swept_on c.cycle (suc n) (sweeping_of c) → collector_step (run c n) ≡ with_sweep c new

@@ -10,9 +10,10 @@ use Rattle.mh_model.specs.Table.{Block, target_of}
 use Rattle.mh_model.specs.Collector.{Collector, Spending, after_mark, next_place, roots_step, sweep_step, swept_table, with_phase, is_idle, cycle_start, with_count, is_moving, is_start_due, step_cost, collector_step, steps, quantum_start, quantum}
 use Rattle.mh_model.specs.Deeds.{DeedLog, Adds, root_deed, deeds_in, enter_deeds, step_deeds, deed_units, units_of, deeds_of_steps, start_deeds, quantum_deeds}
 use Rattle.mh_model.specs.Invariant.{IsSteady}
+use Rattle.mh_model.specs.Limits.{root_slots}
 use Rattle.mh_defrag.specs.Moves.{IsTarget}
 use Rattle.mh_deeds.proofs.LogLemmas.{IsTelling, telling-starts, telling-goes, telling-ends, adds-then}
-use Rattle.mh_cycle.specs.State.{CycleState, with_collector, with_forwarded, step_beside_slots, forwarded_state}
+use Rattle.mh_cycle.specs.State.{CycleState, state_with_collector, with_forwarded, step_beside_slots, forwarded_state}
 use Rattle.mh_cycle.specs.Advance.{is_over, IsRest}
 use Rattle.mh_cycle.proofs.DeedLemmas.{deeds-over, deeds-next}
 use Rattle.mh_cycle.proofs.DefragLemmas.{steady-same, is-step, still-moved}
@@ -24,7 +25,7 @@ use Rattle.mh_cycle.proofs.StrideLemmas.{IsQuantum}
 
 -- the grey list after a step of the roots
 pub roots-grey : (c : Collector) → c.phase ≡ Roots → (collector_step c).grey ≡ (roots_step c).grey
-roots-grey c phase = ap (λ r. r.grey) (step-is c Roots phase) ∙ same (roots_step c) ((roots_step c).cursor == 144)
+roots-grey c phase = ap (λ r. r.grey) (step-is c Roots phase) ∙ same (roots_step c) ((roots_step c).cursor == root_slots)
   where
     marked : (r : Collector) (grey : List ℕ) → (after_mark r grey).grey ≡ r.grey
     marked r [] = refl
@@ -59,15 +60,15 @@ sweep-goes c table cursor phase a b inside =
 -- Defragmentation ----------------------------------------------------------------------------------
 
 -- the slots forwarded after a step that left them
-pub moved-after : (mid new : CycleState) (target : Option ℕ) → mid.collector.phase ≡ Defrag → IsTarget mid.collector.table mid.collector.cursor target → IsSteady mid.collector → new ≡ with_collector mid (step_beside_slots mid.collector)
-    → forwarded_state new ≡ with_collector mid (collector_step mid.collector)
+pub moved-after : (mid new : CycleState) (target : Option ℕ) → mid.collector.phase ≡ Defrag → IsTarget mid.collector.table mid.collector.cursor target → IsSteady mid.collector → new ≡ state_with_collector mid (step_beside_slots mid.collector)
+    → forwarded_state new ≡ state_with_collector mid (collector_step mid.collector)
 moved-after mid new target phase of steady is =
     let same : with_forwarded mid.collector ≡ mid.collector = steady-same mid.collector steady in
-    is-step mid new target phase of (subst IsSteady (sym same) steady) is ∙ ap (λ c. with_collector mid (collector_step c)) same
+    is-step mid new target phase of (subst IsSteady (sym same) steady) is ∙ ap (λ c. state_with_collector mid (collector_step c)) same
 
 -- and where none moved they are as they were
-pub stayed-after : (mid new : CycleState) (target : Option ℕ) → mid.collector.phase ≡ Defrag → IsTarget mid.collector.table mid.collector.cursor target → IsSteady mid.collector → new ≡ with_collector mid (step_beside_slots mid.collector) → is_some target ≡ false
-    → new ≡ with_collector mid (collector_step mid.collector)
+pub stayed-after : (mid new : CycleState) (target : Option ℕ) → mid.collector.phase ≡ Defrag → IsTarget mid.collector.table mid.collector.cursor target → IsSteady mid.collector → new ≡ state_with_collector mid (step_beside_slots mid.collector) → is_some target ≡ false
+    → new ≡ state_with_collector mid (collector_step mid.collector)
 stayed-after mid new target phase of steady is stays =
     sym (ap (λ slots. record { config = new.config; collector = record (new.collector) { slots = slots } }) (still-moved false false mid new target phase of is (sym stays) (λ e. steady-forwarded mid.collector steady) refl))
     ∙ moved-after mid new target phase of steady is
@@ -156,23 +157,23 @@ units-start config c = go (is_start_due config c)
     go false = refl
 
 -- the start and the steps after it are the quantum
-pub quantum-told : (old begun new : CycleState) (most units : ℕ) → most ≡ old.config.quantum → begun ≡ with_collector old (quantum_start old.config old.collector) → IsRest most begun units new → IsQuantum old units new
+pub quantum-told : (old begun new : CycleState) (most units : ℕ) → most ≡ old.config.quantum → begun ≡ state_with_collector old (quantum_start old.config old.collector) → IsRest most begun units new → IsQuantum old units new
 unfolding quantum
 quantum-told old begun new most units limit start rest =
     let all : quantum old.config old.collector ≡ record { units = units; collector = new.collector } = ap (λ n. steps n n false (quantum_start old.config old.collector)) (sym limit) ∙ ap (λ (s : CycleState). steps most most false s.collector) (sym start) ∙ rest.all in
     record {
       spent = sym (ap (λ s. s.units) all);
-      after = ap (λ f. record { config = f; collector = new.collector }) (rest.config ∙ ap (λ s. s.config) start) ∙ ap (λ (s : Spending). with_collector old s.collector) (sym all);
+      after = ap (λ f. record { config = f; collector = new.collector }) (rest.config ∙ ap (λ s. s.config) start) ∙ ap (λ (s : Spending). state_with_collector old s.collector) (sym all);
     }
 
-quantum-deeds : (old begun : CycleState) (most : ℕ) → most ≡ old.config.quantum → begun ≡ with_collector old (quantum_start old.config old.collector) → quantum_deeds old.config old.collector ≡ start_deeds old.config old.collector ++ deeds_of_steps most most false begun.collector
+quantum-deeds : (old begun : CycleState) (most : ℕ) → most ≡ old.config.quantum → begun ≡ state_with_collector old (quantum_start old.config old.collector) → quantum_deeds old.config old.collector ≡ start_deeds old.config old.collector ++ deeds_of_steps most most false begun.collector
 unfolding quantum_deeds
 quantum-deeds old begun most limit start = rw (limit, start) refl
 
-pub quantum-adds : (old begun : CycleState) (most : ℕ) (before now after : DeedLog) → most ≡ old.config.quantum → begun ≡ with_collector old (quantum_start old.config old.collector) → Adds before (start_deeds old.config old.collector) now → Adds now (deeds_of_steps most most false begun.collector) after
+pub quantum-adds : (old begun : CycleState) (most : ℕ) (before now after : DeedLog) → most ≡ old.config.quantum → begun ≡ state_with_collector old (quantum_start old.config old.collector) → Adds before (start_deeds old.config old.collector) now → Adds now (deeds_of_steps most most false begun.collector) after
     → Adds before (quantum_deeds old.config old.collector) after
 quantum-adds old begun most before now after limit start first rest = subst (λ deeds. Adds before deeds after) (sym (quantum-deeds old begun most limit start)) (adds-then before now after (start_deeds old.config old.collector) (deeds_of_steps most most false begun.collector) first rest)
 
-pub quantum-sum : (old begun : CycleState) (most units : ℕ) → most ≡ old.config.quantum → begun ≡ with_collector old (quantum_start old.config old.collector) → units_of (deeds_of_steps most most false begun.collector) ≡ units → units_of (quantum_deeds old.config old.collector) ≡ units
+pub quantum-sum : (old begun : CycleState) (most units : ℕ) → most ≡ old.config.quantum → begun ≡ state_with_collector old (quantum_start old.config old.collector) → units_of (deeds_of_steps most most false begun.collector) ≡ units → units_of (quantum_deeds old.config old.collector) ≡ units
 quantum-sum old begun most units limit start sum =
     ap units_of (quantum-deeds old begun most limit start) ∙ sum_by-append deed_units (start_deeds old.config old.collector) (deeds_of_steps most most false begun.collector) ∙ omega (arith, units-start old.config old.collector, sum)

@@ -27,13 +27,13 @@ abbrev pub IsStride : ℕ → Bool → Collector → Bool → Collector → Type
 IsStride units moved old moves new = (left : ℕ) → units ≤ left → steps left left moved old ≡ with_units units (steps (left - units) (left - units) moves new)
 
 -- steps that fit in what is left and move no block, which are none only if the next one doesn't fit
-pub record IsRun (left : ℕ) (old : Collector) (units : ℕ) (new : Collector) : Type 0 where
+pub record IsStretch (left : ℕ) (old : Collector) (units : ℕ) (new : Collector) : Type 0 where
   pub fits : units ≤ left
   pub goes : (moved : Bool) → IsStride units moved old moved new
   pub dear : units ≡ 0 → is_over left false new ≡ true
 
 -- a turn of marking: steps that fit in what is left, whether or not the quantum has moved a block before them
-pub record IsTurn (left : ℕ) (old : CycleState) (units : ℕ) (new : CycleState) : Type 0 where
+pub record IsMarkingTurn (left : ℕ) (old : CycleState) (units : ℕ) (new : CycleState) : Type 0 where
   pub config : new.config ≡ old.config
   pub steady : IsSteady new.collector
   pub fits : units ≤ left

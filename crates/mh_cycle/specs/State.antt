@@ -6,6 +6,7 @@ use Rattle.mh_model.specs.declared.cycle.Phase.TheVariants.{Roots, Mark, Sweep, 
 use Rattle.mh_model.specs.Pages.{Table, page_number}
 use Rattle.mh_model.specs.Table.{Block}
 use Rattle.mh_model.specs.Collector.{Collector, first_collector, forwarded_slots, collector_step}
+use Rattle.mh_model.specs.Limits.{root_slots}
 use Rattle.mh_mark.specs.OfGrey.Queue.{Queue}
 
 -- a collector with its configuration
@@ -14,8 +15,8 @@ pub record CycleState : Type 0 where
   pub collector : Collector
 
 -- the same configuration with another collector
-abbrev pub with_collector : CycleState → Collector → CycleState
-with_collector state collector = record state { collector = collector }
+abbrev pub state_with_collector : CycleState → Collector → CycleState
+state_with_collector state collector = record state { collector = collector }
 
 -- a collector with other slots
 abbrev pub with_slots : Collector → List (Option ℕ) → Collector
@@ -31,7 +32,7 @@ step_beside_slots collector = with_slots (collector_step collector) collector.sl
 
 -- a state with its slots forwarded
 abbrev pub forwarded_state : CycleState → CycleState
-forwarded_state state = with_collector state (with_forwarded state.collector)
+forwarded_state state = state_with_collector state (with_forwarded state.collector)
 
 -- the first collector with its configuration
 abbrev pub first_state : Config → CycleState
@@ -42,7 +43,7 @@ pub record IsFramed (config : Config) (table : Table Block) (phase : Phase) (cur
   pub pages : length table ≡ config.pages
   pub listed : grey.pages ≡ length table
   pub some : 0 < length table
-  pub roots : phase ≡ Roots → cursor < 144
+  pub roots : phase ≡ Roots → cursor < root_slots
   pub mark : phase ≡ Mark → 0 < length grey.places
   pub sweep : phase ≡ Sweep → page_number cursor < length table
   pub defrag : phase ≡ Defrag → page_number cursor < length table

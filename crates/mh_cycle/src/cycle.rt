@@ -32,11 +32,11 @@ ghost use Rattle.std.specs.Prelude.{◌≡◌, ◌^◌, ◌<◌, ◌≤◌, true
 ghost use Rattle.mh_model.specs.Table.{references_at, forward_at};
 ghost use Rattle.mh_model.specs.Collector.{is_idle, quantum_start, quantum};
 ghost use Rattle.mh_model.specs.Mutator.{before_root, before_field};
-ghost use Rattle.mh_model.specs.Bound.{most_quanta};
 ghost use Rattle.mh_model.specs.Machine.{quanta_left};
 ghost use Rattle.mh_model.specs.Invariant.{IsSteady};
+ghost use Rattle.mh_model.specs.Limits.{root_slots};
 ghost use Rattle.mh_laws.specs.Forwarders.{MakesItsForwarders};
-ghost use Rattle.mh_cycle.specs.State.{with_collector, first_state};
+ghost use Rattle.mh_cycle.specs.State.{state_with_collector, first_state};
 ghost use Rattle.mh_cycle.specs.Snapshots.{ContinuesEach, StartsFromTheView, KeepsEach, KeepsEachBehind};
 
 use mh_laws::barriers::barriers_keep_the_snapshot;
@@ -82,19 +82,6 @@ impl Model for Cycle {
     ghost view = { λ c. record { config = c.config; collector = record { table = c.blocks; slots = c.roots; phase = c.phase; cursor = c.cursor; grey = c.grey.places; cycle = c.number; is_asked = c.is_asked; quanta = c.quanta } } };
 
     ghost invariant = { λ c. IsFramed c.config c.blocks c.phase c.cursor c.grey };
-}
-
-/// The most quanta of a cycle.
-fn most_quanta(config: &Config) -> u64
-    ensures { result ≡ most_quanta config.now }
-{
-    let pages = u64::from(config.pages);
-    let quantum = u64::from(config.quantum);
-    let most_steps = 144 + 192 * pages;
-    if quantum < 353 {
-        return most_steps;
-    }
-    most_steps.min((288 + 640 * pages) / (quantum - 352) + 1)
 }
 
 impl Cycle {
@@ -153,12 +140,12 @@ impl Cycle {
         if self.is_idle() {
             return 0;
         }
-        most_quanta(&self.config).saturating_sub(self.quanta)
+        self.config.most_quanta().saturating_sub(self.quanta)
     }
 
     /// Asks for a cycle, which the next quantum starts that finds none running.
     pub fn start(&mut self)
-        ensures asked { self.new ≡ with_collector self.old (record (self.old.collector) { is_asked = true }) }
+        ensures asked { self.new ≡ state_with_collector self.old (record (self.old.collector) { is_asked = true }) }
         ensures kept { KeepsEach self.old.collector self.new.collector }
         ensures steady { IsSteady self.old.collector → IsSteady self.new.collector }
     {
@@ -173,7 +160,7 @@ impl Cycle {
         requires cycles { self.old.collector.cycle < 2 ^ 62 }
         requires quanta { self.old.collector.quanta < 2 ^ 62 }
         ensures spent { result ≡ (quantum self.old.config self.old.collector).units }
-        ensures after { self.new ≡ with_collector self.old (quantum self.old.config self.old.collector).collector }
+        ensures after { self.new ≡ state_with_collector self.old (quantum self.old.config self.old.collector).collector }
         ensures limit { result ≤ self.old.config.quantum }
         ensures steady { IsSteady self.new.collector }
         ensures keeps { ContinuesEach self.old.collector self.new.collector }
@@ -196,9 +183,9 @@ impl Cycle {
 
     /// The barrier of a slot that is to be overwritten: while the roots are scanned, what it held is shaded.
     pub fn before_root(&mut self, slot: usize)
-        requires slot { slot < 144 }
+        requires slot { slot < root_slots }
         requires steady { IsSteady self.old.collector }
-        ensures shaded { self.new ≡ with_collector self.old (before_root self.old.collector slot) }
+        ensures shaded { self.new ≡ state_with_collector self.old (before_root self.old.collector slot) }
         ensures kept { KeepsEach self.old.collector self.new.collector }
         ensures steady { IsSteady self.new.collector }
     {
@@ -215,7 +202,7 @@ impl Cycle {
         requires there { index < length (references_at self.old.collector.table place) }
         requires original { forward_at self.old.collector.table place ≡ None }
         requires steady { IsSteady self.old.collector }
-        ensures shaded { self.new ≡ with_collector self.old (before_field self.old.collector (record { place = place; index = index })) }
+        ensures shaded { self.new ≡ state_with_collector self.old (before_field self.old.collector (record { place = place; index = index })) }
         ensures kept { KeepsEachBehind place self.old.collector self.new.collector }
     {
         references_lead_on();

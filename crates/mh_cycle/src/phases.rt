@@ -6,7 +6,7 @@ ghost use Rattle.mh_model.specs.declared.cycle.Phase.TheVariants.{Mark, Sweep, D
 ghost use Rattle.mh_model.specs.Invariant.{IsSteady};
 ghost use Rattle.mh_roots.specs.Roots.{SlotsLead};
 ghost use Rattle.mh_cycle.specs.State.{with_forwarded, forwarded_state};
-ghost use Rattle.mh_cycle.specs.Advance.{IsFrom, IsTurn, IsAdvance, IsRest};
+ghost use Rattle.mh_cycle.specs.Advance.{IsFrom, IsMarkingTurn, IsAdvance, IsRest};
 
 use crate::cycle::Cycle;
 use mh_laws::snapshots::collectors_stay_steady;
@@ -49,7 +49,7 @@ impl Cycle {
     fn mark_alone(&mut self, left: u64) -> u64
         requires steady { IsSteady self.old.collector }
         requires from { IsFrom Mark left self.old.collector }
-        ensures turn { IsTurn left self.old result self.new }
+        ensures turn { IsMarkingTurn left self.old result self.new }
         ensures from { IsFrom Sweep (left - result) self.new.collector }
     {
         collectors_stay_steady();
@@ -70,7 +70,7 @@ impl Cycle {
     fn mark_turn<S: Scanner>(&mut self, scanner: &mut S, left: u64) -> u64
         requires phase { self.old.collector.phase ≡ Mark }
         requires steady { IsSteady self.old.collector }
-        ensures { IsTurn left self.old result self.new }
+        ensures { IsMarkingTurn left self.old result self.new }
     {
         collectors_stay_steady();
         if scanner.pays(self.front_guess()) {

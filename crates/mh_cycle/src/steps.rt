@@ -6,8 +6,8 @@ ghost use Rattle.mh_model.specs.Mutator.{in_roots, in_roots_or_mark};
 ghost use Rattle.mh_model.specs.Invariant.{IsSteady};
 ghost use Rattle.mh_mark.specs.First.{IsFirstGrey};
 ghost use Rattle.mh_defrag.specs.Moves.{IsTarget, AreStill};
-ghost use Rattle.mh_cycle.specs.State.{with_collector, with_slots, step_beside_slots};
-ghost use Rattle.mh_cycle.specs.Advance.{IsRun, IsStride};
+ghost use Rattle.mh_cycle.specs.State.{state_with_collector, with_slots, step_beside_slots};
+ghost use Rattle.mh_cycle.specs.Advance.{IsStretch, IsStride};
 
 use crate::cycle::Cycle;
 use mh_defrag::defrag;
@@ -67,7 +67,7 @@ impl Cycle {
         requires steady { IsSteady self.old.collector }
         requires cycles { self.old.collector.cycle < 2 ^ 62 }
         requires quanta { self.old.collector.quanta < 2 ^ 62 }
-        ensures { self.new ≡ with_collector self.old (quantum_start self.old.config self.old.collector) }
+        ensures { self.new ≡ state_with_collector self.old (quantum_start self.old.config self.old.collector) }
     {
         if self.is_idle()
             && (self.is_asked
@@ -90,7 +90,7 @@ impl Cycle {
     pub(crate) fn roots_step(&mut self)
         requires phase { self.old.collector.phase ≡ Roots }
         requires steady { IsSteady self.old.collector }
-        ensures { self.new ≡ with_collector self.old (collector_step self.old.collector) }
+        ensures { self.new ≡ state_with_collector self.old (collector_step self.old.collector) }
     {
         references_lead_on();
         let reference = self.roots.get(self.cursor);
@@ -119,7 +119,7 @@ impl Cycle {
         requires phase { self.old.collector.phase ≡ Mark }
         requires first { IsFirstGrey self.old.collector.table self.old.collector.grey first }
         requires steady { IsSteady self.old.collector }
-        ensures { self.new ≡ with_collector self.old (collector_step self.old.collector) }
+        ensures { self.new ≡ state_with_collector self.old (collector_step self.old.collector) }
     {
         references_lead_on();
         mark_step(&mut self.blocks, &mut self.grey, self.number, first);
@@ -141,8 +141,8 @@ impl Cycle {
     pub(crate) fn mark_batch<S: Scanner>(&mut self, scanner: &mut S, left: u64) -> u64
         requires phase { self.old.collector.phase ≡ Mark }
         requires steady { IsSteady self.old.collector }
-        ensures state { self.new ≡ with_collector self.old self.new.collector }
-        ensures run { IsRun left self.old.collector result self.new.collector }
+        ensures state { self.new ≡ state_with_collector self.old self.new.collector }
+        ensures run { IsStretch left self.old.collector result self.new.collector }
     {
         references_lead_on();
         any_cut_into_batches_is_the_same();
@@ -160,8 +160,8 @@ impl Cycle {
     pub(crate) fn sweep_page(&mut self, left: u64) -> u64
         requires phase { self.old.collector.phase ≡ Sweep }
         requires some { 0 < left }
-        ensures state { self.new ≡ with_collector self.old self.new.collector }
-        ensures run { IsRun left self.old.collector result self.new.collector }
+        ensures state { self.new ≡ state_with_collector self.old self.new.collector }
+        ensures run { IsStretch left self.old.collector result self.new.collector }
         ensures some { 0 < result }
     {
         let place = Place(self.cursor);
@@ -189,7 +189,7 @@ impl Cycle {
         requires phase { self.old.collector.phase ≡ Defrag }
         requires some { 0 < run.count }
         requires still { AreStill self.old.collector.table self.old.collector.cursor run.count run.next }
-        ensures state { self.new ≡ with_collector self.old self.new.collector }
+        ensures state { self.new ≡ state_with_collector self.old self.new.collector }
         ensures table { self.new.collector.table ≡ self.old.collector.table }
         ensures slots { self.new.collector.slots ≡ self.old.collector.slots }
         ensures stride { (slots : List (Option ℕ)) (moved : Bool) → IsStride run.count moved (with_slots self.old.collector slots) moved (with_slots self.new.collector slots) }
@@ -224,7 +224,7 @@ impl Cycle {
     pub(crate) fn defrag_step(&mut self, target: Option<Place>)
         requires phase { self.old.collector.phase ≡ Defrag }
         requires target { IsTarget self.old.collector.table self.old.collector.cursor target }
-        ensures { self.new ≡ with_collector self.old (step_beside_slots self.old.collector) }
+        ensures { self.new ≡ state_with_collector self.old (step_beside_slots self.old.collector) }
     {
         let place = Place(self.cursor);
         let next = defrag::step(&mut self.blocks, place, target);

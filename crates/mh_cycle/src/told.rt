@@ -16,7 +16,7 @@ ghost use Rattle.mh_model.specs.Deeds.{Adds, root_deed, slot_fate, page_deeds, s
 ghost use Rattle.mh_model.specs.Invariant.{IsSteady};
 ghost use Rattle.mh_laws.specs.Forwarders.{MakesItsForwarders};
 ghost use Rattle.mh_defrag.specs.Moves.{IsTarget};
-ghost use Rattle.mh_cycle.specs.State.{with_collector};
+ghost use Rattle.mh_cycle.specs.State.{state_with_collector};
 ghost use Rattle.mh_cycle.specs.Advance.{IsRest};
 ghost use Rattle.mh_cycle.specs.Snapshots.{ContinuesEach, StartsFromTheView};
 
@@ -161,7 +161,7 @@ impl Cycle {
     fn root_told(&mut self, deeds: &mut Deeds)
         requires phase { self.old.collector.phase ≡ Roots }
         requires steady { IsSteady self.old.collector }
-        ensures after { self.new ≡ with_collector self.old (collector_step self.old.collector) }
+        ensures after { self.new ≡ state_with_collector self.old (collector_step self.old.collector) }
         ensures told { Adds deeds.old (root_deed self.old.collector ∷ []) deeds.new }
     {
         references_lead_on();
@@ -182,7 +182,7 @@ impl Cycle {
     fn mark_told(&mut self, deeds: &mut Deeds)
         requires phase { self.old.collector.phase ≡ Mark }
         requires steady { IsSteady self.old.collector }
-        ensures after { self.new ≡ with_collector self.old (collector_step self.old.collector) }
+        ensures after { self.new ≡ state_with_collector self.old (collector_step self.old.collector) }
         ensures told { Adds deeds.old (deeds_in Mark self.old.collector false) deeds.new }
     {
         references_lead_on();
@@ -196,7 +196,7 @@ impl Cycle {
     /// Sweeps one slot, or passes a free page.
     fn sweep_told(&mut self, deeds: &mut Deeds)
         requires { self.old.collector.phase ≡ Sweep }
-        ensures after { self.new ≡ with_collector self.old (collector_step self.old.collector) }
+        ensures after { self.new ≡ state_with_collector self.old (collector_step self.old.collector) }
         ensures told { Adds deeds.old (deeds_in Sweep self.old.collector false) deeds.new }
     {
         let place = Place(self.cursor);
@@ -212,7 +212,7 @@ impl Cycle {
     fn defrag_told(&mut self, has_moved: bool, deeds: &mut Deeds)
         requires phase { self.old.collector.phase ≡ Defrag }
         requires steady { IsSteady self.old.collector }
-        ensures after { self.new ≡ with_collector self.old (collector_step self.old.collector) }
+        ensures after { self.new ≡ state_with_collector self.old (collector_step self.old.collector) }
         ensures told { Adds deeds.old (deeds_in Defrag self.old.collector has_moved) deeds.new }
     {
         collectors_stay_steady();
@@ -228,7 +228,7 @@ impl Cycle {
     fn step_in(&mut self, has_moved: bool, deeds: &mut Deeds)
         requires steady { IsSteady self.old.collector }
         requires running { is_idle self.old.collector.phase ≡ false }
-        ensures after { self.new ≡ with_collector self.old (collector_step self.old.collector) }
+        ensures after { self.new ≡ state_with_collector self.old (collector_step self.old.collector) }
         ensures told { Adds deeds.old (deeds_in self.old.collector.phase self.old.collector has_moved) deeds.new }
     {
         match self.phase {
@@ -267,7 +267,7 @@ impl Cycle {
     pub fn step(&mut self, has_moved: bool, deeds: &mut Deeds) -> u64
         requires running { is_idle self.old.collector.phase ≡ false }
         requires steady { IsSteady self.old.collector }
-        ensures after { self.new ≡ with_collector self.old (collector_step self.old.collector) }
+        ensures after { self.new ≡ state_with_collector self.old (collector_step self.old.collector) }
         ensures cost { result ≡ step_cost self.old.collector has_moved }
         ensures told { Adds deeds.old (step_deeds self.old.collector has_moved) deeds.new }
         ensures units { units_of (step_deeds self.old.collector has_moved) ≡ result }
@@ -286,7 +286,7 @@ impl Cycle {
         requires steady { IsSteady self.old.collector }
         requires cycles { self.old.collector.cycle < 2 ^ 62 }
         requires quanta { self.old.collector.quanta < 2 ^ 62 }
-        ensures begun { self.new ≡ with_collector self.old (quantum_start self.old.config self.old.collector) }
+        ensures begun { self.new ≡ state_with_collector self.old (quantum_start self.old.config self.old.collector) }
         ensures told { Adds deeds.old (start_deeds self.old.config self.old.collector) deeds.new }
     {
         let before = self.number;
@@ -326,7 +326,7 @@ impl Cycle {
         requires cycles { self.old.collector.cycle < 2 ^ 62 }
         requires quanta { self.old.collector.quanta < 2 ^ 62 }
         ensures spent { result ≡ (quantum self.old.config self.old.collector).units }
-        ensures after { self.new ≡ with_collector self.old (quantum self.old.config self.old.collector).collector }
+        ensures after { self.new ≡ state_with_collector self.old (quantum self.old.config self.old.collector).collector }
         ensures limit { result ≤ self.old.config.quantum }
         ensures steady { IsSteady self.new.collector }
         ensures keeps { ContinuesEach self.old.collector self.new.collector }

@@ -5,5 +5,5 @@ use Rattle.mh_model.specs.Configs.{configured_under}
 use Rattle.mh_model.specs.HistoryTexts.{rules_of}
 
 -- the configuration with these numbers, under the rules with this number
-abbrev pub config_of : ℕ → ℕ → ℕ → ℕ → ℕ → Option Config
-config_of pages quantum trigger every rules = option_and_then (λ r. configured_under r pages quantum trigger every) (rules_of rules)
+abbrev pub numbered_config : ℕ → ℕ → ℕ → ℕ → ℕ → Option Config
+numbered_config pages quantum trigger every rules = option_and_then (λ r. configured_under r pages quantum trigger every) (rules_of rules)

@@ -7,7 +7,7 @@ use Rattle.mh_model.specs.declared.reply.Reply.{Reply}
 use Rattle.mh_model.specs.Bytes.{Text}
 use Rattle.mh_model.specs.Limits.{most_entries}
 use Rattle.mh_model.specs.Script.{Line, Blank, Calls, Asks, Wrong, session_number, with_name}
-use Rattle.mh_live.specs.OfState.Running.{Running, Does, first_running}
+use Rattle.mh_live.specs.OfMachine.Running.{Running, Does, first_running}
 
 -- the machine, the first names of sessions that were seen, and the reply to the last event, of none before the first
 pub record Driven : Type 0 where

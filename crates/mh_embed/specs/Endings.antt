@@ -7,7 +7,7 @@ use Rattle.mh_model.specs.Bytes.{Text}
 use Rattle.mh_model.specs.Limits.{most_entries}
 use Rattle.mh_model.specs.Replies.{reply_text}
 use Rattle.mh_model.specs.Script as script
-use Rattle.mh_live.specs.OfState.Running.{MayAskForMemory}
+use Rattle.mh_live.specs.OfMachine.Running.{MayAskForMemory}
 use Rattle.mh_embed.specs.declared.numbers.EventNumbers.{EventNumbers}
 use Rattle.mh_embed.specs.declared.numbers.ItemNumbers.{ItemNumbers}
 use Rattle.mh_embed.specs.declared.numbers.ReplyNumbers.{ReplyNumbers}

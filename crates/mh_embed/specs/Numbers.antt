@@ -5,8 +5,6 @@ use Rattle.mh_model.specs.declared.command.Command.{Command}
 use Rattle.mh_model.specs.declared.command.Control.{Control}
 use Rattle.mh_model.specs.declared.command.Event.{Event}
 use Rattle.mh_model.specs.declared.command.Event.TheVariants as event
-use Rattle.mh_model.specs.declared.cycle.Phase.{Phase}
-use Rattle.mh_model.specs.declared.cycle.Phase.TheVariants.{Idle, Roots, Mark, Sweep, Defrag}
 use Rattle.mh_model.specs.declared.dump.DumpItem.{DumpItem}
 use Rattle.mh_model.specs.declared.dump.DumpItem.TheVariants as item
 use Rattle.mh_model.specs.declared.history.Version.TheVariants.{Two}
@@ -15,6 +13,7 @@ use Rattle.mh_model.specs.declared.reply.Reply.TheVariants as reply
 use Rattle.mh_model.specs.declared.reply.Refusal.{Refusal}
 use Rattle.mh_model.specs.declared.reply.Refusal.TheVariants.{BadSlot, Null, NoField, TooLarge, HeapFull, Ended, TooManySessions}
 use Rattle.mh_model.specs.Forms.{Row, within, are_below, command_rows, control_rows}
+use Rattle.mh_model.specs.Numbered.{phase_number, flag_number}
 use Rattle.mh_embed.specs.declared.numbers.EventNumbers.{EventNumbers}
 use Rattle.mh_embed.specs.declared.numbers.ReplyNumbers.{ReplyNumbers}
 use Rattle.mh_embed.specs.declared.numbers.ItemNumbers.{ItemNumbers}
@@ -54,13 +53,6 @@ refusal_number TooLarge = 4
 refusal_number HeapFull = 5
 refusal_number Ended = 6
 refusal_number TooManySessions = 7
-
-abbrev pub phase_number : Phase → ℕ
-phase_number Idle = 0
-phase_number Roots = 1
-phase_number Mark = 2
-phase_number Sweep = 3
-phase_number Defrag = 4
 
 -- 1 and a number, or 0 and 0 for none
 abbrev pub option_values : Option ℕ → List ℕ
@@ -103,11 +95,6 @@ pub record IsShownBy (given : Reply) (n : ReplyNumbers) : Type 0 where
   pub numbers : n.numbers ≡ padded (reply_values given)
 
 -- Items of dumps ---------------------------------------------------------------------------------
-
--- 1 for a flag that is set, and 0 for one that isn't
-abbrev pub flag_number : Bool → ℕ
-flag_number true = 1
-flag_number false = 0
 
 -- the number of the kind of an item
 abbrev pub item_kind : DumpItem → ℕ

@@ -18,7 +18,7 @@ fn rules_of(number: u32) -> Option<Rules>
 
 /// The configuration with these numbers, under the rules with this number. None outside the limits.
 pub fn config_of(pages: u32, quantum: u32, trigger: u32, every: u32, rules: u32) -> Option<Config>
-    ensures { result ≡ numbers.config_of pages quantum trigger every rules }
+    ensures { result ≡ numbers.numbered_config pages quantum trigger every rules }
 {
     Config::under(rules_of(rules)?, pages, quantum, trigger, every)
 }

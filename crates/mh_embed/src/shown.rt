@@ -6,7 +6,6 @@ ghost use Rattle.mh_embed.specs.Numbers as numbers;
 ghost use Rattle.mh_embed.specs.Numbers.{IsItemShownBy, IsShownBy, padded};
 
 use crate::numbers::{ItemNumbers, ReplyNumbers};
-use mh_model::cycle::Phase;
 use mh_model::dump::DumpItem;
 use mh_model::reply::{Refusal, Reply};
 use mh_model::report::Report;
@@ -23,18 +22,6 @@ fn refusal_number(refusal: Refusal) -> u64
         Refusal::HeapFull => 5,
         Refusal::Ended => 6,
         Refusal::TooManySessions => 7,
-    }
-}
-
-fn phase_number(phase: Phase) -> u64
-    ensures { result ≡ numbers.phase_number phase }
-{
-    match phase {
-        Phase::Idle => 0,
-        Phase::Roots => 1,
-        Phase::Mark => 2,
-        Phase::Sweep => 3,
-        Phase::Defrag => 4,
     }
 }
 
@@ -75,7 +62,7 @@ fn with_none(kind: u32) -> ReplyNumbers
 fn stat_numbers(stat: Stat) -> ReplyNumbers
     ensures { IsShownBy (reply.Stat stat) result }
 {
-    let phase = phase_number(stat.phase);
+    let phase = stat.phase.number();
     ReplyNumbers {
         kind: 8,
         numbers: [
@@ -117,7 +104,7 @@ pub fn reply_numbers(reply: &Reply) -> ReplyNumbers
         Reply::No => with_none(4),
         Reply::Shape(shape) => with_two(5, u64::from(shape.references), u64::from(shape.numbers)),
         Reply::Refused(refusal) => with_one(6, refusal_number(*refusal)),
-        Reply::Spent { units, phase } => with_two(7, units.0, phase_number(*phase)),
+        Reply::Spent { units, phase } => with_two(7, units.0, phase.number()),
         Reply::Stat(stat) => stat_numbers(*stat),
         Reply::Dump(dump) => with_one(9, dump.items().len() as u64),
         Reply::Report(report) => report_numbers(*report),

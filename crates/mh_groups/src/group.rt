@@ -11,7 +11,8 @@
 //! its parts are kept there while the object is made. So it can be undone from the last part to the first, each with
 //! the page that it took, and no memory is asked for. The parts are linked after all of them were made, as the
 //! definition does.
-ghost use Rattle.std.specs.Prelude.{◌≡◌, ◌<◌, ◌≤◌, ◌^◌, ◌&&◌, ℕ, nat_lt, true, IsSome, IfOk, OnOk, OnErr, Some, None, length, get_or, map, take, [], ◌∷◌};
+ghost use Rattle.std.specs.Prelude.{◌≡◌, ◌<◌, ◌≤◌, ◌^◌, ◌&&◌, ℕ, nat_lt, true, List, IsSome, IfOk, OnOk, OnErr, Some, None, length, get_or, map, take, [], ◌∷◌};
+ghost use Rattle.mh_model.specs.declared.deed.Deed.{Deed};
 ghost use Rattle.mh_model.specs.Deeds.{make_deeds, Adds};
 ghost use Rattle.mh_model.specs.Pages.{page_number, block_at};
 ghost use Rattle.mh_model.specs.Table.{references_at, with_block_change, made_parts, linked_parts, made_group};
@@ -165,39 +166,6 @@ fn link_parts(blocks: &mut Blocks, places: &[Place], parts: &Parts)
     }
 }
 
-/// Makes an object of these parts, or leaves the table as it was if one of them finds no place. It answers the place
-/// of part 0, which stands for the object.
-pub fn make_group(
-    blocks: &mut Blocks,
-    room: &mut PartPlaces,
-    parts: &Parts,
-    birth: Birth,
-    stamp: u64,
-) -> Result<Place, Full>
-    requires birth { birth < 2 ^ 62 }
-    ensures made { IfOk result (λ place. made_group blocks.old birth stamp parts.now ≡ Some (record { place = place; table = blocks.new })) }
-    ensures full { OnErr result (made_group blocks.old birth stamp parts.now ≡ None) }
-    ensures unchanged { OnErr result (blocks.new ≡ blocks.old) }
-{
-    let count = parts.count();
-    if count == 1 {
-        return blocks.make(parts.get(0), 0, birth, stamp);
-    }
-    if lacks_room(blocks, parts) {
-        return Err(Full);
-    }
-    make_parts(
-        blocks,
-        &mut room.places,
-        &mut room.fresh,
-        parts,
-        birth,
-        stamp,
-    )?;
-    link_parts(blocks, &room.places[..count], parts);
-    Ok(room.places[0])
-}
-
 /// The tier that found a place.
 fn tier_at(blocks: &Blocks, place: Place, is_fresh: bool) -> Tier
     requires { page_number place < length blocks.now }
@@ -253,26 +221,95 @@ fn tell_parts(
     }
 }
 
-/// Makes an object as `make_group` does, and tells where each part was placed. It tells nothing of one that is refused.
-pub fn make_group_told(
+/// What keeps where the parts of a new object were placed.
+pub trait PartLog {
+    // These deeds were added.
+    ghost adds: { Self → List Deed → Self → Type 0 };
+
+    /// Whether it keeps nothing: then it needn't be told.
+    fn is_silent(&self) -> bool
+        ensures { result ≡ true → (deeds : List Deed) → adds self.now deeds self.now };
+
+    /// Adds where all parts were placed, in order.
+    fn add_parts(
+        &mut self,
+        blocks: &Blocks,
+        places: &[Place],
+        fresh: &[bool],
+        parts: &Parts,
+        birth: Birth,
+    )
+        requires places { length parts.now ≤ length places.now }
+        requires fresh { length parts.now ≤ length fresh.now }
+        requires there { (number : ℕ) → number < length parts.now → IsSome (block_at blocks.now (get_or places.now number 0)) }
+        ensures { adds self.old (placed_deeds blocks.now birth places.now fresh.now 0 parts.now) self.new };
+}
+
+impl PartLog for Deeds {
+    ghost adds = { Adds };
+
+    fn is_silent(&self) -> bool {
+        false
+    }
+
+    fn add_parts(
+        &mut self,
+        blocks: &Blocks,
+        places: &[Place],
+        fresh: &[bool],
+        parts: &Parts,
+        birth: Birth,
+    ) {
+        tell_parts(blocks, places, fresh, parts, birth, self);
+    }
+}
+
+/// Keeps nothing of the parts.
+#[derive(Clone, Copy)]
+pub struct NoLog;
+
+impl PartLog for NoLog {
+    ghost adds = { λ _ _ _. Unit {0} };
+
+    fn is_silent(&self) -> bool {
+        true
+    }
+
+    fn add_parts(
+        &mut self,
+        _blocks: &Blocks,
+        _places: &[Place],
+        _fresh: &[bool],
+        _parts: &Parts,
+        _birth: Birth,
+    ) {}
+}
+
+/// Makes an object of these parts, or leaves the table as it was if one of them finds no place. It answers the place
+/// of part 0, which stands for the object. The log gets where each part was placed, and nothing of an object that is
+/// refused.
+pub fn make_group<L: PartLog>(
     blocks: &mut Blocks,
     room: &mut PartPlaces,
     parts: &Parts,
     birth: Birth,
     stamp: u64,
-    deeds: &mut Deeds,
+    log: &mut L,
 ) -> Result<Place, Full>
     requires birth { birth < 2 ^ 62 }
     ensures made { IfOk result (λ place. made_group blocks.old birth stamp parts.now ≡ Some (record { place = place; table = blocks.new })) }
     ensures full { OnErr result (made_group blocks.old birth stamp parts.now ≡ None) }
     ensures unchanged { OnErr result (blocks.new ≡ blocks.old) }
-    ensures told { OnOk result (Adds deeds.old (make_deeds blocks.old birth stamp 0 parts.now) deeds.new) }
-    ensures quiet { OnErr result (deeds.new ≡ deeds.old) }
+    ensures told { OnOk result (L.adds log.old (make_deeds blocks.old birth stamp 0 parts.now) log.new) }
+    ensures quiet { OnErr result (log.new ≡ log.old) }
 {
+    let count = parts.count();
+    if count == 1 && log.is_silent() {
+        return blocks.make(parts.get(0), 0, birth, stamp);
+    }
     if lacks_room(blocks, parts) {
         return Err(Full);
     }
-    let count = parts.count();
     make_parts(
         blocks,
         &mut room.places,
@@ -281,8 +318,7 @@ pub fn make_group_told(
         birth,
         stamp,
     )?;
-    tell_parts(blocks, &room.places, &room.fresh, parts, birth, deeds);
-    let places = &room.places[..count];
-    link_parts(blocks, places, parts);
-    Ok(places[0])
+    log.add_parts(blocks, &room.places, &room.fresh, parts, birth);
+    link_parts(blocks, &room.places[..count], parts);
+    Ok(room.places[0])
 }

@@ -4,6 +4,7 @@ use Rattle.std.proofs.lemmas.List.{get_or-map, map-set, map_push, length-map}
 use Rattle.std.proofs.lemmas.Option.{same_Some}
 use Rattle.mh_model.specs.declared.config.Config.{Config}
 use Rattle.mh_model.specs.World.{Object, World, IsClosed, reference_of, slot_at, object_in, blank, with_reference, with_number, cleared}
+use Rattle.mh_model.specs.Limits.{root_slots}
 use Rattle.mh_heap.specs.PlainWorld.{plain_world}
 use Rattle.mh_table_laws.proofs.Lists.{there_below}
 use Rattle.mh_heap.proofs.ClosedLemmas.{named_there, closed_slot, closed_exchanged, closed_added, there_last, at_set}
@@ -30,9 +31,9 @@ names_nothing zero slot birth is = cc
 names_nothing (suc n) zero birth is = cc
 names_nothing (suc n) (suc slot) birth is = names_nothing n slot birth is
 
-pub closed_first : (config : Config) (objects : List Object) (ended : List Bool) → objects ≡ [] → IsClosed (plain_world config objects (replicate 144 None) ended)
+pub closed_first : (config : Config) (objects : List Object) (ended : List Bool) → objects ≡ [] → IsClosed (plain_world config objects (replicate root_slots None) ended)
 closed_first config objects ended none = rw none (record {
-  slots = λ slot birth is. names_nothing 144 slot birth is;
+  slots = λ slot birth is. names_nothing root_slots slot birth is;
   references = λ birth field target is. cc;
 })
 

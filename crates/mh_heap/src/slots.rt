@@ -3,6 +3,7 @@
 ghost use Rattle.std.specs.Prelude.{◌≡◌, ◌<◌, [], ◌∷◌, IfOk};
 ghost use Rattle.mh_model.specs.World.{is_bad, own_slot, board_slot};
 ghost use Rattle.mh_model.specs.declared.reply.Refusal.TheVariants.{BadSlot};
+ghost use Rattle.mh_model.specs.Limits.{root_slots};
 ghost use Rattle.mh_heap.specs.Checks.{tested};
 
 use mh_model::limits::{SESSION_SLOTS, SESSIONS};
@@ -24,7 +25,7 @@ pub fn own_slot(session: usize, slot: u32) -> Result<usize, Refusal>
 /// The root slot of a slot of the board, after those of the sessions.
 pub fn board_slot(board: u32) -> Result<usize, Refusal>
     ensures step { result ≡ tested ((is_bad board, BadSlot) ∷ []) (board_slot board) }
-    ensures within { IfOk result (λ root. root < 144) }
+    ensures within { IfOk result (λ root. root < root_slots) }
 {
     let board = board as usize;
     if board >= SESSION_SLOTS {

@@ -9,7 +9,7 @@ use Rattle.mh_model.proofs.ScriptLemmas.{history_reading-short, recorded_reading
 use Rattle.mh_model.specs.HistoryTexts.{header_of, entries_from, history_of, history_reading, recorded_by, recorded_of, recorded_reading}
 use Rattle.mh_text.specs.Pieces.{Lines, TakesLine, lines_from}
 use Rattle.mh_text.specs.Reading.{first_lines}
-use Rattle.mh_history.specs.Beginnings.{entry_line, measured_line, entries_left, with_header, HasEntry, BeginsWithEntry, BeginsWithMeasured}
+use Rattle.mh_history.specs.Beginnings.{line_as_entry, line_as_measured, entries_left, after_header, HasEntry, BeginsWithEntry, BeginsWithMeasured}
 
 -- the pieces of a cut that is one line and what a reader of lines has left
 taken : (text : Text) (new : Lines) (n : ℕ) (line : Text) → TakesLine (lines_from 1 text) new n line → cut_after 10 text ≡ record { pieces = line ∷ new.lines; rest = new.rest }
@@ -39,28 +39,28 @@ wrong_first line lines rest other = rw other refl
 pub history_wrong : (text : Text) (new : Lines) (n : ℕ) (line : Text) → length text ≤ 1073741824 → TakesLine (lines_from 1 text) new n line → is_text line (codes "history 1") ≡ false → history_reading text ≡ BadLine 1
 history_wrong text new n line short takes other = history_reading-short text short ∙ (ap history_of (taken text new n line takes) ∙ wrong_first line new.lines new.rest other)
 
-right_first : (line : Text) (lines : List Text) (rest : Text) → is_text line (codes "history 1") ≡ true → history_of (record { pieces = line ∷ lines; rest = rest }) ≡ entries_from entry_line 2 lines rest
+right_first : (line : Text) (lines : List Text) (rest : Text) → is_text line (codes "history 1") ≡ true → history_of (record { pieces = line ∷ lines; rest = rest }) ≡ entries_from line_as_entry 2 lines rest
 right_first line lines rest is = rw is refl
 
 counted : (text : Text) (new : Lines) (n : ℕ) (line : Text) → TakesLine (lines_from 1 text) new n line → 2 ≡ new.number
 counted text new n line takes = sym takes.counted
 
-pub history_first : (text : Text) (new : Lines) (n : ℕ) (line : Text) → length text ≤ 1073741824 → TakesLine (lines_from 1 text) new n line → is_text line (codes "history 1") ≡ true → history_reading text ≡ entries_left entry_line new
+pub history_first : (text : Text) (new : Lines) (n : ℕ) (line : Text) → length text ≤ 1073741824 → TakesLine (lines_from 1 text) new n line → is_text line (codes "history 1") ≡ true → history_reading text ≡ entries_left line_as_entry new
 history_first text new n line short takes is =
     history_reading-short text short
-    ∙ (ap history_of (taken text new n line takes) ∙ (right_first line new.lines new.rest is ∙ ap (λ (n : ℕ). entries_from entry_line n new.lines new.rest) (counted text new n line takes)))
+    ∙ (ap history_of (taken text new n line takes) ∙ (right_first line new.lines new.rest is ∙ ap (λ (n : ℕ). entries_from line_as_entry n new.lines new.rest) (counted text new n line takes)))
 
 front_lines : (text : Text) (new : Lines) (n : ℕ) (line : Text) (count : ℕ) → TakesLine (lines_from 1 text) new n line → first_lines (suc count) (cut_after 10 text) ≡ record { pieces = line ∷ take count new.lines; rest = [] }
 front_lines text new n line count takes = ap (first_lines (suc count)) (taken text new n line takes)
 
-pub begins_with_entry : (text : Text) (new : Lines) (n : ℕ) (line : Text) → length text ≤ 1073741824 → TakesLine (lines_from 1 text) new n line → is_text line (codes "history 1") ≡ true → HasEntry entry_line new → BeginsWithEntry text
+pub begins_with_entry : (text : Text) (new : Lines) (n : ℕ) (line : Text) → length text ≤ 1073741824 → TakesLine (lines_from 1 text) new n line → is_text line (codes "history 1") ≡ true → HasEntry line_as_entry new → BeginsWithEntry text
 begins_with_entry text new n line short takes is has = record {
   short = short;
   count = suc has.count;
   entries = has.entries;
   reads =
       ap history_of (front_lines text new n line has.count takes)
-      ∙ (right_first line (take has.count new.lines) [] is ∙ (ap (λ (n : ℕ). entries_from entry_line n (take has.count new.lines) []) (counted text new n line takes) ∙ has.reads));
+      ∙ (right_first line (take has.count new.lines) [] is ∙ (ap (λ (n : ℕ). entries_from line_as_entry n (take has.count new.lines) []) (counted text new n line takes) ∙ has.reads));
   some = has.some;
 }
 
@@ -91,11 +91,11 @@ pub record_wrong : (text : Text) (new : Lines) (n : ℕ) (line : Text) → lengt
 record_wrong text new n line short takes is = record_lines text new n line None short takes is
 
 pub record_first : (text : Text) (new : Lines) (n : ℕ) (line : Text) (config : Config) → length text ≤ 2147483648 → TakesLine (lines_from 1 text) new n line → header_of (words line) ≡ Some config
-    → recorded_reading text ≡ with_header config (entries_left measured_line new)
+    → recorded_reading text ≡ after_header config (entries_left line_as_measured new)
 record_first text new n line config short takes is =
-    record_lines text new n line (Some config) short takes is ∙ ap (λ (n : ℕ). with_header config (entries_from measured_line n new.lines new.rest)) (counted text new n line takes)
+    record_lines text new n line (Some config) short takes is ∙ ap (λ (n : ℕ). after_header config (entries_from line_as_measured n new.lines new.rest)) (counted text new n line takes)
 
-pub begins_with_measured : (text : Text) (new : Lines) (n : ℕ) (line : Text) (config : Config) → length text ≤ 2147483648 → TakesLine (lines_from 1 text) new n line → header_of (words line) ≡ Some config → HasEntry measured_line new
+pub begins_with_measured : (text : Text) (new : Lines) (n : ℕ) (line : Text) (config : Config) → length text ≤ 2147483648 → TakesLine (lines_from 1 text) new n line → header_of (words line) ≡ Some config → HasEntry line_as_measured new
     → BeginsWithMeasured text
 begins_with_measured text new n line config short takes is has = record {
   short = short;
@@ -104,6 +104,6 @@ begins_with_measured text new n line config short takes is has = record {
   reads =
       ap recorded_of (front_lines text new n line has.count takes)
       ∙ (header_line line (take has.count new.lines) [] (Some config) is
-      ∙ (ap (λ (n : ℕ). with_header config (entries_from measured_line n (take has.count new.lines) [])) (counted text new n line takes) ∙ ap (with_header config) has.reads));
+      ∙ (ap (λ (n : ℕ). after_header config (entries_from line_as_measured n (take has.count new.lines) [])) (counted text new n line takes) ∙ ap (after_header config) has.reads));
   some = has.some;
 }

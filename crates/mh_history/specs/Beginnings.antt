@@ -11,11 +11,11 @@ use Rattle.mh_text.specs.Pieces.{Lines, TakesLine}
 use Rattle.mh_text.specs.Reading.{first_lines}
 
 -- what a line of a history of version 1 is read as, and one of version 2
-abbrev pub entry_line : Text → Option Entry
-entry_line line = entry_of One (words line)
+abbrev pub line_as_entry : Text → Option Entry
+line_as_entry line = entry_of One (words line)
 
-abbrev pub measured_line : Text → Option Measured
-measured_line line = measured_of (words line)
+abbrev pub line_as_measured : Text → Option Measured
+line_as_measured line = measured_of (words line)
 
 -- the lines that are left, each one entry
 abbrev pub entries_left : {X : Type 0} → (Text → Option X) → Lines → Reading (List X)
@@ -26,8 +26,8 @@ abbrev pub entry_before : {X : Type 0} → X → Reading (List X) → Reading (L
 entry_before entry = reading_map (λ entries. entry ∷ entries)
 
 -- what the entries after a first line of version 2 make of a history
-abbrev pub with_header : Config → Reading (List Measured) → Reading Recorded
-with_header config = reading_map (λ entries. record { config = config; entries = entries })
+abbrev pub after_header : Config → Reading (List Measured) → Reading Recorded
+after_header config = reading_map (λ entries. record { config = config; entries = entries })
 
 -- reading one entry takes its line
 pub record TakesEntry {X : Type 0} (read : Text → Option X) (old new : Lines) (entry : X) : Type 0 where

@@ -5,7 +5,7 @@ ghost use Rattle.std.specs.Prelude.{◌≡◌, IfOk, IfErr, IsErrOf};
 ghost use Rattle.mh_model.specs.HistoryTexts.{history_reading};
 ghost use Rattle.mh_model.specs.Script.{BadLine, Means};
 ghost use Rattle.mh_text.specs.TextErrors.{Refuses};
-ghost use Rattle.mh_history.specs.Beginnings.{BeginsWithEntry, HasEntry, entries_left, entry_line};
+ghost use Rattle.mh_history.specs.Beginnings.{BeginsWithEntry, HasEntry, entries_left, line_as_entry};
 
 use crate::lines::{RefusedLine, entries_from};
 use mh_model::history::Entry;
@@ -20,8 +20,8 @@ pub const HISTORY_BYTES: usize = 1_073_741_824;
 /// The lines of a history of version 1 after its first line, not read yet. It takes no memory.
 #[tactic(auto, using(crate::proofs::HistoryLemmas::history_long, crate::proofs::HistoryLemmas::history_empty, crate::proofs::HistoryLemmas::history_wrong, crate::proofs::HistoryLemmas::history_first, crate::proofs::HistoryLemmas::begins_with_entry))]
 pub fn history_lines(text: &[u8]) -> Result<Lines<'_>, RefusedLine>
-    ensures lines { IfOk result (λ lines. history_reading text.now ≡ entries_left entry_line lines) }
-    ensures begins { IfOk result (λ lines. HasEntry entry_line lines → BeginsWithEntry text.now) }
+    ensures lines { IfOk result (λ lines. history_reading text.now ≡ entries_left line_as_entry lines) }
+    ensures begins { IfOk result (λ lines. HasEntry line_as_entry lines → BeginsWithEntry text.now) }
     ensures line { IfErr result (λ refused. history_reading text.now ≡ BadLine refused.0) }
 {
     if text.len() > HISTORY_BYTES {

@@ -4,7 +4,7 @@ ghost use Rattle.std.specs.Prelude.{◌≡◌, IfOk, IfErr, IsErrOf};
 ghost use Rattle.mh_model.specs.HistoryTexts.{recorded_reading};
 ghost use Rattle.mh_model.specs.Script.{BadLine, Means};
 ghost use Rattle.mh_text.specs.TextErrors.{Refuses};
-ghost use Rattle.mh_history.specs.Beginnings.{BeginsWithMeasured, HasEntry, entries_left, measured_line, with_header};
+ghost use Rattle.mh_history.specs.Beginnings.{BeginsWithMeasured, HasEntry, entries_left, line_as_measured, after_header};
 
 use crate::header::header_of;
 use crate::lines::{RefusedLine, entries_from};
@@ -58,8 +58,8 @@ impl Record {
 /// The configuration of a history of version 2, and the lines after its first line, not read yet. It takes no memory.
 #[tactic(auto, using(crate::proofs::HistoryLemmas::record_long, crate::proofs::HistoryLemmas::record_empty, crate::proofs::HistoryLemmas::record_wrong, crate::proofs::HistoryLemmas::record_first, crate::proofs::HistoryLemmas::begins_with_measured))]
 pub fn record_lines(text: &[u8]) -> Result<(Config, Lines<'_>), RefusedLine>
-    ensures lines { IfOk result (λ read. recorded_reading text.now ≡ with_header read.0 (entries_left measured_line read.1)) }
-    ensures begins { IfOk result (λ read. HasEntry measured_line read.1 → BeginsWithMeasured text.now) }
+    ensures lines { IfOk result (λ read. recorded_reading text.now ≡ after_header read.0 (entries_left line_as_measured read.1)) }
+    ensures begins { IfOk result (λ read. HasEntry line_as_measured read.1 → BeginsWithMeasured text.now) }
     ensures line { IfErr result (λ refused. recorded_reading text.now ≡ BadLine refused.0) }
 {
     if text.len() > RECORD_BYTES {

@@ -13,7 +13,7 @@ use Rattle.mh_history.specs.Beginnings.{entry_before}
 use Rattle.mh_script.specs.Texts.{Buffers}
 use Rattle.mh_script.proofs.AddedLines.{AppendsBeginning-nothing}
 use Rattle.mh_judging.specs.declared.recording.Recording.{Recording}
-use Rattle.mh_judging.specs.Recording.{Advances, IsFirst, WritesReading, event_line}
+use Rattle.mh_judging.specs.Recording.{Advances, IsFirst, WritesReading, record_line}
 use Rattle.mh_judging.proofs.RecordingLemmas.{HasWritten, begins_record, ends_record, fails_record, more_written, none_written, stops_record}
 
 -- Lists ------------------------------------------------------------------------------------------
@@ -87,10 +87,10 @@ module _ {first before : Recording} {all left : Reading (List Entry)} {old new :
     pub again_below : (entries : List Entry) → all ≡ Means entries → before.machine.done < length entries
     again_below entries is = (left_after entries is).2.below
 
-    pub again_stops : (now : Option Text) → AppendsBeginning new now (string_bytes before.text ++ event_line before.machine.machine entry.event) → WritesReading AppendsBeginning first all old now
+    pub again_stops : (now : Option Text) → AppendsBeginning new now (string_bytes before.text ++ record_line before.machine.machine entry.event) → WritesReading AppendsBeginning first all old now
     again_stops now begun entries is = stops_record (again.written entries is) entry (cut entries is) now begun
 
-    pub again_more : (next : Recording) (now : Option Text) → Advances before entry.event next → Buffers new now (string_bytes next.text) (string_bytes before.text ++ event_line before.machine.machine entry.event)
+    pub again_more : (next : Recording) (now : Option Text) → Advances before entry.event next → Buffers new now (string_bytes next.text) (string_bytes before.text ++ record_line before.machine.machine entry.event)
         → WritesAgain first next all after old now
     again_more next now advances buffers = record {
       left_is = λ entries is. let rest = left_after entries is in rw advances.done (rest.1 ∙ ap Means (sym rest.2.left));

@@ -6,22 +6,26 @@ use Rattle.std.specs.Prelude.{Result, Ok, Err, IfOk}
 use Rattle.std.specs.Io.KnownBytes.{Consumes, IsAtEnd}
 use Rattle.mh_judging.specs.declared.judgement.Judgement.{Judgement}
 use Rattle.mh_judging.specs.declared.judgement.Judgement.TheVariants as judgement
-use Rattle.mh_judging.specs.Judgements.{IsAuditExplained, IsAuditedFault, IsCheckExplained, IsCheckedFault, verdict_of}
-use Rattle.mh_history.specs.Beginnings.{HasEntry, entries_left, with_header}
-use Rattle.mh_history.proofs.HistoryLemmas.{history_long, record_long}
+use Rattle.mh_judging.specs.declared.entry_fault.EntryFault.{EntryFault}
+use Rattle.mh_judging.specs.Faults.{HasFault, IsWrongAfter}
+use Rattle.mh_judging.specs.Histories.{History, IsExplainedAs, IsFaultIn, IsVerdictIn, reading_under, under}
+use Rattle.mh_judging.specs.Judgements.{IsCheckExplained, IsCheckedFault, verdict_of}
+use Rattle.mh_judging.specs.TextRules.{checked_refused, history_long, in_checked}
+use Rattle.mh_history.specs.Beginnings.{HasEntry, entries_left}
+use Rattle.mh_model.specs.declared.command.Event.{Event}
 use Rattle.mh_model.specs.declared.config.Config.{Config}
-use Rattle.mh_model.specs.declared.history.Entry.{Entry}
-use Rattle.mh_model.specs.declared.history.Measured.{Measured}
+use Rattle.mh_model.specs.declared.history.Verdict.{Verdict}
 use Rattle.mh_model.specs.declared.history.Verdict.TheVariants.{FirstBad, Legal, Refused}
 use Rattle.mh_model.specs.declared.history.Version.{Version}
-use Rattle.mh_model.specs.declared.history.Version.TheVariants.{One, Two}
+use Rattle.mh_model.specs.declared.history.Version.TheVariants.{One}
 use Rattle.mh_model.specs.Bytes.{Text}
 use Rattle.mh_model.specs.History.{IsFirstBadOf, IsLegal}
-use Rattle.mh_model.specs.HistoryTexts.{IsAudited, IsChecked, IsLegalRecord, Recorded, entries_from, history_reading, recorded_reading}
+use Rattle.mh_model.specs.HistoryTexts.{IsChecked, entries_from}
+use Rattle.mh_model.specs.Machine.{Machine}
 use Rattle.mh_model.specs.Script.{Reading, BadLine, Means, reading_map}
 use Rattle.mh_script.specs.OfReasons.HistoryReason.{HistoryReason}
 use Rattle.mh_script.specs.OfReasons.HistoryReason.TheVariants as history
-use Rattle.mh_script.specs.OfReasons.HistoryReasons.{IsHistoryReason, most_bytes}
+use Rattle.mh_script.specs.OfReasons.HistoryReasons.{IsHistoryReason, IsRefusedAt, most_bytes}
 use Rattle.mh_script.proofs.OfReasons.HistoryLemmas.{long_bad}
 use Rattle.mh_judging.specs.Judged.{Explains}
 use Rattle.mh_text.specs.Pieces.{Lines}
@@ -54,33 +58,29 @@ has_entry read left entries means some = record {
 
 -- Verdicts ---------------------------------------------------------------------------------------
 
--- the first bad entry of a history, and that of a record
+-- the first bad of entries that are read
 pub record BadOf {X : Type 0} (Lawful : List X → Type 0) (r : Reading (List X)) (number : ℕ) : Type 0 where
   pub entries : List X
   pub means : r ≡ Means entries
   pub bad : IsFirstBadOf Lawful entries number
 
-pub checked_line : (config : Config) (text : Text) (line : ℕ) → IsChecked config text (Refused line) → history_reading text ≡ BadLine line
-checked_line config text line checked = by (history_reading text) refl where
-  by : (r : Reading (List Entry)) → history_reading text ≡ r → history_reading text ≡ BadLine line
-  by (BadLine other) is = let same : Refused line ≡ Refused other = rw is at checked in let one : line ≡ other = cc in rw one is
-  by (Means entries) is = absurd (rw is at checked)
+module _ {X : Type 0} (Lawful : Config → List X → Type 0) where
+  pub line_of : (r : Reading (History X)) (line : ℕ) → IsVerdictIn Lawful r (Refused line) → r ≡ BadLine line
+  line_of (BadLine other) line found = let same : line ≡ other = cc in ap BadLine (sym same)
+  line_of (Means history) line found = absurd found
 
-pub checked_first_bad : (config : Config) (text : Text) (number : ℕ) → IsChecked config text (FirstBad number) → BadOf (IsLegal config) (history_reading text) number
-checked_first_bad config text number checked = by (history_reading text) refl where
-  by : (r : Reading (List Entry)) → history_reading text ≡ r → BadOf (IsLegal config) (history_reading text) number
-  by (BadLine other) is = let same : FirstBad number ≡ Refused other = rw is at checked in cc
-  by (Means entries) is = record { entries = entries; means = is; bad = rw is at checked }
+  -- a text with a first bad entry is a history
+  history_of : (r : Reading (History X)) (number : ℕ) → IsVerdictIn Lawful r (FirstBad number) → (history : History X) × (r ≡ Means history)
+  history_of (BadLine line) number found = cc
+  history_of (Means history) number found = (history, refl)
 
-pub audited_line : (text : Text) (line : ℕ) → IsAudited text (Refused line) → recorded_reading text ≡ BadLine line
-audited_line text line audited = by (recorded_reading text) refl where
-  by : (r : Reading Recorded) → recorded_reading text ≡ r → recorded_reading text ≡ BadLine line
-  by (BadLine other) is = let same : Refused line ≡ Refused other = rw is at audited in let one : line ≡ other = cc in rw one is
-  by (Means recorded) is = absurd (rw is at audited)
+  pub read_first_bad : (r : Reading (History X)) (config : Config) (left : Reading (List X)) (number : ℕ) → r ≡ under config left → IsVerdictIn Lawful r (FirstBad number) → BadOf (Lawful config) left number
+  read_first_bad r config (BadLine line) number is found = let same : FirstBad number ≡ Refused line = rw is at found in cc
+  read_first_bad r config (Means entries) number is found = record { entries = entries; means = refl; bad = rw is at found }
 
-pub audited_first_bad : (text : Text) (number : ℕ) (config : Config) (left : Reading (List Measured)) → recorded_reading text ≡ with_header config left → IsAudited text (FirstBad number) → BadOf (IsLegalRecord config) left number
-audited_first_bad text number config (BadLine line) is audited = let same : FirstBad number ≡ Refused line = rw is at audited in cc
-audited_first_bad text number config (Means entries) is audited = record { entries = entries; means = refl; bad = rw is at audited }
+pub read_fault : {X : Type 0} (event_of : X → Event) (Wrong : Machine → X → EntryFault → Type 0) (r : Reading (History X)) (config : Config) (left : Reading (List X)) (entries : List X) (number : ℕ) (fault : EntryFault)
+    → r ≡ under config left → left ≡ Means entries → HasFault (IsWrongAfter config event_of Wrong) entries number fault → IsFaultIn event_of Wrong r number fault
+read_fault event_of Wrong r config left entries number fault is means wrong = rw (is, means) wrong
 
 -- Sources ----------------------------------------------------------------------------------------
 
@@ -115,25 +115,8 @@ pub nothing_more : (P : Text → Type 0) (text rest : Text) → rest ≡ [] → 
 nothing_more P text rest none is = subst P (sym (ap (λ (r : Text). text ++ r) none ∙ append-nil text)) is
 
 -- what is found of a text, with its verdict
-abbrev pub IsCheckFound : Config → Text → Judgement → Type 0
-IsCheckFound config text found = IsChecked config text (verdict_of found) × IsCheckExplained config text found
-
-abbrev pub IsAuditFound : Text → Judgement → Type 0
-IsAuditFound text found = IsAudited text (verdict_of found) × IsAuditExplained text found
-
-check_goes : (config : Config) (text rest : Text) (found : Judgement) → (length text ≤ 1073741824 → rest ≡ []) → IsCheckFound config text found → IsCheckExplained config (text ++ rest) found
-check_goes config text rest (judgement.Legal count) whole is = tt
-check_goes config text rest (judgement.Refused line reason) whole is =
-    reason-append One text rest line reason whole (λ long. long_bad One text line long (checked_line config text line is.0)) is.1
-check_goes config text rest (judgement.FirstBad number fault) whole is =
-    nothing_more (λ t. IsCheckedFault config t number fault) text rest (whole (means_short history_reading 1073741824 history_long text is.1.0 is.1.1)) is.1
-
-audit_goes : (text rest : Text) (found : Judgement) → (length text ≤ 2147483648 → rest ≡ []) → IsAuditFound text found → IsAuditExplained (text ++ rest) found
-audit_goes text rest (judgement.Legal count) whole is = tt
-audit_goes text rest (judgement.Refused line reason) whole is =
-    reason-append Two text rest line reason whole (λ long. long_bad Two text line long (audited_line text line is.0)) is.1
-audit_goes text rest (judgement.FirstBad number fault) whole is =
-    nothing_more (λ t. IsAuditedFault t number fault) text rest (whole (means_short recorded_reading 2147483648 record_long text is.1.0 is.1.1)) is.1
+abbrev IsFound : (Text → Verdict → Type 0) → (Text → Judgement → Type 0) → Text → Judgement → Type 0
+IsFound Judged Explained text found = Judged text (verdict_of found) × Explained text found
 
 -- what is found of the text that was read is true of the whole text of its source
 pub explains : (most : ℕ) (Found Explained : Text → Judgement → Type 0) → ((text rest : Text) (found : Judgement) → (length text ≤ most → rest ≡ []) → Found text found → Explained (text ++ rest) found)
@@ -145,14 +128,27 @@ explains most Found Explained goes alone (Some bytes) (Some left) items text fou
     let read : Found items found = subst (λ t. Found t found) same is in
     record { text = bytes; is_text = refl; explained = subst (λ t. Explained t found) (sym consumed) (goes items left found whole read) }
 
-module _ (known rest : Option Text) (items text : Text) (found : Judgement) (same : text ≡ items) (consumed : Consumes known rest items) where
-  pub check_explains : (config : Config) → (length items ≤ 1073741824 → IsAtEnd rest) → IsChecked config text (verdict_of found) → IsCheckExplained config text found → Explains (IsCheckExplained config) known found
-  check_explains config whole checked is =
-      explains 1073741824 (IsCheckFound config) (IsCheckExplained config) (check_goes config) (λ t f both. both.1) known rest items text found same consumed whole (checked, is)
+-- how texts of a version are read and judged
+module _ {X : Type 0} (version : Version) (Lawful : Config → List X → Type 0) (read : Text → Reading (History X)) (Judged : Text → Verdict → Type 0) (Fault : Text → ℕ → EntryFault → Type 0)
+    (too_long : (text : Text) → most_bytes version < length text → read text ≡ BadLine 0) (refused : (text : Text) (line : ℕ) → read text ≡ BadLine line → IsRefusedAt version text line)
+    (is_judged : (text : Text) (verdict : Verdict) → Judged text verdict → IsVerdictIn Lawful (read text) verdict) where
+  goes : (text rest : Text) (found : Judgement) → (length text ≤ most_bytes version → rest ≡ []) → IsFound Judged (IsExplainedAs version Fault) text found → IsExplainedAs version Fault (text ++ rest) found
+  goes text rest (judgement.Legal count) whole is = tt
+  goes text rest (judgement.Refused line reason) whole is =
+      let bad : IsRefusedAt version text line = refused text line (line_of Lawful (read text) line (is_judged text (Refused line) is.0)) in
+      reason-append version text rest line reason whole (λ long. long_bad version text line long bad) is.1
+  goes text rest (judgement.FirstBad number fault) whole is =
+      let found = history_of Lawful (read text) number (is_judged text (FirstBad number) is.0) in
+      nothing_more (λ t. Fault t number fault) text rest (whole (means_short read (most_bytes version) too_long text found.0 found.1)) is.1
 
-  pub audit_explains : (length items ≤ 2147483648 → IsAtEnd rest) → IsAudited text (verdict_of found) → IsAuditExplained text found → Explains IsAuditExplained known found
-  audit_explains whole audited is =
-      explains 2147483648 IsAuditFound IsAuditExplained audit_goes (λ t f both. both.1) known rest items text found same consumed whole (audited, is)
+  pub text_explains : (known rest : Option Text) (items text : Text) (found : Judgement) → text ≡ items → Consumes known rest items → (length items ≤ most_bytes version → IsAtEnd rest)
+      → Judged text (verdict_of found) → IsExplainedAs version Fault text found → Explains (IsExplainedAs version Fault) known found
+  text_explains known rest items text found same consumed whole judged is =
+      explains (most_bytes version) (IsFound Judged (IsExplainedAs version Fault)) (IsExplainedAs version Fault) goes (λ t f both. both.1) known rest items text found same consumed whole (judged, is)
+
+pub check_explains : (config : Config) (known rest : Option Text) (items text : Text) (found : Judgement) → text ≡ items → Consumes known rest items → (length items ≤ 1073741824 → IsAtEnd rest)
+    → IsChecked config text (verdict_of found) → IsCheckExplained config text found → Explains (IsCheckExplained config) known found
+check_explains config = text_explains One IsLegal (reading_under config) (IsChecked config) (IsCheckedFault config) (history_long config) (checked_refused config) (in_checked config)
 
 -- Migrated ---------------------------------------------------------------------------------------
 

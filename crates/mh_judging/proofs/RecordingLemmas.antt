@@ -9,12 +9,12 @@ use Rattle.mh_model.specs.Bytes.{Text}
 use Rattle.mh_model.specs.HistoryTexts.{recorded_text}
 use Rattle.mh_model.specs.RunHistories.{recorded_run}
 use Rattle.mh_text.specs.Stream.{AppendsBeginning}
-use Rattle.mh_script.specs.OfState.Running.{Running}
+use Rattle.mh_script.specs.OfMachine.Running.{Running}
 use Rattle.mh_script.specs.Texts.{Buffers}
 use Rattle.mh_script.proofs.AddedLines.{HasAdded, added_all, added_begins, added_fails, added_more, added_none, added_written}
 use Rattle.mh_script.proofs.MachineLemmas.{machine_after-none, machine_of, record_of, record_of-none, records_add}
 use Rattle.mh_judging.specs.declared.recording.Recording.{Recording}
-use Rattle.mh_judging.specs.Recording.{Advances, IsFirst, WritesRecord, event_line}
+use Rattle.mh_judging.specs.Recording.{Advances, IsFirst, WritesRecord, record_line}
 
 -- of as many elements as the machine has done events the lines were written or wait
 pub record HasWritten {X : Type 0} (event_of : X → Event) (first now : Recording) (xs : List X) (old new : Option Text) : Type 0 where
@@ -45,14 +45,14 @@ module _ {X : Type 0} {event_of : X → Event} where
 
     module _ (x : X) (cut : take (before.machine.done + 1) xs ≡ take before.machine.done xs ++ x ∷ []) where
       -- one element more
-      pub more_written : (after : Recording) (now : Option Text) → Advances before (event_of x) after → Buffers new now (string_bytes after.text) (string_bytes before.text ++ event_line before.machine.machine (event_of x))
+      pub more_written : (after : Recording) (now : Option Text) → Advances before (event_of x) after → Buffers new now (string_bytes after.text) (string_bytes before.text ++ record_line before.machine.machine (event_of x))
           → HasWritten event_of first after xs old now
       more_written after now advances buffers =
           let one : after.machine.done ≡ before.machine.done + 1 = omega (arith, advances.done) in
           record { added = λ config is. rw one (added_written (added_more (has.added config is) (records_add event_of config) x after.machine.machine _ cut advances.machine refl) now (string_bytes after.text) buffers) }
 
       -- and an error at which its line was begun
-      pub stops_record : (now : Option Text) → AppendsBeginning new now (string_bytes before.text ++ event_line before.machine.machine (event_of x)) → WritesRecord AppendsBeginning first (map event_of xs) old now
+      pub stops_record : (now : Option Text) → AppendsBeginning new now (string_bytes before.text ++ record_line before.machine.machine (event_of x)) → WritesRecord AppendsBeginning first (map event_of xs) old now
       stops_record now begun config is = added_fails (added_more (has.added config is) (records_add event_of config) x _ _ cut refl refl) (records_add event_of config) now begun
 
 -- Events -----------------------------------------------------------------------------------------
@@ -70,5 +70,5 @@ module _ {first before : Recording} {events : List Event} {old new : Option Text
   ends_events now end wrote = of_events Appends first events old now (ends_record has now end wrote)
 
   pub stops_events : (e : Event) → take (before.machine.done + 1) events ≡ take before.machine.done events ++ e ∷ [] → (now : Option Text)
-      → AppendsBeginning new now (string_bytes before.text ++ event_line before.machine.machine e) → WritesRecord AppendsBeginning first events old now
+      → AppendsBeginning new now (string_bytes before.text ++ record_line before.machine.machine e) → WritesRecord AppendsBeginning first events old now
   stops_events e cut now begun = of_events AppendsBeginning first events old now (stops_record has e cut now begun)

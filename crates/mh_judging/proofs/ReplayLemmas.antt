@@ -1,6 +1,6 @@
 -- A machine that replays the entries of a history, as they are read.
 use Rattle.std.proofs.Common.{◌≡◌, ◌≢◌, ◌∙◌, ℕ, suc, ◌+◌, ◌-◌, ◌<◌, ◌≤◌, List, [], ◌∷◌, ◌++◌, length, map, take, Option, ap, sym, refl, subst, append_assoc, arith}
-use Rattle.std.proofs.lemmas.List.{length_push, map-append, take_at}
+use Rattle.std.proofs.lemmas.List.{length-take-le, length_push, map-append, take_at}
 use Rattle.mh_history.proofs.LineLemmas.{Walked, entry_taken, walked_more, walked_start, walked_whole, with_entries}
 use Rattle.mh_history.specs.Beginnings.{TakesEntry, entries_left, entry_before}
 use Rattle.mh_model.specs.declared.command.Event.{Event}
@@ -10,9 +10,10 @@ use Rattle.mh_model.specs.History.{IsFirstBadOf}
 use Rattle.mh_model.specs.Limits.{most_entries}
 use Rattle.mh_model.specs.Machine.{Machine, event_step, first_machine}
 use Rattle.mh_model.specs.Script.{Reading, BadLine, Means}
-use Rattle.mh_script.specs.OfPromise.Runs.{machine_at}
-use Rattle.mh_script.proofs.OfPromise.RunsByEvents.{after_more, no-events}
-use Rattle.mh_script.specs.OfState.Running.{Running, first_running}
+use Rattle.mh_run_laws.specs.Replays.{machine_at}
+use Rattle.mh_run_laws.proofs.runs.RunsByEvents.{after_more, no-events}
+use Rattle.mh_script.specs.OfMachine.Judging.{IsEventRule}
+use Rattle.mh_script.specs.OfMachine.Running.{Running, first_running}
 use Rattle.mh_text.specs.Pieces.{Lines}
 use Rattle.mh_judging.specs.declared.entry_fault.EntryFault.{EntryFault}
 use Rattle.mh_judging.specs.Faults.{HasFault, IsFaultAfter, IsWrongAfter}
@@ -40,6 +41,12 @@ module _ {X : Type 0} (Lawful : List X → Type 0) (history before : List X) (en
 
   pub unlawful_with : ¬ Lawful (before ++ entry ∷ [])
   unlawful_with lawful = bad.bad (subst Lawful (sym front_with) lawful)
+
+-- before the last of the lawful entries a machine isn't full
+pub has_room : {X : Type 0} (Lawful : List X → Type 0) (history : List X) (number done : ℕ) → ((entries : List X) → Lawful entries → length entries ≤ most_entries) → IsFirstBadOf Lawful history number → done + 1 < number
+    → done < most_entries
+has_room Lawful history number done few bad below =
+    omega (arith, few (take (number - 1) history) bad.before, length-take-le (number - 1) history (omega (arith, bad.within)), below)
 
 -- entries that were read of lines, and those that are left
 module _ {X : Type 0} {read : Text → Option X} {old mid : Lines} {seen : List X} (walked : Walked read old mid seen) where
@@ -105,12 +112,11 @@ module _ {X : Type 0} {read : Text → Option X} {config : Config} {event_of : X
     lawful_seen = lawful_before Lawful entries replays.seen entry (stands replays.walked new entry entries took means) first_bad
 
     -- isn't one that the machine answers so
-    pub is_wrong : (Fits : Machine → X → Type 0) → ((seen : List X) (entry : X) → Lawful seen → length seen ≢ most_entries → Fits (machine_at config (map event_of seen)) entry → Lawful (seen ++ entry ∷ []))
-        → before.done ≢ most_entries → ¬ Fits before.machine entry
-    is_wrong Fits more other fits =
-        let room : length replays.seen ≢ most_entries = λ full. other (replays.done ∙ full) in
+    pub is_wrong : (Fits : Machine → X → Type 0) → IsEventRule config event_of Fits Lawful → before.done ≢ most_entries → ¬ Fits before.machine entry
+    is_wrong Fits rule other fits =
+        let room : length (replays.seen ++ entry ∷ []) ≤ most_entries = omega (arith, other, replays.done, rule.few replays.seen lawful_seen, length_push replays.seen entry) in
         unlawful_with Lawful entries replays.seen entry (stands replays.walked new entry entries took means) first_bad
-        (more replays.seen entry lawful_seen room (subst (λ (m : Machine). Fits m entry) replays.machine fits))
+        (rule.more replays.seen entry lawful_seen room (subst (λ (m : Machine). Fits m entry) replays.machine fits))
 
     pub has_fault : (Wrong : Machine → X → EntryFault → Type 0) (f : EntryFault) → IsFaultAfter (Wrong before.machine) before.done entry f
         → (read_as : List X) → entries_left read old ≡ Means read_as → HasFault (IsWrongAfter config event_of Wrong) read_as number f

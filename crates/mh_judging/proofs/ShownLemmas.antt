@@ -5,7 +5,7 @@ use Rattle.mh_model.specs.declared.history.Verdict.TheVariants.{Legal}
 use Rattle.mh_model.specs.Bytes.{Text}
 use Rattle.mh_model.specs.HistoryTexts.{IsJudged}
 use Rattle.mh_model.specs.Script.{Reading, Means}
-use Rattle.mh_script.specs.OfState.Judging.{Judging}
+use Rattle.mh_script.specs.OfMachine.Judging.{Judging}
 use Rattle.mh_text.specs.Pieces.{Lines}
 use Rattle.mh_text.specs.TextErrors.{Refuses}
 use Rattle.mh_text.specs.declared.text_error.TextError.{TextError}

@@ -10,7 +10,7 @@ use Rattle.mh_model.specs.declared.reply.Reply.TheVariants as reply
 use Rattle.mh_model.specs.HistoryTexts.{measured_step}
 use Rattle.mh_model.specs.Limits.{most_entries}
 use Rattle.mh_model.specs.Machine.{Machine, event_step}
-use Rattle.mh_script.specs.OfPromise.Runs.{machine_at}
+use Rattle.mh_run_laws.specs.Replays.{machine_at}
 use Rattle.mh_judging.specs.declared.entry_fault.EntryFault.{EntryFault}
 use Rattle.mh_judging.specs.declared.entry_fault.EntryFault.TheVariants as fault
 use Rattle.mh_judging.specs.declared.entry_fault.Units.{Units}
@@ -42,13 +42,13 @@ abbrev pub IsEntryFault : Machine → Entry → EntryFault → Type 0
 IsEntryFault machine entry f = IsReplyFault entry.reply (event_step machine entry.event).reply f
 
 -- the units of an entry
-abbrev pub units_of : Measured → Units
-units_of measured = record { mutator = measured.mutator; collector = measured.collector }
+abbrev pub stated_units : Measured → Units
+stated_units measured = record { mutator = measured.mutator; collector = measured.collector }
 
 -- what it says of one with its units beside the right one: its reply isn't right, or only its units aren't
 abbrev pub IsWrongBeside : Measured → Measured → EntryFault → Type 0
 IsWrongBeside given right (fault.Units stated wanted) =
-    (given.entry.reply ≡ right.entry.reply) × (stated ≡ units_of given) × (wanted ≡ units_of right) × (stated ≢ wanted)
+    (given.entry.reply ≡ right.entry.reply) × (stated ≡ stated_units given) × (wanted ≡ stated_units right) × (stated ≢ wanted)
 IsWrongBeside given right f = IsReplyFault given.entry.reply right.entry.reply f
 
 -- the same beside the entry that the machine makes

@@ -1,16 +1,13 @@
 -- What calls that judge or migrate a history have written.
-use Rattle.std.specs.Prelude.{◌≡◌, ◌≢◌, ◌⊎◌, ℕ, List, [], Option, Result, Err, IfOk, OnErr, IsErrOf}
+use Rattle.std.specs.Prelude.{◌≡◌, ◌≢◌, ◌⊎◌, ℕ, List, Option, Result, Err, IfOk, OnErr, IsErrOf}
 use Rattle.std.specs.Io.KnownBytes.{Appends, Keeps}
 use Rattle.mh_model.specs.declared.config.Config.{Config}
 use Rattle.mh_model.specs.declared.history.Entry.{Entry}
-use Rattle.mh_model.specs.declared.history.Measured.{Measured}
 use Rattle.mh_model.specs.declared.history.Verdict.{Verdict}
 use Rattle.mh_model.specs.declared.history.Verdict.TheVariants.{Legal, Refused}
 use Rattle.mh_model.specs.Bytes.{Text, line_text}
-use Rattle.mh_model.specs.History.{IsLegal}
-use Rattle.mh_model.specs.HistoryTexts.{IsAudited, IsChecked, IsJudged, IsLegalRecord, IsMigratedTo, history_reading, migration_text, verdict_text}
+use Rattle.mh_model.specs.HistoryTexts.{IsAudited, IsChecked, IsJudged, IsMigratedTo, history_reading, migration_text, verdict_text}
 use Rattle.mh_model.specs.Script.{Reading, BadLine, Means}
-use Rattle.mh_script.specs.OfState.Judging.{HasSeenEntries, HasSeenMeasured, Judging}
 use Rattle.mh_text.specs.Stream.{AppendsBeginning}
 use Rattle.mh_history.specs.Beginnings.{BeginsWithEntry, BeginsWithMeasured}
 use Rattle.mh_judging.specs.declared.judgement.Judgement.{Judgement}
@@ -26,16 +23,6 @@ use Rattle.mh_script.specs.Texts.{Blames, IsTextOf, LeavesSource, WantsMemory}
 abbrev pub IsVerdictOn : {X : Type 0} → (List X → Type 0) → Reading (List X) → Verdict → Type 0
 IsVerdictOn Lawful (BadLine line) verdict = verdict ≡ Refused line
 IsVerdictOn Lawful (Means entries) verdict = IsJudged Lawful entries verdict
-
--- no entry was shown to a judge
-pub record HasSeenNone (config : Config) (judging : Judging) : Type 0 where
-  pub entries : HasSeenEntries config [] judging
-  pub measured : HasSeenMeasured config [] judging
-
--- the verdict is what the judge finds of the entries that were shown
-pub record Finds (judging : Judging) (verdict : Verdict) : Type 0 where
-  pub entries : (config : Config) (seen : List Entry) → HasSeenEntries config seen judging → IsJudged (IsLegal config) seen verdict
-  pub measured : (config : Config) (seen : List Measured) → HasSeenMeasured config seen judging → IsJudged (IsLegalRecord config) seen verdict
 
 -- by a judgement, this is the verdict on the text of a source; its line was written, and nothing else
 pub record Judges (Judged : Text → Verdict → Type 0) (known old new : Option Text) (verdict : Verdict) : Type 0 where

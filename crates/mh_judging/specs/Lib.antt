@@ -2,7 +2,8 @@ pub mod Judged
 pub mod Recording
 pub mod RunHistory
 pub mod Faults
+pub mod Histories
 pub mod Judgements
-pub mod OfPromise
+pub mod TextRules
 pub mod OfReasons
 pub mod OfScript

@@ -10,7 +10,7 @@ use Rattle.mh_model.specs.HistoryTexts.{header_words, measured_step, measured_wo
 use Rattle.mh_model.specs.Machine.{Machine, event_step}
 use Rattle.mh_model.specs.RunHistories.{recorded_run}
 use Rattle.mh_model.specs.Script.{Reading, Means}
-use Rattle.mh_script.specs.OfState.Running.{first_running}
+use Rattle.mh_script.specs.OfMachine.Running.{first_running}
 use Rattle.mh_judging.specs.declared.recording.Recording.{Recording}
 
 -- the record of no entry under a configuration: its machine has done no event, and the first line waits
@@ -19,8 +19,8 @@ pub record IsFirst (config : Config) (recording : Recording) : Type 0 where
   pub text : string_bytes recording.text ≡ line_text (joined (header_words config))
 
 -- the line that a machine's event adds to a record
-abbrev pub event_line : Machine → Event → Text
-event_line machine event = lines_text (joined (measured_words (measured_step machine event (event_step machine event))) ∷ [])
+abbrev pub record_line : Machine → Event → Text
+record_line machine event = lines_text (joined (measured_words (measured_step machine event (event_step machine event))) ∷ [])
 
 -- an event was done
 pub record Advances (old : Recording) (event : Event) (new : Recording) : Type 0 where

@@ -14,109 +14,58 @@
 //! has at least 6 bytes of text. A legal dump has at most 266,240 items. So only a text with a longer one, which is
 //! bad, takes more than 9 MB for an entry. No machine is opened before there is an entry. So memory is refused only
 //! for bytes that the source gave, or for a text that begins with an entry.
-ghost use Rattle.std.specs.Prelude.{◌≡◌, ◌≢◌, ◌<◌, ◌^◌, List, [], ◌∷◌, ◌++◌, IfOk, IfErr, OnOk, OnErr, IsErrOf};
+ghost use Rattle.std.specs.Prelude.{◌≡◌, ◌≢◌, ◌<◌, ◌^◌, [], IfOk, IfErr, OnErr, IsErrOf};
 ghost use Rattle.std.specs.Io.KnownBytes.{Keeps};
-ghost use Rattle.mh_model.specs.History.{IsLegal};
-ghost use Rattle.mh_model.specs.HistoryTexts.{IsAudited, IsChecked, IsJudged, IsLegalRecord};
+ghost use Rattle.mh_model.specs.HistoryTexts.{IsAudited, IsChecked};
 ghost use Rattle.mh_model.specs.declared.config.Config.{Config};
-ghost use Rattle.mh_model.specs.declared.history.Verdict.{Verdict};
-ghost use Rattle.mh_script.specs.OfState.Judging.{HasSeenEntries, HasSeenMeasured, Judging};
-ghost use Rattle.mh_script.proofs.OfState.JudgeLemmas.{legal_rule, record_rule};
+ghost use Rattle.mh_script.specs.OfReasons.HistoryReasons.{most_bytes};
+ghost use Rattle.mh_script.specs.OfMachine.Judging.{HasSeen};
 ghost use Rattle.mh_text.specs.TextErrors.{Refuses};
 ghost use Rattle.mh_history.specs.Beginnings.{BeginsWithEntry, BeginsWithMeasured, HasEntry, entries_left, entry_before};
 ghost use Rattle.mh_judging.specs.Judgements.{IsAuditExplained, IsCheckExplained, verdict_of};
-ghost use Rattle.mh_judging.specs.Judged.{BeginsToJudge, Explains, Finds, HasSeenNone, IsVerdictOn, Judges};
+ghost use Rattle.mh_judging.specs.Judged.{BeginsToJudge, Explains, IsVerdictOn, Judges};
+ghost use Rattle.mh_judging.specs.Histories.{IsExplainedAs};
 ghost use Rattle.mh_script.specs.Texts.{Blames, LeavesSource, WantsMemory};
 
-use crate::explained::{judge_history, judge_record};
+use crate::explained::judge_text;
 use crate::judgement::Judgement;
-use mh_history::history::{HISTORY_BYTES, history_lines};
-use mh_history::lines::{FromLine, RefusedLine, next_entry};
-use mh_history::record::{RECORD_BYTES, record_lines};
+use crate::text_entry::TextEntry;
+use mh_history::history::HISTORY_BYTES;
+use mh_history::lines::{RefusedLine, next_entry};
+use mh_history::record::RECORD_BYTES;
 use mh_model::config::Config;
 use mh_model::history::{Entry, Measured, Verdict};
 use mh_model::memory::NoMemory;
 use mh_script::fault::ScriptFault;
-use mh_script::mh_state::judge::Judge;
+use mh_script::mh_machine::judge::Judge;
 use mh_script::texts::{read_whole, write_verdict};
 use mh_text::device::DeviceFailed;
 use mh_text::pieces::Lines;
 use mh_text::sink::Sink;
 use mh_text::source::Source;
 use mh_text::text_error::TextError;
-use mh_text_laws::verdicts::{texts_are_audited, texts_are_checked};
 use std::alloc::Global;
 
-/// An entry of some version, which a judge can be shown.
-trait JudgedEntry: FromLine + Drop {
-    // What a judge who was shown entries knows, and which are lawful.
-    ghost has_seen: { Config → List Self → Judging → Type 0 };
-
-    ghost lawful: { Config → List Self → Type 0 };
-
-    /// Shows it to a judge.
-    fn show(&self, judge: &mut Judge) -> Result<(), NoMemory>
-        ensures { OnOk result ((config : Config) (seen : List Self) → has_seen config seen judge.old → has_seen config (seen ++ self.now ∷ []) judge.new) };
-
-    ghost none_lawful: { (config : Config) → lawful config [] };
-
-    ghost none_seen: { (config : Config) (judging : Judging) → HasSeenNone config judging → has_seen config [] judging };
-
-    ghost judged: { (judging : Judging) (verdict : Verdict) → Finds judging verdict → (config : Config) (seen : List Self) → has_seen config seen judging → IsJudged (lawful config) seen verdict };
-}
-
-impl JudgedEntry for Entry {
-    ghost has_seen = { HasSeenEntries };
-
-    ghost lawful = { IsLegal };
-
-    fn show(&self, judge: &mut Judge) -> Result<(), NoMemory> {
-        judge.entry(self)
-    }
-
-    ghost none_lawful = { λ config. (legal_rule config).empty };
-
-    ghost none_seen = { λ config judging none. none.entries };
-
-    ghost judged = { λ judging verdict finds. finds.entries };
-}
-
-impl JudgedEntry for Measured {
-    ghost has_seen = { HasSeenMeasured };
-
-    ghost lawful = { IsLegalRecord };
-
-    fn show(&self, judge: &mut Judge) -> Result<(), NoMemory> {
-        judge.measured(self)
-    }
-
-    ghost none_lawful = { λ config. (record_rule config).empty };
-
-    ghost none_seen = { λ config judging none. none.measured };
-
-    ghost judged = { λ judging verdict finds. finds.measured };
-}
-
 /// Shows a judge an entry, and then those that are left, each as it is read.
-fn replay<E: JudgedEntry>(
+fn replay<E: TextEntry>(
     alloc: Global,
     judge: &mut Judge,
     first: &E,
     mut lines: Lines<'_>,
 ) -> Result<Verdict, TextError>
-    ensures verdict { IfOk result (λ verdict. (config : Config) → E.has_seen config [] judge.old
+    ensures verdict { IfOk result (λ verdict. (config : Config) → HasSeen config E.event_of (E.lawful config) [] judge.old
         → IsVerdictOn (E.lawful config) (entry_before first.now (entries_left E.of_line lines.entry)) verdict) }
     ensures line { IfErr result (Refuses (entries_left E.of_line lines.entry)) }
 {
-    first.show(judge)?;
+    judge.entry(first)?;
     while let Some(entry) = next_entry::<E>(alloc, &mut lines)? {
-        entry.show(judge)?;
+        judge.entry(&entry)?;
     }
     Ok(judge.verdict())
 }
 
 /// The verdict on the entries that are left of a history. No machine is opened before there is one.
-fn judge_lines<E: JudgedEntry>(
+fn judge_lines<E: TextEntry>(
     alloc: Global,
     config: Config,
     mut lines: Lines<'_>,
@@ -132,37 +81,68 @@ fn judge_lines<E: JudgedEntry>(
     replay(alloc, &mut judge, &first, lines)
 }
 
-/// The verdict on a text of version 1, whose entries are replayed with one worker and not kept.
-#[tactic(auto, using(crate::proofs::JudgedLemmas::checked_verdict, crate::proofs::JudgedLemmas::checked_bad, crate::proofs::JudgedLemmas::checked_refused))]
-pub fn verdict_on_history(alloc: Global, config: Config, text: &[u8]) -> Result<Verdict, NoMemory>
-    ensures verdict { IfOk result (IsChecked config text.now) }
-    ensures memory { OnErr result (BeginsWithEntry text.now) }
+/// The verdict on a text of some version, whose entries are replayed with one worker and not kept.
+#[tactic(auto, using(crate::proofs::JudgedLemmas::read_verdict, crate::proofs::JudgedLemmas::read_bad, crate::proofs::JudgedLemmas::read_refused))]
+pub(crate) fn verdict_on<E: TextEntry>(
+    alloc: Global,
+    given: E::Given,
+    text: &[u8],
+) -> Result<Verdict, NoMemory>
+    ensures verdict { IfOk result (E.judged given text.now) }
+    ensures memory { OnErr result (E.begins text.now) }
 {
-    let lines = match history_lines(text) {
-        Ok(lines) => lines,
+    let (config, lines) = match E::lines(given, text) {
+        Ok(read) => read,
         Err(RefusedLine(line)) => return Ok(Verdict::Refused(line)),
     };
-    match judge_lines::<Entry>(alloc, config, lines) {
+    match judge_lines::<E>(alloc, config, lines) {
         Ok(verdict) => Ok(verdict),
         Err(TextError::Line(line)) => Ok(Verdict::Refused(line)),
         Err(TextError::NoMemory) => Err(NoMemory),
     }
 }
 
+/// The verdict on a text of version 1, whose entries are replayed with one worker and not kept.
+pub fn verdict_on_history(alloc: Global, config: Config, text: &[u8]) -> Result<Verdict, NoMemory>
+    ensures verdict { IfOk result (IsChecked config text.now) }
+    ensures memory { OnErr result (BeginsWithEntry text.now) }
+{
+    verdict_on::<Entry>(alloc, config, text)
+}
+
 /// The verdict on a text of version 2 under its own configuration, whose entries are replayed with one worker and not kept.
-#[tactic(auto, using(crate::proofs::JudgedLemmas::audited_verdict, crate::proofs::JudgedLemmas::audited_bad, crate::proofs::JudgedLemmas::audited_refused))]
 pub fn verdict_on_record(alloc: Global, text: &[u8]) -> Result<Verdict, NoMemory>
     ensures verdict { IfOk result (IsAudited text.now) }
     ensures memory { OnErr result (BeginsWithMeasured text.now) }
 {
-    let (config, lines) = match record_lines(text) {
-        Ok(read) => read,
-        Err(RefusedLine(line)) => return Ok(Verdict::Refused(line)),
-    };
-    match judge_lines::<Measured>(alloc, config, lines) {
-        Ok(verdict) => Ok(verdict),
-        Err(TextError::Line(line)) => Ok(Verdict::Refused(line)),
-        Err(TextError::NoMemory) => Err(NoMemory),
+    verdict_on::<Measured>(alloc, (), text)
+}
+
+/// Reads a whole history of some version, replays it with one worker, and then writes the line of its verdict, for which it
+/// takes no memory.
+fn judge_script<E: TextEntry, S: Source, W: Sink>(
+    alloc: Global,
+    given: E::Given,
+    source: &mut S,
+    sink: &mut W,
+) -> Result<Judgement, ScriptFault>
+    requires source_count { S.failures source.old < 2 ^ 62 }
+    requires sink_count { W.failures sink.old < 2 ^ 62 }
+    ensures judged { IfOk result (λ judgement. Judges (E.judged given) (S.rest source.old) (W.written sink.old) (W.written sink.new) (verdict_of judgement)) }
+    ensures explained { IfOk result (Explains (IsExplainedAs E.version (E.is_fault given)) (S.rest source.old)) }
+    ensures begun { OnErr result (BeginsToJudge (E.judged given) (S.rest source.old) (W.written sink.old) (W.written sink.new)) }
+    ensures never_full { result ≢ Err ScriptFault.HistoryFull }
+    ensures unread { IsErrOf result ScriptFault.Read → Keeps (W.written sink.old) (W.written sink.new) }
+    ensures unjudged { IsErrOf result ScriptFault.NoMemory → Keeps (W.written sink.old) (W.written sink.new) }
+    ensures memory { IsErrOf result ScriptFault.NoMemory → WantsMemory E.begins (S.rest source.old) (S.rest source.new) }
+    ensures taken { LeavesSource (most_bytes E.version) (S.rest source.old) (S.rest source.new) result }
+    ensures blames { Blames (S.failures source.old) (S.failures source.new) (W.failures sink.old) (W.failures sink.new) result }
+{
+    let text = read_whole(alloc, source, E::most_bytes())?;
+    let judgement = judge_text::<E>(alloc, given, text.as_slice())?;
+    match write_verdict(judgement.verdict(), sink) {
+        Ok(()) => Ok(judgement),
+        Err(DeviceFailed) => Err(ScriptFault::Write),
     }
 }
 
@@ -186,13 +166,7 @@ pub fn check_script<S: Source, W: Sink>(
     ensures taken { LeavesSource HISTORY_BYTES (S.rest source.old) (S.rest source.new) result }
     ensures blames { Blames (S.failures source.old) (S.failures source.new) (W.failures sink.old) (W.failures sink.new) result }
 {
-    texts_are_checked();
-    let text = read_whole(alloc, source, HISTORY_BYTES)?;
-    let judgement = judge_history(alloc, config, text.as_slice())?;
-    match write_verdict(judgement.verdict(), sink) {
-        Ok(()) => Ok(judgement),
-        Err(DeviceFailed) => Err(ScriptFault::Write),
-    }
+    judge_script::<Entry, S, W>(alloc, config, source, sink)
 }
 
 /// Reads a whole history of version 2, replays it with one worker under its own configuration, and then writes the line of
@@ -214,11 +188,5 @@ pub fn audit_script<S: Source, W: Sink>(
     ensures taken { LeavesSource RECORD_BYTES (S.rest source.old) (S.rest source.new) result }
     ensures blames { Blames (S.failures source.old) (S.failures source.new) (W.failures sink.old) (W.failures sink.new) result }
 {
-    texts_are_audited();
-    let text = read_whole(alloc, source, RECORD_BYTES)?;
-    let judgement = judge_record(alloc, text.as_slice())?;
-    match write_verdict(judgement.verdict(), sink) {
-        Ok(()) => Ok(judgement),
-        Err(DeviceFailed) => Err(ScriptFault::Write),
-    }
+    judge_script::<Measured, S, W>(alloc, (), source, sink)
 }

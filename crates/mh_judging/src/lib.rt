@@ -9,7 +9,7 @@
 #![tactic(auto)]
 
 pub use mh_script;
-pub use mh_script::{mh_promise, mh_state};
+pub use mh_script::mh_machine;
 
 pub mod entry_fault;
 pub mod explained;
@@ -22,3 +22,4 @@ mod recording;
 pub mod replay;
 pub mod reply_fault;
 pub mod run_history;
+pub mod text_entry;

@@ -8,8 +8,8 @@ ghost use Rattle.mh_model.specs.Machine.{event_step};
 use mh_model::command::Event;
 use mh_model::history::{Entry, Measured};
 use mh_model::memory::NoMemory;
+use mh_script::mh_machine::machine::Machine;
 use mh_script::mh_scan::scan::Scanner;
-use mh_script::mh_state::machine::{Machine, Stop};
 
 /// Does an event, and gives the entry that a history has of it.
 pub fn measure<C: Scanner>(
@@ -24,11 +24,7 @@ pub fn measure<C: Scanner>(
 {
     let mutator = machine.trace().mutator_count();
     let collector = machine.trace().collector_count();
-    let reply = match machine.step(event, scanner) {
-        Ok(reply) => reply,
-        Err(Stop::NoMemory) => return Err(NoMemory),
-        Err(Stop::HistoryFull) => unreachable!(),
-    };
+    let reply = machine.step_in_room(event, scanner)?;
     let trace = machine.trace();
     Ok(Measured {
         entry: Entry { event, reply },

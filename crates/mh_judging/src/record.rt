@@ -4,7 +4,7 @@
 //! one they are the same. Whatever ends a call early leaves a prefix of the record.
 ghost use Rattle.std.specs.Prelude.{◌≡◌, ◌<◌, ◌≤◌, ◌^◌, List, length, OnOk, OnErr, IsErrOf};
 ghost use Rattle.std.specs.Io.KnownBytes.{Appends};
-ghost use Rattle.mh_history.specs.Beginnings.{entries_left, entry_line};
+ghost use Rattle.mh_history.specs.Beginnings.{entries_left, line_as_entry};
 ghost use Rattle.mh_model.specs.declared.history.Entry.{Entry};
 ghost use Rattle.mh_model.specs.HistoryTexts.{migrated, recorded_text};
 ghost use Rattle.mh_model.specs.Limits.{most_entries};
@@ -49,11 +49,11 @@ pub fn write_lines<W: Sink>(
     lines: Lines<'_>,
     sink: &mut W,
 ) -> Result<(), WriteError>
-    requires few { (entries : List Entry) × (entries_left entry_line lines ≡ Means entries) × (length entries ≤ most_entries) }
+    requires few { (entries : List Entry) × (entries_left line_as_entry lines ≡ Means entries) × (length entries ≤ most_entries) }
     requires count { W.failures sink.old < 2 ^ 62 }
-    ensures done { OnOk result ((entries : List Entry) → entries_left entry_line lines.entry ≡ Means entries
+    ensures done { OnOk result ((entries : List Entry) → entries_left line_as_entry lines.entry ≡ Means entries
         → Appends (W.written sink.old) (W.written sink.new) (recorded_text (migrated config entries))) }
-    ensures begun { OnErr result ((entries : List Entry) → entries_left entry_line lines.entry ≡ Means entries
+    ensures begun { OnErr result ((entries : List Entry) → entries_left line_as_entry lines.entry ≡ Means entries
         → AppendsBeginning (W.written sink.old) (W.written sink.new) (recorded_text (migrated config entries))) }
     ensures no_failure { OnOk result (W.failures sink.new ≡ W.failures sink.old) }
     ensures blamed { IsErrOf result WriteError.Device → W.failures sink.old < W.failures sink.new }

@@ -3,7 +3,7 @@
 ghost use Rattle.std.specs.Prelude.{◌≡◌, ◌+◌, ◌<◌, ◌≤◌, ◌^◌, List, ◌++◌, [], length, IfOk, IfSome, OnSome, IfNone, OnOk, OnErr, IsErrOf};
 ghost use Rattle.std.specs.Io.KnownBytes.{Appends};
 ghost use Rattle.std.specs.String.{string_bytes};
-ghost use Rattle.mh_history.specs.Beginnings.{entries_left, entry_before, entry_line};
+ghost use Rattle.mh_history.specs.Beginnings.{entries_left, entry_before, line_as_entry};
 ghost use Rattle.mh_model.specs.declared.history.Entry.{Entry};
 ghost use Rattle.mh_model.specs.Bytes.{joined, line_text};
 ghost use Rattle.mh_model.specs.History.{events_of};
@@ -12,7 +12,7 @@ ghost use Rattle.mh_model.specs.Limits.{most_entries};
 ghost use Rattle.mh_model.specs.Script.{Means};
 ghost use Rattle.mh_text.specs.Stream.{AppendsBeginning};
 ghost use Rattle.mh_script.specs.Texts.{Buffers};
-ghost use Rattle.mh_judging.specs.Recording.{Advances, IsFirst, WritesReading, WritesRecord, event_line};
+ghost use Rattle.mh_judging.specs.Recording.{Advances, IsFirst, WritesReading, WritesRecord, record_line};
 
 use crate::measure::measure;
 use crate::replay::entry_again;
@@ -23,8 +23,8 @@ use mh_model::config::Config;
 use mh_model::history::Entry;
 use mh_model::memory::NoMemory;
 use mh_script::fault::WriteError;
+use mh_script::mh_machine::machine::Machine;
 use mh_script::mh_scan::scan::Scanner;
-use mh_script::mh_state::machine::Machine;
 use mh_script::texts::{flush, flush_full};
 use mh_text::pieces::Lines;
 use mh_text::sink::Sink;
@@ -73,7 +73,7 @@ impl Recording {
     fn measure<C: Scanner>(&mut self, event: Event, scanner: &mut C) -> Result<(), NoMemory>
         requires { self.old.machine.done < most_entries }
         ensures machine { OnOk result (Advances self.old event self.new) }
-        ensures text { OnOk result (string_bytes self.new.text ≡ string_bytes self.old.text ++ event_line self.old.machine.machine event) }
+        ensures text { OnOk result (string_bytes self.new.text ≡ string_bytes self.old.text ++ record_line self.old.machine.machine event) }
     {
         let measured = measure(&mut self.machine, event, scanner)?;
         push_measured_line(&mut self.text, &measured)
@@ -89,8 +89,8 @@ impl Recording {
         requires room { self.old.machine.done < most_entries }
         requires count { W.failures sink.old < 2 ^ 62 }
         ensures machine { OnOk result (Advances self.old event self.new) }
-        ensures text { OnOk result (Buffers (W.written sink.old) (W.written sink.new) (string_bytes self.new.text) (string_bytes self.old.text ++ event_line self.old.machine.machine event)) }
-        ensures begun { OnErr result (AppendsBeginning (W.written sink.old) (W.written sink.new) (string_bytes self.old.text ++ event_line self.old.machine.machine event)) }
+        ensures text { OnOk result (Buffers (W.written sink.old) (W.written sink.new) (string_bytes self.new.text) (string_bytes self.old.text ++ record_line self.old.machine.machine event)) }
+        ensures begun { OnErr result (AppendsBeginning (W.written sink.old) (W.written sink.new) (string_bytes self.old.text ++ record_line self.old.machine.machine event)) }
         ensures no_failure { OnOk result (W.failures sink.new ≡ W.failures sink.old) }
         ensures blamed { IsErrOf result WriteError.Device → W.failures sink.old < W.failures sink.new }
         ensures not_blamed { IsErrOf result WriteError.NoMemory → W.failures sink.new ≡ W.failures sink.old }
@@ -166,10 +166,10 @@ impl Recording {
         sink: &mut W,
     ) -> Result<(), WriteError>
         requires first { self.old.machine.done ≡ 0 }
-        requires few { (entries : List Entry) × (entries_left entry_line lines ≡ Means entries) × (length entries ≤ most_entries) }
+        requires few { (entries : List Entry) × (entries_left line_as_entry lines ≡ Means entries) × (length entries ≤ most_entries) }
         requires count { W.failures sink.old < 2 ^ 62 }
-        ensures done { OnOk result (WritesReading Appends self.old (entries_left entry_line lines.entry) (W.written sink.old) (W.written sink.new)) }
-        ensures begun { OnErr result (WritesReading AppendsBeginning self.old (entries_left entry_line lines.entry) (W.written sink.old) (W.written sink.new)) }
+        ensures done { OnOk result (WritesReading Appends self.old (entries_left line_as_entry lines.entry) (W.written sink.old) (W.written sink.new)) }
+        ensures begun { OnErr result (WritesReading AppendsBeginning self.old (entries_left line_as_entry lines.entry) (W.written sink.old) (W.written sink.new)) }
         ensures no_failure { OnOk result (W.failures sink.new ≡ W.failures sink.old) }
         ensures blamed { IsErrOf result WriteError.Device → W.failures sink.old < W.failures sink.new }
         ensures not_blamed { IsErrOf result WriteError.NoMemory → W.failures sink.new ≡ W.failures sink.old }

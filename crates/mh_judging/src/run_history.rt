@@ -50,7 +50,7 @@ impl Transcript for History {
 
 /// Reads a whole script, and then writes the history of its run under these rules, of version 2. Of a script that is outside
 /// the grammar it writes the one line that names the first bad line. At most `workers` threads scan at a time, the calling
-/// one among them. Neither their number nor the gate changes what is written.
+/// one among them. Neither their number nor the hook changes what is written.
 pub fn run_history<R: Threads, S: Source, W: Sink, G: CrewGate>(
     rt: &R,
     alloc: Global,

@@ -9,15 +9,15 @@ use Rattle.mh_model.specs.Bytes.{Text, Cut, cut_after}
 use Rattle.mh_text.specs.Stream.{AppendsBeginning}
 use Rattle.mh_model.specs.Live.{Live, Turn, Waits, IsTurn, IsLive, Taken, turn, unended_text}
 use Rattle.mh_script.specs.OfReasons.LineReason.{LineReason}
-use Rattle.mh_script.specs.declared.end.Refusal.{Refusal}
+use Rattle.mh_script.specs.declared.end.LineRefusal.{LineRefusal}
 use Rattle.mh_script.specs.declared.fault.ScriptFault.{ScriptFault}
 use Rattle.mh_script.specs.declared.fault.ScriptFault.TheVariants.{Read, Write, NoMemory}
 use Rattle.mh_script.specs.declared.fault.WriteError.{WriteError}
 use Rattle.mh_script.specs.declared.fault.WriteError.TheVariants as cause
 use Rattle.mh_script.specs.Texts.{IsWriteFault}
 use Rattle.mh_live.specs.declared.feed.Feed.{Feed}
-use Rattle.mh_live.specs.Feeding.{AnswersAll, AnswersFront, AnswersSome, AnswersWhole, BeginsAnswer, HasAnswered, IsFed, MayBegin, MayEndWith, TakesTurn, TurnsPartly, WritesPart}
-use Rattle.mh_live.specs.Heard.{AreHeard, Ended, IsHeard, IsLiveHeard, IsTold, IsWhy, is_configured, refusal_of, unended_refusal}
+use Rattle.mh_live.specs.Feeding.{AnswersAll, AnswersFront, AnswersSome, AnswersWhole, BeginsAnswer, HasAnswered, IsFed, MayBegin, MayEndWith, TakesTurn, TurnsPartly, WritesPrefix}
+use Rattle.mh_live.specs.Heard.{AreHeard, Ended, IsHeard, IsLiveHeard, HeardRefusal, IsWhy, is_configured, refusal_of, unended_refusal}
 use Rattle.mh_live.proofs.CutLemmas.{EndsNoLine, cut_line, cut_rest, front_line, front_of, line_cut}
 use Rattle.mh_live.proofs.TurnLemmas.{are_turns, heard_more, heard_why, one_more}
 
@@ -28,11 +28,11 @@ may_begin_none cause.Device = tt
 may_begin_none cause.NoMemory = refl
 
 -- nothing of it was written
-pub none_written : (text : Text) (written : Option Text) (error : WriteError) → WritesPart text written written error
+pub none_written : (text : Text) (written : Option Text) (error : WriteError) → WritesPrefix text written written error
 none_written text written error = ([], text, refl, Appends-nil written, may_begin_none error)
 
 -- the sink failed at it
-pub part_written : (text : Text) (old new : Option Text) (error : WriteError) → error ≡ cause.Device → AppendsBeginning old new text → WritesPart text old new error
+pub part_written : (text : Text) (old new : Option Text) (error : WriteError) → error ≡ cause.Device → AppendsBeginning old new text → WritesPrefix text old new error
 part_written text old new error is part = (part.0, part.1, part.2, part.3, rw is tt)
 
 pub no_part : (feed : Feed) (written : Option Text) (error : WriteError) → TurnsPartly feed written written error
@@ -42,12 +42,12 @@ no_part feed written error = record {
   wrote = none_written (turn feed.number feed.live feed.begun.items).text written error;
 }
 
-pub turns_partly : (old : Feed) (written written' : Option Text) (error : WriteError) (line answer : Text) (live : Live) → line ≡ old.begun.items → IsTurn old.number old.live line (record { text = answer; live = live }) → WritesPart answer written written' error
+pub turns_partly : (old : Feed) (written written' : Option Text) (error : WriteError) (line answer : Text) (live : Live) → line ≡ old.begun.items → IsTurn old.number old.live line (record { text = answer; live = live }) → WritesPrefix answer written written' error
     → TurnsPartly old written written' error
 turns_partly old written written' error line answer live same is part = record { turn = record { text = answer; live = live }; is = rw same at is; wrote = part }
 
 -- the turn of a line that was answered, with why it is refused
-pub takes_turn : (Told : Option Refusal → Type 0) (old new : Feed) (written written' : Option Text) (line answer : Text) (live : Live) (why : Option LineReason) → line ≡ old.begun.items → IsTurn old.number old.live line (record { text = answer; live = live })
+pub takes_turn : (Told : Option LineRefusal → Type 0) (old new : Feed) (written written' : Option Text) (line answer : Text) (live : Live) (why : Option LineReason) → line ≡ old.begun.items → IsTurn old.number old.live line (record { text = answer; live = live })
     → IsWhy (is_configured old.live) line why → Told (refusal_of old.number why) → new.live ≡ live → new.number ≡ suc old.number → new.begun.items ≡ [] → Appends written written' answer → TakesTurn Told old new written written'
 takes_turn Told old new written written' line answer live why same is is_why told after number begun wrote = record {
   turn = record { text = answer; live = live };
@@ -67,7 +67,7 @@ begins_none n live (line ∷ lines) rest = (turn n live line, Taken, ((turn n li
 
 -- After a line, and after bytes that end none ----------------------------------------------------
 
-answered_by : (Hears : List Refusal → Type 0) (text : Text) (first new : Option Text) (number : ℕ) (live : Live) (begun : Text) (cut : Cut) (answers : Text) (refusals : List Refusal) → cut_after 10 text ≡ cut → AreHeard 1 Waits cut.pieces refusals answers live
+answered_by : (Hears : List LineRefusal → Type 0) (text : Text) (first new : Option Text) (number : ℕ) (live : Live) (begun : Text) (cut : Cut) (answers : Text) (refusals : List LineRefusal) → cut_after 10 text ≡ cut → AreHeard 1 Waits cut.pieces refusals answers live
     → number ≡ suc (length cut.pieces) → cut.rest ≡ begun → Appends first new answers → Hears refusals → HasAnswered Hears text first new number live begun
 answered_by Hears text first new number live begun cut answers refusals is turns numbered kept wrote heard = record {
   answers = answers;
@@ -79,16 +79,16 @@ answered_by Hears text first new number live begun cut answers refusals is turns
   heard = heard;
 }
 
-module _ (Hears : List Refusal → Type 0) (text : Text) (first old : Option Text) (number : ℕ) (live : Live) (begun : Text) (has : HasAnswered Hears text first old number live begun) where
+module _ (Hears : List LineRefusal → Type 0) (text : Text) (first old : Option Text) (number : ℕ) (live : Live) (begun : Text) (has : HasAnswered Hears text first old number live begun) where
   -- the turns with that of the line that ends now
-  line_turns : (piece : Text) (turn : Turn) (heard : Option Refusal) → IsTurn number live (begun ++ piece) turn → IsHeard number live (begun ++ piece) heard
+  line_turns : (piece : Text) (turn : Turn) (heard : Option LineRefusal) → IsTurn number live (begun ++ piece) turn → IsHeard number live (begun ++ piece) heard
       → AreHeard 1 Waits (line_cut text piece).pieces (has.refusals ++ option_to_list heard) (has.answers ++ turn.text) turn.live
   line_turns piece turn heard is why =
       let line : IsTurn number live ((cut_after 10 text).rest ++ piece) turn = subst (λ b. IsTurn number live (b ++ piece) turn) (sym has.kept) is in
       let told : IsHeard number live ((cut_after 10 text).rest ++ piece) heard = subst (λ (b : Text). IsHeard number live (b ++ piece) heard) (sym has.kept) why in
       one_more 1 Waits (cut_after 10 text).pieces has.refusals has.answers live number ((cut_after 10 text).rest ++ piece) turn heard has.turns (omega (arith, has.numbered)) line told
 
-  pub after_line : (Hears' : List Refusal → Type 0) (piece : Text) (turn : Turn) (heard : Option Refusal) (new : Option Text) → EndsNoLine piece → IsTurn number live (begun ++ piece) turn → IsHeard number live (begun ++ piece) heard
+  pub after_line : (Hears' : List LineRefusal → Type 0) (piece : Text) (turn : Turn) (heard : Option LineRefusal) (new : Option Text) → EndsNoLine piece → IsTurn number live (begun ++ piece) turn → IsHeard number live (begun ++ piece) heard
       → Appends old new turn.text → Hears' (has.refusals ++ option_to_list heard) → HasAnswered Hears' (text ++ (piece ++ 10 ∷ [])) first new (suc number) turn.live []
   after_line Hears' piece turn heard new plain is why wrote told =
       answered_by Hears' (text ++ (piece ++ 10 ∷ [])) first new (suc number) turn.live [] (line_cut text piece) (has.answers ++ turn.text) (has.refusals ++ option_to_list heard) (cut_line text piece plain) (line_turns piece turn heard is why)
@@ -118,7 +118,7 @@ module _ (Hears : List Refusal → Type 0) (text : Text) (first old : Option Tex
         heard = has.heard;
       }
 
-  pub some_of_line : (error : WriteError) (piece next : Text) (turn : Turn) (new : Option Text) → EndsNoLine piece → IsTurn number live (begun ++ piece) turn → WritesPart turn.text old new error
+  pub some_of_line : (error : WriteError) (piece next : Text) (turn : Turn) (new : Option Text) → EndsNoLine piece → IsTurn number live (begun ++ piece) turn → WritesPrefix turn.text old new error
       → AnswersSome Hears (MayBegin error) (text ++ (piece ++ 10 ∷ next)) first new
   some_of_line error piece next turn new plain is part =
       let front = front_line text piece next plain in
@@ -142,26 +142,26 @@ module _ (Hears : List Refusal → Type 0) (text : Text) (first old : Option Tex
 -- Bytes that come --------------------------------------------------------------------------------
 
 -- no byte came yet
-pub fed_none : (Hears : List Refusal → Type 0) (written : Option Text) (feed : Feed) → feed.live ≡ Waits → feed.number ≡ 1 → feed.begun.items ≡ [] → Hears [] → IsFed Hears [] written written feed
+pub fed_none : (Hears : List LineRefusal → Type 0) (written : Option Text) (feed : Feed) → feed.live ≡ Waits → feed.number ≡ 1 → feed.begun.items ≡ [] → Hears [] → IsFed Hears [] written written feed
 fed_none Hears written feed waits first none heard = rw (waits, first, none) (record { answers = []; refusals = []; turns = Ended 1 Waits; numbered = refl; kept = refl; wrote = Appends-nil written; heard = heard })
 
 -- what was taken of the bytes was answered, and no more
-pub some_stopped : (Hears : List Refusal → Type 0) (May : Text → Type 0) (text : Text) (first written : Option Text) (feed : Feed) (bytes taken rest : Text) → May [] → bytes ≡ taken ++ rest → IsFed Hears (text ++ taken) first written feed
+pub some_stopped : (Hears : List LineRefusal → Type 0) (May : Text → Type 0) (text : Text) (first written : Option Text) (feed : Feed) (bytes taken rest : Text) → May [] → bytes ≡ taken ++ rest → IsFed Hears (text ++ taken) first written feed
     → AnswersSome Hears May (text ++ bytes) first written
 some_stopped Hears May text first written feed bytes taken rest may is fed =
     subst (λ t. AnswersSome Hears May t first written) (append_assoc text taken rest ∙ ap (λ t. text ++ t) (sym is)) (some_of_more Hears (text ++ taken) first written feed.number feed.live feed.begun.items fed May rest may)
 
 -- the same, and a prefix of the answer to the next line was written
-pub some_in_line : (Hears : List Refusal → Type 0) (error : WriteError) (text : Text) (first old new : Option Text) (feed mid : Feed) (bytes taken rest piece next : Text) → bytes ≡ taken ++ rest → rest ≡ piece ++ 10 ∷ next → EndsNoLine piece
+pub some_in_line : (Hears : List LineRefusal → Type 0) (error : WriteError) (text : Text) (first old new : Option Text) (feed mid : Feed) (bytes taken rest piece next : Text) → bytes ≡ taken ++ rest → rest ≡ piece ++ 10 ∷ next → EndsNoLine piece
     → IsFed Hears (text ++ taken) first old feed → mid.number ≡ feed.number → mid.live ≡ feed.live → mid.begun.items ≡ feed.begun.items ++ piece → TurnsPartly mid old new error → AnswersSome Hears (MayBegin error) (text ++ bytes) first new
 some_in_line Hears error text first old new feed mid bytes taken rest piece next is left plain fed number live begun part =
     let turn : IsTurn feed.number feed.live (feed.begun.items ++ piece) part.turn = rw (sym number, sym live, sym begun) part.is in
     let whole = append_assoc text taken (piece ++ 10 ∷ next) ∙ ap (λ t. text ++ (taken ++ t)) (sym left) ∙ ap (λ t. text ++ t) (sym is) in
     subst (λ t. AnswersSome Hears (MayBegin error) t first new) whole (some_of_line Hears (text ++ taken) first old feed.number feed.live feed.begun.items fed error piece next part.turn new plain turn part.wrote)
 
-module _ {X : Type 0} (hears : X → List Refusal → X → Type 0) (onward : (first mid last : X) (before : List Refusal) (refusal : Refusal) → hears first before mid → hears mid (refusal ∷ []) last → hears first (before ++ refusal ∷ []) last) where
+module _ {X : Type 0} (hears : X → List LineRefusal → X → Type 0) (onward : (first mid last : X) (before : List LineRefusal) (refusal : LineRefusal) → hears first before mid → hears mid (refusal ∷ []) last → hears first (before ++ refusal ∷ []) last) where
   -- what a listener heard since the start
-  abbrev pub From : X → X → List Refusal → Type 0
+  abbrev pub From : X → X → List LineRefusal → Type 0
   From start now refusals = hears start refusals now
 
   -- nothing was told
@@ -170,7 +170,7 @@ module _ {X : Type 0} (hears : X → List Refusal → X → Type 0) (onward : (f
 
   -- the next line was answered too, and told if it is refused
   pub fed_line : (start listener listener' : X) (text : Text) (first old new : Option Text) (feed mid after : Feed) (taken piece : Text) → EndsNoLine piece → IsFed (From start listener) (text ++ taken) first old feed → mid.number ≡ feed.number
-      → mid.live ≡ feed.live → mid.begun.items ≡ feed.begun.items ++ piece → TakesTurn (λ heard. IsTold hears listener heard listener') mid after old new → IsFed (From start listener') (text ++ (taken ++ (piece ++ 10 ∷ []))) first new after
+      → mid.live ≡ feed.live → mid.begun.items ≡ feed.begun.items ++ piece → TakesTurn (λ heard. HeardRefusal hears listener heard listener') mid after old new → IsFed (From start listener') (text ++ (taken ++ (piece ++ 10 ∷ []))) first new after
   fed_line start listener listener' text first old new feed mid after taken piece plain fed number live begun takes =
       let turn : IsTurn feed.number feed.live (feed.begun.items ++ piece) takes.turn = rw (sym number, sym live, sym begun) takes.is in
       let why : IsHeard feed.number feed.live (feed.begun.items ++ piece) takes.heard = rw (sym number, sym live, sym begun) takes.why in
@@ -179,7 +179,7 @@ module _ {X : Type 0} (hears : X → List Refusal → X → Type 0) (onward : (f
       rw (takes.number, takes.live, takes.begun, number) (subst (λ t. HasAnswered (From start listener') t first new (suc feed.number) takes.turn.live []) (append_assoc text taken (piece ++ 10 ∷ [])) all)
 
 -- what follows the last line is kept
-pub fed_rest : (Hears : List Refusal → Type 0) (text : Text) (first written : Option Text) (feed : Feed) (bytes taken rest begun : Text) → bytes ≡ taken ++ rest → EndsNoLine rest → IsFed Hears (text ++ taken) first written feed → begun ≡ feed.begun.items ++ rest
+pub fed_rest : (Hears : List LineRefusal → Type 0) (text : Text) (first written : Option Text) (feed : Feed) (bytes taken rest begun : Text) → bytes ≡ taken ++ rest → EndsNoLine rest → IsFed Hears (text ++ taken) first written feed → begun ≡ feed.begun.items ++ rest
     → HasAnswered Hears (text ++ bytes) first written feed.number feed.live begun
 fed_rest Hears text first written feed bytes taken rest begun is plain fed same =
     let all = after_rest Hears (text ++ taken) first written feed.number feed.live feed.begun.items fed rest plain in
@@ -203,7 +203,7 @@ no_read cause.Device fault is read = let told : Write ≡ Read = cc in cc
 no_read cause.NoMemory fault is read = let told : NoMemory ≡ Read = cc in cc
 
 -- a line that has begun came of some bytes
-pub fed_some : (Hears : List Refusal → Type 0) (text : Text) (first written : Option Text) (number : ℕ) (live : Live) (begun : Text) → HasAnswered Hears text first written number live begun → 0 < length begun → 0 < length text
+pub fed_some : (Hears : List LineRefusal → Type 0) (text : Text) (first written : Option Text) (number : ℕ) (live : Live) (begun : Text) → HasAnswered Hears text first written number live begun → 0 < length begun → 0 < length text
 fed_some Hears [] first written number live begun has some = absurd (omega (arith, some, ap length has.kept))
 fed_some Hears (byte ∷ text) first written number live begun has some = omega arith
 
@@ -213,7 +213,7 @@ read_ended source mid source' text more count before last none =
     let all : Consumes source source' (text ++ take 0 more) = Consumes-trans source mid source' text (take 0 more) before (rw none at last) in
     subst (Consumes source source') (append-nil text) all
 
-pub front_of_fed : (Hears : List Refusal → Type 0) (fault : ScriptFault) (source source' first written : Option Text) (text : Text) (feed : Feed) → MayEndWith fault [] → Consumes source source' text → IsFed Hears text first written feed
+pub front_of_fed : (Hears : List LineRefusal → Type 0) (fault : ScriptFault) (source source' first written : Option Text) (text : Text) (feed : Feed) → MayEndWith fault [] → Consumes source source' text → IsFed Hears text first written feed
     → AnswersFront Hears source source' first written fault
 front_of_fed Hears fault source source' first written text feed may read has = record {
   text = text;
@@ -222,10 +222,10 @@ front_of_fed Hears fault source source' first written text feed may read has = r
 }
 
 -- all whole lines of what was read were answered
-pub whole_of_fed : (Hears : List Refusal → Type 0) (source source' first written : Option Text) (text : Text) (feed : Feed) → Consumes source source' text → IsFed Hears text first written feed → AnswersWhole Hears source source' first written
+pub whole_of_fed : (Hears : List LineRefusal → Type 0) (source source' first written : Option Text) (text : Text) (feed : Feed) → Consumes source source' text → IsFed Hears text first written feed → AnswersWhole Hears source source' first written
 whole_of_fed Hears source source' first written text feed read has = record { text = text; read = read; answers = has.answers; refusals = has.refusals; after = feed.live; turns = has.turns; wrote = has.wrote; heard = has.heard }
 
-pub front_of_some : (Hears : List Refusal → Type 0) (error : WriteError) (fault : ScriptFault) (source mid source' first written : Option Text) (text more : Text) → IsWriteFault error fault → Consumes source mid text → Consumes mid source' more
+pub front_of_some : (Hears : List LineRefusal → Type 0) (error : WriteError) (fault : ScriptFault) (source mid source' first written : Option Text) (text more : Text) → IsWriteFault error fault → Consumes source mid text → Consumes mid source' more
     → AnswersSome Hears (MayBegin error) (text ++ more) first written → AnswersFront Hears source source' first written fault
 front_of_some Hears error fault source mid source' first written text more is before last some = record {
   text = text ++ more;
@@ -246,12 +246,12 @@ front_of_some Hears error fault source mid source' first written text more is be
   };
 }
 
-module _ (Hears : List Refusal → Type 0) (source mid source' first old new : Option Text) (text more : Text) (count : ℕ) (feed : Feed) (before : Consumes source mid text) (last : Consumes mid source' (take count more)) (none : count ≡ 0) (has : IsFed Hears text first old feed) where
+module _ (Hears : List LineRefusal → Type 0) (source mid source' first old new : Option Text) (text more : Text) (count : ℕ) (feed : Feed) (before : Consumes source mid text) (last : Consumes mid source' (take count more)) (none : count ≡ 0) (has : IsFed Hears text first old feed) where
   -- all answers, with that to a last line without its end, and all refusals
   abbrev all_text : Text
   all_text = has.answers ++ unended_text feed.number feed.begun.items
 
-  abbrev all_refusals : List Refusal
+  abbrev all_refusals : List LineRefusal
   all_refusals = has.refusals ++ option_to_list (unended_refusal feed.number feed.begun.items)
 
   -- what holds of what is left of the feed holds of what is left of the text
@@ -274,7 +274,7 @@ module _ (Hears : List Refusal → Type 0) (source mid source' first old new : O
     all = by_feed (λ n begun. all_refusals ≡ has.refusals ++ option_to_list (unended_refusal n begun)) refl;
   }
 
-  pub all_answered : (Hears' : List Refusal → Type 0) → IsAtEnd source' → Appends old new (unended_text feed.number feed.begun.items) → Hears' (has.refusals ++ option_to_list (unended_refusal feed.number feed.begun.items)) → AnswersAll Hears' source source' first new
+  pub all_answered : (Hears' : List LineRefusal → Type 0) → IsAtEnd source' → Appends old new (unended_text feed.number feed.begun.items) → Hears' (has.refusals ++ option_to_list (unended_refusal feed.number feed.begun.items)) → AnswersAll Hears' source source' first new
   all_answered Hears' ended wrote heard = record {
     text = text;
     read = read_ended source mid source' text more count before last none;
@@ -287,7 +287,7 @@ module _ (Hears : List Refusal → Type 0) (source mid source' first old new : O
     heard = heard;
   }
 
-  pub front_of_end : (error : WriteError) (fault : ScriptFault) → IsWriteFault error fault → WritesPart (unended_text feed.number feed.begun.items) old new error → AnswersFront Hears source source' first new fault
+  pub front_of_end : (error : WriteError) (fault : ScriptFault) → IsWriteFault error fault → WritesPrefix (unended_text feed.number feed.begun.items) old new error → AnswersFront Hears source source' first new fault
   front_of_end error fault is part = record {
     text = text;
     read = read_ended source mid source' text more count before last none;

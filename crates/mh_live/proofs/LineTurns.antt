@@ -18,13 +18,12 @@ use Rattle.mh_model.specs.Limits.{most_entries}
 use Rattle.mh_model.specs.declared.command.Control.TheVariants as control
 use Rattle.mh_model.specs.declared.reply.Reply.{Reply}
 use Rattle.mh_model.specs.declared.reply.Reply.TheVariants as reply
-use Rattle.mh_script.specs.OfState.Stop.{Stop}
 use Rattle.mh_model.specs.World.{says}
 use Rattle.mh_model.specs.Machine.{Machine, control_step, dump_pages, event_step, first_machine}
 use Rattle.mh_model.specs.Replies.{bad_line_text, reply_text}
 use Rattle.mh_model.specs.Script.{Line, Blank, Calls, Asks, Wrong, asks, calls, config_words, is_blank, line_of, line_words, session_number, with_name}
-use Rattle.mh_script.specs.OfState.Running.{Running, Does, MayAskForMemory, first_running}
-use Rattle.mh_live.specs.Answers.{Done, Full, IsAnswered, Starved, starved_line}
+use Rattle.mh_script.specs.OfMachine.Running.{Running, Does, MayAskForMemory, first_running}
+use Rattle.mh_live.specs.Answers.{Done, Full, IsAnsweredOrNotDone, Starved, starved_line}
 use Rattle.mh_model.specs.Live.{Live, IsTurn, Runs, Taken, Turn, Waits, event_turn, needs_memory, line_turn, turn}
 use Rattle.mh_model.specs.Live.{Starved as starved}
 use Rattle.mh_script.specs.OfReasons.Reasons.{IsWrong}
@@ -134,20 +133,20 @@ module _ (n : ℕ) (old : Running) (names : List Text) (line : Text) where
     by_event : turn n before line ≡ event_turn old.machine names old.done seen event
     by_event = by_line says is ∙ turns
 
-    pub event_runs : (new : Running) (text : Text) (is_done : Bool) (after : List Text) → (MayAskForMemory old.room event → needs_memory says ≡ true) → IsAnswered old event text new is_done → after ≡ (if is_done then seen else names)
+    pub event_runs : (new : Running) (text : Text) (is_done : Bool) (after : List Text) → (MayAskForMemory old.room event → needs_memory says ≡ true) → IsAnsweredOrNotDone old event text new is_done → after ≡ (if is_done then seen else names)
         → IsTurn n before line (record { text = text; live = Runs new.machine after new.done })
     event_runs new text _ after has (Done reply below does same) named = taken n before line _ (by_event ∙ rw (lt-ltb old.done most_entries below, does.step, same, does.done, named) refl)
     event_runs new text _ after has (Full full same kept) named = taken n before line _ (by_event ∙ rw (not_below old.done most_entries full, same, kept, named) refl)
     event_runs new text _ after has (Starved asks same kept) named = rw (same, kept, named) (starved (rw is (has asks)))
 
-  pub asks_runs : (control : Control) (new : Running) (text : Text) (is_done : Bool) → line_of line ≡ Asks control → IsAnswered old (event.Control control) text new is_done
+  pub asks_runs : (control : Control) (new : Running) (text : Text) (is_done : Bool) → line_of line ≡ Asks control → IsAnsweredOrNotDone old (event.Control control) text new is_done
       → IsTurn n before line (record { text = text; live = Runs new.machine names new.done })
   asks_runs control new text is_done is answered = event_runs (Asks control) is (event.Control control) names refl new text is_done names (control_asks control old.room) answered (same_either is_done) where
     same_either : (b : Bool) → names ≡ (if b then names else names)
     same_either true = refl
     same_either false = refl
 
-  pub calls_runs : (name : Text) (command : Command) (new : Running) (text : Text) (is_done : Bool) (after : List Text) → line_of line ≡ Calls name command → IsAnswered old (event.Session (session_number names name) command) text new is_done
+  pub calls_runs : (name : Text) (command : Command) (new : Running) (text : Text) (is_done : Bool) (after : List Text) → line_of line ≡ Calls name command → IsAnsweredOrNotDone old (event.Session (session_number names name) command) text new is_done
       → after ≡ (if is_done then with_name names name else names) → IsTurn n before line (record { text = text; live = Runs new.machine after new.done })
   calls_runs name command new text is_done after is = event_runs (Calls name command) is (event.Session (session_number names name) command) (with_name names name) refl new text is_done after (λ _. refl)
 
@@ -157,8 +156,8 @@ dump_reply : (machine new : Machine) (given : Reply) → event_step machine (eve
 unfolding event_step control_step
 dump_reply machine new given e = ap (λ answer. answer.reply) e
 
-pub dump_done : (old new : Running) (result : Result Reply Stop) (text : Text) → old.done < most_entries → IfOk result (λ given. Does old (event.Control control.Dump) given new) → is_err result ≡ false
-    → text ≡ line_text (reply_text (reply.Dump (dump_pages 0 old.machine.heap.collector.table))) → IsAnswered old (event.Control control.Dump) text new true
+pub dump_done : {E : Type 0} (old new : Running) (result : Result Reply E) (text : Text) → old.done < most_entries → IfOk result (λ given. Does old (event.Control control.Dump) given new) → is_err result ≡ false
+    → text ≡ line_text (reply_text (reply.Dump (dump_pages 0 old.machine.heap.collector.table))) → IsAnsweredOrNotDone old (event.Control control.Dump) text new true
 dump_done old new (Ok given) text below does ok is = Done given below does (is ∙ ap (λ r. line_text (reply_text r)) (dump_reply old.machine new.machine given does.step))
 dump_done old new (Err stop) text below does ok is = absurd (false≢true (sym ok))
 

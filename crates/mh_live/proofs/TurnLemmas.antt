@@ -6,21 +6,21 @@ use Rattle.mh_model.specs.Bytes.{Text}
 use Rattle.mh_model.specs.Live.{Live, Turn, IsTurn, AreTurns}
 use Rattle.mh_model.specs.Live as model
 use Rattle.mh_script.specs.OfReasons.LineReason.{LineReason}
-use Rattle.mh_script.specs.declared.end.Refusal.{Refusal}
-use Rattle.mh_live.specs.Heard.{AreHeard, Ended, IsHeard, IsTold, IsWhy, Turned, is_configured, refusal_of}
+use Rattle.mh_script.specs.declared.end.LineRefusal.{LineRefusal}
+use Rattle.mh_live.specs.Heard.{AreHeard, Ended, IsHeard, HeardRefusal, IsWhy, Turned, is_configured, refusal_of}
 
 -- what is heard of lines in turn are turns
-pub are_turns : {n : ℕ} {live : Live} {lines : List Text} {refusals : List Refusal} {answers : Text} {after : Live} → AreHeard n live lines refusals answers after → AreTurns n live lines answers after
+pub are_turns : {n : ℕ} {live : Live} {lines : List Text} {refusals : List LineRefusal} {answers : Text} {after : Live} → AreHeard n live lines refusals answers after → AreTurns n live lines answers after
 are_turns (Ended n live) = model.Ended n live
 are_turns (Turned n live line lines first heard refusals text after is why rest) = model.Turned n live line lines first text after is (are_turns rest)
 
 -- a change of what is heard and answered, in other words
-same_heard : {n : ℕ} {live : Live} {lines : List Text} {refusals refusals' : List Refusal} {answers answers' : Text} {after : Live} → refusals ≡ refusals' → answers ≡ answers' → AreHeard n live lines refusals answers after → AreHeard n live lines refusals' answers' after
+same_heard : {n : ℕ} {live : Live} {lines : List Text} {refusals refusals' : List LineRefusal} {answers answers' : Text} {after : Live} → refusals ≡ refusals' → answers ≡ answers' → AreHeard n live lines refusals answers after → AreHeard n live lines refusals' answers' after
 same_heard {n = n} {live = live} {lines = lines} {refusals' = refusals'} {answers = answers} {after = after} told said are =
     subst (λ text. AreHeard n live lines refusals' text after) said (subst (λ list. AreHeard n live lines list answers after) told are)
 
 -- lines and then one more
-pub one_more : (n : ℕ) (live : Live) (lines : List Text) (refusals : List Refusal) (answers : Text) (mid : Live) (number : ℕ) (line : Text) (turn : Turn) (heard : Option Refusal) → AreHeard n live lines refusals answers mid → number ≡ n + length lines
+pub one_more : (n : ℕ) (live : Live) (lines : List Text) (refusals : List LineRefusal) (answers : Text) (mid : Live) (number : ℕ) (line : Text) (turn : Turn) (heard : Option LineRefusal) → AreHeard n live lines refusals answers mid → number ≡ n + length lines
     → IsTurn number mid line turn → IsHeard number mid line heard → AreHeard n live (lines ++ line ∷ []) (refusals ++ option_to_list heard) (answers ++ turn.text) turn.live
 one_more n live _ _ _ mid number line turn heard (Ended _ _) numbered is why =
     let same : number ≡ n = omega (arith, numbered) in
@@ -39,7 +39,7 @@ heard_why n live line None right = right
 heard_why n live line (Some reason) is = (refl, (reason, refl, is.0, is.1))
 
 -- What a listener heard, after one refusal more or none
-module _ {X : Type 0} (hears : X → List Refusal → X → Type 0) (onward : (first mid last : X) (before : List Refusal) (refusal : Refusal) → hears first before mid → hears mid (refusal ∷ []) last → hears first (before ++ refusal ∷ []) last) where
-  pub heard_more : (first mid last : X) (before : List Refusal) (heard : Option Refusal) → hears first before mid → IsTold hears mid heard last → hears first (before ++ option_to_list heard) last
+module _ {X : Type 0} (hears : X → List LineRefusal → X → Type 0) (onward : (first mid last : X) (before : List LineRefusal) (refusal : LineRefusal) → hears first before mid → hears mid (refusal ∷ []) last → hears first (before ++ refusal ∷ []) last) where
+  pub heard_more : (first mid last : X) (before : List LineRefusal) (heard : Option LineRefusal) → hears first before mid → HeardRefusal hears mid heard last → hears first (before ++ option_to_list heard) last
   heard_more first mid last before None has same = subst (λ refusals. hears first refusals last) (sym (append-nil before)) (subst (λ x. hears first before x) (sym same) has)
   heard_more first mid last before (Some refusal) has told = onward first mid last before refusal has told

@@ -6,7 +6,7 @@ use Rattle.mh_model.specs.Live.{Live, Turn, Waits, IsTurn, IsLive, unended_text}
 use Rattle.mh_text.specs.Stream.{ConsumesSome}
 use Rattle.mh_live.specs.declared.feed.Feed.{Feed}
 use Rattle.mh_live.specs.Heard.{AreHeard, IsHeard, IsLiveHeard}
-use Rattle.mh_script.specs.declared.end.Refusal.{Refusal}
+use Rattle.mh_script.specs.declared.end.LineRefusal.{LineRefusal}
 use Rattle.mh_script.specs.declared.fault.ScriptFault.{ScriptFault}
 use Rattle.mh_script.specs.declared.fault.ScriptFault.TheVariants.{Read, Write, NoMemory}
 use Rattle.mh_script.specs.declared.fault.WriteError.{WriteError}
@@ -15,9 +15,9 @@ use Rattle.mh_script.specs.Run.{Device}
 use Rattle.mh_script.specs.Texts.{Blames}
 
 -- the whole lines of a text were answered and the refused ones told, and what follows the last of them is kept
-pub record HasAnswered (Hears : List Refusal → Type 0) (text : Text) (old new : Option Text) (number : ℕ) (live : Live) (begun : Text) : Type 0 where
+pub record HasAnswered (Hears : List LineRefusal → Type 0) (text : Text) (old new : Option Text) (number : ℕ) (live : Live) (begun : Text) : Type 0 where
   pub answers : Text
-  pub refusals : List Refusal
+  pub refusals : List LineRefusal
   pub turns : AreHeard 1 Waits (cut_after 10 text).pieces refusals answers live
   pub numbered : number ≡ suc (length (cut_after 10 text).pieces)
   pub kept : (cut_after 10 text).rest ≡ begun
@@ -25,7 +25,7 @@ pub record HasAnswered (Hears : List Refusal → Type 0) (text : Text) (old new 
   pub heard : Hears refusals
 
 -- the same by what a feed has
-abbrev pub IsFed : (List Refusal → Type 0) → Text → Option Text → Option Text → Feed → Type 0
+abbrev pub IsFed : (List LineRefusal → Type 0) → Text → Option Text → Option Text → Feed → Type 0
 IsFed Hears text first new feed = HasAnswered Hears text first new feed.number feed.live feed.begun.items
 
 -- Faults -----------------------------------------------------------------------------------------
@@ -40,8 +40,8 @@ MayEndWith Write begun = Unit {0}
 MayEndWith fault begun = begun ≡ []
 
 -- of a text a prefix was written before this error
-abbrev pub WritesPart : Text → Option Text → Option Text → WriteError → Type 0
-WritesPart text old new error = (begun left : Text) × (begun ++ left ≡ text) × Appends old new begun × MayBegin error begun
+abbrev pub WritesPrefix : Text → Option Text → Option Text → WriteError → Type 0
+WritesPrefix text old new error = (begun left : Text) × (begun ++ left ≡ text) × Appends old new begun × MayBegin error begun
 
 -- a prefix of what the first of these lines, line n, may be answered; if there is none, of the answer to a last line without its end
 abbrev pub BeginsAnswer : ℕ → Live → List Text → Text → Text → Type 0
@@ -49,12 +49,12 @@ BeginsAnswer n live [] rest begun = (left : Text) × (begun ++ left ≡ unended_
 BeginsAnswer n live (line ∷ lines) rest begun = (turn : Turn) × IsTurn n live line turn × ((left : Text) × (begun ++ left ≡ turn.text))
 
 -- The first lines of a text were answered, and the refused ones of them heard of. Of the answer to the next line a prefix was written that may stand there; that line was not heard of
-pub record AnswersSome (Hears : List Refusal → Type 0) (May : Text → Type 0) (text : Text) (old new : Option Text) : Type 0 where
+pub record AnswersSome (Hears : List LineRefusal → Type 0) (May : Text → Type 0) (text : Text) (old new : Option Text) : Type 0 where
   pub lines : List Text
   pub later : List Text
   pub parts : (cut_after 10 text).pieces ≡ lines ++ later
   pub answers : Text
-  pub refusals : List Refusal
+  pub refusals : List LineRefusal
   pub after : Live
   pub turns : AreHeard 1 Waits lines refusals answers after
   pub begun : Text
@@ -66,10 +66,10 @@ pub record AnswersSome (Hears : List Refusal → Type 0) (May : Text → Type 0)
 -- Turns ------------------------------------------------------------------------------------------
 
 -- the line that has begun was answered, and told if it is refused
-pub record TakesTurn (Told : Option Refusal → Type 0) (old new : Feed) (written written' : Option Text) : Type 0 where
+pub record TakesTurn (Told : Option LineRefusal → Type 0) (old new : Feed) (written written' : Option Text) : Type 0 where
   pub turn : Turn
   pub is : IsTurn old.number old.live old.begun.items turn
-  pub heard : Option Refusal
+  pub heard : Option LineRefusal
   pub why : IsHeard old.number old.live old.begun.items heard
   pub told : Told heard
   pub live : new.live ≡ turn.live
@@ -81,41 +81,41 @@ pub record TakesTurn (Told : Option Refusal → Type 0) (old new : Feed) (writte
 pub record TurnsPartly (old : Feed) (written written' : Option Text) (error : WriteError) : Type 0 where
   pub turn : Turn
   pub is : IsTurn old.number old.live old.begun.items turn
-  pub wrote : WritesPart turn.text written written' error
+  pub wrote : WritesPrefix turn.text written written' error
 
 -- Runs -------------------------------------------------------------------------------------------
 
 -- a source was read to its end, each line answered, and each refused one told
-pub record AnswersAll (Hears : List Refusal → Type 0) (source source' sink sink' : Option Text) : Type 0 where
+pub record AnswersAll (Hears : List LineRefusal → Type 0) (source source' sink sink' : Option Text) : Type 0 where
   pub text : Text
   pub read : Consumes source source' text
   pub ended : IsAtEnd source'
   pub written : Text
-  pub refusals : List Refusal
+  pub refusals : List LineRefusal
   pub live : IsLive text written
   pub told : IsLiveHeard text written refusals
   pub wrote : Appends sink sink' written
   pub heard : Hears refusals
 
 -- some bytes of a source were read before this fault, and some of the lines in them answered and told
-pub record AnswersFront (Hears : List Refusal → Type 0) (source source' sink sink' : Option Text) (fault : ScriptFault) : Type 0 where
+pub record AnswersFront (Hears : List LineRefusal → Type 0) (source source' sink sink' : Option Text) (fault : ScriptFault) : Type 0 where
   pub text : Text
   pub read : Consumes source source' text
   pub some : AnswersSome Hears (MayEndWith fault) text sink sink'
 
 -- some bytes of a source were read, each whole line in them answered, and each refused one told
-pub record AnswersWhole (Hears : List Refusal → Type 0) (source source' sink sink' : Option Text) : Type 0 where
+pub record AnswersWhole (Hears : List LineRefusal → Type 0) (source source' sink sink' : Option Text) : Type 0 where
   pub text : Text
   pub read : Consumes source source' text
   pub answers : Text
-  pub refusals : List Refusal
+  pub refusals : List LineRefusal
   pub after : Live
   pub turns : AreHeard 1 Waits (cut_after 10 text).pieces refusals answers after
   pub wrote : Appends sink sink' answers
   pub heard : Hears refusals
 
 -- Lines of a source were answered as they came and the refused ones told, and how that ended
-pub record IsLiveRun (Hears : List Refusal → Type 0) (source source' sink sink' : Device) (ended : Result Unit ScriptFault) : Type 0 where
+pub record IsLiveRun (Hears : List LineRefusal → Type 0) (source source' sink sink' : Device) (ended : Result Unit ScriptFault) : Type 0 where
   pub answered : OnOk ended (AnswersAll Hears source.bytes source'.bytes sink.bytes sink'.bytes)
   pub begun : IfErr ended (AnswersFront Hears source.bytes source'.bytes sink.bytes sink'.bytes)
   pub prompt : IsErrOf ended Read → AnswersWhole Hears source.bytes source'.bytes sink.bytes sink'.bytes

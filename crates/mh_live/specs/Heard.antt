@@ -6,7 +6,7 @@ use Rattle.mh_model.specs.Live.{Live, Turn, Waits, Runs, IsTurn, unended_text}
 use Rattle.mh_script.specs.OfReasons.LineReason.{LineReason}
 use Rattle.mh_script.specs.OfReasons.ScriptReason.TheVariants.{Line, NoNewline}
 use Rattle.mh_script.specs.OfReasons.Reasons.{IsLineReason, IsWrong}
-use Rattle.mh_script.specs.declared.end.Refusal.{Refusal}
+use Rattle.mh_script.specs.declared.end.LineRefusal.{LineRefusal}
 
 -- whether the configuration has come
 abbrev pub is_configured : Live → Bool
@@ -19,27 +19,27 @@ IsWhy configured line None = ¬ IsWrong configured line
 IsWhy configured line (Some reason) = IsWrong configured line × IsLineReason configured line reason
 
 -- what is heard of line n: nothing if it isn't outside the grammar, and else its number and why
-abbrev pub IsHeard : ℕ → Live → Text → Option Refusal → Type 0
+abbrev pub IsHeard : ℕ → Live → Text → Option LineRefusal → Type 0
 IsHeard n live line None = ¬ IsWrong (is_configured live) line
 IsHeard n live line (Some refusal) =
     (refusal.line ≡ n) × ((reason : LineReason) × (refusal.reason ≡ Line reason) × IsWrong (is_configured live) line × IsLineReason (is_configured live) line reason)
 
 -- what the lines from line n on may be answered one after another, what is heard of them, and what is then
-pub data AreHeard : ℕ → Live → List Text → List Refusal → Text → Live → Type 0 where
+pub data AreHeard : ℕ → Live → List Text → List LineRefusal → Text → Live → Type 0 where
   Ended : (n : ℕ) (live : Live) → AreHeard n live [] [] [] live
-  Turned : (n : ℕ) (live : Live) (line : Text) (lines : List Text) (first : Turn) (heard : Option Refusal) (refusals : List Refusal) (text : Text) (after : Live)
+  Turned : (n : ℕ) (live : Live) (line : Text) (lines : List Text) (first : Turn) (heard : Option LineRefusal) (refusals : List LineRefusal) (text : Text) (after : Live)
       → IsTurn n live line first → IsHeard n live line heard → AreHeard (suc n) first.live lines refusals text after
       → AreHeard n live (line ∷ lines) (option_to_list heard ++ refusals) (first.text ++ text) after
 
 -- what is heard of a last line without its end, which is line n
-abbrev pub unended_refusal : ℕ → Text → Option Refusal
+abbrev pub unended_refusal : ℕ → Text → Option LineRefusal
 unended_refusal n [] = None
 unended_refusal n (byte ∷ bytes) = Some (record { line = n; reason = NoNewline })
 
 -- The answers to a text of lines, to its end, and all that is heard of them
-pub record IsLiveHeard (text written : Text) (refusals : List Refusal) : Type 0 where
+pub record IsLiveHeard (text written : Text) (refusals : List LineRefusal) : Type 0 where
   pub answers : Text
-  pub heard : List Refusal
+  pub heard : List LineRefusal
   pub after : Live
   pub turns : AreHeard 1 Waits (cut_after 10 text).pieces heard answers after
   pub whole : written ≡ answers ++ unended_text (suc (length (cut_after 10 text).pieces)) (cut_after 10 text).rest
@@ -48,11 +48,11 @@ pub record IsLiveHeard (text written : Text) (refusals : List Refusal) : Type 0 
 -- Listeners --------------------------------------------------------------------------------------
 
 -- the refusal of line n for a reason, if there is one
-abbrev pub refusal_of : ℕ → Option LineReason → Option Refusal
+abbrev pub refusal_of : ℕ → Option LineReason → Option LineRefusal
 refusal_of n None = None
 refusal_of n (Some reason) = Some (record { line = n; reason = Line reason })
 
 -- by what it hears, a listener was told of one refusal, or of none
-abbrev pub IsTold : {X : Type 0} → (X → List Refusal → X → Type 0) → X → Option Refusal → X → Type 0
-IsTold hears old None new = new ≡ old
-IsTold hears old (Some refusal) new = hears old (refusal ∷ []) new
+abbrev pub HeardRefusal : {X : Type 0} → (X → List LineRefusal → X → Type 0) → X → Option LineRefusal → X → Type 0
+HeardRefusal hears old None new = new ≡ old
+HeardRefusal hears old (Some refusal) new = hears old (refusal ∷ []) new

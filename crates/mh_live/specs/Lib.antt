@@ -2,5 +2,5 @@ pub mod Answers
 pub mod Feeding
 pub mod Heard
 pub mod Laws
-pub mod OfState
+pub mod OfMachine
 pub mod OfScript

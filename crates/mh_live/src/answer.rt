@@ -3,7 +3,7 @@
 //! Memory that is refused for the event is answered `refused 9 no memory`, and then nothing is changed: the text of a
 //! dump is made before the dump is done. An event past the 1,000,000th is answered `refused 8 history full`, however
 //! many come. Contracts of this file alone say that it is refused only to an event that may ask for it
-//! (`MayAskForMemory` of `mh_state`).
+//! (`MayAskForMemory` of `mh_machine`).
 ghost use Rattle.std.specs.Prelude.{◌≡◌, ◌<◌, [], ◌++◌, IfOk, OnOk};
 ghost use Rattle.std.specs.String.{string_bytes};
 ghost use Rattle.mh_model.specs.Bytes.{line_text};
@@ -13,14 +13,14 @@ ghost use Rattle.mh_model.specs.Replies.{bad_line_text, reply_text};
 ghost use Rattle.mh_model.specs.declared.command.Control.TheVariants as control;
 ghost use Rattle.mh_model.specs.declared.command.Event.TheVariants as event;
 ghost use Rattle.mh_model.specs.declared.reply.Reply.TheVariants as reply;
-ghost use Rattle.mh_live.specs.Answers.{IsAnswered, full_line, starved_line};
+ghost use Rattle.mh_live.specs.Answers.{IsAnsweredOrNotDone, full_line, starved_line};
 
 use mh_model::command::{Control, Event};
 use mh_model::limits::MOST_EVENTS;
 use mh_model::memory::NoMemory;
 use mh_model::reply::Reply;
+use mh_script::mh_machine::machine::Machine;
 use mh_script::mh_scan::scan::Scanner;
-use mh_script::mh_state::machine::{Machine, Stop};
 use mh_text::reply_line::push_reply_line;
 use std::alloc::Global;
 use std::fmt::Write;
@@ -70,14 +70,14 @@ fn attempt_dump<S: Scanner>(
 ) -> Result<bool, NoMemory>
     requires room { machine.old.done < most_entries }
     requires empty { string_bytes text.old ≡ [] }
-    ensures { IfOk result (IsAnswered machine.old (event.Control control.Dump) (string_bytes text.new) machine.new) }
+    ensures { IfOk result (IsAnsweredOrNotDone machine.old (event.Control control.Dump) (string_bytes text.new) machine.new) }
 {
     if write_dump(alloc, machine, text).is_err() {
         starved(text)?;
         return Ok(false);
     }
     if machine
-        .step(Event::Control(Control::Dump), scanner)
+        .step_in_room(Event::Control(Control::Dump), scanner)
         .is_err()
     {
         starved(text)?;
@@ -95,15 +95,11 @@ fn attempt<S: Scanner>(
 ) -> Result<bool, NoMemory>
     requires room { machine.old.done < most_entries }
     requires empty { string_bytes text.old ≡ [] }
-    ensures { IfOk result (IsAnswered machine.old event (string_bytes text.new) machine.new) }
+    ensures { IfOk result (IsAnsweredOrNotDone machine.old event (string_bytes text.new) machine.new) }
 {
-    let reply = match machine.step(event, scanner) {
-        Ok(reply) => reply,
-        Err(Stop::NoMemory) => {
-            starved(text)?;
-            return Ok(false);
-        }
-        Err(Stop::HistoryFull) => unreachable!(),
+    let Ok(reply) = machine.step_in_room(event, scanner) else {
+        starved(text)?;
+        return Ok(false);
     };
     push_reply_line(text, &reply)?;
     Ok(true)
@@ -119,7 +115,7 @@ pub(crate) fn answer<S: Scanner>(
     text: &mut String,
 ) -> Result<bool, NoMemory>
     requires { string_bytes text.old ≡ [] }
-    ensures { IfOk result (IsAnswered machine.old event (string_bytes text.new) machine.new) }
+    ensures { IfOk result (IsAnsweredOrNotDone machine.old event (string_bytes text.new) machine.new) }
 {
     if machine.done() >= MOST_EVENTS {
         full(text)?;

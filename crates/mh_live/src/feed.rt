@@ -15,8 +15,8 @@
 ghost use Rattle.std.specs.Prelude.{◌≡◌, ◌<◌, ◌≤◌, ◌^◌, ◌++◌, [], Option, IfErr, OnOk, OnErr, IsErrOf, length};
 ghost use Rattle.mh_model.specs.Bytes.{Text};
 ghost use Rattle.mh_text.specs.Stream.{ConsumesSome};
-ghost use Rattle.mh_live.specs.Feeding.{AnswersAll, AnswersFront, AnswersSome, AnswersWhole, IsFed, MayBegin, TakesTurn, TurnsPartly, WritesPart};
-ghost use Rattle.mh_live.specs.Heard.{IsTold, refusal_of, unended_refusal};
+ghost use Rattle.mh_live.specs.Feeding.{AnswersAll, AnswersFront, AnswersSome, AnswersWhole, IsFed, MayBegin, TakesTurn, TurnsPartly, WritesPrefix};
+ghost use Rattle.mh_live.specs.Heard.{HeardRefusal, refusal_of, unended_refusal};
 ghost use Rattle.mh_model.specs.Live.{Waits, unended_text};
 ghost use Rattle.mh_script.specs.Texts.{Blames};
 ghost use Rattle.std.specs.Io.KnownBytes.{Appends};
@@ -24,7 +24,7 @@ ghost use Rattle.std.specs.Io.KnownBytes.{Appends};
 use crate::answer::refused;
 use crate::listener::Listener;
 use crate::live::Live;
-use mh_script::end::Refusal;
+use mh_script::end::LineRefusal;
 use mh_script::fault::{ScriptFault, WriteError};
 use mh_script::mh_reasons::reason::{LineReason, ScriptReason};
 use mh_script::mh_scan::crew_scan::{CrewGate, CrewScan};
@@ -41,11 +41,11 @@ const CHUNK: usize = 65_536;
 
 /// Tells what is wrong with a line, if anything is.
 fn tell<L: Listener>(listener: &mut L, number: u64, why: Option<LineReason>)
-    ensures { IsTold L.hears listener.old (refusal_of number why) listener.new }
+    ensures { HeardRefusal L.hears listener.old (refusal_of number why) listener.new }
 {
     if let Some(reason) = why {
         let reason = ScriptReason::Line(reason);
-        listener.refused(&Refusal {
+        listener.refused(&LineRefusal {
             line: number,
             reason,
         });
@@ -83,7 +83,7 @@ impl Feed {
         listener: &mut L,
     ) -> Result<(), WriteError>
         requires { W.failures sink.old < 2 ^ 62 }
-        ensures done { OnOk result (TakesTurn (λ refusal. IsTold L.hears listener.old refusal listener.new) self.old self.new (W.written sink.old) (W.written sink.new)) }
+        ensures done { OnOk result (TakesTurn (λ refusal. HeardRefusal L.hears listener.old refusal listener.new) self.old self.new (W.written sink.old) (W.written sink.new)) }
         ensures begun { IfErr result (TurnsPartly self.old (W.written sink.old) (W.written sink.new)) }
         ensures untold { OnErr result (listener.new ≡ listener.old) }
         ensures no_failure { OnOk result (W.failures sink.new ≡ W.failures sink.old) }
@@ -144,8 +144,8 @@ impl Feed {
     ) -> Result<(), WriteError>
         requires { W.failures sink.old < 2 ^ 62 }
         ensures done { OnOk result (Appends (W.written sink.old) (W.written sink.new) (unended_text self.old.number self.old.begun.items)) }
-        ensures begun { IfErr result (WritesPart (unended_text self.old.number self.old.begun.items) (W.written sink.old) (W.written sink.new)) }
-        ensures told { OnOk result (IsTold L.hears listener.old (unended_refusal self.old.number self.old.begun.items) listener.new) }
+        ensures begun { IfErr result (WritesPrefix (unended_text self.old.number self.old.begun.items) (W.written sink.old) (W.written sink.new)) }
+        ensures told { OnOk result (HeardRefusal L.hears listener.old (unended_refusal self.old.number self.old.begun.items) listener.new) }
         ensures some { OnErr result (0 < length self.old.begun.items) }
         ensures untold { OnErr result (listener.new ≡ listener.old) }
         ensures no_failure { OnOk result (W.failures sink.new ≡ W.failures sink.old) }
@@ -158,7 +158,7 @@ impl Feed {
         self.answer.clear();
         refused(self.number, &mut self.answer)?;
         write_text(sink, self.answer.as_bytes())?;
-        listener.refused(&Refusal {
+        listener.refused(&LineRefusal {
             line: self.number,
             reason: ScriptReason::NoNewline,
         });
@@ -168,7 +168,7 @@ impl Feed {
 
 /// Reads lines to the end of the source. Those whose ends have come are answered before more bytes are read. The listener
 /// hears of a line outside the grammar after its answer was written, and before the next line is answered. At most `workers`
-/// threads scan at a time. Neither their number nor the gate changes an answer.
+/// threads scan at a time. Neither their number nor the hook changes an answer.
 pub fn run_live<R: Threads, S: Source, W: Sink, L: Listener, G: CrewGate>(
     rt: &R,
     alloc: Global,

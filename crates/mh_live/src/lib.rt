@@ -6,7 +6,7 @@
 #![tactic(auto)]
 
 pub use mh_script;
-pub use mh_script::{mh_scan, mh_state};
+pub use mh_script::{mh_machine, mh_scan};
 pub use mh_text;
 
 mod answer;

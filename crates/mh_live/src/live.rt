@@ -6,7 +6,7 @@
 //! An event after the 1,000,000th and one for which memory is refused are answered so, and change nothing, not even
 //! which names were seen. A line is answered with out of memory only if it is a configuration, a command, a quantum or
 //! a dump. That the event may ask for memory at all is said by private contracts alone (`MayAskForMemory` of
-//! `mh_state`).
+//! `mh_machine`).
 ghost use Rattle.std.specs.Prelude.{◌≡◌, [], true, false, IfOk, OnOk, Some};
 ghost use Rattle.std.specs.String.{string_bytes};
 ghost use Rattle.mh_model.specs.Script.{is_blank, line_of};
@@ -18,10 +18,10 @@ use crate::answer::{answer, refused, starved};
 use crate::names::Names;
 use mh_model::command::Event;
 use mh_model::memory::NoMemory;
+use mh_script::mh_machine::machine::Machine;
 use mh_script::mh_reasons::line::line_reason;
 use mh_script::mh_reasons::reason::LineReason;
 use mh_script::mh_scan::scan::Scanner;
-use mh_script::mh_state::machine::Machine;
 use mh_text::line::{Line, config_line, is_blank, line_of};
 use std::alloc::Global;
 use std::marker::Model;

@@ -5,15 +5,15 @@ use Rattle.std.proofs.lemmas.List.{get_or-set_other}
 use Rattle.std.proofs.lemmas.List.Elements.{filter-append}
 use Rattle.mh_model.specs.History.{LockState, owned_by, with_take, with_give, IsAtHome, IsOut}
 use Rattle.mh_seat_laws.proofs.lock.TakesAndGives.{with_give-kept}
-use Rattle.mh_lock.specs.Seats.{LockView, LockSeatView, IsTakenAndGiven, entry_of}
+use Rattle.mh_lock.specs.Seats.{LockView, LockSeatView, IsTakenAndGiven, entry_of_call}
 use Rattle.mh_lock.specs.Steps.{WasAtHome}
 
 -- what an answer leaves of a list that gets its entry, if it has one
-pub entries-answered : {R F E : Type 0} (before after : List E) (answer : Result R F) (entry : R → E) → IfOk answer (λ r. after ≡ before ++ entry r ∷ []) → OnErr answer (after ≡ before) → after ≡ before ++ option_to_list (entry_of entry answer)
+pub entries-answered : {R F E : Type 0} (before after : List E) (answer : Result R F) (entry : R → E) → IfOk answer (λ r. after ≡ before ++ entry r ∷ []) → OnErr answer (after ≡ before) → after ≡ before ++ option_to_list (entry_of_call entry answer)
 entries-answered before after (Ok reply) entry ok err = ok
 entries-answered before after (Err refusal) entry ok err = err ∙ sym (append-nil before)
 
-pub entry-owned : {R F E : Type 0} (owner : E → ℕ) (seat : ℕ) (answer : Result R F) (entry : R → E) → ((r : R) → owner (entry r) ≡ seat) → (e : E) → entry_of entry answer ≡ Some e → owner e ≡ seat
+pub entry-owned : {R F E : Type 0} (owner : E → ℕ) (seat : ℕ) (answer : Result R F) (entry : R → E) → ((r : R) → owner (entry r) ≡ seat) → (e : E) → entry_of_call entry answer ≡ Some e → owner e ≡ seat
 entry-owned owner seat (Ok reply) entry owned e is = let same : entry reply ≡ e = cc in ap owner (sym same) ∙ owned reply
 entry-owned owner seat (Err refusal) entry owned e is = cc
 

@@ -32,9 +32,9 @@ pub record IsKeptAtHome {O E : Type 0} (owner : E → ℕ) (lock : LockView O) (
   pub logs : All (λ seat. get_or state.logs seat.number [] ≡ seat.log) seats
 
 -- the entry of a call that was answered; one that was refused has none
-abbrev pub entry_of : {R F E : Type 0} → (R → E) → Result R F → Option E
-entry_of entry (Ok reply) = Some (entry reply)
-entry_of entry (Err refusal) = None
+abbrev pub entry_of_call : {R F E : Type 0} → (R → E) → Result R F → Option E
+entry_of_call entry (Ok reply) = Some (entry reply)
+entry_of_call entry (Err refusal) = None
 
 -- The model's lock over a call of a seat: at home with the history found, and then taken by the seat; then given back with the entry of the call or
 -- none, and at home with the history left

@@ -12,7 +12,7 @@
 //! word for the last time, so none sleeps unseen. That sleepers are woken is tested, not proved.
 ghost use Rattle.std.specs.Prelude.{◌≡◌, ◌≢◌, ◌+◌, ◌<◌, ◌==◌, [], ◌∷◌, ◌++◌, ℕ, List, Option, None, true, false, All, IfOk, IfErr, OnErr, count_by, map, slice_index_or, vec_len};
 ghost use Rattle.mh_model.specs.History.{owned_by};
-ghost use Rattle.mh_lock.specs.Seats.{LockSeatView, IsOf, new_seat, IsKeptAtHome, IsDoneUnderLock, entry_of};
+ghost use Rattle.mh_lock.specs.Seats.{LockSeatView, IsOf, new_seat, IsKeptAtHome, IsDoneUnderLock, entry_of_call};
 ghost use Rattle.mh_lock.specs.Steps.{alone, log_in, number_in, held, held_origin, HasTaken, CanGive};
 
 use crate::entries::{Entries, Owned, Work};
@@ -245,7 +245,7 @@ impl<T: Entries<E> + Drop, E: Owned> Lock<T, E> {
         requires own { IsOf self.now seat.old }
         requires owned { (reply : W.Reply) → E.owner (W.entry work reply) ≡ seat.old.number }
         ensures own { IsOf self.now seat.new × (seat.new.number ≡ seat.old.number) }
-        ensures alone { IsDoneUnderLock E.owner T.entries T.origin (λ found left. W.does work found result left) self.now seat.old seat.new (entry_of (W.entry work) result) }
+        ensures alone { IsDoneUnderLock E.owner T.entries T.origin (λ found left. W.does work found result left) self.now seat.old seat.new (entry_of_call (W.entry work) result) }
         ensures ok { IfOk result (λ reply. seat.new.log ≡ seat.old.log ++ W.entry work reply ∷ []) }
         ensures err { OnErr result (seat.new.log ≡ seat.old.log) }
     {

@@ -15,8 +15,8 @@ use Rattle.mh_grey.proofs.ShadeLemmas.{shade-marked, shade-new}
 use Rattle.mh_grey.proofs.StampLemmas.{change-view, IsLike, like-trans, like-reference, home-like, IsShaded, shaded, place-stamped}
 use Rattle.mh_scan.specs.Scanning.{IsScannable, is_reached, is_settled, settled_in}
 use Rattle.mh_mark.specs.Batched.{IsMarkable, blocks_marked}
-use Rattle.mh_mark.specs.Walkable.{IsAtHome}
-use Rattle.mh_mark.specs.Kept.{IsReached, IsSettled, KeepsMarking}
+use Rattle.mh_mark.specs.Walkable.{IsResolved}
+use Rattle.mh_mark.specs.Kept.{IsReached, HasSettledReferences, KeepsMarking}
 use Rattle.mh_mark.proofs.MarkLemmas.{IsMarkingOn}
 use Rattle.mh_table_laws.proofs.marking.BatchMarking.{leads_of}
 use Rattle.mh_mark.proofs.ReferenceLemmas.{home-leads, at_home-leads, target-at_home, references_written, class-with_block, class-shaded, marked-written, write, write-home, marked-null, marked-straight}
@@ -82,14 +82,14 @@ reached-kept m new like cycle stamps None reached = tt
 reached-kept m new like cycle stamps (Some p) reached = (like.forwards p ∙ reached.0, stamps p reached.1 ∙ sym cycle)
 
 -- and so does the one that is written
-reached-written : (m : Marking) (place index : ℕ) (target : Option ℕ) → IsAtHome m.table target → IsLike m.table (write m place index target).table → (write m place index target).cycle ≡ m.cycle → IsReached (write m place index target) target
+reached-written : (m : Marking) (place index : ℕ) (target : Option ℕ) → IsResolved m.table target → IsLike m.table (write m place index target).table → (write m place index target).cycle ≡ m.cycle → IsReached (write m place index target) target
 reached-written m place index None home like cycle = tt
 reached-written m place index (Some p) home like cycle =
     let between : Marking = record m { table = with_reference_at m.table place index (Some p) } in
     let stamped : stamp_at (shade_place between p).table p ≡ m.cycle = place-stamped between p ((like-reference m.table place index (Some p)).there p ∙ home.0) in
     (like.forwards p ∙ home.1, ap (λ (x : Marking). stamp_at x.table p) (write-home m place index p home.1) ∙ stamped ∙ sym cycle)
 
-pub write-kept : (m : Marking) (place index : ℕ) (target : Option ℕ) → IsAtHome m.table target → KeepsMarking m (write m place index target)
+pub write-kept : (m : Marking) (place index : ℕ) (target : Option ℕ) → IsResolved m.table target → KeepsMarking m (write m place index target)
 write-kept m place index target at_home =
     let home : LeadsHome m.table target = at_home-leads m.table target at_home in
     let written = with_reference_at m.table place index target in
@@ -146,7 +146,7 @@ reached-same m place index (Some p) is reached =
     marked (Some block) e = rw (eq-eqb block.stamp m.cycle e) refl
 
 -- and so does marking through a settled block
-pub settled-same : (m : Marking) (place : ℕ) → IsSettled m place → mark_references m place 0 (references_at m.table place) ≡ m
+pub settled-same : (m : Marking) (place : ℕ) → HasSettledReferences m place → mark_references m place 0 (references_at m.table place) ≡ m
 settled-same m place settled = over (references_at m.table place) 0 (λ k below. let same : k ≡ k + 0 = omega arith in ap (reference_at m.table place) same) settled
   where
     over : (rs : List (Option ℕ)) (index : ℕ) → ((k : ℕ) → k < length rs → get_or rs k None ≡ reference_at m.table place (k + index)) → ((k : ℕ) → k < length rs → IsReached m (get_or rs k None)) → mark_references m place index rs ≡ m
@@ -158,7 +158,7 @@ settled-same m place settled = over (references_at m.table place) 0 (λ k below.
         ∙ over rs (suc index) (λ k below. let next : suc k + index ≡ k + suc index = omega arith in at (suc k) (omega arith) ∙ ap (reference_at m.table place) next) (λ k below. each (suc k) (omega arith))
 
 -- what the test of a block says
-pub settled-from : (table : Table Block) (grey : List ℕ) (cycle place : ℕ) → is_settled table cycle place ≡ true → IsSettled (marking table grey cycle) place
+pub settled-from : (table : Table Block) (grey : List ℕ) (cycle place : ℕ) → is_settled table cycle place ≡ true → HasSettledReferences (marking table grey cycle) place
 settled-from table grey cycle place is = each (references_at table place) is
   where
     reached : (r : Option ℕ) → is_reached table cycle r ≡ true → IsReached (marking table grey cycle) r
@@ -177,7 +177,7 @@ settled-from table grey cycle place is = each (references_at table place) is
     each (r ∷ rs) e (suc i) below = each rs (and_parts (is_reached table cycle r) (list_all (is_reached table cycle) rs) e).1 i (omega arith)
 
 -- and the answer for a block of a batch
-pub settled-at : (table : Table Block) (grey : List ℕ) (cycle : ℕ) (batch : List ℕ) (settled : List Bool) (index : ℕ) → settled ≡ settled_in table cycle batch → index < length batch → get_or settled index false ≡ true → IsSettled (marking table grey cycle) (get_or batch index 0)
+pub settled-at : (table : Table Block) (grey : List ℕ) (cycle : ℕ) (batch : List ℕ) (settled : List Bool) (index : ℕ) → settled ≡ settled_in table cycle batch → index < length batch → get_or settled index false ≡ true → HasSettledReferences (marking table grey cycle) (get_or batch index 0)
 settled-at table grey cycle batch settled index is below answer =
     settled-from table grey cycle (get_or batch index 0) (sym (get_or-map (is_settled table cycle) batch index 0 false below) ∙ sym (ap (λ l. get_or l index false) is) ∙ answer)
 
@@ -202,7 +202,7 @@ blocks-goes start batch m table grey index on below a b kept =
     }
 
 -- a settled block is skipped
-pub blocks-skips : (start : Marking) (batch : List ℕ) (m : Marking) (index : ℕ) → IsBlocksOn start batch m index → index < length batch → IsSettled start (get_or batch index 0) → IsBlocksOn start batch m (index + 1)
+pub blocks-skips : (start : Marking) (batch : List ℕ) (m : Marking) (index : ℕ) → IsBlocksOn start batch m index → index < length batch → HasSettledReferences start (get_or batch index 0) → IsBlocksOn start batch m (index + 1)
 blocks-skips start batch m index on below settled =
     let place = get_or batch index 0 in
     record {

@@ -12,7 +12,7 @@ use Rattle.mh_grey.specs.Queue.{is_in}
 use Rattle.mh_grey.specs.Shading.{IsApartAt, AreMarked}
 use Rattle.mh_grey.proofs.ShadeLemmas.{shade-cases}
 use Rattle.mh_grey.proofs.StampLemmas.{change-view, like-reference}
-use Rattle.mh_mark.specs.Walkable.{IsAtHome}
+use Rattle.mh_mark.specs.Walkable.{IsResolved}
 
 -- Where references lead ------------------------------------------------------------------------------
 
@@ -21,13 +21,13 @@ home-leads table None home = tt
 home-leads table (Some place) home = (there_before table place home.0, home.0)
 
 -- what a reference to a block that is no forwarder leads to is that block
-pub at_home-leads : (table : Table Block) (reference : Option ℕ) → IsAtHome table reference → LeadsHome table reference
+pub at_home-leads : (table : Table Block) (reference : Option ℕ) → IsResolved table reference → LeadsHome table reference
 at_home-leads table None home = tt
 at_home-leads table (Some place) home =
     let same : resolve table place ≡ place = ap (λ o. unwrap_or o place) home.1 in
     rw same home
 
-pub target-at_home : (table : Table Block) (reference : Option ℕ) → LeadsHome table reference → IsAtHome table (target_of table reference)
+pub target-at_home : (table : Table Block) (reference : Option ℕ) → LeadsHome table reference → IsResolved table (target_of table reference)
 target-at_home table None home = tt
 target-at_home table (Some place) home = home
 
@@ -124,13 +124,13 @@ marked-straight m place index target read moved at reads seen none =
 pub record IsMoved (table : Table Block) (place index from target : ℕ) : Type 0 where
   pub reference : reference_at table place index ≡ Some from
   pub leads : target ≡ resolve table from
-  pub home : IsAtHome table (Some target)
+  pub home : IsResolved table (Some target)
 
 pub is_moved : (table : Table Block) (place index from target : ℕ) (read : Option ℕ) → LeadsHome table (reference_at table place index) → read ≡ reference_at table place index → read ≡ Some from → target ≡ resolve table from
     → IsMoved table place index from target
 is_moved table place index from target read home at is leads =
     let reference : reference_at table place index ≡ Some from = sym at ∙ is in
-    record { reference = reference; leads = leads; home = subst (λ p. IsAtHome table (Some p)) (sym leads) (subst (LeadsHome table) reference home) }
+    record { reference = reference; leads = leads; home = subst (λ p. IsResolved table (Some p)) (sym leads) (subst (LeadsHome table) reference home) }
 
 pub marked-moved : (m : Marking) (place index from target : ℕ) → IsMoved m.table place index from target
     → shade_place (record m { table = with_reference_at m.table place index (Some target) }) target ≡ mark_reference m place index (reference_at m.table place index)
@@ -138,7 +138,7 @@ marked-moved m place index from target is =
     sym (ap (mark_reference m place index) is.reference ∙ ap (λ p. write m place index (Some p)) (sym is.leads) ∙ write-home m place index target is.home.1)
 
 -- the block is there after the reference was written
-pub written-there : (table : Table Block) (place index target : ℕ) (reference : Option ℕ) → IsAtHome table (Some target) → IsSome (block_at (with_reference_at table place index reference) target)
+pub written-there : (table : Table Block) (place index target : ℕ) (reference : Option ℕ) → IsResolved table (Some target) → IsSome (block_at (with_reference_at table place index reference) target)
 written-there table place index target reference home = (like-reference table place index reference).there target ∙ home.0
 
 -- if grey places are marked, a place may be shaded, and after a reference is written too

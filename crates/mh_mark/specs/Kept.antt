@@ -13,8 +13,8 @@ IsReached marking None = Unit {0}
 IsReached marking (Some place) = (forward_at marking.table place ≡ None) × (stamp_at marking.table place ≡ marking.cycle)
 
 -- each reference of the block at a place is so, as `is_settled` says
-abbrev pub IsSettled : Marking → ℕ → Type 0
-IsSettled marking place = (index : ℕ) → index < length (references_at marking.table place) → IsReached marking (reference_at marking.table place index)
+abbrev pub HasSettledReferences : Marking → ℕ → Type 0
+HasSettledReferences marking place = (index : ℕ) → index < length (references_at marking.table place) → IsReached marking (reference_at marking.table place index)
 
 -- what marking leaves as it was: the classes of pages, and where each block is, where it leads and how many references it has.
 -- References that led home still do, marked grey places and settled blocks stay so, and what is newly grey is no forwarder
@@ -27,5 +27,5 @@ pub record KeepsMarking (old new : Marking) : Type 0 where
   pub lead : (place : ℕ) → LeadHome old.table place → LeadHome new.table place
   pub cycle : new.cycle ≡ old.cycle
   pub marked : AreMarked old.table old.cycle old.grey → AreMarked new.table new.cycle new.grey
-  pub settled : (place : ℕ) → IsSettled old place → IsSettled new place
+  pub settled : (place : ℕ) → HasSettledReferences old place → HasSettledReferences new place
   pub grey : (place : ℕ) → is_in place new.grey ≡ true → (is_in place old.grey ≡ true) ⊎ (IsSome (block_at new.table place) × (forward_at new.table place ≡ None))

@@ -6,9 +6,9 @@ use Rattle.mh_grey.specs.Queue.{is_in}
 use Rattle.mh_grey.specs.Shading.{AreMarked}
 
 -- a reference is null, or the place of a block that is no forwarder
-abbrev pub IsAtHome : Table Block → Option ℕ → Type 0
-IsAtHome table None = Unit {0}
-IsAtHome table (Some place) = IsSome (block_at table place) × (forward_at table place ≡ None)
+abbrev pub IsResolved : Table Block → Option ℕ → Type 0
+IsResolved table None = Unit {0}
+IsResolved table (Some place) = IsSome (block_at table place) × (forward_at table place ≡ None)
 
 -- the references of the block at a place lead in one hop at most to blocks that are no forwarders
 abbrev pub LeadHome : Table Block → ℕ → Type 0

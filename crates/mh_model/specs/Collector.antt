@@ -5,6 +5,7 @@ use Rattle.mh_model.specs.declared.cycle.Phase.{Phase}
 use Rattle.mh_model.specs.declared.cycle.Phase.TheVariants.{Idle, Roots, Mark, Sweep, Defrag}
 use Rattle.mh_model.specs.Pages.{Page, Table, page_number, slot_number, page_at, block_in, block_at, live_in, free_pages, has_denser, least_dense_place, page_with, with_block, with_taken}
 use Rattle.mh_model.specs.Table.{Block, references_at, with_reference_at, is_forwarder, resolve, target_of}
+use Rattle.mh_model.specs.Limits.{root_slots}
 
 -- the table and the slots; the phase, with the next slot of the roots or the next place of the sweep or of defragmentation; the grey list;
 -- the cycle's number; whether a cycle is asked for; and how many quanta the running cycle has had, with the one that started it, and 0 if none runs
@@ -21,7 +22,7 @@ pub record Collector : Type 0 where
 
 -- the collector at first: each page is free, each slot is empty, and no cycle has run
 abbrev pub first_collector : Config → Collector
-first_collector config = record { table = replicate config.pages None; slots = replicate 144 None; phase = Idle; cursor = 0; grey = []; cycle = 0; is_asked = false; quanta = 0 }
+first_collector config = record { table = replicate config.pages None; slots = replicate root_slots None; phase = Idle; cursor = 0; grey = []; cycle = 0; is_asked = false; quanta = 0 }
 
 -- Shading ----------------------------------------------------------------------------------------
 
@@ -174,7 +175,7 @@ forwarded_slots table slots = map (target_of table) slots
 abbrev pub move_cost : Bool → Option Move → ℕ
 move_cost has_moved None = 1
 move_cost true (Some move) = 1 + move.class_size
-move_cost false (Some move) = 1 + move.class_size + 144
+move_cost false (Some move) = 1 + move.class_size + root_slots
 
 -- Steps ------------------------------------------------------------------------------------------
 
@@ -251,7 +252,7 @@ cycle_end collector = record collector { phase = Idle; cursor = 0; quanta = 0 }
 -- from: Metronome; own
 abbrev pub phase_after : Phase → Collector → Collector
 phase_after Idle collector = collector
-phase_after Roots collector = if collector.cursor == 144 then after_mark collector collector.grey else collector
+phase_after Roots collector = if collector.cursor == root_slots then after_mark collector collector.grey else collector
 phase_after Mark collector = after_mark collector collector.grey
 phase_after Sweep collector = if is_past collector.table collector.cursor then with_phase collector Defrag 0 else collector
 phase_after Defrag collector = if is_past collector.table collector.cursor then cycle_end collector else collector

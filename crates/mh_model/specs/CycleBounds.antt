@@ -10,6 +10,7 @@ use Rattle.mh_model.specs.Table.{Block, references_at}
 use Rattle.mh_model.specs.Collector.{Collector, Marking, is_marked, marking_of, is_idle}
 use Rattle.mh_model.specs.Batches.{NoneTwice}
 use Rattle.mh_model.specs.Bound.{most_steps, most_units}
+use Rattle.mh_model.specs.Limits.{quantum_overhead, root_slots}
 
 -- What marking costs -----------------------------------------------------------------------------
 
@@ -66,7 +67,7 @@ movable_words collector = movable (length collector.table) (page_number collecto
 -- how many steps a cycle may still take, by its phase
 abbrev pub steps_left : Phase → Collector → ℕ
 steps_left Idle collector = 0
-steps_left Roots collector = (144 - collector.cursor) + weight in_steps (marking_of collector) + 128 * length collector.table
+steps_left Roots collector = (root_slots - collector.cursor) + weight in_steps (marking_of collector) + 128 * length collector.table
 steps_left Mark collector = weight in_steps (marking_of collector) + 128 * length collector.table
 steps_left Sweep collector = (64 * length collector.table - collector.cursor) + 64 * length collector.table
 steps_left Defrag collector = 64 * length collector.table - collector.cursor
@@ -74,7 +75,7 @@ steps_left Defrag collector = 64 * length collector.table - collector.cursor
 -- how many units a cycle may still spend, by its phase, without the charge for slots
 abbrev pub units_left : Phase → Collector → ℕ
 units_left Idle collector = 0
-units_left Roots collector = 2 * (144 - collector.cursor) + weight in_units (marking_of collector) + 384 * length collector.table
+units_left Roots collector = 2 * (root_slots - collector.cursor) + weight in_units (marking_of collector) + 384 * length collector.table
 units_left Mark collector = weight in_units (marking_of collector) + 384 * length collector.table
 units_left Sweep collector = (64 * length collector.table - collector.cursor) + 320 * length collector.table
 units_left Defrag collector = (64 * length collector.table - collector.cursor) + movable_words collector
@@ -105,7 +106,7 @@ pub record IsGreySound (marking : Marking) : Type 0 where
 -- where a phase stands: its cursor in range, and the grey list empty outside the roots and marking, and not empty in marking
 abbrev pub StageOf : Phase → Collector → Type 0
 StageOf Idle collector = collector.grey ≡ []
-StageOf Roots collector = collector.cursor < 144
+StageOf Roots collector = collector.cursor < root_slots
 StageOf Mark collector = 0 < length collector.grey
 StageOf Sweep collector = (collector.grey ≡ []) × (collector.cursor < 64 * length collector.table)
 StageOf Defrag collector = (collector.grey ≡ []) × (collector.cursor < 64 * length collector.table)
@@ -119,7 +120,7 @@ pub record IsUnderway (collector : Collector) : Type 0 where
 -- so many quanta and what is left are within the most of a cycle, in steps and in units
 pub record IsWithin (config : Config) (quanta steps units : ℕ) : Type 0 where
   pub by_steps : quanta + steps ≤ most_steps config
-  pub by_units : 353 ≤ config.quantum → quanta * (config.quantum - 352) + units ≤ most_units config
+  pub by_units : quantum_overhead < config.quantum → quanta * (config.quantum - quantum_overhead) + units ≤ most_units config
 
 -- a collector within the bounds of its cycle: the quanta that it has had and what is left are within the most; between two cycles no quantum is counted
 pub record IsInBounds (config : Config) (collector : Collector) : Type 0 where

@@ -13,6 +13,7 @@ use Rattle.mh_model.specs.Machine.{Machine, first_machine, half_step, event_step
 use Rattle.mh_model.specs.Snapshot.{Moment, first_moment, half_moment, next_moment, has_quantum, snapshot_at}
 use Rattle.mh_model.specs.Batches.{NoneTwice}
 use Rattle.mh_model.specs.Openings.{class_parts}
+use Rattle.mh_model.specs.Limits.{quantum_overhead, root_slots}
 
 -- Marking -----------------------------------------------------------------------------------------
 
@@ -100,8 +101,8 @@ most_moves list = greatest_of slots_and_moves list class_sizes
 -- what a cycle spends at most without the charge for slots, if nothing goes into flagged pages: 2 for each root, so many to mark, and the sweep and
 -- defragmentation of pages of these parts
 abbrev pub units_for : Config → ℕ → List Part → ℕ
-units_for config marked list = 288 + marked + (most_slots list + most_moves list) * config.pages
+units_for config marked list = 2 * root_slots + marked + (most_slots list + most_moves list) * config.pages
 
 -- the most quanta of a cycle that marks so much, in pages of these parts: all but 352 units of one that leaves the cycle running go to the cycle
 abbrev pub quanta_for : Config → ℕ → List Part → ℕ
-quanta_for config marked list = units_for config marked list / (config.quantum - 352) + 1
+quanta_for config marked list = units_for config marked list / (config.quantum - quantum_overhead) + 1

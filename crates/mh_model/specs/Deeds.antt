@@ -30,6 +30,7 @@ use Rattle.mh_model.specs.Table.{Block, references_at, target_of, made_part}
 use Rattle.mh_model.specs.Collector.{Collector, Marking, Spending, Move, is_marked, mark_reference, swept_page, flagged_page, next_move, marking_of, roots_step, collector_step, step_cost, is_moving, is_idle, is_start_due, quantum_start, quantum}
 use Rattle.mh_model.specs.Mutator.{HeapState, mutator_step}
 use Rattle.mh_model.specs.Machine.{Machine, is_quantum_due, command_step}
+use Rattle.mh_model.specs.Limits.{root_slots}
 
 -- which part of which object a block is
 abbrev pub name_of : Block → PartName
@@ -146,7 +147,7 @@ deed_units (deed.Pass page) = 1
 deed_units (deed.Sweep place fate) = 1
 deed_units (deed.Stay place) = 1
 deed_units (deed.Move place to name class_size) = 1 + class_size
-deed_units deed.ForwardRoots = 144
+deed_units deed.ForwardRoots = root_slots
 deed_units _ = 0
 
 abbrev pub units_of : List Deed → ℕ

@@ -1,7 +1,7 @@
 -- What the sessions of a run need of a heap, by the ever-growing world alone: what can be told of a run before it is made.
 -- Quanta are run as in a machine that is never full: by the scheduler, or on request without one. So what is needed doesn't depend on pages, quantum
 -- or trigger.
-use Rattle.std.specs.Prelude.{ℕ, ◌+◌, ◌-◌, ◌*◌, ◌/◌, ◌==◌, ◌≤◌, ◌⊎◌, nat_le, Bool, false, not, ◌&&◌, if◌then◌else◌, List, [], ◌∷◌, ◌++◌}
+use Rattle.std.specs.Prelude.{ℕ, ◌+◌, ◌-◌, ◌*◌, ◌/◌, ◌==◌, ◌≤◌, ◌⊎◌, nat_le, Bool, false, not, ◌&&◌, if◌then◌else◌, List, [], ◌∷◌, ◌++◌, ◌<◌}
 use Rattle.std.specs.List.{AllByRecursion, flat_map}
 use Rattle.mh_model.specs.declared.command.Control.TheVariants as control
 use Rattle.mh_model.specs.declared.command.Event.{Event}
@@ -14,6 +14,7 @@ use Rattle.mh_model.specs.Machine.{command_units}
 use Rattle.mh_model.specs.Openings.{asked_parts, asked_count, opens_at_most}
 use Rattle.mh_model.specs.CycleUnits.{ReachesAtMost, most_slots, most_moves}
 use Rattle.mh_model.specs.LiveParts.{HasAtMostLive}
+use Rattle.mh_model.specs.Limits.{quantum_overhead, root_slots}
 
 -- Runs of the ever-growing world ------------------------------------------------------------------
 
@@ -61,23 +62,23 @@ run_intervals before run (event ∷ events) =
 -- these open; and what a page costs a cycle, for the classes of the parts that are asked for
 pub record NeedNoMore (needs : Needs) (config : Config) (events : List Event) : Type 0 where
   pub live : AllByRecursion (HasAtMostLive needs.live) (run_worlds (first_run config) events)
-  pub marked : AllByRecursion (ReachesAtMost needs.marked) (run_worlds (first_run config) events)
+  pub marked : AllByRecursion (ReachesAtMost needs.marking_units) (run_worlds (first_run config) events)
   pub asked : AllByRecursion (λ interval. asked_count config interval ≤ needs.asked) (run_intervals [] (first_run config) events)
   pub opened : AllByRecursion (λ interval. opens_at_most config interval ≤ needs.opened) (run_intervals [] (first_run config) events)
-  pub page : let list = flat_map (asked_parts config) events in most_slots list + most_moves list ≤ needs.page
+  pub page : let list = flat_map (asked_parts config) events in most_slots list + most_moves list ≤ needs.page_units
 
 -- what a cycle spends at most by these needs, without the charge for slots: 2 for each root, what it marks, and the sweep and the defragmentation of each page
 abbrev pub units_needed : Needs → ℕ → ℕ
-units_needed needs pages = 288 + needs.marked + needs.page * pages
+units_needed needs pages = 2 * root_slots + needs.marking_units + needs.page_units * pages
 
 -- the most quanta of a cycle by these needs: all but 352 units of one that leaves the cycle running go to the cycle
 abbrev pub quanta_needed : Needs → Config → ℕ
-quanta_needed needs config = units_needed needs config.pages / (config.quantum - 352) + 1
+quanta_needed needs config = units_needed needs config.pages / (config.quantum - quantum_overhead) + 1
 
 -- a cycle takes no more than so many quanta: by the bound of any cycle, or by what is needed if a quantum has more than 352 units. So the lesser of
 -- both is enough. The second wants 353 units, since 352 may go to the charge for slots and to what is left over
 abbrev pub AreEnoughQuanta : Needs → Config → ℕ → Type 0
-AreEnoughQuanta needs config quanta = (most_quanta config ≤ quanta) ⊎ ((353 ≤ config.quantum) × (quanta_needed needs config ≤ quanta))
+AreEnoughQuanta needs config quanta = (most_quanta config ≤ quanta) ⊎ ((quantum_overhead < config.quantum) × (quanta_needed needs config ≤ quanta))
 
 -- a configuration has enough for cycles of so many quanta: pages for the live parts; for the parts that come between the first and the last quantum
 -- of a cycle; and for the free pages that it leaves. With its trigger a cycle starts in time

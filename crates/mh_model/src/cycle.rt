@@ -1,5 +1,8 @@
 //! The phases of the collector, and the units that a quantum spent. `Spent` is a type of its own, which contracts see
 //! as its number.
+ghost use Rattle.std.specs.Prelude.{◌≡◌};
+ghost use Rattle.mh_model.specs.Numbered.{phase_number};
+
 use std::marker::Model;
 
 /// What the collector is at.
@@ -10,6 +13,21 @@ pub enum Phase {
     Mark,
     Sweep,
     Defrag,
+}
+
+impl Phase {
+    /// Its number, from 0, in the order of a cycle.
+    pub fn number(self) -> u64
+        ensures { result ≡ phase_number self }
+    {
+        match self {
+            Phase::Idle => 0,
+            Phase::Roots => 1,
+            Phase::Mark => 2,
+            Phase::Sweep => 3,
+            Phase::Defrag => 4,
+        }
+    }
 }
 
 /// The work units that a quantum spent.

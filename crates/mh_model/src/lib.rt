@@ -27,6 +27,7 @@
 #![tactic(auto)]
 
 pub mod birth;
+pub mod bound;
 pub mod command;
 pub mod config;
 pub mod cycle;

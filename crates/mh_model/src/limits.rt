@@ -1,8 +1,8 @@
 //! The numbers of the rules, each named once for the code. The model has them where it speaks of them.
 //!
 //! Here are those that several crates need. The texts of `mh_command_line` and `mh_program` that name the limits of a
-//! configuration spell them again. Other numbers are where they are used: the bound of a cycle in `mh_cycle`, and once
-//! more in `mh_sizing`, which stands on no collector; the sizes of batches and pieces in `mh_mark` and `mh_scan`.
+//! configuration spell them again. Other numbers are where they are used: the sizes of batches and pieces in `mh_mark`
+//! and `mh_scan`.
 
 /// The most pages of a heap.
 pub const MOST_PAGES: u32 = 4096;
@@ -41,6 +41,16 @@ pub const SESSION_SLOTS: usize = 16;
 
 /// The root slots: those of the sessions, then those of the board.
 pub const ROOT_SLOTS: usize = SESSIONS * SESSION_SLOTS + SESSION_SLOTS;
+
+/// Of a quantum that leaves a cycle running, at most so many units are not spent on the cycle: fewer than the dearest step are
+/// left, and the root slots are charged once.
+pub const QUANTUM_OVERHEAD: u32 = LEAST_QUANTUM - 1 + ROOT_SLOTS as u32;
+
+/// The most steps of a cycle on a page.
+pub const PAGE_STEPS: u64 = 192;
+
+/// The most units of a cycle on a page, without the charge for the root slots.
+pub const PAGE_UNITS: u64 = 640;
 
 /// The most entries of a history, and the most events of a script that are answered.
 pub const MOST_EVENTS: u64 = 1_000_000;

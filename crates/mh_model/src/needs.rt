@@ -6,11 +6,11 @@ pub struct Needs {
     /// The most parts of objects that are reachable at a time.
     pub live: u32,
     /// The most marking units of those parts: 1 for each, and 1 for each of its references.
-    pub marked: u32,
+    pub marking_units: u32,
     /// The most parts that an interval between two quanta asks for.
     pub asked: u32,
     /// The most pages that such an interval opens.
     pub opened: u32,
     /// The most units that a cycle spends on a page after marking, for the classes that occur: 192 for all.
-    pub page: u32,
+    pub page_units: u32,
 }

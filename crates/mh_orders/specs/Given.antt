@@ -2,6 +2,7 @@
 use Rattle.std.specs.Prelude.{ℕ, nat_le, Bool, true, ◌&&◌, Option, None, Some}
 use Rattle.mh_orders.specs.declared.target_options.Given.{Given}
 use Rattle.mh_orders.specs.declared.target_options.Given.TheVariants.{Every, Nothing, Quantum}
+use Rattle.mh_model.specs.Limits.{least_quantum}
 
 -- a number is no less than one and no more than another
 abbrev pub is_between : ℕ → ℕ → ℕ → Bool
@@ -16,4 +17,4 @@ may_be least most (Some number) = is_between least most number
 abbrev pub is_given_within : Given → Bool
 is_given_within Nothing = true
 is_given_within (Every every) = is_between 1 1000000 every
-is_given_within (Quantum quantum) = is_between 209 1000000 quantum
+is_given_within (Quantum quantum) = is_between least_quantum 1000000 quantum

@@ -2,6 +2,7 @@
 //! no more of them.
 ghost use Rattle.std.specs.Prelude.{◌≤◌, IsTrue};
 ghost use Rattle.mh_orders.specs.Given.{may_be};
+ghost use Rattle.mh_model.specs.Limits.{least_quantum};
 
 use crate::allocations::Allocations;
 
@@ -23,5 +24,5 @@ pub struct HeapOptions {
     pub ghost every_within: { (1 ≤ every) × (every ≤ 1000000) },
     pub ghost few_live: { live ≤ 1048576 },
     pub ghost few_references: { IsTrue (may_be 0 1048576 references) },
-    pub ghost quantum_within: { IsTrue (may_be 209 1000000 quantum) },
+    pub ghost quantum_within: { IsTrue (may_be least_quantum 1000000 quantum) },
 }

@@ -13,7 +13,7 @@ use Rattle.mh_model.specs.Invariant.{HeapKeeps, IsKeeping, IsSteady}
 use Rattle.mh_laws.specs.Barriers.{RootsWrittenKeepTheSnapshot, ObjectsMadeKeepTheSnapshot}
 use Rattle.mh_laws.specs.Snapshots.{CommandsKeepTheSnapshot, HeapsStayKept}
 use Rattle.mh_laws.specs.Bounds.{CollectorsStayInBounds}
-use Rattle.mh_cycle.specs.State.{CycleState, with_collector, first_state}
+use Rattle.mh_cycle.specs.State.{CycleState, state_with_collector, first_state}
 use Rattle.mh_paged.specs.Kept.{KeepsEachWorld, Steps, heap_of, IsHeap}
 
 pub kept-after : HeapsStayKept → CollectorsStayInBounds → (old new : CycleState) (birth next : ℕ) (ended left : List Bool) → IsHeap old birth ended → new.config ≡ old.config → (who : ℕ) (command : Command) (reply : Reply) → Steps (heap_of old birth ended) who command reply (heap_of new next left)
@@ -30,11 +30,11 @@ pub steady-cleared : RootsWrittenKeepTheSnapshot → (c new : Collector) (slot :
 steady-cleared law c new slot is steady = subst IsSteady (sym is) (steady.0, steady.1, law steady.0 steady.1 c slot None (λ place e. absurd (none-some place e)) steady.2)
 
 -- a cycle is asked for
-pub kept-asked : HeapsStayKept → CollectorsStayInBounds → (old new : CycleState) (birth : ℕ) (ended : List Bool) → IsHeap old birth ended → new ≡ with_collector old (record (old.collector) { is_asked = true }) → IsHeap new birth ended
+pub kept-asked : HeapsStayKept → CollectorsStayInBounds → (old new : CycleState) (birth : ℕ) (ended : List Bool) → IsHeap old birth ended → new ≡ state_with_collector old (record (old.collector) { is_asked = true }) → IsHeap new birth ended
 kept-asked kept bounded old new birth ended is asked = rw asked (record { keeping = kept.asking (heap_of old birth ended) is.keeping; bounds = bounded.asking old.config old.collector is.bounds })
 
 -- a quantum is run
-pub kept-quantum : HeapsStayKept → CollectorsStayInBounds → (old new : CycleState) (birth : ℕ) (ended : List Bool) → IsHeap old birth ended → new ≡ with_collector old (quantum old.config old.collector).collector → IsHeap new birth ended
+pub kept-quantum : HeapsStayKept → CollectorsStayInBounds → (old new : CycleState) (birth : ℕ) (ended : List Bool) → IsHeap old birth ended → new ≡ state_with_collector old (quantum old.config old.collector).collector → IsHeap new birth ended
 kept-quantum kept bounded old new birth ended is after = rw after (record { keeping = kept.quanta (heap_of old birth ended) is.keeping; bounds = bounded.quanta old.config old.collector is.bounds })
 
 -- the first heap

@@ -8,10 +8,10 @@ use Rattle.mh_model.specs.View.{heap_view}
 use Rattle.mh_run_laws.specs.Following.{has_no_place}
 use Rattle.mh_heap.specs.Shown.{ShowsCommand, ShowsQuantum}
 use Rattle.mh_paged.specs.Kept.{Steps}
-use Rattle.mh_paged.specs.Told.{IsTold, IsQuantum, showing}
+use Rattle.mh_paged.specs.Lawful.{IsLawful, IsQuantum, showing}
 
 -- a command of the machine shows what it should
-pub commands_shown : (old new : HeapState) → IsTold old → (who : ℕ) (command : Command) (reply : Reply) → Steps old who command reply new → ShowsCommand (showing old) who command reply (showing new)
+pub commands_shown : (old new : HeapState) → IsLawful old → (who : ℕ) (command : Command) (reply : Reply) → Steps old who command reply new → ShowsCommand (showing old) who command reply (showing new)
 commands_shown old new told who command reply steps =
     let follows = told.follows who command in
     let replied : (heap_step (has_no_place old) (heap_view old) who command).reply ≡ reply = sym follows.reply ∙ ap (λ (a : Answer HeapState). a.reply) steps in
@@ -23,7 +23,7 @@ commands_shown old new told who command reply steps =
     }
 
 -- and so does a quantum
-pub quanta_shown : (old new : HeapState) (spent : ℕ) → IsTold old → IsQuantum old spent new → ShowsQuantum (showing old) spent (showing new)
+pub quanta_shown : (old new : HeapState) (spent : ℕ) → IsLawful old → IsQuantum old spent new → ShowsQuantum (showing old) spent (showing new)
 quanta_shown old new spent told is =
     subst (λ heap. ShowsQuantum (showing old) spent (showing heap)) (sym is.state) (record {
       view = told.agrees;

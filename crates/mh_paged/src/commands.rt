@@ -1,8 +1,10 @@
 //! The commands of sessions. Each of the twelve answers and leaves what the model's step on the pages does, with its
 //! barriers and refusals. The heap is full exactly when some part of the object has no place.
-ghost use Rattle.std.specs.Prelude.{◌≡◌, ◌<◌};
+ghost use Rattle.std.specs.Prelude.{◌≡◌, ◌<◌, OnOk, OnErr};
 ghost use Rattle.mh_model.specs.declared.birth.TheConstants.{LIFE};
 ghost use Rattle.mh_model.specs.declared.command.Command.TheVariants as command;
+ghost use Rattle.mh_model.specs.Classes.{parts};
+ghost use Rattle.mh_model.specs.Deeds.{make_deeds};
 ghost use Rattle.mh_heap.specs.Outcome.{done_or, number_or, same_or, shape_or};
 ghost use Rattle.mh_paged.specs.Kept.{Steps};
 
@@ -11,6 +13,7 @@ use crate::lent::{
     clear_roots, loaded, make_parts, number, place_of, root, write_number, write_reference,
     write_root,
 };
+use mh_groups::group::PartLog;
 use mh_heap::slots::{board_slot, own_slot};
 use mh_laws::barriers::objects_made_keep_the_snapshot;
 use mh_laws::bounds::collectors_stay_in_bounds;
@@ -25,9 +28,18 @@ use mh_model::shape::Shape;
 /// Each call is the command of its name by the session `who`, and takes no memory.
 impl KeptHeap {
     #[tactic(auto, unfolding(mh_model::specs::Mutator::mutator_step, mh_model::specs::Mutator::heap_effect))]
-    pub fn make(&mut self, who: u8, slot: u32, references: u32, numbers: u32) -> Result<(), Refusal>
+    pub fn make<L: PartLog>(
+        &mut self,
+        who: u8,
+        slot: u32,
+        references: u32,
+        numbers: u32,
+        log: &mut L,
+    ) -> Result<(), Refusal>
         requires { self.old.next_birth < LIFE }
-        ensures { Steps self.old who (command.New slot references numbers) (done_or result) self.new }
+        ensures step { Steps self.old who (command.New slot references numbers) (done_or result) self.new }
+        ensures told { OnOk result (L.adds log.old (make_deeds self.old.collector.table self.old.next_birth self.old.collector.cycle 0 (parts references numbers)) log.new) }
+        ensures quiet { OnErr result (log.new ≡ log.old) }
     {
         let session = self.session(who)?;
         let slot = own_slot(session, slot)?;
@@ -41,7 +53,7 @@ impl KeptHeap {
             numbers,
         };
         let birth = Birth(self.next_birth);
-        match make_parts(&mut self.cycle, &mut self.places, shape, &all, birth) {
+        match make_parts(&mut self.cycle, &mut self.places, shape, &all, birth, log) {
             Err(_full) => Err(Refusal::HeapFull),
             Ok(place) => {
                 write_root(&mut self.cycle, slot, Some(place));

@@ -21,11 +21,12 @@ ghost use Rattle.mh_model.specs.Machine.{dump_pages, quanta_left, stat_on};
 ghost use Rattle.mh_model.specs.Mutator.{first_heap, root_at, shape_at};
 ghost use Rattle.mh_model.specs.Invariant.{IsObjectAt};
 ghost use Rattle.mh_model.specs.declared.reply.Refusal.TheVariants.{Null, NoField, TooLarge, Ended, TooManySessions};
+ghost use Rattle.mh_model.specs.Limits.{root_slots};
 ghost use Rattle.mh_laws.specs.Forwarders.{MakesItsForwarders};
 ghost use Rattle.mh_cycle.specs.Snapshots.{ContinuesEach};
 ghost use Rattle.mh_heap.specs.Checks.{tested};
 ghost use Rattle.mh_paged.specs.Kept.{StartsFromItsView};
-ghost use Rattle.mh_paged.specs.Told.{IsTold};
+ghost use Rattle.mh_paged.specs.Lawful.{IsLawful};
 
 use crate::lent::{dump_table, forwarder_count, free_pages, live_count, root, shape_of};
 use mh_classes::parts::{Parts, parts};
@@ -222,8 +223,8 @@ impl KeptHeap {
     }
 
     /// What the laws say of this heap. It does nothing when it runs.
-    pub(crate) fn told(&self)
-        ensures { IsTold self.now }
+    pub(crate) fn lawful(&self)
+        ensures { IsLawful self.now }
     {
         kept_views_are_closed();
         kept_views_agree_with_themselves();
@@ -254,7 +255,7 @@ impl KeptHeap {
 
     /// The object that a root holds.
     pub(crate) fn object_in(&self, slot: usize) -> Result<Found, Refusal>
-        requires { slot < 144 }
+        requires { slot < root_slots }
         ensures { MatchResult result
             (λ found. (root_at self.now slot ≡ Some found.place) × (shape_at self.now slot ≡ Some found.shape) × IsObjectAt self.now.collector found.place found.shape)
             (λ refusal. (shape_at self.now slot ≡ None) × (refusal ≡ Null)) }

@@ -2,21 +2,23 @@
 //!
 //! The collector owns both, and its barriers need it whole. So a command borrows them for one deed at a time, and its
 //! proof sees the collector as one value before and after.
-ghost use Rattle.std.specs.Prelude.{◌≡◌, ◌^◌, ◌<◌, ◌≤◌, ◌+◌, Some, None, IsSome, IfOk, OnErr, get_or, length, option_map, filter, not};
+ghost use Rattle.std.specs.Prelude.{◌≡◌, ◌^◌, ◌<◌, ◌≤◌, ◌+◌, Some, None, IsSome, IfOk, OnOk, OnErr, get_or, length, option_map, filter, not};
 ghost use Rattle.mh_model.specs.Classes.{parts};
 ghost use Rattle.mh_model.specs.Pages.{block_at, free_pages, Leads};
 ghost use Rattle.mh_model.specs.Table.{references_at, numbers_at, forward_at, position_of, reference_in, loaded_reference, number_index, number_in, made_group, is_forwarder};
+ghost use Rattle.mh_model.specs.Deeds.{make_deeds};
 ghost use Rattle.mh_model.specs.Machine.{blocks_of, dump_pages};
 ghost use Rattle.mh_model.specs.Mutator.{with_root, with_reference_stored, with_number_stored, with_roots_cleared};
 ghost use Rattle.mh_model.specs.Invariant.{IsFindable, IsSteady};
-ghost use Rattle.mh_cycle.specs.State.{with_collector};
+ghost use Rattle.mh_model.specs.Limits.{root_slots};
+ghost use Rattle.mh_cycle.specs.State.{state_with_collector};
 
-use crate::table::dump;
+use crate::dump::dump;
 use mh_classes::parts::Parts;
 use mh_cycle::cycle::Cycle;
 use mh_cycle::mh_blocks::blocks::Full;
 use mh_groups::field::{Position, load_int, load_ref, position, store_int};
-use mh_groups::group::{PartPlaces, make_group};
+use mh_groups::group::{PartLog, PartPlaces, make_group};
 use mh_laws::barriers::roots_written_keep_the_snapshot;
 use mh_laws::commands::commands_are_answered;
 use mh_laws::tables::making_keeps_the_pages;
@@ -29,7 +31,7 @@ use std::alloc::Global;
 
 /// What a root holds.
 pub(crate) fn root(cycle: &Cycle, slot: usize) -> Option<Place>
-    requires { slot < 144 }
+    requires { slot < root_slots }
     ensures { result ≡ get_or cycle.now.collector.slots slot None }
 {
     cycle.roots.get(slot)
@@ -73,9 +75,9 @@ pub(crate) fn number(cycle: &Cycle, place: Place, field: usize) -> u64
 
 /// Overwrites a root, after its barrier.
 pub(crate) fn write_root(cycle: &mut Cycle, slot: usize, reference: Option<Place>)
-    requires within { slot < 144 }
+    requires within { slot < root_slots }
     requires steady { IsSteady cycle.old.collector }
-    ensures { cycle.new ≡ with_collector cycle.old (with_root cycle.old.collector slot reference) }
+    ensures { cycle.new ≡ state_with_collector cycle.old (with_root cycle.old.collector slot reference) }
 {
     cycle.before_root(slot);
     cycle.roots.set(slot, reference);
@@ -87,7 +89,7 @@ pub(crate) fn write_reference(cycle: &mut Cycle, at: Position, reference: Option
     requires there { at.index < length (references_at cycle.old.collector.table at.place) }
     requires original { forward_at cycle.old.collector.table at.place ≡ None }
     requires leads { Leads cycle.old.collector.table reference }
-    ensures { cycle.new ≡ with_collector cycle.old (with_reference_stored cycle.old.collector at reference) }
+    ensures { cycle.new ≡ state_with_collector cycle.old (with_reference_stored cycle.old.collector at reference) }
 {
     cycle.before_field(at.place, at.index);
     cycle.blocks.store_ref(at.place, at.index, reference);
@@ -98,36 +100,39 @@ pub(crate) fn write_number(cycle: &mut Cycle, place: Place, field: usize, number
     requires findable { IsFindable cycle.old.collector.table place field }
     requires after { length (references_at cycle.old.collector.table (position_of cycle.old.collector.table place field).place) ≤ (position_of cycle.old.collector.table place field).index }
     requires within { number_index cycle.old.collector.table (position_of cycle.old.collector.table place field) < length (numbers_at cycle.old.collector.table (position_of cycle.old.collector.table place field).place) }
-    ensures { cycle.new ≡ with_collector cycle.old (with_number_stored cycle.old.collector (position_of cycle.old.collector.table place field) number) }
+    ensures { cycle.new ≡ state_with_collector cycle.old (with_number_stored cycle.old.collector (position_of cycle.old.collector.table place field) number) }
 {
     store_int(&mut cycle.blocks, place, field, number);
 }
 
-/// Makes all parts of an object of this shape, or none.
-pub(crate) fn make_parts(
+/// Makes all parts of an object of this shape, or none. The log gets where they were placed.
+pub(crate) fn make_parts<L: PartLog>(
     cycle: &mut Cycle,
     places: &mut PartPlaces,
     shape: Shape,
     all: &Parts,
     birth: Birth,
+    log: &mut L,
 ) -> Result<Place, Full>
     requires birth { birth < 2 ^ 62 }
     requires parts { all.now ≡ parts shape.references shape.numbers }
     ensures made { IfOk result (λ place. made_group cycle.old.collector.table birth cycle.old.collector.cycle all.now ≡ Some (record { place = place; table = cycle.new.collector.table })) }
-    ensures table { cycle.new ≡ with_collector cycle.old (record (cycle.old.collector) { table = cycle.new.collector.table }) }
+    ensures table { cycle.new ≡ state_with_collector cycle.old (record (cycle.old.collector) { table = cycle.new.collector.table }) }
     ensures full { OnErr result (made_group cycle.old.collector.table birth cycle.old.collector.cycle all.now ≡ None) }
     ensures unchanged { OnErr result (cycle.new ≡ cycle.old) }
+    ensures told { OnOk result (L.adds log.old (make_deeds cycle.old.collector.table birth cycle.old.collector.cycle 0 all.now) log.new) }
+    ensures quiet { OnErr result (log.new ≡ log.old) }
 {
     making_keeps_the_pages();
     let stamp = cycle.cycle_number();
-    make_group(&mut cycle.blocks, places, all, birth, stamp)
+    make_group(&mut cycle.blocks, places, all, birth, stamp, log)
 }
 
 /// Empties 16 roots in order, each after its barrier.
 pub(crate) fn clear_roots(cycle: &mut Cycle, first: usize)
-    requires within { first + 16 ≤ 144 }
+    requires within { first + 16 ≤ root_slots }
     requires steady { IsSteady cycle.old.collector }
-    ensures { cycle.new ≡ with_collector cycle.old (with_roots_cleared cycle.old.collector first 16) }
+    ensures { cycle.new ≡ state_with_collector cycle.old (with_roots_cleared cycle.old.collector first 16) }
 {
     roots_written_keep_the_snapshot();
     commands_are_answered();

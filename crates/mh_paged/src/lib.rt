@@ -8,8 +8,8 @@ pub use mh_cycle::mh_scan;
 pub use mh_heap;
 
 mod commands;
+mod dump;
 pub mod kept;
 mod lent;
 pub mod paged;
-mod table;
 pub mod told;

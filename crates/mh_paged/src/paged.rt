@@ -13,10 +13,11 @@ ghost use Rattle.mh_model.specs.Pages.{free_pages};
 ghost use Rattle.mh_model.specs.Machine.{dump_pages, quanta_left, stat_on};
 ghost use Rattle.mh_model.specs.Mutator.{first_heap};
 ghost use Rattle.mh_paged.specs.Kept.{KeepsEachWorld, Steps};
-ghost use Rattle.mh_paged.specs.Told.{IsTold};
+ghost use Rattle.mh_paged.specs.Lawful.{IsLawful};
 
 use crate::kept::KeptHeap;
 use mh_cycle::mh_scan::scan::Scanner;
+use mh_groups::group::NoLog;
 use mh_heap::heap::Heap;
 use mh_heap::perform::perform;
 use mh_laws::snapshots::commands_keep_the_snapshot;
@@ -34,7 +35,7 @@ use std::alloc::Global;
 #[derive(Drop)]
 pub struct PagedHeap {
     pub kept: KeptHeap,
-    ghost told: { IsTold kept },
+    ghost told: { IsLawful kept },
 }
 
 impl PagedHeap {
@@ -43,7 +44,7 @@ impl PagedHeap {
         ensures { IfOk result (λ heap. heap.kept ≡ first_heap config) }
     {
         let kept = KeptHeap::open(alloc, config)?;
-        kept.told();
+        kept.lawful();
         Ok(PagedHeap { kept })
     }
 
@@ -53,7 +54,7 @@ impl PagedHeap {
     {
         let kept = &mut self.kept;
         kept.start();
-        kept.told();
+        kept.lawful();
     }
 
     /// Performs a command of the session `who`. It takes no memory.
@@ -108,7 +109,7 @@ impl PagedHeap {
 }
 
 impl Heap for PagedHeap {
-    ghost use Rattle.mh_paged.specs.Told.{IsQuantum, showing};
+    ghost use Rattle.mh_paged.specs.Lawful.{IsQuantum, showing};
     ghost use Rattle.mh_paged.specs.Telling.{commands_shown, quanta_shown};
 
     ghost shown = { λ heap. showing heap.kept };
@@ -133,36 +134,36 @@ impl Heap for PagedHeap {
         numbers: u32,
     ) -> Result<Result<(), Refusal>, NoMemory> {
         let kept = &mut self.kept;
-        let outcome = kept.make(who, slot, references, numbers);
-        kept.told();
+        let outcome = kept.make(who, slot, references, numbers, &mut NoLog);
+        kept.lawful();
         Ok(outcome)
     }
 
     fn get(&mut self, who: u8, slot: u32, source: u32, field: u32) -> Result<(), Refusal> {
         let kept = &mut self.kept;
         let outcome = kept.get(who, slot, source, field);
-        kept.told();
+        kept.lawful();
         outcome
     }
 
     fn put(&mut self, who: u8, slot: u32, field: u32, value: u32) -> Result<(), Refusal> {
         let kept = &mut self.kept;
         let outcome = kept.put(who, slot, field, value);
-        kept.told();
+        kept.lawful();
         outcome
     }
 
     fn copy(&mut self, who: u8, slot: u32, source: u32) -> Result<(), Refusal> {
         let kept = &mut self.kept;
         let outcome = kept.copy(who, slot, source);
-        kept.told();
+        kept.lawful();
         outcome
     }
 
     fn clear(&mut self, who: u8, slot: u32) -> Result<(), Refusal> {
         let kept = &mut self.kept;
         let outcome = kept.clear(who, slot);
-        kept.told();
+        kept.lawful();
         outcome
     }
 
@@ -173,7 +174,7 @@ impl Heap for PagedHeap {
     fn write(&mut self, who: u8, slot: u32, index: u32, number: u64) -> Result<(), Refusal> {
         let kept = &mut self.kept;
         let outcome = kept.write(who, slot, index, number);
-        kept.told();
+        kept.lawful();
         outcome
     }
 
@@ -188,28 +189,28 @@ impl Heap for PagedHeap {
     fn post(&mut self, who: u8, board: u32, slot: u32) -> Result<(), Refusal> {
         let kept = &mut self.kept;
         let outcome = kept.post(who, board, slot);
-        kept.told();
+        kept.lawful();
         outcome
     }
 
     fn take(&mut self, who: u8, slot: u32, board: u32) -> Result<(), Refusal> {
         let kept = &mut self.kept;
         let outcome = kept.take(who, slot, board);
-        kept.told();
+        kept.lawful();
         outcome
     }
 
     fn end(&mut self, who: u8) -> Result<(), Refusal> {
         let kept = &mut self.kept;
         let outcome = kept.end(who);
-        kept.told();
+        kept.lawful();
         outcome
     }
 
     fn quantum<S: Scanner>(&mut self, scanner: &mut S) -> Spent {
         let kept = &mut self.kept;
         let spent = kept.quantum(scanner);
-        kept.told();
+        kept.lawful();
         spent
     }
 

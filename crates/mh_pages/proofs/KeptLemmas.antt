@@ -16,7 +16,7 @@ use Rattle.mh_classes.proofs.ClassLemmas.{IsClass, class_is}
 use Rattle.mh_pages.specs.Shown.{words_from, shown_slot, shown_slots, page_of, shown_page, shown_table}
 use Rattle.mh_pages.specs.Words.{words_at, with_word}
 use Rattle.mh_pages.specs.Addresses.{Address, address_in}
-use Rattle.mh_pages.specs.Indexed.{IsIndexed, indexed_again, indexed_after, HasRoomFor}
+use Rattle.mh_pages.specs.Indexed.{IsIndexed, indexed_again, indexed_after, HasLengthsFor}
 use Rattle.mh_pages.specs.Kept.{is_head, AgreeOutside, AreStored}
 use Rattle.mh_pages.proofs.ShownLemmas.{length-shown, page_at-shown, page_at-shown_past, block_at-shown, head_class, free_page, used_page, used_page_of, shown-set, IsTaken, IsWord, word_taken, taken_place}
 use Rattle.mh_pages.proofs.WriteLemmas.{shown-block, shown-word, slots-released, slots-taken, slots-fresh, block_fits, written_inside}
@@ -81,7 +81,7 @@ module _ (heads frees words : List ℕ) (sets : List Bool) (free : ℕ) (kept : 
   pub inside_of : (table : Table (List ℕ)) (page : ℕ) → shown_table heads frees words ≡ table → page < length table → page < length heads
   inside_of table page shown within = omega (arith, within, ap length shown, length-shown heads frees words)
 
-  pub room : (page : ℕ) → page < length heads → HasRoomFor page heads frees sets
+  pub room : (page : ℕ) → page < length heads → HasLengthsFor page heads frees sets
   room page inside = record { within = inside; few = kept.sized.few_pages; as_many_frees = kept.sized.as_many_frees; as_many_sets = kept.sized.as_many_sets }
 
   -- no more pages are free than there are

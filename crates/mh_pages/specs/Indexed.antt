@@ -33,7 +33,7 @@ abbrev pub indexed_after : List Bool → ℕ → ℕ → ℕ → ℕ → ℕ →
 indexed_after sets page size head before after = if (before == 0) || (after == 0) then put_in sets (3 * class_number size + (1 + head % 2)) page (not (after == 0)) else sets
 
 -- the lengths that a page's head, its word of free slots and its sets need
-pub record HasRoomFor (page : ℕ) (heads frees : List ℕ) (sets : List Bool) : Type 0 where
+pub record HasLengthsFor (page : ℕ) (heads frees : List ℕ) (sets : List Bool) : Type 0 where
   pub within : page < length heads
   pub few : length heads ≤ 4096
   pub as_many_frees : length frees ≡ length heads

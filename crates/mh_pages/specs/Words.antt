@@ -4,8 +4,8 @@ use Rattle.mh_model.specs.Pages.{Table, block_at, with_block}
 use Rattle.mh_pages.specs.declared.header.Header.{Header}
 
 -- the header of a block, which is its first four words
-abbrev pub header_of : List ℕ → Header
-header_of block = record { birth = get_or block 0 0; counts = get_or block 1 0; stamp = get_or block 2 0; forward = get_or block 3 0 }
+abbrev pub header_at : List ℕ → Header
+header_at block = record { birth = get_or block 0 0; counts = get_or block 1 0; stamp = get_or block 2 0; forward = get_or block 3 0 }
 
 -- the words of the block at a place, and none if there is no block
 abbrev pub words_at : Table (List ℕ) → ℕ → List ℕ

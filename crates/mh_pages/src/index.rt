@@ -2,7 +2,7 @@
 //! flag, and with its first and its last free slot.
 ghost use Rattle.std.specs.Prelude.{◌≡◌, ◌<◌, ◌≤◌, ◌*◌, ◌+◌, ◌%◌, length, get_or, set};
 ghost use Rattle.mh_classes.specs.Numbers.{class_number};
-ghost use Rattle.mh_pages.specs.Indexed.{indexed_again, indexed_after, AllFree, HasRoomFor};
+ghost use Rattle.mh_pages.specs.Indexed.{indexed_again, indexed_after, AllFree, HasLengthsFor};
 
 use mh_bits::counted::{Counted, Tally};
 use mh_bits::page_sets::PageSets;
@@ -46,7 +46,7 @@ pub fn change(
     head: u64,
     free: u64,
 )
-    requires { HasRoomFor page heads.old frees.old sets.old }
+    requires { HasLengthsFor page heads.old frees.old sets.old }
     ensures heads { heads.new ≡ set heads.old page head }
     ensures frees { frees.new ≡ set frees.old page free }
     ensures sets { sets.new ≡ indexed_again sets.old page class head free }
@@ -78,7 +78,7 @@ pub fn change_free(
     class: Class,
     free: u64,
 )
-    requires { HasRoomFor page heads.now frees.old sets.old }
+    requires { HasLengthsFor page heads.now frees.old sets.old }
     ensures frees { frees.new ≡ set frees.old page free }
     ensures sets { sets.new ≡ indexed_after sets.old page class (get_or heads.now page 0) (get_or frees.old page 0) free }
 {

@@ -26,7 +26,7 @@ ghost use Rattle.mh_model.specs.Pages.{HaveTheirSlots, IsFreeFor, block_at, clas
 ghost use Rattle.mh_pages.specs.Addresses.{address_in};
 ghost use Rattle.mh_pages.specs.FreePlaces.{free_in, free_places};
 ghost use Rattle.mh_pages.specs.Kept.{AreApart, IsCopied};
-ghost use Rattle.mh_pages.specs.Words.{header_of, with_header, with_word, words_at};
+ghost use Rattle.mh_pages.specs.Words.{header_at, with_header, with_word, words_at};
 
 use crate::address::Address;
 use crate::header::{BIRTH, COUNTS, FORWARD, Header, STAMP};
@@ -540,7 +540,7 @@ impl Pages {
 
     /// The header of the block at a place, if there is one.
     pub fn header(&self, place: Place) -> Option<Header>
-        ensures { result ≡ option_map header_of (block_at self.now place) }
+        ensures { result ≡ option_map header_at (block_at self.now place) }
     {
         let _ = &self.free;
         if !self.is_taken(place) {

@@ -7,7 +7,7 @@ use Rattle.mh_model.specs.Table.{Block, is_forwarder}
 use Rattle.mh_model.specs.Collector.{Collector}
 use Rattle.mh_model.specs.Machine.{dump_block, dump_slots, dump_pages, blocks_in, blocks_of, stat_on}
 use Rattle.mh_table_laws.specs.TableMaps.{page_map, table_map}
-use Rattle.mh_picture_laws.specs.Picture.{drawn_of, picture_of, bare_block, dump_of, stat_of}
+use Rattle.mh_picture_laws.specs.Picture.{drawn_of, picture_of, bare_block, pictured_dump, pictured_stat}
 use Rattle.mh_picture_laws.specs.Laws.{PictureGivesTheDump}
 
 -- a block as its picture has it
@@ -32,7 +32,7 @@ dump-pages number (Some page ∷ pages) =
     ap (λ slots. item.Page number page.class_size page.is_flagged ∷ (slots ++ dump_pages (suc number) pages)) (dump-slots 0 page.slots)
     ∙ ap (λ rest. item.Page number page.class_size page.is_flagged ∷ (dump_slots 0 (map (option_map bare_block) (map (option_map drawn_of) page.slots)) ++ rest)) (dump-pages (suc number) pages)
 
-pub dump-drawn : (collector : Collector) → dump_pages 0 collector.table ≡ dump_of (picture_of collector)
+pub dump-drawn : (collector : Collector) → dump_pages 0 collector.table ≡ pictured_dump (picture_of collector)
 dump-drawn collector = dump-pages 0 collector.table
 
 -- Counts -----------------------------------------------------------------------------------------
@@ -75,14 +75,14 @@ count-drawn test (block ∷ blocks) = go (test (is_forwarder block)) (count-draw
 counts-drawn : (test : Bool → Bool) (table : Table Block) → length (filter (λ block. test (is_forwarder block)) (blocks_of table)) ≡ length (filter (λ block. test (is_forwarder block)) (blocks_of (table_map bare_block (table_map drawn_of table))))
 counts-drawn test table = sym (ap (λ blocks. length (filter (λ block. test (is_forwarder block)) blocks)) (blocks-drawn table) ∙ count-drawn test (blocks_of table))
 
-pub stat-drawn : (collector : Collector) → stat_on collector ≡ stat_of (picture_of collector)
+pub stat-drawn : (collector : Collector) → stat_on collector ≡ pictured_stat (picture_of collector)
 stat-drawn collector =
     let free : free_pages collector.table ≡ free_pages (table_map bare_block (table_map drawn_of collector.table)) = free-drawn collector.table in
     let live = counts-drawn not collector.table in
     let old = counts-drawn (λ b. b) collector.table in
     ap (λ n. record (stat_on collector) { free = n }) free
     ∙ ap (λ n. record (stat_on collector) { free = free_pages (table_map bare_block (table_map drawn_of collector.table)); live = n }) live
-    ∙ ap (λ n. record (stat_of (picture_of collector)) { old = n }) old
+    ∙ ap (λ n. record (pictured_stat (picture_of collector)) { old = n }) old
 
 pub gives-the-dump : PictureGivesTheDump
 gives-the-dump = record { dump = dump-drawn; stat = stat-drawn }

@@ -13,7 +13,7 @@ use Rattle.mh_model.specs.Invariant.{IsKeeping}
 use Rattle.mh_laws.proofs.runs.EveryMoment.{event_step-keeps}
 use Rattle.mh_laws.proofs.snapshots.SteadyStates.{collectors-steady, heaps-kept}
 use Rattle.mh_laws.proofs.snapshots.RunningCycles.{moments_keep}
-use Rattle.mh_picture_laws.specs.Picture.{drawn_of, picture_of, empty_picture, with_table, drawn_all, drawn_quantum, drawn_account, accounts_of, drawn_run, dump_of, stat_of}
+use Rattle.mh_picture_laws.specs.Picture.{drawn_of, picture_of, empty_picture, with_table, drawn_all, drawn_quantum, drawn_account, accounts_of, drawn_run, pictured_dump, pictured_stat}
 use Rattle.mh_picture_laws.specs.Laws.{EventsTellThePicture, RunsTellThePicture}
 use Rattle.mh_table_laws.proofs.TableMapLemmas.{free-table_map}
 use Rattle.mh_picture_laws.proofs.QuantumLemmas.{quanta-tell}
@@ -99,6 +99,6 @@ runs-tell = record {
   picture = run-drawn;
   half = λ config events event.
       half-drawn (machine_after (first_machine config) events) event (moments_keep.at_each config events).0 ∙ ap (λ picture. drawn_all picture (account_of (machine_after (first_machine config) events) event).command) (run-drawn config events);
-  dump = λ config events. ap reply.Dump (dump-drawn (machine_after (first_machine config) events).heap.collector ∙ ap dump_of (run-drawn config events));
-  stat = λ config events. ap reply.Stat (stat-drawn (machine_after (first_machine config) events).heap.collector ∙ ap stat_of (run-drawn config events));
+  dump = λ config events. ap reply.Dump (dump-drawn (machine_after (first_machine config) events).heap.collector ∙ ap pictured_dump (run-drawn config events));
+  stat = λ config events. ap reply.Stat (stat-drawn (machine_after (first_machine config) events).heap.collector ∙ ap pictured_stat (run-drawn config events));
 }

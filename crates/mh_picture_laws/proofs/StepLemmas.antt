@@ -7,6 +7,7 @@ use Rattle.mh_model.specs.Table.{Block}
 use Rattle.mh_model.specs.Collector.{Collector, Marking, Move, shade, mark_step, flagged_page, move_of, next_move, moved_table, marking_of, with_marking, with_phase, with_move, step_in, after_mark, is_past, cycle_end, phase_after, collector_step}
 use Rattle.mh_model.specs.Deeds.{root_deed, forward_deeds, slot_deeds, defrag_deeds, deeds_in, enter_deeds, step_deeds}
 use Rattle.mh_model.specs.Invariant.{IsSteady}
+use Rattle.mh_model.specs.Limits.{root_slots}
 use Rattle.mh_table_laws.proofs.marking.GreyList.{cycle-shade, cycle-mark_first}
 use Rattle.mh_laws.proofs.moving.NextMove.{IsNextMove, next_move-is}
 use Rattle.mh_table_laws.specs.TableMaps.{table_map}
@@ -26,7 +27,7 @@ stays phase collector none is = ap (drawn_all (picture_of collector)) (sym (ap (
 -- the phase that follows is entered
 enters-drawn : (phase : Phase) (collector : Collector) → collector.phase ≡ phase → picture_of (phase_after phase collector) ≡ drawn_all (picture_of collector) (enter_deeds phase (phase_after phase collector).phase)
 enters-drawn Idle collector is = stays Idle collector refl is
-enters-drawn Roots collector is = go (collector.cursor == 144)
+enters-drawn Roots collector is = go (collector.cursor == root_slots)
   where
     by_grey : (grey : List ℕ) → picture_of (after_mark collector grey) ≡ drawn_all (picture_of collector) (enter_deeds Roots (after_mark collector grey).phase)
     by_grey [] = refl

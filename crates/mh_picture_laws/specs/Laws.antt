@@ -11,7 +11,7 @@ use Rattle.mh_model.specs.Mutator.{HeapState, mutator_step}
 use Rattle.mh_model.specs.Machine.{Machine, first_machine, half_step, event_step, machine_after, dump_pages, stat_on}
 use Rattle.mh_model.specs.Deeds.{step_deeds, quantum_deeds, command_deeds, account_of}
 use Rattle.mh_model.specs.Invariant.{IsKeeping, IsSteady}
-use Rattle.mh_picture_laws.specs.Picture.{picture_of, empty_picture, drawn_all, drawn_account, accounts_of, drawn_run, dump_of, stat_of}
+use Rattle.mh_picture_laws.specs.Picture.{picture_of, empty_picture, drawn_all, drawn_account, accounts_of, drawn_run, pictured_dump, pictured_stat}
 
 -- The deeds of a step of a steady collector draw the picture after it, whether the quantum has moved a block or not
 abbrev pub StepsTellThePicture : Type 0
@@ -37,10 +37,10 @@ pub record RunsTellThePicture : Type 0 where
   pub picture : (config : Config) (events : List Event) → picture_of (machine_after (first_machine config) events).heap.collector ≡ drawn_run (empty_picture config) (accounts_of (first_machine config) events)
   pub half : (config : Config) (events : List Event) (event : Event)
       → picture_of (half_step (machine_after (first_machine config) events) event).heap.collector ≡ drawn_all (drawn_run (empty_picture config) (accounts_of (first_machine config) events)) (account_of (machine_after (first_machine config) events) event).command
-  pub dump : (config : Config) (events : List Event) → (event_step (machine_after (first_machine config) events) (event.Control control.Dump)).reply ≡ reply.Dump (dump_of (drawn_run (empty_picture config) (accounts_of (first_machine config) events)))
-  pub stat : (config : Config) (events : List Event) → (event_step (machine_after (first_machine config) events) (event.Control control.Stat)).reply ≡ reply.Stat (stat_of (drawn_run (empty_picture config) (accounts_of (first_machine config) events)))
+  pub dump : (config : Config) (events : List Event) → (event_step (machine_after (first_machine config) events) (event.Control control.Dump)).reply ≡ reply.Dump (pictured_dump (drawn_run (empty_picture config) (accounts_of (first_machine config) events)))
+  pub stat : (config : Config) (events : List Event) → (event_step (machine_after (first_machine config) events) (event.Control control.Stat)).reply ≡ reply.Stat (pictured_stat (drawn_run (empty_picture config) (accounts_of (first_machine config) events)))
 
 -- The dump and the counts of a heap are those of its picture
 pub record PictureGivesTheDump : Type 0 where
-  pub dump : (collector : Collector) → dump_pages 0 collector.table ≡ dump_of (picture_of collector)
-  pub stat : (collector : Collector) → stat_on collector ≡ stat_of (picture_of collector)
+  pub dump : (collector : Collector) → dump_pages 0 collector.table ≡ pictured_dump (picture_of collector)
+  pub stat : (collector : Collector) → stat_on collector ≡ pictured_stat (picture_of collector)

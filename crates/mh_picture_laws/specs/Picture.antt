@@ -149,8 +149,8 @@ abbrev pub bare_collector : Picture → Collector
 bare_collector picture = record { table = table_map bare_block picture.table; slots = []; phase = picture.phase; cursor = 0; grey = picture.grey; cycle = picture.cycle; is_asked = false; quanta = 0 }
 
 -- the dump, and the counts, of a heap with this picture
-abbrev pub dump_of : Picture → List DumpItem
-dump_of picture = dump_pages 0 (bare_collector picture).table
+abbrev pub pictured_dump : Picture → List DumpItem
+pictured_dump picture = dump_pages 0 (bare_collector picture).table
 
-abbrev pub stat_of : Picture → Stat
-stat_of picture = stat_on (bare_collector picture)
+abbrev pub pictured_stat : Picture → Stat
+pictured_stat picture = stat_on (bare_collector picture)

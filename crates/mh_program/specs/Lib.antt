@@ -1,3 +1,3 @@
 pub mod Program
 pub mod Status
-pub mod Telling
+pub mod Complaints

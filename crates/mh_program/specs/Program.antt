@@ -29,25 +29,25 @@ use Rattle.mh_size.specs.Scripts.{IsSizing}
 use Rattle.mh_size.specs.Targets.{IsTargetText}
 use Rattle.mh_show.specs.OfTelling.Steps.{told_text}
 use Rattle.mh_program.specs.Status.{judgement_status_of, line_status_of, live_status_of, status_of, curve_status_of}
-use Rattle.mh_program.specs.Telling.{ErrorStream, TellsEnd, TellsFault, TellsJudgement, TellsLine, TellsRefusals, TellsRun, TellsCurve}
+use Rattle.mh_program.specs.Complaints.{ErrorStream, SaysEnd, SaysFault, SaysJudgement, SaysLine, SaysRefusals, SaysRun, SaysCurve}
 
 -- the line that names the version, the rules and the versions of histories, and what proved them
 abbrev pub version_text : Text
 version_text = line_text (codes "metroheap 1.1.0: rules 1 and 2, histories 1 and 2, proved by Rattle logic dac8208d650f15bf")
 
 -- an order was carried out: its run ended so, what is to be said of that was reported, and the status is the end's
-pub record Obeys {T : Type 0} (Ends : Result T ScriptFault → Type 0) (Tells_end : ErrorStream → ErrorStream → Result T ScriptFault → Type 0) (status_by : Result T ScriptFault → ℕ) (errors errors' : ErrorStream) (status : ℕ) : Type 0 where
+pub record Obeys {T : Type 0} (Ends : Result T ScriptFault → Type 0) (Says_end : ErrorStream → ErrorStream → Result T ScriptFault → Type 0) (status_by : Result T ScriptFault → ℕ) (errors errors' : ErrorStream) (status : ℕ) : Type 0 where
   pub ended : Result T ScriptFault
   pub run : Ends ended
-  pub told : Tells_end errors errors' ended
+  pub said : Says_end errors errors' ended
   pub exit : status ≡ status_by ended
 
 -- lines were answered as they came, those that were refused were reported in between, and at the end a fault
 pub record AnswersLines (source source' sink sink' : Device) (errors errors' : ErrorStream) (status : ℕ) : Type 0 where
   pub ended : Result Unit ScriptFault
   pub between : ErrorStream
-  pub run : IsLiveRun (λ refusals. TellsRefusals errors refusals between) source source' sink sink' ended
-  pub told : TellsFault between errors' ended
+  pub run : IsLiveRun (λ refusals. SaysRefusals errors refusals between) source source' sink sink' ended
+  pub said : SaysFault between errors' ended
   pub exit : status ≡ live_status_of ended
 
 -- the version was written, or a prefix of it if the device failed
@@ -74,7 +74,7 @@ WritesSize Is old new ended = ⊥
 pub record Declines (source source' sink sink' : Device) (errors errors' : ErrorStream) (fault : LineFault) (status : ℕ) : Type 0 where
   pub unread : source' ≡ source
   pub unwritten : sink' ≡ sink
-  pub told : TellsLine errors errors' fault
+  pub said : SaysLine errors errors' fault
   pub exit : status ≡ line_status_of fault
 
 -- a run of the script of a source in this form under these rules, and how it ended
@@ -84,20 +84,20 @@ IsRunBy History rules = IsHistoryRun rules
 
 -- What the program does on an order, or on words that give none
 abbrev pub Serves : Result Order LineFault → (source source' sink sink' : Device) (errors errors' : ErrorStream) → ℕ → Type 0
-Serves (Ok (Run options)) source source' sink sink' errors errors' status = Obeys (IsRunBy options.form options.rules source source' sink sink') (TellsRun TellsEnd) status_of errors errors' status
-Serves (Ok (Steps options)) source source' sink sink' errors errors' status = Obeys (IsRun (transcript (told_text options.steps) options.rules) source source' sink sink') (TellsRun TellsEnd) status_of errors errors' status
-Serves (Ok (Show rules)) source source' sink sink' errors errors' status = Obeys (IsRun (transcript page_text rules) source source' sink sink') (TellsRun TellsEnd) status_of errors errors' status
+Serves (Ok (Run options)) source source' sink sink' errors errors' status = Obeys (IsRunBy options.form options.rules source source' sink sink') (SaysRun SaysEnd) status_of errors errors' status
+Serves (Ok (Steps options)) source source' sink sink' errors errors' status = Obeys (IsRun (transcript (told_text options.steps) options.rules) source source' sink sink') (SaysRun SaysEnd) status_of errors errors' status
+Serves (Ok (Show rules)) source source' sink sink' errors errors' status = Obeys (IsRun (transcript page_text rules) source source' sink sink') (SaysRun SaysEnd) status_of errors errors' status
 Serves (Ok (Live workers)) source source' sink sink' errors errors' status = AnswersLines source source' sink sink' errors errors' status
-Serves (Ok (Race workers)) source source' sink sink' errors errors' status = Obeys (IsRaceRun source source' sink sink') (TellsRun TellsEnd) status_of errors errors' status
-Serves (Ok (Check config)) source source' sink sink' errors errors' status = Obeys (IsChecking config source source' sink sink') (TellsRun TellsJudgement) judgement_status_of errors errors' status
-Serves (Ok (CheckSessions asked)) source source' sink sink' errors errors' status = Obeys (IsSessionsJudging asked source source' sink sink') (TellsRun TellsJudgement) judgement_status_of errors errors' status
-Serves (Ok Audit) source source' sink sink' errors errors' status = Obeys (IsAuditing source source' sink sink') (TellsRun TellsJudgement) judgement_status_of errors errors' status
-Serves (Ok (Migrate config)) source source' sink sink' errors errors' status = Obeys (IsMigrating config source source' sink sink') (TellsRun TellsJudgement) judgement_status_of errors errors' status
-Serves (Ok (Curve options)) source source' sink sink' errors errors' status = Obeys (IsRun (curve_output options.form options.rules) source source' sink sink') (TellsRun TellsEnd) status_of errors errors' status
-Serves (Ok (CurveHistory form)) source source' sink sink' errors errors' status = Obeys (IsDrawing form source source' sink sink') (TellsRun TellsCurve) curve_status_of errors errors' status
-Serves (Ok (Generate options)) source source' sink sink' errors errors' status = (source' ≡ source) × Obeys (WritesScript options sink sink') TellsFault status_of errors errors' status
-Serves (Ok (Size options)) source source' sink sink' errors errors' status = (source' ≡ source) × Obeys (WritesSize (IsHeapText options) sink sink') TellsFault status_of errors errors' status
-Serves (Ok (SizeTarget options)) source source' sink sink' errors errors' status = (source' ≡ source) × Obeys (WritesSize (IsTargetText options) sink sink') TellsFault status_of errors errors' status
-Serves (Ok (SizeScript rules)) source source' sink sink' errors errors' status = Obeys (IsSizing rules source source' sink sink') (TellsRun TellsEnd) status_of errors errors' status
-Serves (Ok Version) source source' sink sink' errors errors' status = (source' ≡ source) × Obeys (WritesVersion sink sink') TellsFault status_of errors errors' status
+Serves (Ok (Race workers)) source source' sink sink' errors errors' status = Obeys (IsRaceRun source source' sink sink') (SaysRun SaysEnd) status_of errors errors' status
+Serves (Ok (Check config)) source source' sink sink' errors errors' status = Obeys (IsChecking config source source' sink sink') (SaysRun SaysJudgement) judgement_status_of errors errors' status
+Serves (Ok (CheckSessions asked)) source source' sink sink' errors errors' status = Obeys (IsSessionsJudging asked source source' sink sink') (SaysRun SaysJudgement) judgement_status_of errors errors' status
+Serves (Ok Audit) source source' sink sink' errors errors' status = Obeys (IsAuditing source source' sink sink') (SaysRun SaysJudgement) judgement_status_of errors errors' status
+Serves (Ok (Migrate config)) source source' sink sink' errors errors' status = Obeys (IsMigrating config source source' sink sink') (SaysRun SaysJudgement) judgement_status_of errors errors' status
+Serves (Ok (Curve options)) source source' sink sink' errors errors' status = Obeys (IsRun (curve_output options.form options.rules) source source' sink sink') (SaysRun SaysEnd) status_of errors errors' status
+Serves (Ok (CurveHistory form)) source source' sink sink' errors errors' status = Obeys (IsDrawing form source source' sink sink') (SaysRun SaysCurve) curve_status_of errors errors' status
+Serves (Ok (Generate options)) source source' sink sink' errors errors' status = (source' ≡ source) × Obeys (WritesScript options sink sink') SaysFault status_of errors errors' status
+Serves (Ok (Size options)) source source' sink sink' errors errors' status = (source' ≡ source) × Obeys (WritesSize (IsHeapText options) sink sink') SaysFault status_of errors errors' status
+Serves (Ok (SizeTarget options)) source source' sink sink' errors errors' status = (source' ≡ source) × Obeys (WritesSize (IsTargetText options) sink sink') SaysFault status_of errors errors' status
+Serves (Ok (SizeScript rules)) source source' sink sink' errors errors' status = Obeys (IsSizing rules source source' sink sink') (SaysRun SaysEnd) status_of errors errors' status
+Serves (Ok Version) source source' sink sink' errors errors' status = (source' ≡ source) × Obeys (WritesVersion sink sink') SaysFault status_of errors errors' status
 Serves (Err fault) source source' sink sink' errors errors' status = Declines source source' sink sink' errors errors' fault status

@@ -1,7 +1,7 @@
 //! Standard error. It gets nothing more once a write to it failed. Nobody is left to hear it, and what is answered on
 //! standard output goes on.
 ghost use Rattle.std.specs.Prelude.{◌≡◌, ◌<◌, ◌^◌, false};
-ghost use Rattle.mh_program.specs.Telling.{Tells, fresh};
+ghost use Rattle.mh_program.specs.Complaints.{Says, fresh};
 ghost use Rattle.mh_live.specs.OfScript.Run.{device};
 
 use mh_text::sink::Sink;
@@ -19,7 +19,7 @@ pub struct Errors<E: Sink> {
 
 impl<E: Sink> Model for Errors<E> {
     ghost use Rattle.std.specs.Prelude.{◌≡◌, ◌<◌, ◌^◌, false};
-    ghost use Rattle.mh_program.specs.Telling.{ErrorStream};
+    ghost use Rattle.mh_program.specs.Complaints.{ErrorStream};
     ghost use Rattle.mh_live.specs.OfScript.Run.{device};
 
     ghost Value = { ErrorStream };
@@ -43,8 +43,8 @@ impl<E: Sink> Errors<E> {
     }
 
     /// Writes a text, if no write has failed yet.
-    pub(crate) fn tell(&mut self, text: &[u8])
-        ensures { Tells self.old self.new text.now }
+    pub(crate) fn say(&mut self, text: &[u8])
+        ensures { Says self.old self.new text.now }
     {
         if self.has_failed {
             return;

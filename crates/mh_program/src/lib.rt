@@ -8,6 +8,7 @@
 //! blamed. The exit status is that of an end which some text has. Over memory they are exact.
 #![tactic(auto)]
 
+mod complaints;
 pub mod errors;
 pub mod launch;
 pub mod program;
@@ -15,4 +16,3 @@ pub mod prompt;
 mod run_curve;
 mod run_size;
 pub mod status;
-mod telling;

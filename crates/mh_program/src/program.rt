@@ -11,7 +11,7 @@ ghost use Rattle.mh_command_line.specs.declared.fault.LineFault.{LineFault};
 ghost use Rattle.mh_orders.specs.declared.order.Order.{Order};
 ghost use Rattle.mh_command_line.specs.Orders.{HasFewWorkers, HasFirstRules, OrdersBy};
 ghost use Rattle.mh_program.specs.Program.{AnswersLines, IsRunBy, Obeys, Serves, WritesScript, WritesVersion};
-ghost use Rattle.mh_program.specs.Telling.{TellsEnd, TellsFault, TellsJudgement, TellsRun};
+ghost use Rattle.mh_program.specs.Complaints.{SaysEnd, SaysFault, SaysJudgement, SaysRun};
 ghost use Rattle.mh_program.specs.Status.{judgement_status_of, status_of};
 ghost use Rattle.mh_model.specs.declared.config.Rules.TheVariants.{First};
 ghost use Rattle.mh_sessions.specs.OfJudging.Judged.{IsAuditing, IsChecking, IsMigrating};
@@ -93,11 +93,11 @@ fn run<R: Threads, S: Source, W: Sink, E: Sink, G: CrewGate>(
     requires sink_count { W.failures sink.old < 2 ^ 62 }
     ensures { Obeys (IsRunBy options.form options.rules
         (device (S.rest source.old) (S.failures source.old)) (device (S.rest source.new) (S.failures source.new))
-        (device (W.written sink.old) (W.failures sink.old)) (device (W.written sink.new) (W.failures sink.new))) (TellsRun TellsEnd) status_of
+        (device (W.written sink.old) (W.failures sink.old)) (device (W.written sink.new) (W.failures sink.new))) (SaysRun SaysEnd) status_of
         errors.old errors.new result }
 {
     let ended = ran(rt, alloc, options, source, sink, gate);
-    errors.tell_end(&ended);
+    errors.say_end(&ended);
     status(&ended)
 }
 
@@ -129,11 +129,11 @@ fn steps<S: Source, W: Sink, E: Sink>(
     requires sink_count { W.failures sink.old < 2 ^ 62 }
     ensures { Obeys (IsRun (transcript (told_text options.steps) options.rules)
         (device (S.rest source.old) (S.failures source.old)) (device (S.rest source.new) (S.failures source.new))
-        (device (W.written sink.old) (W.failures sink.old)) (device (W.written sink.new) (W.failures sink.new))) (TellsRun TellsEnd) status_of
+        (device (W.written sink.old) (W.failures sink.old)) (device (W.written sink.new) (W.failures sink.new))) (SaysRun SaysEnd) status_of
         errors.old errors.new result }
 {
     let ended = stepped(alloc, options, source, sink);
-    errors.tell_end(&ended);
+    errors.say_end(&ended);
     status(&ended)
 }
 
@@ -149,11 +149,11 @@ fn show<S: Source, W: Sink, E: Sink>(
     requires sink_count { W.failures sink.old < 2 ^ 62 }
     ensures { Obeys (IsRun (transcript page_text rules)
         (device (S.rest source.old) (S.failures source.old)) (device (S.rest source.new) (S.failures source.new))
-        (device (W.written sink.old) (W.failures sink.old)) (device (W.written sink.new) (W.failures sink.new))) (TellsRun TellsEnd) status_of
+        (device (W.written sink.old) (W.failures sink.old)) (device (W.written sink.new) (W.failures sink.new))) (SaysRun SaysEnd) status_of
         errors.old errors.new result }
 {
     let ended = show_script(alloc, source, sink, rules);
-    errors.tell_end(&ended);
+    errors.say_end(&ended);
     status(&ended)
 }
 
@@ -176,7 +176,7 @@ fn live<R: Threads, S: Source, W: Sink, E: Sink, G: CrewGate>(
         errors.old errors.new result }
 {
     let ended = run_live(rt, alloc, source, sink, errors, workers, gate);
-    errors.tell_fault(&ended);
+    errors.say_fault(&ended);
     live_status(&ended)
 }
 
@@ -195,11 +195,11 @@ fn race<R: Threads + Wait + Sync, S: Source, W: Sink, E: Sink, G: CrewGate + Syn
     requires sink_count { W.failures sink.old < 2 ^ 62 }
     ensures { Obeys (IsRaceRun
         (device (S.rest source.old) (S.failures source.old)) (device (S.rest source.new) (S.failures source.new))
-        (device (W.written sink.old) (W.failures sink.old)) (device (W.written sink.new) (W.failures sink.new))) (TellsRun TellsEnd) status_of
+        (device (W.written sink.old) (W.failures sink.old)) (device (W.written sink.new) (W.failures sink.new))) (SaysRun SaysEnd) status_of
         errors.old errors.new result }
 {
     let ended = race_script(rt, alloc, source, sink, workers, gate);
-    errors.tell_end(&ended);
+    errors.say_end(&ended);
     status(&ended)
 }
 
@@ -215,11 +215,11 @@ fn check<S: Source, W: Sink, E: Sink>(
     requires sink_count { W.failures sink.old < 2 ^ 62 }
     ensures { Obeys (IsChecking config
         (device (S.rest source.old) (S.failures source.old)) (device (S.rest source.new) (S.failures source.new))
-        (device (W.written sink.old) (W.failures sink.old)) (device (W.written sink.new) (W.failures sink.new))) (TellsRun TellsJudgement) judgement_status_of
+        (device (W.written sink.old) (W.failures sink.old)) (device (W.written sink.new) (W.failures sink.new))) (SaysRun SaysJudgement) judgement_status_of
         errors.old errors.new result }
 {
     let ended = check_script(alloc, config, source, sink);
-    errors.tell_judgement(&ended);
+    errors.say_judgement(&ended);
     judgement_status(&ended)
 }
 
@@ -235,11 +235,11 @@ fn check_seen<S: Source, W: Sink, E: Sink>(
     requires sink_count { W.failures sink.old < 2 ^ 62 }
     ensures { Obeys (IsSessionsJudging asked
         (device (S.rest source.old) (S.failures source.old)) (device (S.rest source.new) (S.failures source.new))
-        (device (W.written sink.old) (W.failures sink.old)) (device (W.written sink.new) (W.failures sink.new))) (TellsRun TellsJudgement) judgement_status_of
+        (device (W.written sink.old) (W.failures sink.old)) (device (W.written sink.new) (W.failures sink.new))) (SaysRun SaysJudgement) judgement_status_of
         errors.old errors.new result }
 {
     let ended = check_sessions(alloc, asked, source, sink);
-    errors.tell_seen(&ended);
+    errors.say_seen(&ended);
     judgement_status(&ended)
 }
 
@@ -254,11 +254,11 @@ fn audit<S: Source, W: Sink, E: Sink>(
     requires sink_count { W.failures sink.old < 2 ^ 62 }
     ensures { Obeys (IsAuditing
         (device (S.rest source.old) (S.failures source.old)) (device (S.rest source.new) (S.failures source.new))
-        (device (W.written sink.old) (W.failures sink.old)) (device (W.written sink.new) (W.failures sink.new))) (TellsRun TellsJudgement) judgement_status_of
+        (device (W.written sink.old) (W.failures sink.old)) (device (W.written sink.new) (W.failures sink.new))) (SaysRun SaysJudgement) judgement_status_of
         errors.old errors.new result }
 {
     let ended = audit_script(alloc, source, sink);
-    errors.tell_judgement(&ended);
+    errors.say_judgement(&ended);
     judgement_status(&ended)
 }
 
@@ -275,11 +275,11 @@ fn migrate<S: Source, W: Sink, E: Sink>(
     requires sink_count { W.failures sink.old < 2 ^ 62 }
     ensures { Obeys (IsMigrating config
         (device (S.rest source.old) (S.failures source.old)) (device (S.rest source.new) (S.failures source.new))
-        (device (W.written sink.old) (W.failures sink.old)) (device (W.written sink.new) (W.failures sink.new))) (TellsRun TellsJudgement) judgement_status_of
+        (device (W.written sink.old) (W.failures sink.old)) (device (W.written sink.new) (W.failures sink.new))) (SaysRun SaysJudgement) judgement_status_of
         errors.old errors.new result }
 {
     let ended = migrate_script(alloc, config, source, sink);
-    errors.tell_judgement(&ended);
+    errors.say_judgement(&ended);
     judgement_status(&ended)
 }
 
@@ -306,11 +306,11 @@ fn write_script<W: Sink, E: Sink>(
     errors: &mut Errors<E>,
 ) -> u8
     requires sink_count { W.failures sink.old < 2 ^ 62 }
-    ensures { Obeys (WritesScript options (device (W.written sink.old) (W.failures sink.old)) (device (W.written sink.new) (W.failures sink.new))) TellsFault status_of
+    ensures { Obeys (WritesScript options (device (W.written sink.old) (W.failures sink.old)) (device (W.written sink.new) (W.failures sink.new))) SaysFault status_of
         errors.old errors.new result }
 {
     let ended = written_script(alloc, options, sink);
-    errors.tell_fault(&ended);
+    errors.say_fault(&ended);
     status(&ended)
 }
 
@@ -327,11 +327,11 @@ fn written_version<W: Sink>(sink: &mut W) -> Result<End, ScriptFault>
 /// Writes the version, and reports a fault of that.
 fn version<W: Sink, E: Sink>(sink: &mut W, errors: &mut Errors<E>) -> u8
     requires sink_count { W.failures sink.old < 2 ^ 62 }
-    ensures { Obeys (WritesVersion (device (W.written sink.old) (W.failures sink.old)) (device (W.written sink.new) (W.failures sink.new))) TellsFault status_of
+    ensures { Obeys (WritesVersion (device (W.written sink.old) (W.failures sink.old)) (device (W.written sink.new) (W.failures sink.new))) SaysFault status_of
         errors.old errors.new result }
 {
     let ended = written_version(sink);
-    errors.tell_fault(&ended);
+    errors.say_fault(&ended);
     status(&ended)
 }
 
@@ -372,7 +372,7 @@ pub fn serve<R: Threads + Wait + Sync, S: Source, W: Sink, E: Sink, G: CrewGate 
         Ok(Order::SizeScript(rules)) => size_needs(alloc, rules, source, sink, errors),
         Ok(Order::Version) => version(sink, errors),
         Err(fault) => {
-            errors.tell_line(&fault);
+            errors.say_line(&fault);
             line_status(&fault)
         }
     }

@@ -4,7 +4,7 @@ ghost use Rattle.std.specs.Prelude.{◌<◌, ◌^◌};
 ghost use Rattle.mh_show.specs.OfCurve.Runs.{IsDrawing, curve_output};
 ghost use Rattle.mh_program.specs.Program.{Obeys};
 ghost use Rattle.mh_program.specs.Status.{curve_status_of, status_of};
-ghost use Rattle.mh_program.specs.Telling.{TellsCurve, TellsEnd, TellsRun};
+ghost use Rattle.mh_program.specs.Complaints.{SaysCurve, SaysEnd, SaysRun};
 ghost use Rattle.mh_live.specs.OfScript.Run.{IsRun, device};
 
 use crate::errors::Errors;
@@ -32,12 +32,12 @@ pub(crate) fn draw_script<R: Threads, S: Source, W: Sink, E: Sink, G: CrewGate>(
     requires sink_count { W.failures sink.old < 2 ^ 62 }
     ensures { Obeys (IsRun (curve_output options.form options.rules)
         (device (S.rest source.old) (S.failures source.old)) (device (S.rest source.new) (S.failures source.new))
-        (device (W.written sink.old) (W.failures sink.old)) (device (W.written sink.new) (W.failures sink.new))) (TellsRun TellsEnd) status_of
+        (device (W.written sink.old) (W.failures sink.old)) (device (W.written sink.new) (W.failures sink.new))) (SaysRun SaysEnd) status_of
         errors.old errors.new result }
 {
     let CurveOptions { rules, form } = options;
     let ended = curve_script(rt, alloc, form, source, sink, 1, rules, gate);
-    errors.tell_end(&ended);
+    errors.say_end(&ended);
     status(&ended)
 }
 
@@ -53,10 +53,10 @@ pub(crate) fn draw_history<S: Source, W: Sink, E: Sink>(
     requires sink_count { W.failures sink.old < 2 ^ 62 }
     ensures { Obeys (IsDrawing form
         (device (S.rest source.old) (S.failures source.old)) (device (S.rest source.new) (S.failures source.new))
-        (device (W.written sink.old) (W.failures sink.old)) (device (W.written sink.new) (W.failures sink.new))) (TellsRun TellsCurve) curve_status_of
+        (device (W.written sink.old) (W.failures sink.old)) (device (W.written sink.new) (W.failures sink.new))) (SaysRun SaysCurve) curve_status_of
         errors.old errors.new result }
 {
     let ended = curve_history(alloc, form, source, sink);
-    errors.tell_curve(&ended);
+    errors.say_curve(&ended);
     curve_status(&ended)
 }

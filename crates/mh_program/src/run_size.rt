@@ -3,7 +3,7 @@
 ghost use Rattle.std.specs.Prelude.{◌<◌, ◌^◌};
 ghost use Rattle.mh_program.specs.Program.{Obeys, WritesSize};
 ghost use Rattle.mh_program.specs.Status.{status_of};
-ghost use Rattle.mh_program.specs.Telling.{TellsEnd, TellsFault, TellsRun};
+ghost use Rattle.mh_program.specs.Complaints.{SaysEnd, SaysFault, SaysRun};
 ghost use Rattle.mh_live.specs.OfScript.Run.{device};
 ghost use Rattle.mh_size.specs.Heaps.{IsHeapText};
 ghost use Rattle.mh_size.specs.Scripts.{IsSizing};
@@ -18,7 +18,7 @@ use mh_model::memory::NoMemory;
 use mh_orders::heap_options::HeapOptions;
 use mh_orders::target_options::TargetOptions;
 use mh_size::heap::heap_text;
-use mh_size::sized::size_script;
+use mh_size::script::size_script;
 use mh_size::target::target_text;
 use mh_text::sink::Sink;
 use mh_text::source::Source;
@@ -51,11 +51,11 @@ pub(crate) fn size_heap<W: Sink, E: Sink>(
     errors: &mut Errors<E>,
 ) -> u8
     requires sink_count { W.failures sink.old < 2 ^ 62 }
-    ensures { Obeys (WritesSize (IsHeapText options) (device (W.written sink.old) (W.failures sink.old)) (device (W.written sink.new) (W.failures sink.new))) TellsFault status_of
+    ensures { Obeys (WritesSize (IsHeapText options) (device (W.written sink.old) (W.failures sink.old)) (device (W.written sink.new) (W.failures sink.new))) SaysFault status_of
         errors.old errors.new result }
 {
     let ended = written_heap(alloc, &options, sink);
-    errors.tell_fault(&ended);
+    errors.say_fault(&ended);
     status(&ended)
 }
 
@@ -85,11 +85,11 @@ pub(crate) fn size_target<W: Sink, E: Sink>(
     errors: &mut Errors<E>,
 ) -> u8
     requires sink_count { W.failures sink.old < 2 ^ 62 }
-    ensures { Obeys (WritesSize (IsTargetText options) (device (W.written sink.old) (W.failures sink.old)) (device (W.written sink.new) (W.failures sink.new))) TellsFault status_of
+    ensures { Obeys (WritesSize (IsTargetText options) (device (W.written sink.old) (W.failures sink.old)) (device (W.written sink.new) (W.failures sink.new))) SaysFault status_of
         errors.old errors.new result }
 {
     let ended = written_target(alloc, &options, sink);
-    errors.tell_fault(&ended);
+    errors.say_fault(&ended);
     status(&ended)
 }
 
@@ -121,10 +121,10 @@ pub(crate) fn size_needs<S: Source, W: Sink, E: Sink>(
     requires sink_count { W.failures sink.old < 2 ^ 62 }
     ensures { Obeys (IsSizing rules
         (device (S.rest source.old) (S.failures source.old)) (device (S.rest source.new) (S.failures source.new))
-        (device (W.written sink.old) (W.failures sink.old)) (device (W.written sink.new) (W.failures sink.new))) (TellsRun TellsEnd) status_of
+        (device (W.written sink.old) (W.failures sink.old)) (device (W.written sink.new) (W.failures sink.new))) (SaysRun SaysEnd) status_of
         errors.old errors.new result }
 {
     let ended = written_needs(alloc, rules, source, sink);
-    errors.tell_end(&ended);
+    errors.say_end(&ended);
     status(&ended)
 }

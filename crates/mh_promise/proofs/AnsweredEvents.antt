@@ -14,8 +14,9 @@ use Rattle.mh_model.specs.Mutator.{mutator_step}
 use Rattle.mh_model.specs.Machine.{Machine, first_machine, command_step, control_step, half_step, event_step, machine_replies}
 use Rattle.mh_model.specs.Snapshot.{Moment, half_moment, world_beside}
 use Rattle.mh_laws.specs.Bounds.{left_of, QuantaLeftEndTheCycle}
-use Rattle.mh_promise.specs.Runs.{IsAnswered, machine_at}
-use Rattle.mh_promise.proofs.RunsByEvents.{reply-at, beside-at}
+use Rattle.mh_run_laws.specs.Replays.{machine_at}
+use Rattle.mh_promise.specs.Runs.{IsAnswered}
+use Rattle.mh_run_laws.proofs.runs.RunsByEvents.{reply-at, beside-at}
 
 module _ (config : Config) (events : List Event) (replies : List Reply) (before : List Event) (event : Event) (given : Reply)
     (is : replies ≡ machine_replies (first_machine config) events) (answered : IsAnswered events replies before event given) where

@@ -1,4 +1,3 @@
-pub mod RunsByEvents
 pub mod AnsweredEvents
 pub mod SpentUnits
 pub mod FullWorlds

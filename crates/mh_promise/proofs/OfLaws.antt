@@ -1,4 +1,2 @@
 -- Modules of mh_laws that crates above name, so that they list this one alone.
 pub use Rattle.mh_laws.proofs.bounds.CyclesInTime
-pub use Rattle.mh_laws.proofs.commands.CommandAnswers
-pub use Rattle.mh_laws.proofs.commands.LeftUnchanged

@@ -1,4 +1,3 @@
 pub mod Runs
 pub mod Promise
 pub mod Replays
-pub mod OfRunLaws

@@ -25,10 +25,11 @@ use Rattle.mh_model.specs.Trace.{least_mutator, floor}
 use Rattle.mh_model.specs.Intervals.{CyclesTakeAtMost, HasRoomFor, LeaveFlagged, AnswerAsTheWorld}
 use Rattle.mh_model.specs.Needs.{NeedNoMore, HasEnoughFor}
 use Rattle.mh_run_laws.specs.BesideTheWorld.{IsFaithful, IsInCycle}
-use Rattle.mh_laws.specs.Bounds.{HasEnded, HasRun}
+use Rattle.mh_laws.specs.Bounds.{HasEnded, HasRunQuanta}
 use Rattle.mh_sizing_laws.specs.SharpNeeds.{AskOfClasses, HasSharpEnoughFor}
 use Rattle.mh_run_laws.specs.Forwarders.{AreOfItsCycle}
-use Rattle.mh_promise.specs.Runs.{Outcome, machine_at, moment_at, outcome_of, IsAnswered, IsTheMachines, AreAnsweredSoFar}
+use Rattle.mh_run_laws.specs.Replays.{machine_at, moment_at}
+use Rattle.mh_promise.specs.Runs.{Outcome, outcome_of, IsAnswered, IsTheMachines, AreAnsweredSoFar}
 
 -- Replies ----------------------------------------------------------------------------------------
 
@@ -108,7 +109,7 @@ abbrev pub EndsAfter : Config → List Event → List Event → ℕ → Type 0
 EndsAfter config events before count = (more later : List Event) → events ≡ before ++ more ++ later →
     let machine = machine_at config before in
     let after = machine_after machine more in
-    HasRun count machine after → HasEnded machine.heap.collector.cycle after.heap.collector
+    HasRunQuanta count machine after → HasEnded machine.heap.collector.cycle after.heap.collector
 
 -- A cycle that runs has ended once the quanta that its bound leaves to it have been run, whatever the sessions do
 abbrev pub CyclesEnd : Config → List Event → Type 0

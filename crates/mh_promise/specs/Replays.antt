@@ -1,24 +1,13 @@
--- Machines that go through their events one by one, and what they keep of the promise.
+-- What a machine that goes through its events one by one keeps of the promise.
 use Rattle.std.specs.Prelude.{◌≡◌, List, [], ◌∷◌, ◌++◌}
 use Rattle.mh_model.specs.declared.command.Event.{Event}
 use Rattle.mh_model.specs.declared.config.Config.{Config}
 use Rattle.mh_model.specs.declared.reply.Reply.{Reply}
 use Rattle.mh_model.specs.World.{says}
-use Rattle.mh_model.specs.Machine.{Machine, first_machine, event_step, machine_after, machine_replies}
-use Rattle.mh_promise.specs.Runs.{machine_at, outcome_of, IsTheMachines}
+use Rattle.mh_model.specs.Machine.{Machine, first_machine, event_step, machine_replies}
+use Rattle.mh_run_laws.specs.Replays.{machine_at}
+use Rattle.mh_promise.specs.Runs.{outcome_of, IsTheMachines}
 use Rattle.mh_promise.specs.Promise.{IsPromised}
-
--- The machine after one list of events and another is the machine after the first, taken through the other. With one event more it is what that
--- event's step leaves
-pub record MachineAfterMore : Type 0 where
-  pub events : (machine : Machine) (before more : List Event) → machine_after machine (before ++ more) ≡ machine_after (machine_after machine before) more
-  pub event : (machine : Machine) (before : List Event) (event : Event) → machine_after machine (before ++ event ∷ []) ≡ (event_step (machine_after machine before) event).state
-
--- The replies to one list of events and another are those to the first, and then those of the machine after it to the other. With one event more, the
--- reply to it follows
-pub record MachineRepliesMore : Type 0 where
-  pub events : (machine : Machine) (before more : List Event) → machine_replies machine (before ++ more) ≡ machine_replies machine before ++ machine_replies (machine_after machine before) more
-  pub event : (machine : Machine) (before : List Event) (event : Event) → machine_replies machine (before ++ event ∷ []) ≡ machine_replies machine before ++ (event_step (machine_after machine before) event).reply ∷ []
 
 -- a machine and its replies are those of a history of events
 pub record IsReplay (config : Config) (events : List Event) (replies : List Reply) (machine : Machine) : Type 0 where

@@ -5,9 +5,9 @@ use Rattle.mh_model.specs.declared.config.Config.{Config}
 use Rattle.mh_model.specs.declared.reply.Reply.{Reply}
 use Rattle.mh_model.specs.Pages.{free_pages}
 use Rattle.mh_model.specs.Mutator.{HeapState}
-use Rattle.mh_model.specs.Machine.{Machine, first_machine, machine_after, machine_replies}
-use Rattle.mh_model.specs.Snapshot.{Moment, first_moment, moment_after}
+use Rattle.mh_model.specs.Machine.{Machine, first_machine, machine_replies}
 use Rattle.mh_model.specs.Trace.{TraceState}
+use Rattle.mh_run_laws.specs.Replays.{machine_at}
 
 -- What a run gives back: the reply to each event, the heap, how many of its pages are free, and the trace
 pub record Outcome : Type 0 where
@@ -15,14 +15,6 @@ pub record Outcome : Type 0 where
   pub heap : HeapState
   pub free : ℕ
   pub trace : TraceState
-
--- the machine after the first events of a run
-abbrev pub machine_at : Config → List Event → Machine
-machine_at config before = machine_after (first_machine config) before
-
--- the moment after them: that machine, the world beside it, and the snapshot of its cycle
-abbrev pub moment_at : Config → List Event → Moment
-moment_at config before = moment_after (first_moment config) before
 
 -- what a machine shows of a run, beside the replies that it gave
 abbrev pub outcome_of : Machine → List Reply → Outcome

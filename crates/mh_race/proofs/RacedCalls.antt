@@ -10,7 +10,7 @@ use Rattle.mh_model.specs.declared.command.Event.{Event}
 use Rattle.mh_model.specs.declared.history.Entry.{Entry}
 use Rattle.mh_model.specs.History.{owner_of, owned_by, events_of}
 use Rattle.mh_service.specs.OfState.Stop.{Stop}
-use Rattle.mh_race.specs.Racing.{AreRun, AreStopped, BeginsTheCalls, HasRun, MakesTheCalls, NoneStopped}
+use Rattle.mh_race.specs.Racing.{AreRun, AreStopped, BeginsItsCalls, HasMadeItsCalls, MakesTheCalls, NoneStopped}
 
 -- an element that a test finds
 record Found {X : Type 0} (P : X → Type 0) (p : X → Bool) : Type 0 where
@@ -59,13 +59,13 @@ module _ (one_owner : (event : Event) → owner_of event ≤ 8) (events : List E
   log-events : (seat : LockSeatView Entry) → seat.log ≡ owned_by (λ entry. owner_of entry.event) seat.number history → events_of seat.log ≡ owned_by owner_of seat.number (events_of history)
   log-events seat log = ap events_of log ∙ owned-events seat.number history
 
-  of-seat : (refused : Option Stop) (number : ℕ) (seat : LockSeatView Entry) → HasRun events refused seat → seat.log ≡ owned_by (λ entry. owner_of entry.event) seat.number history → seat.number ≡ number → HasCalls events (events_of history) refused number
+  of-seat : (refused : Option Stop) (number : ℕ) (seat : LockSeatView Entry) → HasMadeItsCalls events refused seat → seat.log ≡ owned_by (λ entry. owner_of entry.event) seat.number history → seat.number ≡ number → HasCalls events (events_of history) refused number
   of-seat None number seat made log is = subst (HasCalls events (events_of history) None) is (sym (log-events seat log) ∙ made)
   of-seat (Some stop) number seat made log is = subst (HasCalls events (events_of history) (Some stop)) is (made.0, made.1, ap (λ es. es ++ made.0 ∷ made.1) (sym (log-events seat log)) ∙ made.2)
 
   -- a seat of this number has run all its events, and its log is its part of the history
   abbrev Made : ℕ → LockSeatView Entry → Type 0
-  Made number seat = (seat.number ≡ number → HasRun events None seat) × (seat.log ≡ owned_by (λ entry. owner_of entry.event) seat.number history)
+  Made number seat = (seat.number ≡ number → HasMadeItsCalls events None seat) × (seat.log ≡ owned_by (λ entry. owner_of entry.event) seat.number history)
 
   whole-below : (number : ℕ) → get_or stops number None ≡ None → number < 9 → HasCalls events (events_of history) None number
   whole-below number none below =
@@ -89,7 +89,7 @@ module _ (one_owner : (event : Event) → owner_of event ≤ 8) (events : List E
   begun number None calls = ([], append-nil (owned_by owner_of number (events_of history)) ∙ calls)
   begun number (Some stop) calls = (calls.0 ∷ calls.1, calls.2)
 
-  pub calls-begun : BeginsTheCalls events (events_of history)
+  pub calls-begun : BeginsItsCalls events (events_of history)
   calls-begun = λ number. begun number (get_or stops number None) (calls-at number (get_or stops number None) refl)
 
   -- a seat that was refused a call has made fewer

@@ -10,7 +10,7 @@ use Rattle.mh_model.specs.declared.command.Event.{Event}
 use Rattle.mh_model.specs.declared.history.Entry.{Entry}
 use Rattle.mh_model.specs.History.{owner_of, owned_by, events_of}
 use Rattle.mh_service.specs.OfState.Stop.{Stop}
-use Rattle.mh_race.specs.Racing.{AreNoted, AreRun, HasRun, HasRunIn}
+use Rattle.mh_race.specs.Racing.{AreNoted, AreRun, HasMadeItsCalls, HasRunIn}
 use Rattle.mh_race.specs.declared.racer.Racer.{Racer}
 use Rattle.mh_service.specs.Services.{ServiceView}
 
@@ -23,7 +23,7 @@ owned-from seat events i d within own =
 
 -- a seat that was refused an event has run those before it
 pub refused-at : (seat : LockSeatView Entry) (events : List Event) (i : ℕ) (d : Event) (stop : Stop) → i < length events → owner_of (get_or events i d) ≡ seat.number → events_of seat.log ≡ owned_by owner_of seat.number (take i events)
-    → HasRun events (Some stop) seat
+    → HasMadeItsCalls events (Some stop) seat
 refused-at seat events i d stop within own made =
     (get_or events i d, owned_by owner_of seat.number (drop (i + 1) events), ap (λ es. es ++ get_or events i d ∷ owned_by owner_of seat.number (drop (i + 1) events)) made ∙ sym (owned-from seat.number events i d within own))
 
@@ -96,14 +96,14 @@ Contains-map racers racer is = (is.0, omega (arith, is.1, length-map racers (λ 
 
 module _ (service : ServiceView) (events : List Event) where
   -- racers of a number of whom none was refused a call
-  whole-seats : (racers : List Racer) (number : ℕ) → All (HasRunIn service events) racers → All (λ r. r.seat.number ≡ number → r.stop ≡ None) racers → All (λ seat. seat.number ≡ number → HasRun events None seat) (map (λ r. r.seat) racers)
-  whole-seats racers number run none = All-map (λ seat. seat.number ≡ number → HasRun events None seat) (λ r. r.seat) racers (λ k d lt same. subst (λ stop. HasRun events stop (get_or racers k d).seat) (none k d lt same) (run k d lt).1)
+  whole-seats : (racers : List Racer) (number : ℕ) → All (HasRunIn service events) racers → All (λ r. r.seat.number ≡ number → r.stop ≡ None) racers → All (λ seat. seat.number ≡ number → HasMadeItsCalls events None seat) (map (λ r. r.seat) racers)
+  whole-seats racers number run none = All-map (λ seat. seat.number ≡ number → HasMadeItsCalls events None seat) (λ r. r.seat) racers (λ k d lt same. subst (λ stop. HasMadeItsCalls events stop (get_or racers k d).seat) (none k d lt same) (run k d lt).1)
 
   -- one who was
   short-seat : (racers : List Racer) (number : ℕ) (stop : Stop) → All (HasRunIn service events) racers → (racer : Racer) × Contains racers racer × (racer.seat.number ≡ number) × (racer.stop ≡ Some stop)
-      → (seat : LockSeatView Entry) × Contains (map (λ r. r.seat) racers) seat × (seat.number ≡ number) × HasRun events (Some stop) seat
+      → (seat : LockSeatView Entry) × Contains (map (λ r. r.seat) racers) seat × (seat.number ≡ number) × HasMadeItsCalls events (Some stop) seat
   short-seat racers number stop run found =
-      (found.0.seat, Contains-map racers found.0 found.1, found.2, subst (λ stop. HasRun events stop found.0.seat) found.3 (All-contains (HasRunIn service events) racers found.0 run found.1).1)
+      (found.0.seat, Contains-map racers found.0 found.1, found.2, subst (λ stop. HasMadeItsCalls events stop found.0.seat) found.3 (All-contains (HasRunIn service events) racers found.0 run found.1).1)
 
   -- those with threads of their own, and then the others
   pub seats-run : (busy idle : List Racer) (first mid last : List (Option Stop)) → ((number : ℕ) → get_or first number None ≡ None) → AreNoted busy first mid → AreNoted idle mid last → All (HasRunIn service events) busy → All (HasRunIn service events) idle
@@ -112,13 +112,13 @@ module _ (service : ServiceView) (events : List Event) where
     none = λ number below is.
         let second = other.none number below is in
         let none = one.none number below second.0 in
-        All-append (λ seat. seat.number ≡ number → HasRun events None seat) (map (λ r. r.seat) busy) (map (λ r. r.seat) idle) (whole-seats busy number run none.1) (whole-seats idle number also second.1);
+        All-append (λ seat. seat.number ≡ number → HasMadeItsCalls events None seat) (map (λ r. r.seat) busy) (map (λ r. r.seat) idle) (whole-seats busy number run none.1) (whole-seats idle number also second.1);
     some = λ number stop below is.
         ⊎_elim (λ before. left number stop (one.some number stop below before)) (λ found. let seat = short-seat idle number stop also found in (seat.0, Contains-append_right (map (λ r. r.seat) busy) (map (λ r. r.seat) idle) seat.0 seat.1, seat.2, seat.3)) (other.some number stop below is);
     above = λ number past. other.above number past ∙ one.above number past ∙ empty number;
   }
     where
       left : (number : ℕ) (stop : Stop) → (get_or first number None ≡ Some stop) ⊎ ((racer : Racer) × Contains busy racer × (racer.seat.number ≡ number) × (racer.stop ≡ Some stop))
-          → (seat : LockSeatView Entry) × Contains (map (λ r. r.seat) busy ++ map (λ r. r.seat) idle) seat × (seat.number ≡ number) × HasRun events (Some stop) seat
+          → (seat : LockSeatView Entry) × Contains (map (λ r. r.seat) busy ++ map (λ r. r.seat) idle) seat × (seat.number ≡ number) × HasMadeItsCalls events (Some stop) seat
       left number stop (inl before) = absurd (none-some stop (sym (empty number) ∙ before))
       left number stop (inr found) = let seat = short-seat busy number stop run found in (seat.0, Contains-append_left (map (λ r. r.seat) busy) (map (λ r. r.seat) idle) seat.0 seat.1, seat.2, seat.3)

@@ -15,8 +15,8 @@ ghost use Rattle.std.specs.Prelude.{◌≡◌, ◌≢◌, ◌<◌, ◌≤◌, �
 ghost use Rattle.std.specs.Vec.{vec_capacity};
 ghost use Rattle.mh_model.specs.History.{IsLegal, events_of};
 ghost use Rattle.mh_model.specs.Limits.{most_entries};
-ghost use Rattle.mh_race.specs.Racing.{IsNew, IsFresh, HasRunIn, AreNoted, AreRun, AreStopped, BeginsTheCalls, IsStopped, NoneStopped};
-ghost use Rattle.mh_service.specs.Services.{ServiceView, IsOf};
+ghost use Rattle.mh_race.specs.Racing.{IsNewSeat, IsFresh, HasRunIn, AreNoted, AreRun, AreStopped, BeginsItsCalls, SomeSeatStopped, NoneStopped};
+ghost use Rattle.mh_service.specs.Services.{ServiceView, IsOfService};
 ghost use Rattle.mh_service.specs.OfState.Stop.{Stop};
 
 use crate::racer::Racer;
@@ -69,7 +69,7 @@ fn sessions(events: &[Event]) -> u64 {
 
 /// The sessions that have events and the desk get a thread each.
 fn racers_of(alloc: Global, seats: Vec<Seat>, events: &[Event]) -> Result<Racers, NoMemory>
-    ensures fresh { IfOk result (λ racers. (service : ServiceView) → All (IsNew service) seats.items → All (IsFresh service) racers.busy.items × All (IsFresh service) racers.idle.items) }
+    ensures fresh { IfOk result (λ racers. (service : ServiceView) → All (IsNewSeat service) seats.items → All (IsFresh service) racers.busy.items × All (IsFresh service) racers.idle.items) }
     ensures count { IfOk result (λ racers. vec_len racers.busy + vec_len racers.idle ≡ vec_len seats) }
 {
     let sessions = sessions(events);
@@ -142,8 +142,8 @@ fn run_seats<R: Threads + Wait + Sync, G: CrewGate + Sync>(
     seats: Vec<Seat>,
     events: &[Event],
 ) -> Result<(Vec<Seat>, Stops), NoMemory>
-    requires { All (IsNew service.now) seats.items }
-    ensures own { IfOk result (λ run. All (IsOf service.now) run.0.items) }
+    requires { All (IsNewSeat service.now) seats.items }
+    ensures own { IfOk result (λ run. All (IsOfService service.now) run.0.items) }
     ensures run { IfOk result (λ run. AreRun events.now run.1 run.0.items) }
     ensures count { IfOk result (λ run. vec_len run.0 ≡ vec_len seats) }
 {
@@ -160,8 +160,8 @@ fn run_seats<R: Threads + Wait + Sync, G: CrewGate + Sync>(
 /// The gravest of some refusals: refused memory before a full history.
 fn gravest(stops: &[Option<Stop>]) -> Option<Stop>
     ensures none { result ≡ None → NoneStopped stops.now }
-    ensures one { (stop : Stop) → result ≡ Some stop → IsStopped stops.now stop }
-    ensures starved { IsStopped stops.now Stop.NoMemory → result ≡ Some Stop.NoMemory }
+    ensures one { (stop : Stop) → result ≡ Some stop → SomeSeatStopped stops.now stop }
+    ensures starved { SomeSeatStopped stops.now Stop.NoMemory → result ≡ Some Stop.NoMemory }
 {
     let mut most = None;
     for stop in stops {
@@ -179,10 +179,10 @@ impl Raced {
     #[tactic(auto, unfolding(mh_model::specs::Limits::most_entries))]
     pub fn stop(&self) -> Option<Stop>
         ensures none { result ≡ None → NoneStopped self.now.stops }
-        ensures some { (stop : Stop) → result ≡ Some stop → (reason : Stop) × IsStopped self.now.stops reason }
-        ensures starved { IsStopped self.now.stops Stop.NoMemory → result ≡ Some Stop.NoMemory }
+        ensures some { (stop : Stop) → result ≡ Some stop → (reason : Stop) × SomeSeatStopped self.now.stops reason }
+        ensures starved { SomeSeatStopped self.now.stops Stop.NoMemory → result ≡ Some Stop.NoMemory }
         ensures full { result ≡ Some Stop.HistoryFull → vec_len self.now.history ≡ most_entries }
-        ensures memory { result ≡ Some Stop.NoMemory → vec_len self.now.history ≡ most_entries → IsStopped self.now.stops Stop.NoMemory }
+        ensures memory { result ≡ Some Stop.NoMemory → vec_len self.now.history ≡ most_entries → SomeSeatStopped self.now.stops Stop.NoMemory }
     {
         match gravest(&self.stops) {
             Some(Stop::HistoryFull) if self.history.len() as u64 == MOST_EVENTS => {
@@ -196,7 +196,7 @@ impl Raced {
 
 /// Lets the sessions of a script race: each session below 8 with events, and the desk, makes its own calls in a thread of
 /// its own, in the order of the script, up to the first that is refused. The others go on then. No order is given between
-/// them. Each passes the gate before its first call.
+/// them. Each passes the hook before its first call.
 pub fn race<R: Threads + Wait + Sync, G: CrewGate + Sync>(
     rt: &R,
     alloc: Global,
@@ -207,7 +207,7 @@ pub fn race<R: Threads + Wait + Sync, G: CrewGate + Sync>(
 ) -> Result<Raced, NoMemory>
     requires { (0 < workers) × (workers ≤ 64) }
     ensures legal { IfOk result (λ raced. IsLegal config raced.history.items) }
-    ensures begun { IfOk result (λ raced. BeginsTheCalls events.now (events_of raced.history.items)) }
+    ensures begun { IfOk result (λ raced. BeginsItsCalls events.now (events_of raced.history.items)) }
     ensures each { IfOk result (λ raced. AreStopped events.now (events_of raced.history.items) raced.stops) }
 {
     events_have_one_owner();

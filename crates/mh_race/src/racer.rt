@@ -25,7 +25,7 @@ impl Racer {
         Racer { seat, stop: None }
     }
 
-    /// Makes the calls of the seat, in order, up to the first that is refused. It passes the gate before the first.
+    /// Makes the calls of the seat, in order, up to the first that is refused. It passes the hook before the first.
     pub(crate) fn run<R: Threads + Wait, G: CrewGate>(
         &mut self,
         rt: &R,

@@ -15,7 +15,7 @@ use Rattle.mh_model.specs.Machine.{first_machine}
 use Rattle.mh_model.specs.Races.{IsRaced, IsRacedFull, IsRaceBegun}
 use Rattle.mh_model.specs.Replies.{bad_line_text}
 use Rattle.mh_model.specs.Script.{Meaning, Reading, BadLine, Means, reading}
-use Rattle.mh_race.specs.Racing.{BeginsTheCalls, MakesTheCalls}
+use Rattle.mh_race.specs.Racing.{BeginsItsCalls, MakesTheCalls}
 use Rattle.mh_text.specs.Stream.{AppendsBeginning}
 use Rattle.mh_text_laws.proofs.migration.MigratedRecords.{record_events, record_length}
 use Rattle.mh_racing.specs.Raced.{BeginsRaceOf, BeginsToRace, Races, RefusesScript}
@@ -56,7 +56,7 @@ module _ {script : Meaning} {history : List Entry} {text : Text} (raced : HasRac
   calls_are : (seat : ℕ) → owned_by owner_of seat (measured_events (migrated script.config history).entries) ≡ owned_by owner_of seat (events_of history)
   calls_are seat = ap (owned_by owner_of seat) (record_events (first_machine script.config) (events_of history))
 
-  begins_calls : BeginsTheCalls script.events (events_of history) → BeginsTheCalls script.events (measured_events (migrated script.config history).entries)
+  begins_calls : BeginsItsCalls script.events (events_of history) → BeginsItsCalls script.events (measured_events (migrated script.config history).entries)
   begins_calls calls = λ seat. ((calls seat).0, ap (λ (done : List Event). done ++ (calls seat).0) (calls_are seat) ∙ (calls seat).1)
 
   pub raced_done : (old new : Option Text) → MakesTheCalls script.events (events_of history) → Appends old new text → Writes (IsRaced script) old new
@@ -71,7 +71,7 @@ module _ {script : Meaning} {history : List Entry} {text : Text} (raced : HasRac
     wrote,
   )
 
-  pub raced_full : (old new : Option Text) → length history ≡ most_entries → BeginsTheCalls script.events (events_of history) → Appends old new text → Writes (IsRacedFull script) old new
+  pub raced_full : (old new : Option Text) → length history ≡ most_entries → BeginsItsCalls script.events (events_of history) → Appends old new text → Writes (IsRacedFull script) old new
   raced_full old new full calls wrote = (
     text,
     record {
@@ -84,7 +84,7 @@ module _ {script : Meaning} {history : List Entry} {text : Text} (raced : HasRac
     wrote,
   )
 
-  pub raced_begun : (old new : Option Text) → BeginsTheCalls script.events (events_of history) → AppendsBeginning old new text → Writes (IsRaceBegun script) old new
+  pub raced_begun : (old new : Option Text) → BeginsItsCalls script.events (events_of history) → AppendsBeginning old new text → Writes (IsRaceBegun script) old new
   raced_begun old new calls begun = (
     begun.0,
     record {

@@ -16,7 +16,7 @@ ghost use Rattle.mh_racing.specs.Raced.{BeginsToRace, RaceEndsAs, Races};
 ghost use Rattle.mh_judging.specs.OfScript.Run.{HasReason, TakesToRun};
 ghost use Rattle.mh_judging.specs.OfScript.Texts.{Blames, BlamesSink, LeavesSource, WantsMemory, Writes};
 
-use mh_judging::mh_script::end::{End, Refusal};
+use mh_judging::mh_script::end::{End, LineRefusal};
 use mh_judging::mh_script::fault::ScriptFault;
 use mh_judging::mh_script::texts::{read_whole, write_verdict};
 use mh_judging::record::write_record;
@@ -87,7 +87,7 @@ pub fn race_script<R: Threads + Wait + Sync, S: Source, W: Sink, G: CrewGate + S
             Ok(End::Done)
         }
         Err(TextError::Line(line)) => match write_verdict(Verdict::Refused(line), sink) {
-            Ok(()) => Ok(End::Refused(Refusal::of(bytes, line))),
+            Ok(()) => Ok(End::Refused(LineRefusal::of(bytes, line))),
             Err(DeviceFailed) => Err(ScriptFault::Write),
         },
         Err(TextError::NoMemory) => Err(ScriptFault::NoMemory),

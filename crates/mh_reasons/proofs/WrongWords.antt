@@ -11,7 +11,7 @@ use Rattle.mh_model.specs.declared.history.Version.{Version}
 use Rattle.mh_model.specs.declared.history.Version.TheVariants.{Two}
 use Rattle.mh_model.specs.Bytes.{Text, words, is_text, is_digit, is_letter, is_numeral, is_name, value_after, number, numbers}
 use Rattle.mh_model.specs.Configs.{configured_by, configured}
-use Rattle.mh_model.specs.Limits.{is_configuration}
+use Rattle.mh_model.specs.Limits.{is_configuration, least_quantum}
 use Rattle.mh_model.specs.Forms.{Row, within, are_below, u64, row_form, formed, command_rows, command_of, control_rows, control_of}
 use Rattle.mh_model.specs.Script.{Wrong, calls, asks, line_words, config_of, config_words}
 use Rattle.mh_text.specs.Rows.{said}
@@ -24,10 +24,10 @@ use Rattle.mh_reasons.specs.declared.reason.ConfigNumber.{ConfigNumber}
 use Rattle.mh_reasons.specs.declared.reason.ConfigNumber.TheVariants.{Pages, Quantum, Trigger, Every}
 use Rattle.mh_reasons.specs.declared.reason.LineReason.{LineReason}
 use Rattle.mh_reasons.specs.declared.reason.LineReason.TheVariants as reason
-use Rattle.mh_reasons.specs.Numbers.{is_digits, HasFault}
+use Rattle.mh_reasons.specs.Numbers.{is_digits, HasNumberFault}
 use Rattle.mh_reasons.specs.Verbs.{bounds_of, Usage, usage_of}
 use Rattle.mh_reasons.specs.Operands.{are_numbers_below, fit, HasOperandFault}
-use Rattle.mh_reasons.specs.Reasons.{is_alphanumeric, is_in_limits, IsOutside, word_at, IsWordsReason}
+use Rattle.mh_reasons.specs.Reasons.{is_alphanumeric, is_in_limits, IsFirstOutside, word_at, IsWordsReason}
 
 -- Numbers ----------------------------------------------------------------------------------------
 
@@ -63,7 +63,7 @@ needless_zero (digit ∷ next ∷ bytes) long first =
     let zero_first : digit ≡ 48 = first in
     rw zero_first refl
 
-fault_unfit : (bound : ℕ) (word : Text) (fault : NumberFault) → HasFault bound word fault → IsUnfit bound (number word)
+fault_unfit : (bound : ℕ) (word : Text) (fault : NumberFault) → HasNumberFault bound word fault → IsUnfit bound (number word)
 fault_unfit bound word NotDigits is = no_numeral word bound (not_digits word is)
 fault_unfit bound word LeadingZero is = no_numeral word bound (needless_zero word is.1 is.2)
 fault_unfit bound word (Above most) is =
@@ -79,7 +79,7 @@ later_unfit bound bounds None rest none = refl
 later_unfit bound bounds (Some v) None none = refl
 later_unfit bound bounds (Some v) (Some ns) none = rw none (and-false (nat_lt v bound))
 
-place_unfit : (bounds : List ℕ) (given : List Text) (place : ℕ) (fault : NumberFault) → place < length given → length given ≡ length bounds → HasFault (get_or bounds place 0) (get_or given place []) fault → fit bounds given ≡ false
+place_unfit : (bounds : List ℕ) (given : List Text) (place : ℕ) (fault : NumberFault) → place < length given → length given ≡ length bounds → HasNumberFault (get_or bounds place 0) (get_or given place []) fault → fit bounds given ≡ false
 place_unfit bounds [] place fault below count is = absurd (omega arith)
 place_unfit [] (word ∷ given) place fault below count is = absurd (omega arith)
 place_unfit (bound ∷ bounds) (word ∷ given) zero fault below count is = first_unfit bound bounds (number word) (numbers given) (fault_unfit bound word fault is)
@@ -137,9 +137,9 @@ outside_none rules pages quantum trigger every false is none = refl
 
 within_four : (a b c d : ℕ) → is_configuration a b c d ≡ true → are_below four (a ∷ b ∷ c ∷ d ∷ []) ≡ true
 within_four a b c d is =
-    let one = and_parts (nat_le 1 a) (nat_le a 4096 && (nat_le 209 b && (nat_le b 1000000 && (nat_le c a && nat_le d 1000000)))) is in
-    let two = and_parts (nat_le a 4096) (nat_le 209 b && (nat_le b 1000000 && (nat_le c a && nat_le d 1000000))) one.1 in
-    let three = and_parts (nat_le 209 b) (nat_le b 1000000 && (nat_le c a && nat_le d 1000000)) two.1 in
+    let one = and_parts (nat_le 1 a) (nat_le a 4096 && (nat_le least_quantum b && (nat_le b 1000000 && (nat_le c a && nat_le d 1000000)))) is in
+    let two = and_parts (nat_le a 4096) (nat_le least_quantum b && (nat_le b 1000000 && (nat_le c a && nat_le d 1000000))) one.1 in
+    let three = and_parts (nat_le least_quantum b) (nat_le b 1000000 && (nat_le c a && nat_le d 1000000)) two.1 in
     let more = and_parts (nat_le b 1000000) (nat_le c a && nat_le d 1000000) three.1 in
     let last = and_parts (nat_le c a) (nat_le d 1000000) more.1 in
     let pages : nat_lt a u64 ≡ true = grind (arith, nat_tests, two.0) in
@@ -168,13 +168,13 @@ all_config (Some ns) none = config_unfit ns none
 
 within_limit : (which : ConfigNumber) (a b c d : ℕ) → is_configuration a b c d ≡ true → is_in_limits which a b c d ≡ true
 within_limit which a b c d is =
-    let one = and_parts (nat_le 1 a) (nat_le a 4096 && (nat_le 209 b && (nat_le b 1000000 && (nat_le c a && nat_le d 1000000)))) is in
-    let two = and_parts (nat_le a 4096) (nat_le 209 b && (nat_le b 1000000 && (nat_le c a && nat_le d 1000000))) one.1 in
-    let three = and_parts (nat_le 209 b) (nat_le b 1000000 && (nat_le c a && nat_le d 1000000)) two.1 in
+    let one = and_parts (nat_le 1 a) (nat_le a 4096 && (nat_le least_quantum b && (nat_le b 1000000 && (nat_le c a && nat_le d 1000000)))) is in
+    let two = and_parts (nat_le a 4096) (nat_le least_quantum b && (nat_le b 1000000 && (nat_le c a && nat_le d 1000000))) one.1 in
+    let three = and_parts (nat_le least_quantum b) (nat_le b 1000000 && (nat_le c a && nat_le d 1000000)) two.1 in
     let more = and_parts (nat_le b 1000000) (nat_le c a && nat_le d 1000000) three.1 in
     let last = and_parts (nat_le c a) (nat_le d 1000000) more.1 in
     limit_of which one.0 two.0 three.0 more.0 last.0 last.1 where
-      limit_of : (which : ConfigNumber) → nat_le 1 a ≡ true → nat_le a 4096 ≡ true → nat_le 209 b ≡ true → nat_le b 1000000 ≡ true → nat_le c a ≡ true → nat_le d 1000000 ≡ true → is_in_limits which a b c d ≡ true
+      limit_of : (which : ConfigNumber) → nat_le 1 a ≡ true → nat_le a 4096 ≡ true → nat_le least_quantum b ≡ true → nat_le b 1000000 ≡ true → nat_le c a ≡ true → nat_le d 1000000 ≡ true → is_in_limits which a b c d ≡ true
       limit_of Pages p q r s t u = rw (p, q) refl
       limit_of Quantum p q r s t u = rw (r, s) refl
       limit_of Trigger p q r s t u = t
@@ -249,7 +249,7 @@ usage_config (word ∷ given) usage used none =
     let unfit : fit four given ≡ false = ap (λ (bounds : List ℕ). fit bounds given) parts.1 ∙ (ap (fit usage.bounds) (sym parts.2) ∙ none) in
     rw parts.0 (all_config (numbers given) unfit)
 
-limit_wrong : (words : List Text) (usage : Usage) (which : ConfigNumber) → usage_of Two false words ≡ Some usage → IsOutside which usage.given → config_words words ≡ None
+limit_wrong : (words : List Text) (usage : Usage) (which : ConfigNumber) → usage_of Two false words ≡ Some usage → IsFirstOutside which usage.given → config_words words ≡ None
 limit_wrong [] usage which used outside = cc
 limit_wrong (word ∷ given) usage which used outside =
     let parts = config_used (is_text word (codes "config")) word given usage used in

@@ -11,10 +11,10 @@ is_digits [] = false
 is_digits (byte ∷ bytes) = is_digit byte && list_all is_digit bytes
 
 -- What is wrong with a word that is to be a number below a bound: it isn't digits; it is digits, a needless 0 first; or it is a number, and not below the bound
-abbrev pub HasFault : ℕ → Text → NumberFault → Type 0
-HasFault bound word NotDigits = is_digits word ≡ false
-HasFault bound word LeadingZero = (is_digits word ≡ true) × (1 < length word) × (slice_index word 0 ≡ 48)
-HasFault bound word (Above most) = (is_numeral word ≡ true) × (most < value_after 0 word) × (bound ≡ suc most)
+abbrev pub HasNumberFault : ℕ → Text → NumberFault → Type 0
+HasNumberFault bound word NotDigits = is_digits word ≡ false
+HasNumberFault bound word LeadingZero = (is_digits word ≡ true) × (1 < length word) × (slice_index word 0 ≡ 48)
+HasNumberFault bound word (Above most) = (is_numeral word ≡ true) × (most < value_after 0 word) × (bound ≡ suc most)
 
 -- a word that is a number below a bound
 pub record IsNumberBelow (bound : ℕ) (word : Text) : Type 0 where

@@ -8,7 +8,7 @@ use Rattle.mh_reasons.specs.declared.verb.Verb.{Verb}
 use Rattle.mh_reasons.specs.declared.reason.LineReason.{LineReason}
 use Rattle.mh_reasons.specs.declared.reason.LineReason.TheVariants as reason
 use Rattle.mh_reasons.specs.Quotes.{Quotes}
-use Rattle.mh_reasons.specs.Numbers.{HasFault, IsNumberBelow}
+use Rattle.mh_reasons.specs.Numbers.{HasNumberFault, IsNumberBelow}
 
 -- numbers that are below bounds, if there are any
 abbrev pub are_numbers_below : List ℕ → Option (List ℕ) → Bool
@@ -26,7 +26,7 @@ pub record HasOperandFault (bounds : List ℕ) (words : List Text) (quoted : Quo
   pub within : place < length words
   pub quotes : Quotes (slice_index_or words place []) quoted
   pub earlier : (k : ℕ) → k < place → IsNumberBelow (slice_index bounds k) (slice_index_or words k [])
-  pub faulty : HasFault (slice_index bounds place) (slice_index_or words place []) fault
+  pub faulty : HasNumberFault (slice_index bounds place) (slice_index_or words place []) fault
 
 -- What a reason says of the words after this verb
 abbrev pub IsOperandReason : Verb → List ℕ → List Text → LineReason → Type 0

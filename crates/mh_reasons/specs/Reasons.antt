@@ -6,6 +6,7 @@ use Rattle.mh_model.specs.declared.history.Version.TheVariants.{One, Two}
 use Rattle.mh_model.specs.Bytes.{Text, cut_after, words, is_text, is_letter, is_digit, is_name, numbers}
 use Rattle.mh_model.specs.Forms.{command_rows, control_rows}
 use Rattle.mh_model.specs.Script.{is_blank, line_of, config_words, Wrong}
+use Rattle.mh_model.specs.Limits.{least_quantum}
 use Rattle.mh_reasons.specs.declared.reason.ConfigNumber.{ConfigNumber}
 use Rattle.mh_reasons.specs.declared.reason.ConfigNumber.TheVariants.{Pages, Quantum, Trigger, Every}
 use Rattle.mh_reasons.specs.declared.reason.LineReason.{LineReason}
@@ -25,9 +26,9 @@ IsWrong false line = (is_blank line ≡ false) × (config_words (words line) ≡
 IsWrong true line = line_of line ≡ Wrong
 
 -- the word after `history`
-abbrev pub version_text : Version → Text
-version_text One = codes "1"
-version_text Two = codes "2"
+abbrev pub version_word : Version → Text
+version_word One = codes "1"
+version_word Two = codes "2"
 
 -- letters and digits, a letter first
 abbrev pub is_alphanumeric : Text → Bool
@@ -37,7 +38,7 @@ is_alphanumeric (byte ∷ bytes) = is_letter byte && list_all (λ c. is_letter c
 -- whether a number of a configuration is within its limits
 abbrev pub is_in_limits : ConfigNumber → (pages quantum trigger every : ℕ) → Bool
 is_in_limits Pages pages quantum trigger every = nat_le 1 pages && nat_le pages 4096
-is_in_limits Quantum pages quantum trigger every = nat_le 209 quantum && nat_le quantum 1000000
+is_in_limits Quantum pages quantum trigger every = nat_le least_quantum quantum && nat_le quantum 1000000
 is_in_limits Trigger pages quantum trigger every = nat_le trigger pages
 is_in_limits Every pages quantum trigger every = nat_le every 1000000
 
@@ -50,7 +51,7 @@ are_in_limits_before Every pages quantum trigger every =
     is_in_limits Pages pages quantum trigger every && (is_in_limits Quantum pages quantum trigger every && is_in_limits Trigger pages quantum trigger every)
 
 -- words after `config` that are four numbers, of which this one is the first outside its limits
-pub record IsOutside (which : ConfigNumber) (given : List Text) : Type 0 where
+pub record IsFirstOutside (which : ConfigNumber) (given : List Text) : Type 0 where
   pub pages : ℕ
   pub quantum : ℕ
   pub trigger : ℕ
@@ -65,18 +66,18 @@ word_at words i = slice_index_or words i []
 
 -- the words of the first line of a history, as far as they tell its version
 abbrev pub IsHistory : List Text → Version → Type 0
-IsHistory words version = (word_at words 0 ≡ codes "history") × (word_at words 1 ≡ version_text version)
+IsHistory words version = (word_at words 0 ≡ codes "history") × (word_at words 1 ≡ version_word version)
 
 -- words that begin with a verb of the grammar: which, what it takes, and what it is given
 abbrev pub IsUsage : Version → Bool → List Text → (Usage → Type 0) → Type 0
 IsUsage version configured words P = (usage : Usage) × (usage_of version configured words ≡ Some usage) × P usage
 
 -- the words of an event that is no control, those under a name, and those of a control
-abbrev pub IsOfSession : Bool → List Text → Type 0
-IsOfSession configured words = (configured ≡ true) × (is_text (word_at words 0) (codes "*") ≡ false)
+abbrev pub AreOfSession : Bool → List Text → Type 0
+AreOfSession configured words = (configured ≡ true) × (is_text (word_at words 0) (codes "*") ≡ false)
 
-abbrev pub IsNamed : Bool → List Text → Type 0
-IsNamed configured words = IsOfSession configured words × (is_name (word_at words 0) ≡ true)
+abbrev pub IsNamedWord : Bool → List Text → Type 0
+IsNamedWord configured words = AreOfSession configured words × (is_name (word_at words 0) ≡ true)
 
 abbrev pub IsOfControl : Bool → List Text → Type 0
 IsOfControl configured words = (configured ≡ true) × (is_text (word_at words 0) (codes "*") ≡ true)
@@ -86,12 +87,12 @@ abbrev pub IsWordsReason : Version → Bool → List Text → LineReason → Typ
 IsWordsReason version configured words (reason.History of) = (configured ≡ false) × IsHistory words of
 IsWordsReason version configured words (reason.NotConfig quoted) =
     (configured ≡ false) × (is_text (word_at words 0) (codes "config") ≡ false) × ((of : Version) → ¬ IsHistory words of) × Quotes (word_at words 0) quoted
-IsWordsReason version configured words (reason.Limit which) = (configured ≡ false) × IsUsage version configured words (λ usage. IsOutside which usage.given)
-IsWordsReason version configured words (reason.LongName quoted) = IsOfSession configured words × (16 < length (word_at words 0)) × Quotes (word_at words 0) quoted
-IsWordsReason version configured words (reason.BadName quoted) = IsOfSession configured words × (length (word_at words 0) ≤ 16) × (is_alphanumeric (word_at words 0) ≡ false) × Quotes (word_at words 0) quoted
-IsWordsReason version configured words (reason.NoCommand quoted) = IsNamed configured words × (length words ≡ 1) × Quotes (word_at words 0) quoted
+IsWordsReason version configured words (reason.Limit which) = (configured ≡ false) × IsUsage version configured words (λ usage. IsFirstOutside which usage.given)
+IsWordsReason version configured words (reason.LongName quoted) = AreOfSession configured words × (16 < length (word_at words 0)) × Quotes (word_at words 0) quoted
+IsWordsReason version configured words (reason.BadName quoted) = AreOfSession configured words × (length (word_at words 0) ≤ 16) × (is_alphanumeric (word_at words 0) ≡ false) × Quotes (word_at words 0) quoted
+IsWordsReason version configured words (reason.NoCommand quoted) = IsNamedWord configured words × (length words ≡ 1) × Quotes (word_at words 0) quoted
 IsWordsReason version configured words (reason.UnknownCommand quoted) =
-    IsNamed configured words × (1 < length words) × (bounds_of command_rows (word_at words 1) ≡ None) × Quotes (word_at words 1) quoted
+    IsNamedWord configured words × (1 < length words) × (bounds_of command_rows (word_at words 1) ≡ None) × Quotes (word_at words 1) quoted
 IsWordsReason version configured words reason.NoControl = IsOfControl configured words × (length words ≡ 1)
 IsWordsReason version configured words (reason.UnknownControl quoted) =
     IsOfControl configured words × (1 < length words) × (bounds_of (control_rows version) (word_at words 1) ≡ None) × Quotes (word_at words 1) quoted
@@ -109,7 +110,7 @@ IsLineReason configured line reason = (¬ HasPair line 32 35) × IsPlain line ×
 -- Scripts ----------------------------------------------------------------------------------------
 
 -- Line n of a text, which isn't blank. It stands after the configuration if a line before it isn't blank either, and else before it
-pub record StandsAt (text : Text) (n : ℕ) (configured : Bool) (line : Text) : Type 0 where
+pub record StandsAtLine (text : Text) (n : ℕ) (configured : Bool) (line : Text) : Type 0 where
   pub before : List Text
   pub after : List Text
   pub lines : (cut_after 10 text).pieces ≡ before ++ line ∷ after
@@ -123,4 +124,4 @@ IsReason text n script.TooLong = (n ≡ 0) × (67108864 < length text)
 IsReason text n script.NoConfiguration =
     (n ≡ suc (length (cut_after 10 text).pieces)) × (list_all is_blank (cut_after 10 text).pieces ≡ true) × ((cut_after 10 text).rest ≡ [])
 IsReason text n script.NoNewline = (n ≡ suc (length (cut_after 10 text).pieces)) × ((cut_after 10 text).rest ≢ [])
-IsReason text n (script.Line reason) = (configured : Bool) × (line : Text) × StandsAt text n configured line × IsLineReason configured line reason
+IsReason text n (script.Line reason) = (configured : Bool) × (line : Text) × StandsAtLine text n configured line × IsLineReason configured line reason

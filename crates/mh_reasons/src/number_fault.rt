@@ -2,7 +2,7 @@
 ghost use Rattle.std.specs.Prelude.{suc, IfSome, IfNone, ◌≡◌};
 ghost use Rattle.std.specs.List.{list_all};
 ghost use Rattle.mh_model.specs.Bytes.{is_digit};
-ghost use Rattle.mh_reasons.specs.Numbers.{HasFault, IsNumberBelow};
+ghost use Rattle.mh_reasons.specs.Numbers.{HasNumberFault, IsNumberBelow};
 
 use mh_text::word::number;
 use std::fmt;
@@ -18,7 +18,7 @@ pub enum NumberFault {
 
 /// What is wrong with a word that is to be a number, at most this one.
 pub fn number_fault(word: &[u8], most: u64) -> Option<NumberFault>
-    ensures some { IfSome result (HasFault (suc most) word.now) }
+    ensures some { IfSome result (HasNumberFault (suc most) word.now) }
     ensures none { IfNone result (IsNumberBelow (suc most) word.now) }
 {
     if word.is_empty() || !are_digits(word) {

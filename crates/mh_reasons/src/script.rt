@@ -1,5 +1,5 @@
-//! Why a script is refused at its first bad line. The reason is true of that line, and of its bytes it is the first in
-//! a fixed order.
+//! Why a script is refused at its first bad line. The reason is true of that line; one that is about bytes is the first
+//! in a fixed order.
 ghost use Rattle.std.specs.Prelude.{◌≡◌};
 ghost use Rattle.mh_model.specs.Script.{BadLine, reading};
 ghost use Rattle.mh_reasons.specs.Reasons.{IsReason};

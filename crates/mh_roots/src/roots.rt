@@ -3,6 +3,7 @@
 ghost use Rattle.std.specs.Prelude.{◌≡◌, ◌<◌, ◌++◌, None, length, get_or, set, replicate, take, drop};
 ghost use Rattle.mh_model.specs.Collector.{forwarded_slots};
 ghost use Rattle.mh_model.specs.World.{own_slot};
+ghost use Rattle.mh_model.specs.Limits.{root_slots};
 ghost use Rattle.mh_roots.specs.Roots.{SlotsLead, without_session};
 
 use mh_blocks::blocks::Blocks;
@@ -38,7 +39,7 @@ fn forward_slots(slots: &mut [Option<Place>], blocks: &Blocks)
 impl Roots {
     /// All slots empty.
     pub fn new() -> Roots
-        ensures { result ≡ replicate 144 None }
+        ensures { result ≡ replicate root_slots None }
     {
         Roots {
             slots: [None; ROOT_SLOTS],
@@ -47,9 +48,9 @@ impl Roots {
 
     /// What a slot holds.
     pub fn get(&self, slot: usize) -> Option<Place>
-        requires { slot < 144 }
+        requires { slot < root_slots }
         ensures value { result ≡ get_or self.now slot None }
-        ensures count { length self.now ≡ 144 }
+        ensures count { length self.now ≡ root_slots }
     {
         self.slots[slot]
     }
@@ -63,7 +64,7 @@ impl Roots {
 
     /// Lets a slot hold a reference.
     pub fn set(&mut self, slot: usize, reference: Option<Place>)
-        requires { slot < 144 }
+        requires { slot < root_slots }
         ensures { self.new ≡ set self.old slot reference }
     {
         self.slots[slot] = reference;

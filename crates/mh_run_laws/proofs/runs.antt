@@ -1,1 +1,2 @@
 pub mod FaithfulMoments
+pub mod RunsByEvents

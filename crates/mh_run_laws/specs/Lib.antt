@@ -7,3 +7,4 @@ pub mod Showing
 pub mod Following
 pub mod BesideTheWorld
 pub mod Forwarders
+pub mod Replays

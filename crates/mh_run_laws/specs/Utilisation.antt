@@ -1,14 +1,15 @@
 -- Quanta within their bound, and the mutator's share of each stretch of a trace.
-use Rattle.std.specs.Prelude.{◌≡◌, ℕ, ◌+◌, ◌<◌, ◌≤◌, false, Some, List}
+use Rattle.std.specs.Prelude.{◌≡◌, ℕ, ◌+◌, ◌<◌, ◌≤◌, ◌-◌, false, Some, List}
 use Rattle.mh_model.specs.declared.command.Event.{Event}
 use Rattle.mh_model.specs.declared.config.Config.{Config}
 use Rattle.mh_model.specs.Collector.{Collector, is_idle, quantum}
 use Rattle.mh_model.specs.Trace.{TraceState, least_mutator, floor}
 use Rattle.mh_model.specs.Machine.{first_machine, half_step, machine_after}
+use Rattle.mh_model.specs.Limits.{least_quantum}
 
 -- a quantum of this collector that leaves its cycle running leaves at most 208 units
 abbrev pub LeavesLittle : Config → Collector → Type 0
-LeavesLittle config collector = is_idle (quantum config collector).collector.phase ≡ false → config.quantum ≤ (quantum config collector).units + 208
+LeavesLittle config collector = is_idle (quantum config collector).collector.phase ≡ false → config.quantum ≤ (quantum config collector).units + (least_quantum - 1)
 
 -- The greatest quantum of a run spends no more than is configured. At every moment, half moments included, a quantum that leaves its cycle running
 -- leaves at most 208 units

@@ -7,6 +7,7 @@ pub mod bounds;
 pub mod following;
 pub mod forwarders;
 pub mod grey_room;
+pub mod replays;
 pub mod showing;
 pub mod snapshots;
 pub mod utilisation;

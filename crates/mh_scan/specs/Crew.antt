@@ -2,7 +2,7 @@
 use Rattle.std.specs.Prelude.{◌≡◌, ℕ, ◌+◌, ◌*◌, ◌/◌, ◌≤◌, ◌==◌, true, false, if◌then◌else◌, List, [], ◌∷◌, ◌++◌, All, map, take, drop}
 use Rattle.mh_model.specs.Pages.{Table}
 use Rattle.mh_model.specs.Table.{Block}
-use Rattle.mh_claims.specs.Seats.{ClaimsView, DrawSeatView, IsOf, IsNew, seat_ended}
+use Rattle.mh_claims.specs.Seats.{ClaimsView, DrawSeatView, DrawsFrom, IsBeforeItsDraws, seat_ended}
 use Rattle.mh_scan.specs.Asking.{AreAnswers}
 use Rattle.mh_scan.specs.declared.answers.Asks.{Asks}
 use Rattle.mh_scan.specs.declared.crew.Found.{Found}
@@ -35,13 +35,13 @@ drawn_by seats = map (λ seat. seat.drawn) seats
 
 -- a worker before it draws its first piece
 pub record IsHired (claims : ClaimsView) (worker : Worker) : Type 0 where
-  pub seat : IsNew claims worker.seat
+  pub seat : IsBeforeItsDraws claims worker.seat
   pub done : worker.done.items ≡ []
   pub granted : worker.refused ≡ false
 
 -- A worker that is done: what it has is found. If no memory was refused to it, it was answered at last that no piece is left, and has all others that it drew
 pub record HasWorked (claims : ClaimsView) (table : Table Block) (asks : Asks) (batch : List ℕ) (worker : Worker) : Type 0 where
-  pub own : IsOf claims worker.seat
+  pub own : DrawsFrom claims worker.seat
   pub found : All (IsFound table asks batch) worker.done.items
   pub ended : worker.refused ≡ false → seat_ended worker.seat ≡ true
   pub last : ℕ

@@ -5,7 +5,7 @@
 //! started is no fault: the calling thread does its part. A crew says which blocks need no marking, and marks none.
 ghost use Rattle.std.specs.Prelude.{◌≡◌, ◌<◌, ◌≤◌, ℕ, true, All, IfOk, length, remove, slice_index_or, vec_len};
 ghost use Rattle.mh_model.specs.History.{times_drawn};
-ghost use Rattle.mh_claims.specs.Seats.{IsOf, IsNew, seat_ended};
+ghost use Rattle.mh_claims.specs.Seats.{DrawsFrom, IsBeforeItsDraws, seat_ended};
 ghost use Rattle.mh_scan.specs.Scanning.{AreScannable};
 ghost use Rattle.mh_scan.specs.Asking.{AreAnswers};
 ghost use Rattle.mh_scan.specs.Crew.{piece_count, piece_at, IsFound, times_found, drawn_by, IsHired, HasWorked};
@@ -88,7 +88,7 @@ fn scan_alone<G: Gate>(
 
 /// A worker for each seat.
 fn hire(alloc: Global, claims: &Claims, mut seats: Vec<DrawSeat>) -> Result<Vec<Worker>, NoMemory>
-    requires { All (IsNew claims.now) seats.items }
+    requires { All (IsBeforeItsDraws claims.now) seats.items }
     ensures count { IfOk result (λ hired. vec_len hired ≡ vec_len seats) }
     ensures hired { IfOk result (λ hired. All (IsHired claims.now) hired.items) }
 {
@@ -168,7 +168,7 @@ fn gather(
 ) -> Result<(Vec<DrawSeat>, Vec<Found>), NoMemory>
     requires { All (HasWorked claims.now blocks.now asks batch.now) workers.items }
     ensures count { IfOk result (λ gathered. vec_len gathered.0 ≡ vec_len workers) }
-    ensures ended { IfOk result (λ gathered. All (λ seat. IsOf claims.now seat × (seat_ended seat ≡ true)) gathered.0.items) }
+    ensures ended { IfOk result (λ gathered. All (λ seat. DrawsFrom claims.now seat × (seat_ended seat ≡ true)) gathered.0.items) }
     ensures found { IfOk result (λ gathered. All (IsFound blocks.now asks batch.now) gathered.1.items) }
     ensures times { IfOk result (λ gathered. (number : ℕ) → number < claims.now.bound → times_drawn number (drawn_by gathered.0.items) ≡ times_found number gathered.1.items) }
 {
@@ -228,7 +228,7 @@ fn merge(
 }
 
 /// Asks each block of a batch, by as many workers at most as may be had. One of them is the calling thread, which does all
-/// if there is one piece or one worker. A gate's `scan_by_crew` is one call of this.
+/// if there is one piece or one worker. A hook's `scan_by_crew` is one call of this.
 pub fn scan<G: Gate + Sync, R: Threads>(
     rt: &R,
     alloc: Global,

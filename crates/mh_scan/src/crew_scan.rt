@@ -26,7 +26,7 @@ use mh_model::place::Place;
 use std::alloc::Global;
 use std::thread::Threads;
 
-/// A gate that a crew can call from its threads. Each gate writes the method for its own type, with one call of
+/// A hook that a crew can call from its threads. Each hook writes the method for its own type, with one call of
 /// `crew::scan`.
 pub trait CrewGate: Gate {
     /// Asks each block of a batch, by as many workers at most as may be had.

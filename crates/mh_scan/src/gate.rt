@@ -1,7 +1,7 @@
-//! Where a worker or a session can be held before it goes on. The trait and the gate that holds nobody stand beside the
-//! crew, which calls them. The claims don't call them.
+//! Hooks: where a worker or a session can be held before it goes on. The trait and the hook that holds nobody stand
+//! beside the crew, which calls them. The claims don't call them.
 
-/// What a worker and a session call before they go on. A gate that waits holds them there.
+/// What a worker and a session call before they go on. A hook that waits holds them there.
 pub trait Gate {
     /// A worker is about to scan a piece that it drew.
     fn piece(&self, worker: usize, piece: u64);
@@ -10,7 +10,7 @@ pub trait Gate {
     fn session(&self, who: u8);
 }
 
-/// The gate that holds nobody.
+/// The hook that holds nobody.
 #[derive(Clone, Copy, Drop)]
 pub struct Open;
 

@@ -1,8 +1,8 @@
 -- Faults that are passed on.
 use Rattle.std.proofs.Common.{◌≡◌, ◌∙◌, refl, sym}
 use Rattle.std.specs.Prelude.{Result, Ok, Err, IsErrAnd, IsErrOf}
-use Rattle.mh_state.specs.declared.machine.Stop.{Stop}
-use Rattle.mh_state.specs.declared.machine.Stop.TheVariants as stops
+use Rattle.mh_machine.specs.declared.machine.Stop.{Stop}
+use Rattle.mh_machine.specs.declared.machine.Stop.TheVariants as stops
 use Rattle.mh_script.specs.declared.fault.ScriptFault.{ScriptFault}
 use Rattle.mh_script.specs.declared.fault.ScriptFault.TheVariants.{HistoryFull}
 use Rattle.mh_script.specs.Texts.{IsStopFault}

@@ -5,6 +5,5 @@ pub mod MachineLemmas
 pub mod PieceLemmas
 pub mod RunLemmas
 pub mod SourceLemmas
-pub mod OfState
-pub mod OfPromise
+pub mod OfMachine
 pub mod OfReasons

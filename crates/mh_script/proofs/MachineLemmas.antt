@@ -10,8 +10,8 @@ use Rattle.mh_model.specs.HistoryTexts.{header_words, measured_line, measured_st
 use Rattle.mh_model.specs.Machine.{Machine, first_machine, event_step, machine_after, machine_replies}
 use Rattle.mh_model.specs.Replies.{replies_text}
 use Rattle.mh_model.specs.RunHistories.{recorded_run}
-use Rattle.mh_state.proofs.OfPromise.RunsByEvents.{after_more, replies_more}
-use Rattle.mh_state.proofs.JudgeLemmas.{record-more}
+use Rattle.mh_run_laws.proofs.runs.RunsByEvents.{after_more, replies_more}
+use Rattle.mh_machine.proofs.JudgeLemmas.{record-more}
 use Rattle.mh_script.proofs.AddedLines.{AddsLines}
 
 -- one element more of a list

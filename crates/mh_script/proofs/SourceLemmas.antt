@@ -18,7 +18,7 @@ use Rattle.mh_reasons.specs.Reasons.{IsReason}
 use Rattle.mh_reasons.specs.declared.reason.ScriptReason.{ScriptReason}
 use Rattle.mh_reasons.specs.declared.reason.ScriptReason.TheVariants as script
 use Rattle.mh_script.specs.declared.end.End.{End}
-use Rattle.mh_script.specs.declared.end.Refusal.{Refusal}
+use Rattle.mh_script.specs.declared.end.LineRefusal.{LineRefusal}
 use Rattle.mh_script.specs.declared.end.End.TheVariants as ends
 use Rattle.mh_script.specs.Run.{EndsAs, HasReason, Outputs, TakesToRun, WritesBeginning, transcript, transcript_of}
 use Rattle.mh_script.specs.Texts.{IsTextOf, WantsMemory, ForText}
@@ -233,7 +233,7 @@ reason-consumed (Some bytes) (Some left) text n reason consumed whole bad is =
     (bytes, refl, subst (λ t. IsReason t n reason) (sym consumed) (reason-append text left n reason whole bad is))
 
 -- the refusal of what was read of a source has its reason
-pub refused_reason : (known rest : Option Text) (items text : Text) (n : ℕ) (refusal : Refusal) → text ≡ items → Consumes known rest items → (length items ≤ 67108864 → IsAtEnd rest) → reading text ≡ BadLine n → refusal.line ≡ n
+pub refused_reason : (known rest : Option Text) (items text : Text) (n : ℕ) (refusal : LineRefusal) → text ≡ items → Consumes known rest items → (length items ≤ 67108864 → IsAtEnd rest) → reading text ≡ BadLine n → refusal.line ≡ n
     → IsReason text n refusal.reason → HasReason known (ends.Refused refusal)
 refused_reason known rest items text n refusal same consumed whole bad line is =
     let P : Text → Type 0 = λ t. (reading t ≡ BadLine n) × IsReason t n refusal.reason in

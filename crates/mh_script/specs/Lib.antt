@@ -1,5 +1,4 @@
 pub mod Texts
 pub mod Run
-pub mod OfState
+pub mod OfMachine
 pub mod OfReasons
-pub mod OfPromise

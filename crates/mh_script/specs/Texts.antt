@@ -2,8 +2,8 @@
 use Rattle.std.specs.Prelude.{◌≡◌, ℕ, ◌<◌, ◌≤◌, ◌++◌, length, Option, IfSome, Result, Ok, Err}
 use Rattle.std.specs.Io.KnownBytes.{Appends, Consumes, IsAtEnd}
 use Rattle.mh_model.specs.Bytes.{Text}
-use Rattle.mh_state.specs.declared.machine.Stop.{Stop}
-use Rattle.mh_state.specs.declared.machine.Stop.TheVariants as stop
+use Rattle.mh_machine.specs.declared.machine.Stop.{Stop}
+use Rattle.mh_machine.specs.declared.machine.Stop.TheVariants as stop
 use Rattle.mh_text.specs.Stream.{ConsumesBeginning, ConsumesSome}
 use Rattle.mh_script.specs.declared.fault.ScriptFault.{ScriptFault}
 use Rattle.mh_script.specs.declared.fault.ScriptFault.TheVariants.{Read, Write, NoMemory, HistoryFull}

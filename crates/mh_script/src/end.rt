@@ -11,25 +11,25 @@ use mh_reasons::script::script_reason;
 #[derive(Debug, Drop)]
 pub enum End {
     Done,
-    Refused(Refusal),
+    Refused(LineRefusal),
 }
 
 /// Where and why a script is refused.
 #[derive(Debug, Drop)]
-pub struct Refusal {
+pub struct LineRefusal {
     /// The script's first bad line, counted from 1; 0 if the script is too long.
     pub line: u64,
     pub reason: ScriptReason,
 }
 
-impl Refusal {
+impl LineRefusal {
     /// The refusal of a text whose first bad line this is. It takes no memory.
-    pub fn of(text: &[u8], line: u64) -> Refusal
+    pub fn of(text: &[u8], line: u64) -> LineRefusal
         requires { reading text.now ≡ BadLine line }
         ensures line { result.line ≡ line }
         ensures reason { IsReason text.now line result.reason }
     {
-        Refusal {
+        LineRefusal {
             line,
             reason: script_reason(text, line),
         }

@@ -1,7 +1,7 @@
 //! Why a script was not run to its end, and why lines were not all written. A run can meet a source or a sink that
 //! failed, refused memory, and a full history, so its error names these and no more.
+use mh_machine::machine::Stop;
 use mh_model::memory::NoMemory;
-use mh_state::machine::Stop;
 use mh_text::device::DeviceFailed;
 use thiserror::Error;
 

@@ -10,9 +10,9 @@
 //! whole texts is here, where the two others use it.
 #![tactic(auto)]
 
+pub use mh_machine;
+pub use mh_machine::mh_scan;
 pub use mh_reasons;
-pub use mh_state;
-pub use mh_state::{mh_promise, mh_scan};
 
 pub mod end;
 pub mod fault;

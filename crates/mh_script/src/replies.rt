@@ -11,10 +11,10 @@ ghost use Rattle.mh_text.specs.Stream.{AppendsBeginning};
 
 use crate::fault::WriteError;
 use crate::texts::{flush, flush_full};
+use mh_machine::machine::Machine;
+use mh_machine::mh_scan::scan::Scanner;
 use mh_model::command::Event;
 use mh_model::memory::NoMemory;
-use mh_state::machine::{Machine, Stop};
-use mh_state::mh_scan::scan::Scanner;
 use mh_text::reply_line::push_reply_line;
 use mh_text::sink::Sink;
 use std::alloc::Global;
@@ -31,11 +31,7 @@ fn answer<S: Scanner>(
     ensures count { OnOk result (machine.new.done ≡ suc machine.old.done) }
     ensures text { OnOk result (string_bytes text.new ≡ string_bytes text.old ++ replies_text ((event_step machine.old.machine event).reply ∷ [])) }
 {
-    let reply = match machine.step(event, scanner) {
-        Ok(reply) => reply,
-        Err(Stop::NoMemory) => return Err(NoMemory),
-        Err(Stop::HistoryFull) => unreachable!(),
-    };
+    let reply = machine.step_in_room(event, scanner)?;
     push_reply_line(text, &reply)
 }
 

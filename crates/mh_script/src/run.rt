@@ -22,11 +22,11 @@ use crate::end::End;
 use crate::fault::{ScriptFault, WriteError};
 use crate::replies::write_replies;
 use crate::transcript::{Transcript, transcribe};
+use mh_machine::machine::Machine;
+use mh_machine::mh_scan::crew_scan::{CrewGate, CrewScan};
+use mh_machine::mh_scan::scan::Scanner;
 use mh_model::command::Event;
 use mh_model::config::{Config, Rules};
-use mh_state::machine::Machine;
-use mh_state::mh_scan::crew_scan::{CrewGate, CrewScan};
-use mh_state::mh_scan::scan::Scanner;
 use mh_text::script::SCRIPT_BYTES;
 use mh_text::sink::Sink;
 use mh_text::source::Source;
@@ -55,7 +55,7 @@ impl Transcript for Replies {
 
 /// Reads a whole script, and then writes its output under these rules, a line for each reply. Of a script that is outside the
 /// grammar it writes the one line that names the first bad line. At most `workers` threads scan at a time, the calling one
-/// among them. Neither their number nor the gate changes the output.
+/// among them. Neither their number nor the hook changes the output.
 pub fn run_script<R: Threads, S: Source, W: Sink, G: CrewGate>(
     rt: &R,
     alloc: Global,

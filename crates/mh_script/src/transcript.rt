@@ -18,14 +18,14 @@ ghost use Rattle.mh_text.specs.Stream.{AppendsBeginning};
 ghost use Rattle.mh_script.specs.Run.{EndsAs, HasReason, Outputs, TakesToRun, WritesBeginning, transcript, transcript_of};
 ghost use Rattle.mh_script.specs.Texts.{LeavesSource, Blames, WantsMemory};
 
-use crate::end::{End, Refusal};
+use crate::end::{End, LineRefusal};
 use crate::fault::{ScriptFault, WriteError};
 use crate::texts::{read_whole, write_verdict};
+use mh_machine::mh_scan::scan::Scanner;
 use mh_model::command::Event;
 use mh_model::config::{Config, Rules};
 use mh_model::history::Verdict;
 use mh_model::limits;
-use mh_state::mh_scan::scan::Scanner;
 use mh_text::device::DeviceFailed;
 use mh_text::script::{SCRIPT_BYTES, Script, parse};
 use mh_text::sink::Sink;
@@ -123,7 +123,7 @@ pub fn transcribe<T: Transcript, C: Scanner, S: Source, W: Sink>(
             Err(WriteError::NoMemory) => Err(ScriptFault::NoMemory),
         },
         Err(TextError::Line(line)) => match write_verdict(Verdict::Refused(line), sink) {
-            Ok(()) => Ok(End::Refused(Refusal::of(bytes, line))),
+            Ok(()) => Ok(End::Refused(LineRefusal::of(bytes, line))),
             Err(DeviceFailed) => Err(ScriptFault::Write),
         },
         Err(TextError::NoMemory) => Err(ScriptFault::NoMemory),

@@ -13,8 +13,8 @@ use Rattle.mh_seat_laws.specs.Merges.{IsMerge}
 use Rattle.mh_service.specs.declared.service.Closed.{Closed}
 use Rattle.mh_service.specs.Sharing.{IsReplayOf, IsDone, IsRefused}
 use Rattle.mh_state.specs.Storing.{Stored}
-use Rattle.mh_state.specs.declared.machine.Stop.{Stop}
-use Rattle.mh_state.specs.declared.machine.Stop.TheVariants as stop
+use Rattle.mh_machine.specs.declared.machine.Stop.{Stop}
+use Rattle.mh_machine.specs.declared.machine.Stop.TheVariants as stop
 
 -- A service: the table of its lock, and its configuration
 pub record ServiceView : Type 0 where
@@ -22,20 +22,20 @@ pub record ServiceView : Type 0 where
   pub config : Config
 
 -- a seat is one of this service
-abbrev pub IsOf : ServiceView → LockSeatView Entry → Type 0
-IsOf service seat = seat.table ≡ service.table
+abbrev pub IsOfService : ServiceView → LockSeatView Entry → Type 0
+IsOfService service seat = seat.table ≡ service.table
 
 -- the seat of this service that has a number, before its first call
-abbrev pub new_seat : ServiceView → ℕ → LockSeatView Entry
-new_seat service number = record { table = service.table; number = number; log = [] }
+abbrev pub first_seat : ServiceView → ℕ → LockSeatView Entry
+first_seat service number = record { table = service.table; number = number; log = [] }
 
 -- an event is one of a seat's
 abbrev pub Owns : LockSeatView Entry → Event → Type 0
 Owns seat event = owner_of event ≡ seat.number
 
 -- what a service leaves, as what is promised of it
-abbrev pub shown : Closed → Outcome
-shown closed = record { replies = replies_of closed.history.items; heap = closed.heap.kept; free = closed.free; trace = closed.trace.trace }
+abbrev pub shown_left : Closed → Outcome
+shown_left closed = record { replies = replies_of closed.history.items; heap = closed.heap.kept; free = closed.free; trace = closed.trace.trace }
 
 -- A history is a merge of nine logs, of which each seat's stands at its number
 pub record AreMerged (seats : List (LockSeatView Entry)) (history : List Entry) : Type 0 where

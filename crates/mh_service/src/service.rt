@@ -22,7 +22,7 @@ ghost use Rattle.mh_model.specs.History.{IsLegal, owner_of, owned_by, events_of}
 ghost use Rattle.mh_model.specs.declared.history.Entry.{Entry};
 ghost use Rattle.mh_state.specs.OfPromise.Runs.{IsTheMachines};
 ghost use Rattle.mh_state.specs.OfPromise.Promise.{IsPromised};
-ghost use Rattle.mh_service.specs.Services.{IsOf, new_seat, Owns, IsServed, AreMerged, shown};
+ghost use Rattle.mh_service.specs.Services.{IsOfService, first_seat, Owns, IsServed, AreMerged, shown_left};
 
 use crate::job::{Job, Shared};
 use crate::seat::{DESK, Seat};
@@ -106,8 +106,8 @@ impl<'a, G: CrewGate> Service<'a, G> {
         requires { (0 < workers) × (workers ≤ 64) }
         ensures config { IfOk result (λ made. made.0.config ≡ config) }
         ensures count { IfOk result (λ made. vec_len made.1 ≡ 9) }
-        ensures own { IfOk result (λ made. All (IsOf made.0) made.1.items) }
-        ensures each { IfOk result (λ made. (number : ℕ) (other : LockSeatView Entry) → number < 9 → slice_index_or made.1.items number other ≡ new_seat made.0 number) }
+        ensures own { IfOk result (λ made. All (IsOfService made.0) made.1.items) }
+        ensures each { IfOk result (λ made. (number : ℕ) (other : LockSeatView Entry) → number < 9 → slice_index_or made.1.items number other ≡ first_seat made.0 number) }
     {
         let shared = Shared::open(alloc, config)?;
         let (lock, inner) = Lock::open(alloc, shared, SEATS)?;
@@ -130,9 +130,9 @@ impl<'a, G: CrewGate> Service<'a, G> {
         seat: &mut Seat,
         event: Event,
     ) -> Result<Reply, Stop>
-        requires own { IsOf self.now seat.old }
+        requires own { IsOfService self.now seat.old }
         requires owned { Owns seat.old event }
-        ensures own { IsOf self.now seat.new × (seat.new.number ≡ seat.old.number) }
+        ensures own { IsOfService self.now seat.new × (seat.new.number ≡ seat.old.number) }
 
         // Where the seat's log gets no memory, the lock is not taken.
         ensures served { IsServed self.now seat.old seat.new event result ⊎ IsErrOf result Stop.NoMemory × (seat.new ≡ seat.old) }
@@ -152,7 +152,7 @@ impl<'a, G: CrewGate> Service<'a, G> {
         Ok(given)
     }
 
-    /// The gate that the workers of its calls pass.
+    /// The hook that the workers of its calls pass.
     pub fn gate(&self) -> &'a G {
         self.gate
     }
@@ -160,11 +160,11 @@ impl<'a, G: CrewGate> Service<'a, G> {
     /// Ends the service once all nine seats are handed in; if one is missing, service and seats come back. It takes no
     /// memory.
     pub fn close(self, seats: Vec<Seat>) -> Result<Closed, MissingSeat<'a, G>>
-        requires { All (IsOf self) seats.items }
+        requires { All (IsOfService self) seats.items }
         ensures count { OnOk result (vec_len seats ≡ 9) }
         ensures legal { IfOk result (λ closed. IsLegal self.entry.config closed.history.items) }
-        ensures machine { IfOk result (λ closed. IsTheMachines self.entry.config (events_of closed.history.items) (shown closed)) }
-        ensures promise { IfOk result (λ closed. IsPromised self.entry.config (events_of closed.history.items) (shown closed)) }
+        ensures machine { IfOk result (λ closed. IsTheMachines self.entry.config (events_of closed.history.items) (shown_left closed)) }
+        ensures promise { IfOk result (λ closed. IsPromised self.entry.config (events_of closed.history.items) (shown_left closed)) }
         ensures logs { IfOk result (λ closed. All (λ seat. seat.log ≡ owned_by (λ entry. owner_of entry.event) seat.number closed.history.items) seats.items) }
         ensures numbers { OnOk result ((number : ℕ) → number < 9 → count_by (λ seat. seat.number == number) seats.items ≡ 1) }
         ensures merged { IfOk result (λ closed. AreMerged seats.items closed.history.items) }

@@ -1,25 +1,21 @@
 -- What is wrong with a text of either version: found of what was read of a source, and true of its whole text.
-use Rattle.std.proofs.Common.{◌≡◌, ◌∙◌, inl, inr, ℕ, ◌<◌, ◌≤◌, Bool, true, false, nat_lt, Option, if◌then◌else◌, List, [], ◌++◌, length, map, ap, refl, sym, subst, arith}
+use Rattle.std.proofs.Common.{◌≡◌, ◌∙◌, inl, inr, ℕ, ◌<◌, ◌≤◌, Bool, true, false, nat_lt, Option, if◌then◌else◌, List, [], ◌++◌, length, refl, sym, subst, arith}
 use Rattle.std.proofs.lemmas.Bool.Decides.{nat_tests}
-use Rattle.std.proofs.lemmas.List.{map-id}
 use Rattle.std.specs.Io.KnownBytes.{Consumes, IsAtEnd}
 use Rattle.mh_judging.specs.declared.judgement.Judgement.{Judgement}
 use Rattle.mh_judging.specs.declared.judgement.Judgement.TheVariants as judgement
 use Rattle.mh_judging.specs.Judgements.{IsRefusal, verdict_of}
-use Rattle.mh_history.specs.Beginnings.{with_header}
-use Rattle.mh_model.specs.declared.config.Config.{Config}
 use Rattle.mh_model.specs.declared.config.Rules.{Rules}
 use Rattle.mh_model.specs.declared.history.Entry.{Entry}
-use Rattle.mh_model.specs.declared.history.Measured.{Measured}
 use Rattle.mh_model.specs.declared.history.Verdict.TheVariants.{FirstBad, Legal, Refused}
 use Rattle.mh_model.specs.declared.history.Version.{Version}
 use Rattle.mh_model.specs.declared.history.Version.TheVariants.{One, Two}
 use Rattle.mh_model.specs.Bytes.{Text, cut_after}
-use Rattle.mh_model.specs.HistoryTexts.{history_reading, recorded_reading}
+use Rattle.mh_model.specs.HistoryTexts.{Recorded, recorded_reading}
 use Rattle.mh_model.specs.Script.{Reading, BadLine, Means, reading_map}
 use Rattle.mh_model.specs.Sessions.{IsLegalForSessions, IsSeenThrough, entries_reading, entries_recorded, is_of_version_one, rules_named, rules_or, whole_lines}
 use Rattle.mh_judging.specs.OfReasons.HistoryReason.{HistoryReason}
-use Rattle.mh_judging.specs.OfReasons.HistoryReasons.{IsHistoryReason, most_bytes}
+use Rattle.mh_judging.specs.OfReasons.HistoryReasons.{IsHistoryReason, IsRefusedAt, most_bytes}
 use Rattle.mh_judging.specs.Judged.{Explains}
 use Rattle.mh_judging.specs.declared.entry_fault.EntryFault.{EntryFault}
 use Rattle.mh_judging.proofs.ExplainedLemmas.{BadOf, explains, nothing_more, reason-long}
@@ -39,19 +35,15 @@ first_bad rules text number through = by (entries_reading text) refl where
   by (BadLine line) is = let same : FirstBad number ≡ Refused line = rw is at through in cc
   by (Means entries) is = record { entries = entries; means = is; bad = rw is at through }
 
--- the entries of a text of version 1, and of one of version 2, as they are read line by line
-pub read_one : (text : Text) (left : Reading (List Entry)) → is_of_version_one (cut_after 10 text) ≡ true → history_reading text ≡ left → entries_reading text ≡ reading_map (map (λ (entry : Entry). entry)) left
-read_one text left one is = reading_one text one ∙ is ∙ same left where
-  same : (r : Reading (List Entry)) → r ≡ reading_map (map (λ (entry : Entry). entry)) r
-  same (BadLine line) = refl
-  same (Means entries) = ap Means (sym (map-id entries))
-
-pub read_two : (text : Text) (config : Config) (left : Reading (List Measured)) → is_of_version_one (cut_after 10 text) ≡ false → recorded_reading text ≡ with_header config left
-    → entries_reading text ≡ reading_map (map (λ (measured : Measured). measured.entry)) left
-read_two text config left two is = reading_two text two ∙ ap (reading_map entries_recorded) is ∙ same left where
-  same : (r : Reading (List Measured)) → reading_map entries_recorded (with_header config r) ≡ reading_map (map (λ (measured : Measured). measured.entry)) r
-  same (BadLine line) = refl
-  same (Means entries) = refl
+-- a text with a bad line is refused as one of its version
+pub refused_at : (text : Text) (line : ℕ) → entries_reading text ≡ BadLine line → IsRefusedAt (version_of text) text line
+refused_at text line is = by (is_of_version_one (cut_after 10 text)) refl where
+  by : (one : Bool) → is_of_version_one (cut_after 10 text) ≡ one → IsRefusedAt (version_of text) text line
+  by true one = rw one (sym (reading_one text one) ∙ is)
+  by false two = rw two (bad (recorded_reading text) (sym (reading_two text two) ∙ is)) where
+    bad : (r : Reading Recorded) → reading_map entries_recorded r ≡ BadLine line → r ≡ BadLine line
+    bad (BadLine other) same = cc
+    bad (Means recorded) same = cc
 
 -- Verdicts on all lines ---------------------------------------------------------------------------
 

@@ -18,7 +18,7 @@ use Rattle.mh_model.specs.Sessions.{IsLegalForSessions, IsSeen, lacks_room}
 use Rattle.mh_model.specs.Snapshot.{is_heap_full, world_beside_event}
 use Rattle.mh_model.specs.World.{Answer, Performs, World, effect, first_world, heap_step, never_full, refusal, sight_of, unless_refused, world_step}
 use Rattle.mh_run_laws.proofs.worlds.FullHeaps.{world_step-never_full}
-use Rattle.mh_sessions.specs.Judging.{HasFollowed, HasSeenSessions, IsFollowed, IsTried}
+use Rattle.mh_sessions.specs.Judging.{HasFollowed, HasSeenSessions, IsFollowed, IsFollowedAndRight}
 use Rattle.mh_sessions.proofs.RulesLemmas.{beside-config, rules_alone}
 use Rattle.mh_sessions.proofs.SeenLemmas.{after_more, lacks_full, seen_at, seen_more, world_after}
 
@@ -81,7 +81,7 @@ answers_new refused made world who slot references numbers unless is =
     by (Some other) false unless = (λ is. absurd (false≢true is), λ is. cc)
 
 -- an entry that isn't one too many is tried by following it
-pub tried : (old : World) (count : ℕ) (entry : Entry) (new : World) (right : Bool) → count ≢ most_entries → IsFollowed old entry new right → IsTried old count entry new right
+pub tried : (old : World) (count : ℕ) (entry : Entry) (new : World) (right : Bool) → count ≢ most_entries → IsFollowed old entry new right → IsFollowedAndRight old count entry new right
 tried old count entry new true other followed = (other, followed)
 tried old count entry new false other followed = inr followed
 
@@ -128,18 +128,18 @@ module _ (rules : Rules) (seen : List Entry) (entry : Entry) (old new : World) (
 
 -- what a judge who has found none bad is shown
 module _ (old new : World) (count : ℕ) (entry : Entry) (found : Option ℕ) (none : false ≡ is_some found) (rules : Rules) (seen : List Entry) where
-  pub seen_right : IsTried old count entry new true → HasSeenSessions rules seen (record { world = old; followed = count; first_bad = found })
+  pub seen_right : IsFollowedAndRight old count entry new true → HasSeenSessions rules seen (record { world = old; followed = count; first_bad = found })
       → HasSeenSessions rules (seen ++ entry ∷ []) (record { world = new; followed = count + 1; first_bad = found })
   seen_right = by found none where
-    by : (found : Option ℕ) → false ≡ is_some found → IsTried old count entry new true → HasSeenSessions rules seen (record { world = old; followed = count; first_bad = found })
+    by : (found : Option ℕ) → false ≡ is_some found → IsFollowedAndRight old count entry new true → HasSeenSessions rules seen (record { world = old; followed = count; first_bad = found })
         → HasSeenSessions rules (seen ++ entry ∷ []) (record { world = new; followed = count + 1; first_bad = found })
     by None none tried has = followed_more rules seen entry old new count has tried.0 tried.1
     by (Some number) none tried has = cc
 
-  pub seen_wrong : IsTried old count entry new false → HasSeenSessions rules seen (record { world = old; followed = count; first_bad = found })
+  pub seen_wrong : IsFollowedAndRight old count entry new false → HasSeenSessions rules seen (record { world = old; followed = count; first_bad = found })
       → IsFirstBadOf (IsLegalForSessions rules) (seen ++ entry ∷ []) (count + 1)
   seen_wrong = by found none where
-    by : (found : Option ℕ) → false ≡ is_some found → IsTried old count entry new false → HasSeenSessions rules seen (record { world = old; followed = count; first_bad = found })
+    by : (found : Option ℕ) → false ≡ is_some found → IsFollowedAndRight old count entry new false → HasSeenSessions rules seen (record { world = old; followed = count; first_bad = found })
         → IsFirstBadOf (IsLegalForSessions rules) (seen ++ entry ∷ []) (count + 1)
     by None none tried has = first_bad rules seen entry old new count has tried
     by (Some number) none tried has = cc

@@ -15,8 +15,9 @@ use Rattle.mh_model.specs.History.{events_of, replies_of}
 use Rattle.mh_model.specs.Sessions.{IsSeen, MayLackRoom, lacks_room}
 use Rattle.mh_model.specs.Snapshot.{is_heap_full, world_beside}
 use Rattle.mh_model.specs.World.{IsNew, World, first_world, world_step}
-use Rattle.mh_judging.specs.OfPromise.Promise.{FullIsNoPlace, IsPromised, RunsKeepTheirPromise}
-use Rattle.mh_judging.specs.OfPromise.Runs.{IsAnswered, machine_at, outcome_of}
+use Rattle.mh_promise.specs.Promise.{FullIsNoPlace, IsPromised, RunsKeepTheirPromise}
+use Rattle.mh_run_laws.specs.Replays.{machine_at}
+use Rattle.mh_promise.specs.Runs.{IsAnswered, outcome_of}
 use Rattle.mh_run_laws.specs.Worlds.{WorldIsNeverFull}
 use Rattle.mh_sessions.specs.Laws.{IsOfSession, LegalHistoriesAreLegalForSessions, OnlyTheRulesMatter, SessionsSeeTheWorld}
 use Rattle.mh_sessions.proofs.SeenLemmas.{beside_first, is_seen, lacks_full, reply_at, seen_at, seen_each, world_after}

@@ -22,9 +22,9 @@ IsFollowed old entry new true = IsSeen old entry.event entry.reply × (new ≡ w
 IsFollowed old entry new false = ¬ IsSeen old entry.event entry.reply
 
 -- what the try of an entry after so many shows: it was followed and is right, or it is one entry too many or wrong
-abbrev pub IsTried : World → ℕ → Entry → World → Bool → Type 0
-IsTried old followed entry new true = (followed ≢ most_entries) × IsFollowed old entry new true
-IsTried old followed entry new false = (followed ≡ most_entries) ⊎ IsFollowed old entry new false
+abbrev pub IsFollowedAndRight : World → ℕ → Entry → World → Bool → Type 0
+IsFollowedAndRight old followed entry new true = (followed ≢ most_entries) × IsFollowed old entry new true
+IsFollowedAndRight old followed entry new false = (followed ≡ most_entries) ⊎ IsFollowed old entry new false
 
 -- the world beside the entries that were followed, how many these are, and the number of the first bad one, if there was one
 pub record SessionsJudging : Type 0 where

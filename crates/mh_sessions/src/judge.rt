@@ -18,11 +18,11 @@ ghost use Rattle.mh_model.specs.Limits.{most_entries};
 ghost use Rattle.mh_model.specs.Sessions.{IsLegalForSessions, lacks_room};
 ghost use Rattle.mh_model.specs.declared.reply.Reply.TheVariants.{Done};
 ghost use Rattle.mh_model.specs.World.{IsNew, births, first_world, world_step};
-ghost use Rattle.mh_sessions.specs.Judging.{HasSeenSessions, IsFollowed, IsTried, MakesObject};
+ghost use Rattle.mh_sessions.specs.Judging.{HasSeenSessions, IsFollowed, IsFollowedAndRight, MakesObject};
 
 use mh_heap::perform::perform;
 use mh_heap::plain::PlainHeap;
-use mh_judging::mh_state::same::is_same;
+use mh_judging::mh_machine::same::is_same;
 use mh_model::command::{Command, Event};
 use mh_model::config::{Config, Rules};
 use mh_model::history::{Entry, Verdict};
@@ -80,7 +80,7 @@ pub(crate) fn follow(heap: &mut PlainHeap, entry: &Entry) -> Result<bool, NoMemo
 fn try_entry(heap: &mut PlainHeap, followed: u64, entry: &Entry) -> Result<bool, NoMemory>
     requires few { followed ≤ most_entries }
     requires births { births (world_of heap.old) ≤ followed }
-    ensures tried { IfOk result (IsTried (world_of heap.old) followed entry.now (world_of heap.new)) }
+    ensures tried { IfOk result (IsFollowedAndRight (world_of heap.old) followed entry.now (world_of heap.new)) }
     ensures births { IfOk result (λ right. IsTrue right → births (world_of heap.new) ≤ followed + 1) }
     ensures stopped { OnErr result (world_of heap.new ≡ world_of heap.old) }
     ensures memory { OnErr result (MakesObject entry.now.event entry.now.reply) }

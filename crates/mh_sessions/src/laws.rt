@@ -5,7 +5,7 @@
 //! only the rules matter. Each text has such a verdict.
 ghost use Rattle.mh_sessions.specs.Laws.{LegalHistoriesAreLegalForSessions, OnlyTheRulesMatter, SessionsSeeTheWorld, TextsAreSeenThrough};
 
-use mh_judging::mh_promise::promise::runs_keep_their_promise;
+use mh_promise::promise::runs_keep_their_promise;
 use mh_run_laws::worlds::world_is_never_full;
 
 /// Of a configuration only the rules matter to what sessions see.

@@ -14,7 +14,7 @@
 ghost use Rattle.std.specs.Prelude.{◌≡◌, ◌≢◌, ◌<◌, ◌^◌, map, IfOk, IfErr, OnErr, IsErrOf};
 ghost use Rattle.std.specs.Io.KnownBytes.{Keeps};
 ghost use Rattle.mh_history.specs.Beginnings.{HasEntry, entries_left};
-ghost use Rattle.mh_judging.specs.Judgements.{IsRefusal, verdict_of};
+ghost use Rattle.mh_judging.specs.Judgements.{verdict_of};
 ghost use Rattle.mh_judging.specs.Judged.{BeginsToJudge, Explains, IsVerdictOn, Judges};
 ghost use Rattle.mh_model.specs.declared.history.Verdict.TheVariants.{FirstBad};
 ghost use Rattle.mh_model.specs.Bytes.{cut_after};
@@ -29,16 +29,15 @@ use crate::judge::SessionsJudge;
 use crate::laws::texts_are_seen_through;
 use crate::lines::SeenLine;
 use mh_history::header::header_of;
-use mh_history::history::history_lines;
-use mh_history::lines::next_entry;
-use mh_history::record::{RECORD_BYTES, record_lines};
+use mh_history::lines::{RefusedLine, next_entry};
+use mh_history::record::RECORD_BYTES;
 use mh_judging::entry_fault::EntryFault;
 use mh_judging::judgement::Judgement;
 use mh_judging::mh_script::fault::ScriptFault;
 use mh_judging::mh_script::mh_reasons::history_reason::HistoryReason;
 use mh_judging::mh_script::texts::{read_whole, write_verdict};
 use mh_model::config::Rules;
-use mh_model::history::{Entry, Measured, Verdict, Version};
+use mh_model::history::{Entry, Measured, Verdict};
 use mh_model::memory::NoMemory;
 use mh_text::device::DeviceFailed;
 use mh_text::pieces::{Lines, Words, split_at_byte};
@@ -75,26 +74,17 @@ fn is_of_version_one(text: &[u8]) -> bool
     }
 }
 
-/// The verdict on a text, unless a line of it is bad.
-fn judge_text(alloc: Global, rules: Rules, text: &[u8]) -> Result<Verdict, TextError>
-    ensures verdict { IfOk result (IsVerdictOnAll rules text.now) }
-    ensures line { IfErr result (Refuses (entries_reading text.now)) }
-    ensures memory { IsErrOf result TextError.NoMemory → BeginsWithEither text.now }
-{
-    if is_of_version_one(text) {
-        let lines = history_lines(text)?;
-        return judge_lines::<Entry>(alloc, rules, lines);
-    }
-    let (_, lines) = record_lines(text)?;
-    judge_lines::<Measured>(alloc, rules, lines)
-}
-
-/// The verdict on a text, whose first bad line is one. Its entries are replayed in the heap that never collects and not kept.
-fn verdict_on_all(alloc: Global, rules: Rules, text: &[u8]) -> Result<Verdict, NoMemory>
+/// The verdict on a text of some version. Its entries are replayed in the heap that never collects and not kept.
+fn verdict_on<E: SeenLine>(alloc: Global, rules: Rules, text: &[u8]) -> Result<Verdict, NoMemory>
+    requires { version_of text.now ≡ E.version }
     ensures verdict { IfOk result (IsVerdictOnAll rules text.now) }
     ensures memory { OnErr result (BeginsWithEither text.now) }
 {
-    match judge_text(alloc, rules, text) {
+    let lines = match E::seen_lines(text) {
+        Ok(lines) => lines,
+        Err(RefusedLine(line)) => return Ok(Verdict::Refused(line)),
+    };
+    match judge_lines::<E>(alloc, rules, lines) {
         Ok(verdict) => Ok(verdict),
         Err(TextError::Line(line)) => Ok(Verdict::Refused(line)),
         Err(TextError::NoMemory) => Err(NoMemory),
@@ -102,55 +92,54 @@ fn verdict_on_all(alloc: Global, rules: Rules, text: &[u8]) -> Result<Verdict, N
 }
 
 /// What is wrong with the first bad entry of a text, whose entries are followed once more.
-fn entry_fault(
+fn entry_fault<E: SeenLine>(
     alloc: Global,
     rules: Rules,
     text: &[u8],
     number: u64,
 ) -> Result<EntryFault, NoMemory>
-    requires { IsVerdictOnAll rules text.now (FirstBad number) }
+    requires version { version_of text.now ≡ E.version }
+    requires bad { IsVerdictOnAll rules text.now (FirstBad number) }
     ensures fault { IfOk result (IsFaultInAll rules text.now number) }
     ensures memory { OnErr result (BeginsWithEither text.now) }
 {
-    if is_of_version_one(text) {
-        let Ok(lines) = history_lines(text) else {
-            unreachable!();
-        };
-        return fault_in::<Entry>(alloc, rules, lines, number);
-    }
-    let Ok((_, lines)) = record_lines(text) else {
+    let Ok(lines) = E::seen_lines(text) else {
         unreachable!();
     };
-    fault_in::<Measured>(alloc, rules, lines, number)
+    fault_in::<E>(alloc, rules, lines, number)
 }
 
-/// That a text is refused with its first bad line, as a history of the version of its first line.
-fn refused(text: &[u8], line: u64) -> Judgement
-    requires { entries_reading text.now ≡ BadLine line }
-    ensures { IsRefusal (version_of text.now) text.now line result }
+/// The verdict on a text of some version, and what is wrong with it. Up to its first bad entry it is followed twice.
+fn judge_version<E: SeenLine>(
+    alloc: Global,
+    rules: Rules,
+    text: &[u8],
+) -> Result<Judgement, NoMemory>
+    requires { version_of text.now ≡ E.version }
+    ensures verdict { IfOk result (λ judgement. IsVerdictOnAll rules text.now (verdict_of judgement)) }
+    ensures explained { IfOk result (IsExplainedInAll rules text.now) }
+    ensures memory { OnErr result (BeginsWithEither text.now) }
 {
-    if is_of_version_one(text) {
-        Judgement::refused(Version::One, text, line)
-    } else {
-        Judgement::refused(Version::Two, text, line)
+    match verdict_on::<E>(alloc, rules, text)? {
+        Verdict::Legal(count) => Ok(Judgement::Legal(count)),
+        Verdict::Refused(line) => Ok(Judgement::refused(E::version(), text, line)),
+        Verdict::FirstBad(number) => Ok(Judgement::FirstBad {
+            number,
+            fault: entry_fault::<E>(alloc, rules, text, number)?,
+        }),
     }
 }
 
-/// The verdict on a text all of whose lines are to be entries, and what is wrong with it. Up to its first bad entry it is
-/// followed twice.
+/// The verdict on a text all of whose lines are to be entries, and what is wrong with it.
 fn judge_all(alloc: Global, rules: Rules, text: &[u8]) -> Result<Judgement, NoMemory>
     ensures verdict { IfOk result (λ judgement. IsVerdictOnAll rules text.now (verdict_of judgement)) }
     ensures explained { IfOk result (IsExplainedInAll rules text.now) }
     ensures memory { OnErr result (BeginsWithEither text.now) }
 {
-    match verdict_on_all(alloc, rules, text)? {
-        Verdict::Legal(count) => Ok(Judgement::Legal(count)),
-        Verdict::Refused(line) => Ok(refused(text, line)),
-        Verdict::FirstBad(number) => Ok(Judgement::FirstBad {
-            number,
-            fault: entry_fault(alloc, rules, text, number)?,
-        }),
+    if is_of_version_one(text) {
+        return judge_version::<Entry>(alloc, rules, text);
     }
+    judge_version::<Measured>(alloc, rules, text)
 }
 
 /// The rules that the first line of a text names, which are the first ones in version 1.

@@ -12,6 +12,7 @@ use Rattle.mh_model.specs.Pages.{Page, Table, page_number, slot_number, page_at,
 use Rattle.mh_model.specs.Table.{Block, references_at}
 use Rattle.mh_model.specs.Collector.{Collector, Marking, Move, Spending, mark_reference, mark_step, next_page, is_last_slot, next_place, survivor, judged_page, swept_page, if_flagged, flagged_page, next_move, moved_table, marking_of, with_marking, with_phase, with_move, step_in, after_mark, is_past, cycle_end, phase_after, collector_step, step_cost, is_moving, is_idle, cycle_start, is_start_due, with_count, quantum_start, steps, with_units, quantum}
 use Rattle.mh_model.specs.Deeds.{reference_deeds, mark_deeds, flag_deeds, page_deeds, sweep_deeds, forward_deeds, slot_deeds, defrag_deeds, deeds_in, enter_deeds, step_deeds, deeds_of_steps, start_deeds, quantum_deeds}
+use Rattle.mh_model.specs.Limits.{root_slots}
 use Rattle.mh_show.specs.Cursor.{Stand, Nowhere, AtRoot, AtPage, Behind, NoCursor, Place, StandsAt, QuantaTellTheCursor, cursor_at, cursor_in, cursor_of, stand_after_all}
 
 stand_after_all-append : (stand : Stand) (deeds more : List Deed) → stand_after_all stand (deeds ++ more) ≡ stand_after_all (stand_after_all stand deeds) more
@@ -186,7 +187,7 @@ stays phase collector stand none is at = at ∙ sym (ap (λ (deeds : List Deed).
 -- the phase that follows is entered
 enters-stands : (phase : Phase) (collector : Collector) (stand : Stand) → collector.phase ≡ phase → StandsAt stand collector → StandsAt (stand_after_all stand (enter_deeds phase (phase_after phase collector).phase)) (phase_after phase collector)
 enters-stands Idle collector stand is at = stays Idle collector stand refl is at
-enters-stands Roots collector stand is at = go (collector.cursor == 144)
+enters-stands Roots collector stand is at = go (collector.cursor == root_slots)
   where
     by_grey : (grey : List ℕ) → StandsAt (stand_after_all stand (enter_deeds Roots (after_mark collector grey).phase)) (after_mark collector grey)
     by_grey [] = refl

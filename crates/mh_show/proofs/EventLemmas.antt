@@ -6,7 +6,7 @@ use Rattle.mh_model.specs.Bytes.{Text}
 use Rattle.mh_model.specs.Deeds.{account_of}
 use Rattle.mh_model.specs.Machine.{Machine, event_step, machine_after}
 use Rattle.mh_curve.proofs.OfScript.AddedLines.{AddsLines, HasAdded, added_more, added_none}
-use Rattle.mh_show.specs.Page.{deed_count, events_text, most_deeds, shown_of, shown_text}
+use Rattle.mh_show.specs.Page.{deed_count, shown_events_text, most_deeds, shown_of, shown_text}
 
 -- the machine, and how many deeds were written
 pub record Stage : Type 0 where
@@ -25,13 +25,13 @@ stage_after at (event ∷ events) = stage_after (stage_next at event) events
 
 -- the text of events from a stage on, and of one event there
 abbrev pub lines_from : Stage → List Event → Text
-lines_from at events = events_text at.count at.machine events
+lines_from at events = shown_events_text at.count at.machine events
 
 abbrev pub line_at : Stage → Event → Text
 line_at at event = shown_text (nat_lt at.count most_deeds) (shown_of at.machine event) ++ codes ",\n"
 
 pub lines_from-none : (at : Stage) → [] ≡ lines_from at []
-unfolding events_text
+unfolding shown_events_text
 lines_from-none at = refl
 
 stage_more : (at : Stage) (events : List Event) (event : Event) → stage_after at (events ++ event ∷ []) ≡ stage_next (stage_after at events) event
@@ -39,7 +39,7 @@ stage_more at [] event = refl
 stage_more at (first ∷ events) event = stage_more (stage_next at first) events event
 
 lines_more : (at : Stage) (events : List Event) (event : Event) → lines_from at (events ++ event ∷ []) ≡ lines_from at events ++ line_at (stage_after at events) event
-unfolding events_text
+unfolding shown_events_text
 lines_more at [] event = refl
 lines_more at (first ∷ events) event =
     let shown : Text = shown_text (nat_lt at.count most_deeds) (shown_of at.machine first) in

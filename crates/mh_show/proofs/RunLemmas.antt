@@ -9,7 +9,7 @@ use Rattle.mh_model.specs.declared.config.Config.{Config}
 use Rattle.mh_model.specs.Bytes.{Text}
 use Rattle.mh_model.specs.Machine.{Machine, first_machine, machine_after}
 use Rattle.mh_model.specs.Trace.{Letter}
-use Rattle.mh_show.specs.Page.{config_row, events_text, point_row, run_text}
+use Rattle.mh_show.specs.Page.{config_row, shown_events_text, point_row, run_text}
 use Rattle.mh_show.specs.Rows.{listed, row_text}
 use Rattle.mh_text.specs.Stream.{AppendsBeginning}
 
@@ -25,7 +25,7 @@ pieces a row b events rest = simp append_assoc
 
 module _ (config : Config) (events : List Event) where
   abbrev shown : Text
-  shown = events_text 0 (first_machine config) events
+  shown = shown_events_text 0 (first_machine config) events
 
   abbrev rest : Text
   rest = rest_text config (machine_after (first_machine config) events).trace.letters
@@ -45,19 +45,19 @@ module _ (config : Config) (events : List Event) where
   pub front_alone : (a b : Option Text) (front : Text) → front ≡ front_text config → Appends a b front → AppendsBeginning a b (run_text config events)
   front_alone a b front is wrote = begun_by a b (front_text config) (shown ++ rest) (run_text config events) (front_done a b front is wrote) run_is
 
-  pub events_begun : (a b c : Option Text) (front : Text) (machine : Machine) → front ≡ front_text config → Appends a b front → machine ≡ first_machine config → AppendsBeginning b c (events_text 0 machine events)
+  pub events_begun : (a b c : Option Text) (front : Text) (machine : Machine) → front ≡ front_text config → Appends a b front → machine ≡ first_machine config → AppendsBeginning b c (shown_events_text 0 machine events)
       → AppendsBeginning a c (run_text config events)
   events_begun a b c front machine is wrote first begun =
-      begun_after a b c (front_text config) shown rest (run_text config events) (front_done a b front is wrote) (subst (λ (m : Machine). AppendsBeginning b c (events_text 0 m events)) first begun) joined_is
+      begun_after a b c (front_text config) shown rest (run_text config events) (front_done a b front is wrote) (subst (λ (m : Machine). AppendsBeginning b c (shown_events_text 0 m events)) first begun) joined_is
 
   -- the events are written, and what stands before them
   abbrev pub HasEvents : Option Text → Option Text → Type 0
   HasEvents a b = Appends a b (front_text config ++ shown)
 
-  pub events_done : (a b c : Option Text) (front : Text) (machine : Machine) → front ≡ front_text config → Appends a b front → machine ≡ first_machine config → Appends b c (events_text 0 machine events)
+  pub events_done : (a b c : Option Text) (front : Text) (machine : Machine) → front ≡ front_text config → Appends a b front → machine ≡ first_machine config → Appends b c (shown_events_text 0 machine events)
       → HasEvents a c
   events_done a b c front machine is wrote first done =
-      Appends-trans a b c (front_text config) shown (front_done a b front is wrote) (subst (λ (m : Machine). Appends b c (events_text 0 m events)) first done)
+      Appends-trans a b c (front_text config) shown (front_done a b front is wrote) (subst (λ (m : Machine). Appends b c (shown_events_text 0 m events)) first done)
 
   pub rest_none : (a b : Option Text) → HasEvents a b → AppendsBeginning a b (run_text config events)
   rest_none a b has = begun_by a b (front_text config ++ shown) rest (run_text config events) has joined_is

@@ -5,7 +5,7 @@ use Rattle.mh_model.specs.Bytes.{Text, joined}
 use Rattle.mh_model.specs.HistoryTexts.{event_words}
 use Rattle.mh_model.specs.Replies.{reply_text}
 use Rattle.mh_show.specs.Page.{Shown, ran_text, root_rows, shown_text}
-use Rattle.mh_show.specs.Rows.{deeds_text, listed, row_text}
+use Rattle.mh_show.specs.Rows.{deed_rows_text, listed, row_text}
 
 -- what an event was, up to what it did
 abbrev pub measured_text : Bool → Measured → Text
@@ -20,7 +20,7 @@ pieces old event reply units mark command roots ran = simp append_assoc
 -- what was added piece by piece is the event
 pub shown_written : (old measured command comma roots comma_after ran new : Text) (is_whole : Bool) (shown : Shown)
     → measured ≡ old ++ measured_text is_whole shown.measured
-    → command ≡ measured ++ deeds_text is_whole shown.account.command
+    → command ≡ measured ++ deed_rows_text is_whole shown.account.command
     → comma ≡ command ++ codes ","
     → roots ≡ comma ++ listed row_text (root_rows 0 shown.before shown.after)
     → comma_after ≡ roots ++ codes ","
@@ -29,7 +29,7 @@ pub shown_written : (old measured command comma roots comma_after ran new : Text
     → new ≡ old ++ shown_text is_whole shown
 shown_written old measured command comma roots comma_after ran new is_whole shown measured_is command_is comma_is roots_are comma_after_is ran_is new_is =
     let roots_shown : Text = listed row_text (root_rows 0 shown.before shown.after) in
-    let deeds_shown : Text = deeds_text is_whole shown.account.command in
+    let deeds_shown : Text = deed_rows_text is_whole shown.account.command in
     let ran_shown : Text = ran_text is_whole shown.account.quantum in
     let command_all = command_is ∙ ap (λ (text : Text). text ++ deeds_shown) measured_is in
     let roots_all = roots_are ∙ ap (λ (text : Text). text ++ roots_shown) (comma_is ∙ ap (λ (text : Text). text ++ codes ",") command_all) in

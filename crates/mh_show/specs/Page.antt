@@ -14,8 +14,9 @@ use Rattle.mh_telling.specs.Lines.{quoted}
 use Rattle.mh_text.specs.Names.{names_in}
 use Rattle.mh_show.specs.declared.page.TheConstants.{HEAD}
 use Rattle.mh_show.specs.declared.drawing.TheConstants.{DRAWING}
-use Rattle.mh_show.specs.declared.hands.TheConstants.{HANDS}
-use Rattle.mh_show.specs.Rows.{Row, row_of, phase_number, row_text, listed, deeds_text}
+use Rattle.mh_show.specs.declared.controls.TheConstants.{HANDS}
+use Rattle.mh_model.specs.Numbered.{phase_number}
+use Rattle.mh_show.specs.Rows.{PageRow, row_of, row_text, listed, deed_rows_text}
 
 -- Past so many deeds only those are written that are kept of a long run
 abbrev pub most_deeds : ℕ
@@ -39,14 +40,14 @@ same_reference (Some a) (Some b) = a == b
 same_reference _ _ = false
 
 -- each root slot, from this one on, that an event left with another reference, and that reference
-abbrev pub root_rows : ℕ → List (Option ℕ) → List (Option ℕ) → List Row
+abbrev pub root_rows : ℕ → List (Option ℕ) → List (Option ℕ) → List PageRow
 root_rows slot (was ∷ before) (is ∷ after) = if same_reference was is then root_rows (suc slot) before after else row_of slot (is ∷ []) ∷ root_rows (suc slot) before after
 root_rows slot _ _ = []
 
 -- `[SPENT,PHASE,DEEDS]`, or 0 if no quantum was run
 abbrev pub ran_text : Bool → Option Ran → Text
 ran_text is_whole None = codes "0"
-ran_text is_whole (Some ran) = 91 ∷ (decimal ran.ended.units ++ 44 ∷ (decimal (phase_number ran.ended.phase) ++ 44 ∷ (deeds_text is_whole ran.deeds ++ codes "]")))
+ran_text is_whole (Some ran) = 91 ∷ (decimal ran.ended.units ++ 44 ∷ (decimal (phase_number ran.ended.phase) ++ 44 ∷ (deed_rows_text is_whole ran.deeds ++ codes "]")))
 
 -- what an event is written of: its reply and its units, what it did, and the roots before and after it
 pub record Shown : Type 0 where
@@ -59,7 +60,7 @@ pub record Shown : Type 0 where
 abbrev pub shown_text : Bool → Shown → Text
 shown_text is_whole shown =
     codes "[\"" ++ (joined (event_words shown.measured.entry.event) ++ (codes "\",\"" ++ (reply_text shown.measured.entry.reply ++ (codes "\"," ++ (decimal shown.measured.mutator ++ (codes (if is_whole then ",1," else ",0,")
-    ++ (deeds_text is_whole shown.account.command ++ 44 ∷ (listed row_text (root_rows 0 shown.before shown.after) ++ 44 ∷ (ran_text is_whole shown.account.quantum ++ codes "]")))))))))
+    ++ (deed_rows_text is_whole shown.account.command ++ 44 ∷ (listed row_text (root_rows 0 shown.before shown.after) ++ 44 ∷ (ran_text is_whole shown.account.quantum ++ codes "]")))))))))
 
 -- what an event of the machine is written of
 abbrev pub shown_of : Machine → Event → Shown
@@ -73,19 +74,19 @@ shown_of machine event =
     }
 
 -- The events of a machine after so many deeds, each on a line
-unfoldable pub events_text : ℕ → Machine → List Event → Text
-events_text count machine [] = []
-events_text count machine (event ∷ events) =
-    shown_text (nat_lt count most_deeds) (shown_of machine event) ++ (codes ",\n" ++ events_text (count + deed_count (account_of machine event)) (event_step machine event).state events)
+unfoldable pub shown_events_text : ℕ → Machine → List Event → Text
+shown_events_text count machine [] = []
+shown_events_text count machine (event ∷ events) =
+    shown_text (nat_lt count most_deeds) (shown_of machine event) ++ (codes ",\n" ++ shown_events_text (count + deed_count (account_of machine event)) (event_step machine event).state events)
 
 -- Runs -------------------------------------------------------------------------------------------
 
 -- the rules and the numbers of a configuration
-abbrev pub config_row : Config → Row
+abbrev pub config_row : Config → PageRow
 config_row config = row_of (rules_number config.rules) (Some config.pages ∷ Some config.quantum ∷ Some config.trigger ∷ Some config.every ∷ [])
 
 -- a window of the curve, with its least and its floor
-abbrev pub point_row : Point → Row
+abbrev pub point_row : Point → PageRow
 point_row point = row_of point.window (Some point.least ∷ point.floor ∷ [])
 
 -- The names of a script's sessions, with which the object of JSON begins that is the run
@@ -96,7 +97,7 @@ names_part names = codes "{\"names\":" ++ (listed quoted names ++ codes ",")
 abbrev pub run_text : Config → List Event → Text
 run_text config events =
     let machine = machine_after (first_machine config) events in
-    codes "\"config\":" ++ (row_text (config_row config) ++ (codes ",\"events\":[\n" ++ (events_text 0 (first_machine config) events
+    codes "\"config\":" ++ (row_text (config_row config) ++ (codes ",\"events\":[\n" ++ (shown_events_text 0 (first_machine config) events
     ++ (codes "0],\"curve\":" ++ (listed (λ point. row_text (point_row point)) (points_of config machine.trace.letters) ++ codes "}\n")))))
 
 -- the run as an object of JSON: its names and its numbers

@@ -1,7 +1,5 @@
 -- Deeds as rows of numbers, of which the first is the kind of the deed.
 use Rattle.std.specs.Prelude.{ℕ, Bool, true, false, not, ◌&&◌, ◌||◌, if◌then◌else◌, Option, Some, None, List, [], ◌∷◌, ◌++◌, flat_map, codes, decimal}
-use Rattle.mh_model.specs.declared.cycle.Phase.{Phase}
-use Rattle.mh_model.specs.declared.cycle.Phase.TheVariants.{Idle, Roots, Mark, Sweep, Defrag}
 use Rattle.mh_model.specs.declared.deed.Deed.{Deed}
 use Rattle.mh_model.specs.declared.deed.Deed.TheVariants as deed
 use Rattle.mh_model.specs.declared.deed.Edge.{Edge}
@@ -12,32 +10,22 @@ use Rattle.mh_model.specs.declared.deed.Tier.{Tier}
 use Rattle.mh_model.specs.declared.deed.Tier.TheVariants as tier
 use Rattle.mh_model.specs.declared.shape.Shape.{Shape}
 use Rattle.mh_model.specs.Bytes.{Text}
+use Rattle.mh_model.specs.Numbered.{phase_number, flag_number}
 use Rattle.mh_show.specs.Cursor.{moves_cursor, moves_next}
 
 -- A row: the kind of what it has, and its numbers, of which some may be missing
-pub record Row : Type 0 where
+pub record PageRow : Type 0 where
   pub kind : ℕ
   pub numbers : List (Option ℕ)
 
-abbrev pub row_of : ℕ → List (Option ℕ) → Row
+abbrev pub row_of : ℕ → List (Option ℕ) → PageRow
 row_of kind numbers = record { kind = kind; numbers = numbers }
 
--- the number of a phase, of a tier and of a flag
-abbrev pub phase_number : Phase → ℕ
-phase_number Idle = 0
-phase_number Roots = 1
-phase_number Mark = 2
-phase_number Sweep = 3
-phase_number Defrag = 4
-
+-- the number of a tier
 abbrev pub tier_number : Tier → ℕ
 tier_number tier.Dense = 0
 tier_number tier.Fresh = 1
 tier_number tier.Sparse = 2
-
-abbrev pub flag_number : Bool → ℕ
-flag_number false = 0
-flag_number true = 1
 
 -- which part of which object
 abbrev pub name_numbers : PartName → List (Option ℕ)
@@ -59,7 +47,7 @@ abbrev pub made_numbers : ℕ → Shape → Tier → List (Option ℕ)
 made_numbers class_size fields tier = Some class_size ∷ Some fields.references ∷ Some fields.numbers ∷ Some (tier_number tier) ∷ []
 
 -- The row of a deed
-abbrev pub deed_row : Deed → Row
+abbrev pub deed_row : Deed → PageRow
 deed_row (deed.Start cycle) = row_of 0 (Some cycle ∷ [])
 deed_row (deed.Enter phase) = row_of 1 (Some (phase_number phase) ∷ [])
 deed_row deed.End = row_of 2 []
@@ -118,7 +106,7 @@ number_text None = codes "-1"
 number_text (Some n) = decimal n
 
 -- `[KIND,NUMBER,..]`
-abbrev pub row_text : Row → Text
+abbrev pub row_text : PageRow → Text
 row_text row = 91 ∷ (decimal row.kind ++ (flat_map (λ n. 44 ∷ number_text n) row.numbers ++ codes "]"))
 
 -- texts in order, each with a comma after it, and a 0 that ends them
@@ -126,5 +114,5 @@ abbrev pub listed : {X : Type 0} → (X → Text) → List X → Text
 listed text_of items = 91 ∷ (flat_map (λ item. text_of item ++ codes ",") items ++ codes "0]")
 
 -- the rows of deeds, all or those alone that are kept of a long run
-abbrev pub deeds_text : Bool → List Deed → Text
-deeds_text is_whole deeds = listed (λ deed. row_text (deed_row deed)) (shown_deeds is_whole deeds)
+abbrev pub deed_rows_text : Bool → List Deed → Text
+deed_rows_text is_whole deeds = listed (λ deed. row_text (deed_row deed)) (shown_deeds is_whole deeds)

@@ -9,7 +9,7 @@ ghost use Rattle.mh_deeds.specs.Accounts.{account_in};
 ghost use Rattle.mh_show.specs.Page.{ran_text, root_rows, shown_text};
 ghost use Rattle.mh_show.specs.Rows.{listed, row_text};
 
-use crate::rows::{phase_number, place_number, push_deeds, push_row};
+use crate::rows::{place_number, push_deeds, push_row};
 use itoa::Buffer;
 use mh_deeds::account::Account;
 use mh_history::measured_line::{push_event, push_reply};
@@ -48,7 +48,7 @@ fn push_ran(text: &mut String, is_whole: bool, account: &Account) -> Result<(), 
     text.push_str("[")?;
     text.push_str(Buffer::new().format(ended.units.0))?;
     text.push_str(",")?;
-    text.push_str(Buffer::new().format(phase_number(ended.phase)))?;
+    text.push_str(Buffer::new().format(ended.phase.number()))?;
     text.push_str(",")?;
     push_deeds(text, is_whole, account.ran.deeds())?;
     text.push_str("]")?;

@@ -11,13 +11,13 @@ ghost use Rattle.mh_model.specs.Deeds.{account_of};
 ghost use Rattle.mh_model.specs.HistoryTexts.{measured_step};
 ghost use Rattle.mh_model.specs.Limits.{most_entries};
 ghost use Rattle.mh_model.specs.Machine.{event_step, machine_after};
-ghost use Rattle.mh_show.specs.Page.{deed_count, events_text, most_deeds, shown_of, shown_text};
+ghost use Rattle.mh_show.specs.Page.{deed_count, shown_events_text, most_deeds, shown_of, shown_text};
 ghost use Rattle.mh_text.specs.Stream.{AppendsBeginning};
 
 use crate::event::push_shown;
+use mh_curve::mh_machine::machine::Machine;
 use mh_curve::mh_script::fault::WriteError;
 use mh_curve::mh_script::texts::{flush, flush_full};
-use mh_curve::mh_state::machine::Machine;
 use mh_deeds::account::Account;
 use mh_model::command::Event;
 use mh_model::history::{Entry, Measured};
@@ -106,8 +106,8 @@ pub(crate) fn write_events<W: Sink>(
     requires room { machine.old.done + length events.now ≤ most_entries }
     requires count { W.failures sink.old < 2 ^ 62 }
     ensures machine { OnOk result (machine.new.machine ≡ machine_after machine.old.machine events.now) }
-    ensures done { OnOk result (Appends (W.written sink.old) (W.written sink.new) (events_text 0 machine.old.machine events.now)) }
-    ensures begun { OnErr result (AppendsBeginning (W.written sink.old) (W.written sink.new) (events_text 0 machine.old.machine events.now)) }
+    ensures done { OnOk result (Appends (W.written sink.old) (W.written sink.new) (shown_events_text 0 machine.old.machine events.now)) }
+    ensures begun { OnErr result (AppendsBeginning (W.written sink.old) (W.written sink.new) (shown_events_text 0 machine.old.machine events.now)) }
     ensures no_failure { OnOk result (W.failures sink.new ≡ W.failures sink.old) }
     ensures blamed { IsErrOf result WriteError.Device → W.failures sink.old < W.failures sink.new }
     ensures not_blamed { IsErrOf result WriteError.NoMemory → W.failures sink.new ≡ W.failures sink.old }

@@ -11,10 +11,10 @@
 pub use mh_curve;
 pub use mh_telling;
 
+pub mod controls;
 pub mod drawing;
 pub mod event;
 mod events;
-pub mod hands;
 pub mod laws;
 mod names;
 mod numbers;

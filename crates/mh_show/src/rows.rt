@@ -7,26 +7,13 @@
 ghost use Rattle.std.specs.Prelude.{◌≡◌, ◌++◌, ◌∷◌, [], Some, OnOk};
 ghost use Rattle.std.specs.String.{string_bytes};
 ghost use Rattle.mh_show.specs.Cursor.{moves_cursor, moves_next};
-ghost use Rattle.mh_show.specs.Rows.{deed_row, deeds_text, edge_numbers, is_drawn, is_kept, name_numbers, number_text, phase_number, row_of, row_text, tier_number};
+ghost use Rattle.mh_show.specs.Rows.{deed_row, deed_rows_text, edge_numbers, is_drawn, is_kept, name_numbers, number_text, row_of, row_text, tier_number};
 
 use itoa::Buffer;
-use mh_model::cycle::Phase;
 use mh_model::deed::{Deed, Edge, Fate, PartName, Tier};
 use mh_model::memory::NoMemory;
 use mh_model::place::Place;
 use mh_model::shape::Shape;
-
-pub(crate) fn phase_number(phase: Phase) -> u64
-    ensures { result ≡ phase_number phase }
-{
-    match phase {
-        Phase::Idle => 0,
-        Phase::Roots => 1,
-        Phase::Mark => 2,
-        Phase::Sweep => 3,
-        Phase::Defrag => 4,
-    }
-}
 
 fn tier_number(tier: Tier) -> u64
     ensures { result ≡ tier_number tier }
@@ -214,7 +201,7 @@ pub fn push_deed(text: &mut String, deed: &Deed) -> Result<(), NoMemory>
 {
     match *deed {
         Deed::Start { cycle } => push_row(text, 0, &[Some(cycle)]),
-        Deed::Enter { phase } => push_row(text, 1, &[Some(phase_number(phase))]),
+        Deed::Enter { phase } => push_row(text, 1, &[Some(phase.number())]),
         Deed::End => push_row(text, 2, &[]),
         Deed::Root { slot, edge } => push_edge(text, 3, slot, edge),
         Deed::Mark { place, name } => push_named(text, 4, place.0, name),
@@ -245,7 +232,7 @@ pub fn push_deed(text: &mut String, deed: &Deed) -> Result<(), NoMemory>
 
 /// Adds the rows of deeds: of all, or of those alone that are kept of a long run.
 pub fn push_deeds(text: &mut String, is_whole: bool, deeds: &[Deed]) -> Result<(), NoMemory>
-    ensures { OnOk result (string_bytes text.new ≡ string_bytes text.old ++ deeds_text is_whole deeds.now) }
+    ensures { OnOk result (string_bytes text.new ≡ string_bytes text.old ++ deed_rows_text is_whole deeds.now) }
 {
     text.push_str("[")?;
     for (index, deed) in deeds.iter().enumerate() {

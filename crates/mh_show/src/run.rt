@@ -12,18 +12,18 @@ ghost use Rattle.mh_curve.specs.OfScript.Texts.{LeavesSource, Blames, WantsMemor
 ghost use Rattle.mh_show.specs.Page.{page_text, run_text, object_text};
 ghost use Rattle.mh_text.specs.Stream.{AppendsBeginning};
 
+use crate::controls::HANDS;
 use crate::drawing::DRAWING;
 use crate::events::write_events;
-use crate::hands::HANDS;
 use crate::names::write_names;
 use crate::numbers::{config_text, curve_text};
 use crate::page::HEAD;
+use mh_curve::mh_machine::machine::Machine;
 use mh_curve::mh_scan::scan::{OneScan, Scanner};
 use mh_curve::mh_script::end::End;
 use mh_curve::mh_script::fault::{ScriptFault, WriteError};
 use mh_curve::mh_script::texts::flush;
 use mh_curve::mh_script::transcript::{Transcript, transcribe};
-use mh_curve::mh_state::machine::Machine;
 use mh_model::command::Event;
 use mh_model::config::{Config, Rules};
 use mh_run_laws::bounds::runs_stay_within_their_events;

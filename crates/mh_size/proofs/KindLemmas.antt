@@ -7,7 +7,7 @@ use Rattle.mh_sizing.specs.Openings.{least_slots}
 use Rattle.mh_size.specs.Heaps.{kinds_of_classes}
 
 abbrev make : ℕ → (least : ℕ) → 1 ≤ least → Kinds
-make kinds least some = record { kinds = kinds; least = least; some = some }
+make kinds least some = record { kinds = kinds; fewest_slots = least; some = some }
 
 made_same : (kinds least other : ℕ) → least ≡ other → (p : 1 ≤ least) (q : 1 ≤ other) → make kinds least p ≡ make kinds other q
 made_same kinds least other is p q =
@@ -15,8 +15,8 @@ made_same kinds least other is p q =
     subst P is (λ q. ap (λ (some : 1 ≤ least). make kinds least some) (le_prop p q)) q
 
 -- kinds are those of some classes if their numbers are
-pub kinds_are : (kinds : Kinds) (classes : List ℕ) → kinds.kinds ≡ length classes → kinds.least ≡ least_slots classes → kinds ≡ kinds_of_classes classes
+pub kinds_are : (kinds : Kinds) (classes : List ℕ) → kinds.kinds ≡ length classes → kinds.fewest_slots ≡ least_slots classes → kinds ≡ kinds_of_classes classes
 kinds_are kinds classes count least =
     let some : 1 ≤ least_slots classes = subst (λ (n : ℕ). 1 ≤ n) least kinds.some in
-    let most : kinds.least ≡ max 1 (least_slots classes) = least ∙ sym (max-eq_right some) in
-    ap (λ (n : ℕ). make n kinds.least kinds.some) count ∙ made_same (length classes) kinds.least (max 1 (least_slots classes)) most kinds.some (le-max_left 1 (least_slots classes))
+    let most : kinds.fewest_slots ≡ max 1 (least_slots classes) = least ∙ sym (max-eq_right some) in
+    ap (λ (n : ℕ). make n kinds.fewest_slots kinds.some) count ∙ made_same (length classes) kinds.fewest_slots (max 1 (least_slots classes)) most kinds.some (le-max_left 1 (least_slots classes))

@@ -6,17 +6,18 @@ use Rattle.std.specs.Prelude.{IfOk, IfSome, IsNone}
 use Rattle.mh_model.specs.declared.command.Event.{Event}
 use Rattle.mh_model.specs.declared.config.Config.{Config}
 use Rattle.mh_model.specs.declared.config.Rules.{Rules}
-use Rattle.mh_size.specs.declared.demand.Demand.{Demand}
 use Rattle.mh_model.specs.Bytes.{Text, line_text}
 use Rattle.mh_model.specs.Configs.{with_rules}
 use Rattle.mh_model.specs.Limits.{most_entries}
 use Rattle.mh_model.specs.Output.{Done, Ending, HistoryFull, Refused, ending, ending_of}
 use Rattle.mh_model.specs.Replies.{bad_line_text}
 use Rattle.mh_model.specs.Script.{BadLine, Meaning, Means, Reading, reading}
+use Rattle.mh_sizing.specs.declared.demand.Demand.{Demand}
+use Rattle.mh_sizing.specs.Needed.{IsTheDemand}
 use Rattle.mh_script.proofs.SourceLemmas.{Reads}
 use Rattle.mh_script.specs.Texts.{Writes}
 use Rattle.mh_text.specs.Stream.{AppendsBeginning}
-use Rattle.mh_size.specs.Scripts.{BeginsToSize, IsSizeText, IsTheDemand, MayBeNeeded, Sizes, WritesPart, demand_text}
+use Rattle.mh_size.specs.Scripts.{BeginsToSize, IsSizeText, MayBeNeeded, Sizes, WritesPart, demand_text}
 
 ending_many : (meaning : Meaning) → most_entries < length meaning.events → ending_of (Means meaning) ≡ HistoryFull
 ending_many meaning many =

@@ -9,7 +9,7 @@ use Rattle.mh_sizing.specs.declared.kinds.Kinds.{Kinds}
 use Rattle.mh_sizing.specs.declared.openings.ClassParts.{ClassParts}
 use Rattle.mh_sizing.specs.Needs.{enough_trigger, needs_of_counts}
 use Rattle.mh_sizing.specs.Openings.{counted_classes, least_slots, pages_of_counts, parts_of_counts}
-use Rattle.mh_size.specs.declared.demand.Demand.{Demand}
+use Rattle.mh_sizing.specs.declared.demand.Demand.{Demand}
 use Rattle.mh_orders.specs.declared.heap_options.HeapOptions.{HeapOptions}
 use Rattle.mh_size.specs.Blocks.{counts_of}
 use Rattle.mh_size.specs.Cycles.{cycle_quanta, quantum_needed}
@@ -26,7 +26,7 @@ needs_asked options = needs_of_counts (counts_of options.allocations.parts) opti
 
 -- how many classes there are, and the fewest slots of a page of them: one at least
 abbrev pub kinds_of_classes : List ℕ → Kinds
-kinds_of_classes classes = record { kinds = length classes; least = max 1 (least_slots classes); some = le-max_left 1 (least_slots classes) }
+kinds_of_classes classes = record { kinds = length classes; fewest_slots = max 1 (least_slots classes); some = le-max_left 1 (least_slots classes) }
 
 -- those of which there are parts
 unfoldable pub kinds_counted : List ClassParts → Kinds
@@ -46,19 +46,19 @@ quantum_of (Some quantum) demand pages = Some quantum
 quantum_of None demand pages = quantum_needed demand pages
 
 -- a heap as it is asked for: with that quantum, and with the trigger that is enough if the pages have room for it
-pub record IsHeap (options : HeapOptions) (config : Config) : Type 0 where
+pub record IsSizedHeap (options : HeapOptions) (config : Config) : Type 0 where
   pub pages : config.pages ≡ options.pages
   pub every : config.every ≡ options.every
   pub quantum : quantum_of options.quantum (demand_asked options) options.pages ≡ Some config.quantum
   pub trigger : config.trigger ≡ min options.pages (enough_trigger (needs_asked options) (cycle_quanta (needs_asked options) config))
 
 -- some quantum is enough for so many pages
-abbrev pub has_quantum : Demand → ℕ → Bool
-has_quantum demand pages = is_some (quantum_needed demand pages)
+abbrev pub some_quantum_fits : Demand → ℕ → Bool
+some_quantum_fits demand pages = is_some (quantum_needed demand pages)
 
 -- the least number of pages with which one is
 unfoldable pub least_pages : Demand → Option ℕ
-least_pages demand = least_from (has_quantum demand) 1 4096
+least_pages demand = least_from (some_quantum_fits demand) 1 4096
 
 -- so many per cent of each count, rounded down
 abbrev pub scaled : ℕ → List ℕ → List ℕ
@@ -81,7 +81,7 @@ greatest_below test (suc most) = if test most then Some most else greatest_below
 
 -- the greatest share of the counts in per cent with which some quantum is enough for the pages
 unfoldable pub greatest_percent : HeapOptions → Option ℕ
-greatest_percent options = greatest_below (λ percent. has_quantum (demand_scaled percent options) options.pages) 100
+greatest_percent options = greatest_below (λ percent. some_quantum_fits (demand_scaled percent options) options.pages) 100
 
 -- What is written of a heap: what its sessions need, its cycles, and the floors of its windows
 abbrev pub heap_text : Demand → Config → Text
@@ -89,7 +89,7 @@ heap_text demand config = lines_text (demand_lines demand) ++ (lines_text (cycle
 
 -- what is written of a heap that is asked for, if a quantum is given or is enough
 abbrev pub IsSizedText : HeapOptions → Text → Type 0
-IsSizedText options text = (config : Config) × IsHeap options config × (text ≡ heap_text (demand_asked options) config)
+IsSizedText options text = (config : Config) × IsSizedHeap options config × (text ≡ heap_text (demand_asked options) config)
 
 -- If no quantum is enough, what would be: so many pages, or so many per cent of the counts
 abbrev pub enough_text : Option ℕ → Option ℕ → Text

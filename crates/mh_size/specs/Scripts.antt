@@ -1,5 +1,5 @@
 -- What the sizing of a script has read and written. What its sessions need is a relation, and so is the text that says it.
-use Rattle.std.specs.Prelude.{◌≡◌, length, Option, None, Some, Result, List, [], ◌∷◌, take, codes, IfOk, IsErrOf}
+use Rattle.std.specs.Prelude.{◌≡◌, Option, None, Some, Result, List, [], ◌∷◌, take, codes, IfOk, IsErrOf}
 use Rattle.std.specs.Io.KnownBytes.{Keeps}
 use Rattle.mh_model.specs.declared.command.Event.{Event}
 use Rattle.mh_model.specs.declared.config.Config.{Config}
@@ -13,11 +13,8 @@ use Rattle.mh_model.specs.Output as model
 use Rattle.mh_model.specs.Output.{Ending, ending}
 use Rattle.mh_model.specs.Replies.{bad_line_text}
 use Rattle.mh_model.specs.Script.{BadLine, Meaning, Means, Reading, reading}
-use Rattle.mh_sizing.specs.Needed.{AreTheNeeds, IsTooLarge}
-use Rattle.mh_sizing.specs.OfSizingLaws.SharpNeeds.{AskOfClasses}
-use Rattle.mh_sizing.specs.OfSizingLaws.SharpPages.{all_asked, fewest_slots, occurring}
-use Rattle.mh_sizing.specs.declared.kinds.Kinds.{Kinds}
-use Rattle.mh_size.specs.declared.demand.Demand.{Demand}
+use Rattle.mh_sizing.specs.Needed.{IsTheDemand, IsTooLarge}
+use Rattle.mh_sizing.specs.declared.demand.Demand.{Demand}
 use Rattle.mh_script.specs.declared.end.End.{End}
 use Rattle.mh_script.specs.declared.end.End.TheVariants.{Done, Refused}
 use Rattle.mh_script.specs.declared.fault.ScriptFault.{ScriptFault}
@@ -29,18 +26,7 @@ use Rattle.mh_size.specs.Texts.{optional_line, size_text}
 
 -- Texts ------------------------------------------------------------------------------------------
 
--- The classes of the parts that these events ask for: just so many, whose pages have so many slots at least
-pub record AreTheKinds (kinds : Kinds) (config : Config) (events : List Event) : Type 0 where
-  pub count : kinds.kinds ≡ length (occurring (all_asked config events))
-  pub least : kinds.least ≡ fewest_slots (all_asked config events)
-  pub asked : AskOfClasses kinds.least kinds.kinds config events
-
--- What the sessions of these events need, and the classes of their parts
-pub record IsTheDemand (demand : Demand) (config : Config) (events : List Event) : Type 0 where
-  pub needs : AreTheNeeds demand.needs config events
-  pub kinds : AreTheKinds demand.kinds config events
-
--- and nothing, if one of the numbers does not fit 32 bits
+-- what the sessions of these events ask of a heap, and nothing if one of the numbers does not fit 32 bits
 abbrev pub MayBeNeeded : Option Demand → Config → List Event → Type 0
 MayBeNeeded (Some demand) config events = IsTheDemand demand config events
 MayBeNeeded None config events = (needs : Needs) → NeedNoMore needs config events → IsTooLarge needs

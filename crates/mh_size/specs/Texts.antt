@@ -4,7 +4,7 @@ use Rattle.mh_model.specs.Bytes.{Text, joined, lines_text}
 use Rattle.mh_model.specs.Replies.{optional_word}
 use Rattle.mh_model.specs.declared.config.Config.{Config}
 use Rattle.mh_sizing.specs.Needs.{enough_trigger}
-use Rattle.mh_size.specs.declared.demand.Demand.{Demand}
+use Rattle.mh_sizing.specs.declared.demand.Demand.{Demand}
 use Rattle.mh_size.specs.Cycles.{cycle_units, cycle_quanta, is_enough, pages_needed, quantum_needed}
 
 -- a word and a number
@@ -24,12 +24,12 @@ answer_word false = codes "no"
 abbrev pub demand_lines : Demand → List Text
 demand_lines demand =
     number_line (codes "live") demand.needs.live
-    ∷ number_line (codes "marked") demand.needs.marked
+    ∷ number_line (codes "marked") demand.needs.marking_units
     ∷ number_line (codes "asked") demand.needs.asked
     ∷ number_line (codes "opened") demand.needs.opened
-    ∷ number_line (codes "page") demand.needs.page
+    ∷ number_line (codes "page") demand.needs.page_units
     ∷ number_line (codes "kinds") demand.kinds.kinds
-    ∷ number_line (codes "slots") demand.kinds.least
+    ∷ number_line (codes "slots") demand.kinds.fewest_slots
     ∷ []
 
 -- what a cycle of a configuration takes, the trigger and the pages that are enough for it, and whether those of the configuration are

@@ -5,14 +5,16 @@
 //! enough. Both are asked, since neither is always the lesser.
 //!
 //! A cycle is given two bounds on its quanta, that of any cycle and that of what it marks, and takes the lesser. The
-//! second wants quanta of 353 units, since 352 may go to charges and to what is left over.
-ghost use Rattle.std.specs.Prelude.{◌≡◌, ◌≤◌, ◌↔◌, IfSome, IsTrue};
+//! second wants quanta of more units than may go to charges and to what is left over.
+ghost use Rattle.std.specs.Prelude.{◌≡◌, ◌≤◌, ◌↔◌, ◌<◌, IfSome, IsTrue};
 ghost use Rattle.mh_size.specs.Cycles.{HasEnoughByEither, cycle_quanta, cycle_units, is_enough, lesser_quantum, pages_needed, quantum_needed};
+ghost use Rattle.mh_model.specs.Limits.{quantum_overhead};
 
-use crate::demand::Demand;
 use mh_model::config::Config;
+use mh_model::limits::QUANTUM_OVERHEAD;
 use mh_model::needs::Needs;
-use mh_sizing::cycles::{quanta_needed, quanta_of_cycle, units_needed};
+use mh_sizing::cycles::{quanta_needed, units_needed};
+use mh_sizing::demand::Demand;
 use mh_sizing::needs::{enough_pages, enough_trigger, least_quantum};
 use mh_sizing::shared::{enough_shared_pages, least_quantum_shared};
 
@@ -20,8 +22,8 @@ use mh_sizing::shared::{enough_shared_pages, least_quantum_shared};
 pub(crate) fn cycle_units(config: &Config, needs: &Needs) -> u64
     ensures { result ≡ cycle_units needs.now config.now }
 {
-    let most = 288 + 640 * u64::from(config.pages);
-    most.min(units_needed(config.pages, needs))
+    let units = config.most_units();
+    units.min(units_needed(config.pages, needs))
 }
 
 /// How many quanta a cycle takes at most.
@@ -29,8 +31,8 @@ pub(crate) fn cycle_quanta(config: &Config, needs: &Needs) -> u64
     ensures value { result ≡ cycle_quanta needs.now config.now }
     ensures some { 1 ≤ result }
 {
-    let most = quanta_of_cycle(config);
-    if config.quantum < 353 {
+    let most = config.most_quanta();
+    if config.quantum <= QUANTUM_OVERHEAD {
         return most;
     }
     most.min(quanta_needed(config, needs))
@@ -58,10 +60,10 @@ pub fn is_enough(config: &Config, demand: &Demand) -> bool
 
 /// The lesser of two quanta, of which there may be none.
 fn lesser_quantum(one: Option<u32>, other: Option<u32>) -> Option<u32>
-    requires one { IfSome one (λ quantum. (353 ≤ quantum) × (quantum ≤ 1000000)) }
-    requires other { IfSome other (λ quantum. (353 ≤ quantum) × (quantum ≤ 1000000)) }
+    requires one { IfSome one (λ quantum. (quantum_overhead < quantum) × (quantum ≤ 1000000)) }
+    requires other { IfSome other (λ quantum. (quantum_overhead < quantum) × (quantum ≤ 1000000)) }
     ensures value { result ≡ lesser_quantum one other }
-    ensures within { IfSome result (λ quantum. (353 ≤ quantum) × (quantum ≤ 1000000)) }
+    ensures within { IfSome result (λ quantum. (quantum_overhead < quantum) × (quantum ≤ 1000000)) }
 {
     match (one, other) {
         (Some(one), Some(other)) => Some(one.min(other)),
@@ -75,7 +77,7 @@ pub(crate) fn quantum_needed(pages: u32, demand: &Demand) -> Option<u32>
     requires some { 1 ≤ pages }
     requires few { pages ≤ 4096 }
     ensures value { result ≡ quantum_needed demand.now pages }
-    ensures within { IfSome result (λ quantum. (353 ≤ quantum) × (quantum ≤ 1000000)) }
+    ensures within { IfSome result (λ quantum. (quantum_overhead < quantum) × (quantum ≤ 1000000)) }
 {
     let alone = least_quantum(pages, &demand.needs);
     let shared = least_quantum_shared(pages, &demand.needs, &demand.kinds);

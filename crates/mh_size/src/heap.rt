@@ -7,11 +7,11 @@
 //! user says 0.
 ghost use Rattle.std.specs.Prelude.{◌≡◌, ◌≤◌, ◌*◌, ◌/◌, ◌++◌, IfOk, IfSome, OnOk, None, Some, length};
 ghost use Rattle.std.specs.String.{string_bytes};
-ghost use Rattle.mh_size.specs.Heaps.{IsHeap, IsHeapText, IsSizedText, IsSmallText, enough_text, greatest_percent, demand_asked, demand_scaled, has_quantum, heap_text, kinds_asked, kinds_counted, least_pages, needs_asked, needs_scaled, quantum_of, references_of, scaled, small_text};
+ghost use Rattle.mh_size.specs.Heaps.{IsSizedHeap, IsHeapText, IsSizedText, IsSmallText, enough_text, greatest_percent, demand_asked, demand_scaled, some_quantum_fits, heap_text, kinds_asked, kinds_counted, least_pages, needs_asked, needs_scaled, quantum_of, references_of, scaled, small_text};
+ghost use Rattle.mh_model.specs.Limits.{least_quantum};
 
 use crate::blocks::counts_of;
 use crate::cycle::{cycle_quanta, quantum_needed};
-use crate::demand::Demand;
 use crate::floors::push_floors;
 use crate::lines::{push_cycle, push_demand, push_optional};
 use mh_model::config::{Config, Rules};
@@ -19,6 +19,7 @@ use mh_model::limits::MOST_PAGES;
 use mh_model::memory::NoMemory;
 use mh_model::needs::Needs;
 use mh_orders::heap_options::HeapOptions;
+use mh_sizing::demand::Demand;
 use mh_sizing::kinds::{Kinds, kinds_of};
 use mh_sizing::mh_classes::class::Class;
 use mh_sizing::needs::{enough_trigger, needs_of, parts_counted};
@@ -80,7 +81,7 @@ fn demand_asked(options: &HeapOptions) -> Demand
 /// The quantum that is given, or the least that is enough.
 fn quantum_of(options: &HeapOptions, demand: &Demand) -> Option<u32>
     ensures value { result ≡ quantum_of options.now.quantum demand.now options.now.pages }
-    ensures within { IfSome result (λ quantum. (209 ≤ quantum) × (quantum ≤ 1000000)) }
+    ensures within { IfSome result (λ quantum. (least_quantum ≤ quantum) × (quantum ≤ 1000000)) }
 {
     match options.quantum {
         Some(quantum) => Some(quantum),
@@ -91,7 +92,7 @@ fn quantum_of(options: &HeapOptions, demand: &Demand) -> Option<u32>
 /// The configuration with these numbers.
 fn configuration(pages: u32, quantum: u32, trigger: u32, every: u32) -> Config
     requires pages { (1 ≤ pages) × (pages ≤ 4096) }
-    requires quantum { (209 ≤ quantum) × (quantum ≤ 1000000) }
+    requires quantum { (least_quantum ≤ quantum) × (quantum ≤ 1000000) }
     requires trigger { trigger ≤ pages }
     requires every { every ≤ 1000000 }
     ensures pages { result.pages ≡ pages }
@@ -112,8 +113,8 @@ fn configuration(pages: u32, quantum: u32, trigger: u32, every: u32) -> Config
 fn heap(options: &HeapOptions, demand: &Demand, quantum: u32) -> Config
     requires demand { demand.now ≡ demand_asked options.now }
     requires quantum { quantum_of options.now.quantum demand.now options.now.pages ≡ Some quantum }
-    requires within { (209 ≤ quantum) × (quantum ≤ 1000000) }
-    ensures { IsHeap options.now result }
+    requires within { (least_quantum ≤ quantum) × (quantum ≤ 1000000) }
+    ensures { IsSizedHeap options.now result }
 {
     let HeapOptions { pages, every, .. } = *options;
     let quanta = cycle_quanta(&configuration(pages, quantum, 0, every), &demand.needs);
@@ -124,7 +125,7 @@ fn heap(options: &HeapOptions, demand: &Demand, quantum: u32) -> Config
 /// Whether some quantum is enough for so many pages.
 fn has_quantum(pages: u32, demand: &Demand) -> bool
     requires { (1 ≤ pages) × (pages ≤ 4096) }
-    ensures { result ≡ has_quantum demand.now pages }
+    ensures { result ≡ some_quantum_fits demand.now pages }
 {
     quantum_needed(pages, demand).is_some()
 }
@@ -257,7 +258,7 @@ fn sized_text(
 ) -> Result<String, NoMemory>
     requires demand { demand.now ≡ demand_asked options.now }
     requires quantum { quantum_of options.now.quantum demand.now options.now.pages ≡ Some quantum }
-    requires within { (209 ≤ quantum) × (quantum ≤ 1000000) }
+    requires within { (least_quantum ≤ quantum) × (quantum ≤ 1000000) }
     ensures { IfOk result (λ text. IsSizedText options.now (string_bytes text)) }
 {
     let config = heap(options, demand, quantum);

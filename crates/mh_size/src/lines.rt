@@ -6,10 +6,10 @@ ghost use Rattle.mh_model.specs.Bytes.{lines_text};
 ghost use Rattle.mh_size.specs.Texts.{answer_word, cycle_lines, demand_lines, least_line, optional_line};
 
 use crate::cycle::{cycle_quanta, cycle_units, is_enough, pages_needed, quantum_needed};
-use crate::demand::Demand;
 use mh_model::config::Config;
 use mh_model::memory::NoMemory;
 use mh_model::needs::Needs;
+use mh_sizing::demand::Demand;
 use mh_sizing::needs::enough_trigger;
 use std::fmt::Write;
 
@@ -25,16 +25,16 @@ pub(crate) fn push_demand(text: &mut String, demand: &Demand) -> Result<(), NoMe
 {
     let Needs {
         live,
-        marked,
+        marking_units,
         asked,
         opened,
-        page,
+        page_units,
     } = demand.needs;
     let kinds = demand.kinds.kinds;
-    let slots = demand.kinds.least;
+    let slots = demand.kinds.fewest_slots;
     write!(
         text,
-        "live {live}\nmarked {marked}\nasked {asked}\nopened {opened}\npage {page}\nkinds {kinds}\nslots {slots}\n"
+        "live {live}\nmarked {marking_units}\nasked {asked}\nopened {opened}\npage {page_units}\nkinds {kinds}\nslots {slots}\n"
     )?;
     Ok(())
 }

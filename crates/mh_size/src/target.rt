@@ -6,6 +6,7 @@
 ghost use Rattle.std.specs.Prelude.{◌≡◌, ◌≤◌, ◌++◌, IfOk, IfSome, IsTrue, OnOk};
 ghost use Rattle.std.specs.String.{string_bytes};
 ghost use Rattle.mh_model.specs.Bytes.{Text};
+ghost use Rattle.mh_model.specs.Limits.{least_quantum};
 ghost use Rattle.mh_orders.specs.Given.{may_be};
 ghost use Rattle.mh_size.specs.Targets.{AreQuanta, IsChoice, IsCycleBound, IsQuantaText, IsTargetText, choice_text};
 
@@ -13,7 +14,6 @@ use crate::lines::push_optional;
 use mh_model::config::{Config, Rules};
 use mh_model::memory::NoMemory;
 use mh_orders::target_options::{Given, Target, TargetOptions};
-use mh_sizing::cycles::quanta_of_cycle;
 use mh_sizing::targets::{greatest_quantum, greatest_quantum_for, least_every_for};
 use std::alloc::Global;
 
@@ -26,7 +26,7 @@ pub struct Choice {
 
 fn any_choice(target: &Target) -> Choice
     ensures choice { IsChoice target.now Given.Nothing result }
-    ensures within { IfSome result.quantum (λ quantum. (209 ≤ quantum) × (quantum ≤ 1000000)) }
+    ensures within { IfSome result.quantum (λ quantum. (least_quantum ≤ quantum) × (quantum ≤ 1000000)) }
 {
     match greatest_quantum(target) {
         None => Choice {
@@ -42,7 +42,7 @@ fn any_choice(target: &Target) -> Choice
 
 fn chosen(options: &TargetOptions) -> Choice
     ensures choice { IsChoice options.now.target options.now.given result }
-    ensures within { IfSome result.quantum (λ quantum. (209 ≤ quantum) × (quantum ≤ 1000000)) }
+    ensures within { IfSome result.quantum (λ quantum. (least_quantum ≤ quantum) × (quantum ≤ 1000000)) }
 {
     let target = &options.target;
     match options.given {
@@ -61,7 +61,7 @@ fn chosen(options: &TargetOptions) -> Choice
 /// The bound of a cycle in so many pages by such quanta.
 fn cycle_bound(pages: u32, quantum: u32) -> u32
     requires pages { (1 ≤ pages) × (pages ≤ 4096) }
-    requires quantum { (209 ≤ quantum) × (quantum ≤ 1000000) }
+    requires quantum { (least_quantum ≤ quantum) × (quantum ≤ 1000000) }
     ensures { IsCycleBound pages quantum result }
 {
     let config = Config {
@@ -71,13 +71,13 @@ fn cycle_bound(pages: u32, quantum: u32) -> u32
         every: 0,
         rules: Rules::Second,
     };
-    quanta_of_cycle(&config) as u32
+    config.most_quanta() as u32
 }
 
 /// The same, if there is a quantum.
 fn quanta_of(pages: u32, quantum: Option<u32>) -> Option<u32>
     requires pages { (1 ≤ pages) × (pages ≤ 4096) }
-    requires quantum { IfSome quantum (λ quantum. (209 ≤ quantum) × (quantum ≤ 1000000)) }
+    requires quantum { IfSome quantum (λ quantum. (least_quantum ≤ quantum) × (quantum ≤ 1000000)) }
     ensures { AreQuanta pages quantum result }
 {
     match quantum {
@@ -89,7 +89,7 @@ fn quanta_of(pages: u32, quantum: Option<u32>) -> Option<u32>
 /// Adds the bound of a cycle, if pages are given.
 fn push_quanta(text: &mut String, pages: Option<u32>, quantum: Option<u32>) -> Result<(), NoMemory>
     requires pages { IsTrue (may_be 1 4096 pages) }
-    requires quantum { IfSome quantum (λ quantum. (209 ≤ quantum) × (quantum ≤ 1000000)) }
+    requires quantum { IfSome quantum (λ quantum. (least_quantum ≤ quantum) × (quantum ≤ 1000000)) }
     ensures { OnOk result ((added : Text) × IsQuantaText pages quantum added × (string_bytes text.new ≡ string_bytes text.old ++ added)) }
 {
     match pages {

@@ -9,7 +9,7 @@ use Rattle.std.proofs.lemmas.List.Folds.{list_any-append, list_any_at, list_any_
 use Rattle.std.proofs.lemmas.Map.Keys.{IsDistinct-push}
 use Rattle.std.proofs.lemmas.Map.Steps.{length-le_from_distinct_below}
 use Rattle.mh_model.specs.Batches.{NoneTwice}
-use Rattle.mh_sizing.specs.Births.{is_in, with_birth, IsMarked}
+use Rattle.mh_sizing.specs.Births.{is_among, with_birth, IsMarked}
 
 -- Lists of births --------------------------------------------------------------------------------
 
@@ -17,16 +17,16 @@ or-false : (b : Bool) → (b || false) ≡ b
 or-false true = refl
 or-false false = refl
 
-pub in-push : (list : List ℕ) (birth other : ℕ) → is_in (list ++ birth ∷ []) other ≡ (is_in list other || (other == birth))
-in-push list birth other = list_any-append (λ x. other == x) list (birth ∷ []) ∙ ap (λ b. is_in list other || b) (or-false (other == birth))
+pub in-push : (list : List ℕ) (birth other : ℕ) → is_among (list ++ birth ∷ []) other ≡ (is_among list other || (other == birth))
+in-push list birth other = list_any-append (λ x. other == x) list (birth ∷ []) ∙ ap (λ b. is_among list other || b) (or-false (other == birth))
 
-pub in-at : (list : List ℕ) (index : ℕ) → index < length list → is_in list (get_or list index 0) ≡ true
+pub in-at : (list : List ℕ) (index : ℕ) → index < length list → is_among list (get_or list index 0) ≡ true
 in-at list index below = list_any_at (λ x. get_or list index 0 == x) list index 0 below (eq-eqb (get_or list index 0) (get_or list index 0) refl)
 
-pub once-push : (list : List ℕ) (birth : ℕ) → NoneTwice list → is_in list birth ≡ false → NoneTwice (list ++ birth ∷ [])
+pub once-push : (list : List ℕ) (birth : ℕ) → NoneTwice list → is_among list birth ≡ false → NoneTwice (list ++ birth ∷ [])
 once-push list birth once apart = IsDistinct-push nat_eq_equiv list birth once apart
 
-pub few-births : (list : List ℕ) (most : ℕ) → NoneTwice list → ((birth : ℕ) → is_in list birth ≡ true → birth < most) → length list ≤ most
+pub few-births : (list : List ℕ) (most : ℕ) → NoneTwice list → ((birth : ℕ) → is_among list birth ≡ true → birth < most) → length list ≤ most
 few-births list most once below = length-le_from_distinct_below list most once below
 
 -- Marks ------------------------------------------------------------------------------------------
@@ -38,7 +38,7 @@ mark-below marks birth is = elim (cases_lt birth (length marks)) [
 ]
 
 module _ (marks : List Bool) (births : List ℕ) (count : ℕ) (is : IsMarked marks births count) where
-  pub in-room : (birth : ℕ) → is_in (take count births) birth ≡ true → birth < length marks
+  pub in-room : (birth : ℕ) → is_among (take count births) birth ≡ true → birth < length marks
   in-room birth e = mark-below marks birth (is.marked birth ∙ e)
 
   pub count-few : count ≤ length marks
@@ -50,7 +50,7 @@ module _ (marks : List Bool) (births : List ℕ) (count : ℕ) (is : IsMarked ma
       subst (λ (b : ℕ). b < length marks) same (in-room (get_or (take count births) index 0) (in-at (take count births) index below))
 
   module _ (birth : ℕ) (below : birth < length marks) (new : get_or marks birth false ≡ false) where
-    apart : is_in (take count births) birth ≡ false
+    apart : is_among (take count births) birth ≡ false
     apart = sym (is.marked birth) ∙ new
 
     pub room-left : count < length births
@@ -58,10 +58,10 @@ module _ (marks : List Bool) (births : List ℕ) (count : ℕ) (is : IsMarked ma
         let few : length (take count births ++ birth ∷ []) ≤ length marks = few-births (take count births ++ birth ∷ []) (length marks) (once-push (take count births) birth is.once apart) each in
         omega (arith, few, length_push (take count births) birth, length-take-le count births is.few, is.room)
       where
-        each : (other : ℕ) → is_in (take count births ++ birth ∷ []) other ≡ true → other < length marks
-        each other e = go (is_in (take count births) other) refl (sym (in-push (take count births) birth other) ∙ e)
+        each : (other : ℕ) → is_among (take count births ++ birth ∷ []) other ≡ true → other < length marks
+        each other e = go (is_among (take count births) other) refl (sym (in-push (take count births) birth other) ∙ e)
           where
-            go : (old : Bool) → is_in (take count births) other ≡ old → (old || (other == birth)) ≡ true → other < length marks
+            go : (old : Bool) → is_among (take count births) other ≡ old → (old || (other == birth)) ≡ true → other < length marks
             go true there h = in-room other there
             go false there h = subst (λ (b : ℕ). b < length marks) (sym (eqb-true other birth h)) below
 
@@ -72,17 +72,17 @@ module _ (marks : List Bool) (births : List ℕ) (count : ℕ) (is : IsMarked ma
     marked-push = record {
       room = omega (arith, length-set marks birth true, length-set births count birth, is.room);
       few = omega (arith, room-left, length-set births count birth);
-      marked = λ other. each other ∙ sym (ap (λ (list : List ℕ). is_in list other) taken ∙ in-push (take count births) birth other);
+      marked = λ other. each other ∙ sym (ap (λ (list : List ℕ). is_among list other) taken ∙ in-push (take count births) birth other);
       once = subst NoneTwice (sym taken) (once-push (take count births) birth is.once apart);
     }
       where
         taken : take (count + 1) (set births count birth) ≡ take count births ++ birth ∷ []
         taken = take_more_set births count birth room-left
 
-        each : (other : ℕ) → get_or (set marks birth true) other false ≡ (is_in (take count births) other || (other == birth))
+        each : (other : ℕ) → get_or (set marks birth true) other false ≡ (is_among (take count births) other || (other == birth))
         each other = elim (cases_eq other birth) [
-          | inl same ↦ ap (λ n. get_or (set marks birth true) n false) same ∙ get_or-set_same marks birth true false below ∙ sym (ap (λ b. is_in (take count births) other || b) (eq-eqb other birth same) ∙ or-true (is_in (take count births) other))
-          | inr other_one ↦ get_or-set_other marks birth other true false other_one ∙ is.marked other ∙ sym (ap (λ b. is_in (take count births) other || b) (ne_eqb other birth other_one) ∙ or-false (is_in (take count births) other))
+          | inl same ↦ ap (λ n. get_or (set marks birth true) n false) same ∙ get_or-set_same marks birth true false below ∙ sym (ap (λ b. is_among (take count births) other || b) (eq-eqb other birth same) ∙ or-true (is_among (take count births) other))
+          | inr other_one ↦ get_or-set_other marks birth other true false other_one ∙ is.marked other ∙ sym (ap (λ b. is_among (take count births) other || b) (ne_eqb other birth other_one) ∙ or-false (is_among (take count births) other))
         ]
           where
             or-true : (b : Bool) → (b || true) ≡ true
@@ -108,14 +108,14 @@ marked-none marks births empty = record {
 -- Marks taken away -------------------------------------------------------------------------------
 
 pub unmarked-more : (marks first : List Bool) (births : List ℕ) (index : ℕ) → index < length births → get_or births index 0 < length marks
-    → ((birth : ℕ) → get_or marks birth false ≡ (get_or first birth false && not (is_in (take index births) birth)))
-    → (birth : ℕ) → get_or (set marks (get_or births index 0) false) birth false ≡ (get_or first birth false && not (is_in (take (index + 1) births) birth))
+    → ((birth : ℕ) → get_or marks birth false ≡ (get_or first birth false && not (is_among (take index births) birth)))
+    → (birth : ℕ) → get_or (set marks (get_or births index 0) false) birth false ≡ (get_or first birth false && not (is_among (take (index + 1) births) birth))
 unmarked-more marks first births index inside below so birth = elim (cases_eq birth (get_or births index 0)) [
-  | inl same ↦ ap (λ n. get_or (set marks (get_or births index 0) false) n false) same ∙ get_or-set_same marks (get_or births index 0) false false below ∙ sym (ap (λ (b : Bool). get_or first birth false && not b) (more ∙ ap (λ b. is_in (take index births) birth || b) (eq-eqb birth (get_or births index 0) same)) ∙ gone (get_or first birth false) (is_in (take index births) birth))
-  | inr apart ↦ get_or-set_other marks (get_or births index 0) birth false false apart ∙ so birth ∙ sym (ap (λ (b : Bool). get_or first birth false && not b) (more ∙ ap (λ b. is_in (take index births) birth || b) (ne_eqb birth (get_or births index 0) apart) ∙ or-false (is_in (take index births) birth)))
+  | inl same ↦ ap (λ n. get_or (set marks (get_or births index 0) false) n false) same ∙ get_or-set_same marks (get_or births index 0) false false below ∙ sym (ap (λ (b : Bool). get_or first birth false && not b) (more ∙ ap (λ b. is_among (take index births) birth || b) (eq-eqb birth (get_or births index 0) same)) ∙ gone (get_or first birth false) (is_among (take index births) birth))
+  | inr apart ↦ get_or-set_other marks (get_or births index 0) birth false false apart ∙ so birth ∙ sym (ap (λ (b : Bool). get_or first birth false && not b) (more ∙ ap (λ b. is_among (take index births) birth || b) (ne_eqb birth (get_or births index 0) apart) ∙ or-false (is_among (take index births) birth)))
 ]
   where
-    more : is_in (take (index + 1) births) birth ≡ (is_in (take index births) birth || (birth == get_or births index 0))
+    more : is_among (take (index + 1) births) birth ≡ (is_among (take index births) birth || (birth == get_or births index 0))
     more = list_any_more (λ x. birth == x) births index 0 inside
 
     gone : (a b : Bool) → (a && not (b || true)) ≡ false
@@ -125,11 +125,11 @@ unmarked-more marks first births index inside below so birth = elim (cases_eq bi
 
 -- with all its births unmarked a set is empty
 pub cleared : (marks new : List Bool) (births : List ℕ) (count : ℕ) → IsMarked marks births count → length new ≡ length marks
-    → ((birth : ℕ) → get_or new birth false ≡ (get_or marks birth false && not (is_in (take count births) birth))) → IsMarked new births 0
+    → ((birth : ℕ) → get_or new birth false ≡ (get_or marks birth false && not (is_among (take count births) birth))) → IsMarked new births 0
 cleared marks new births count is same so = record {
   room = omega (arith, is.room, same);
   few = omega arith;
-  marked = λ birth. so birth ∙ ap (λ (b : Bool). b && not (is_in (take count births) birth)) (is.marked birth) ∙ none (is_in (take count births) birth);
+  marked = λ birth. so birth ∙ ap (λ (b : Bool). b && not (is_among (take count births) birth)) (is.marked birth) ∙ none (is_among (take count births) birth);
   once = none-twice;
 }
   where

@@ -4,7 +4,7 @@ use Rattle.std.specs.Int.{div_ceil}
 use Rattle.std.specs.List.{list_any}
 use Rattle.std.proofs.Math.Nat.{mul-le-mul_right}
 use Rattle.std.proofs.Math.Seq.{drop-cons}
-use Rattle.std.proofs.lemmas.Bool.{and_parts, agree_below_at, cases_lt, eqb-true, ne_eqb, false≢true}
+use Rattle.std.proofs.lemmas.Bool.{and_parts, cases_lt, eqb-true, ne_eqb, false≢true}
 use Rattle.std.proofs.lemmas.Cmp.{nat_eq_equiv}
 use Rattle.std.proofs.lemmas.Grind.{div_ceil_times}
 use Rattle.std.proofs.lemmas.List.{append_assoc, take_more}
@@ -30,10 +30,6 @@ greatest_where number (size ∷ sizes) [] = 1
 greatest_where number (size ∷ sizes) (mark ∷ marks) = if mark then max (number size) (greatest_where number sizes marks) else greatest_where number sizes marks
 
 -- The sizes of classes ---------------------------------------------------------------------------
-
-pub class-sized : (number : ℕ) → number < 20 → is_class_size (get_or class_sizes number 0) ≡ true
-unfolding is_class_size
-class-sized number below = sym (agree_below_at (λ n. true) (λ n. list_any (λ other. other == get_or class_sizes n 0) class_sizes) 20 number refl below)
 
 -- no number stands twice
 apart-all : List ℕ → Bool

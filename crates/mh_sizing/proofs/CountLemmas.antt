@@ -12,7 +12,7 @@ use Rattle.mh_model.specs.Classes.{Part, tabulate, parts, plain_part, spine_part
 use Rattle.mh_model.specs.CycleUnits.{part_units}
 use Rattle.mh_model.specs.Paths.{Reachable}
 use Rattle.mh_model.specs.World.{Object, World, object_at, shape_of}
-use Rattle.mh_sizing.specs.Births.{is_in}
+use Rattle.mh_sizing.specs.Births.{is_among}
 use Rattle.mh_sizing.specs.Reached.{sum_of, HasAtMost, HasJust, AllReached}
 
 -- Units ------------------------------------------------------------------------------------------
@@ -125,14 +125,14 @@ module _ (birth : ℕ) where
       go false is more = omega (arith, more, sum_by-cons f other list, sum_by-cons f other (without birth list))
 
 -- births that are all among others add no more than those
-pub sum-part : (f : ℕ → ℕ) (part list : List ℕ) → NoneTwice part → AllByRecursion (λ birth. is_in list birth ≡ true) part → sum_by f part ≤ sum_by f list
+pub sum-part : (f : ℕ → ℕ) (part list : List ℕ) → NoneTwice part → AllByRecursion (λ birth. is_among list birth ≡ true) part → sum_by f part ≤ sum_by f list
 sum-part f [] [] once all = omega arith
 sum-part f (birth ∷ part) [] once all = absurd (false≢true all.0)
 sum-part f part (first ∷ list) once all =
-    omega (arith, without-sum first f part once, sum_by-cons f first list, sum-part f (without first part) list (without-once first part once) (without-all first (λ birth. is_in (first ∷ list) birth ≡ true) (λ birth. is_in list birth ≡ true) later part all))
+    omega (arith, without-sum first f part once, sum_by-cons f first list, sum-part f (without first part) list (without-once first part once) (without-all first (λ birth. is_among (first ∷ list) birth ≡ true) (λ birth. is_among list birth ≡ true) later part all))
   where
-    later : (birth : ℕ) → (first ≡ birth → ⊥) → (is_in (first ∷ list) birth ≡ true) → is_in list birth ≡ true
-    later birth apart is = sym (ap (λ b. b || is_in list birth) (ne_eqb birth first (λ e. apart (sym e)))) ∙ is
+    later : (birth : ℕ) → (first ≡ birth → ⊥) → (is_among (first ∷ list) birth ≡ true) → is_among list birth ≡ true
+    later birth apart is = sym (ap (λ b. b || is_among list birth) (ne_eqb birth first (λ e. apart (sym e)))) ∙ is
 
 module _ (number : Option Object → ℕ) (world : World) where
   -- one more birth of a list
@@ -146,7 +146,7 @@ module _ (number : Option Object → ℕ) (world : World) where
   counted-most list most all is other once reached =
       omega (arith, is, sum-part (λ b. number (object_at world b)) other list once (all-in other reached))
     where
-      all-in : (births : List ℕ) → AllByRecursion (Reachable world) births → AllByRecursion (λ birth. is_in list birth ≡ true) births
+      all-in : (births : List ℕ) → AllByRecursion (Reachable world) births → AllByRecursion (λ birth. is_among list birth ≡ true) births
       all-in [] reached = tt
       all-in (birth ∷ births) reached = (all.all birth reached.0, all-in births reached.1)
 

@@ -1,10 +1,12 @@
 -- Pages that are enough where small parts share pages, and the quanta for which they are.
+use Rattle.std.specs.Prelude.{◌-◌}
 use Rattle.std.proofs.Common.{◌≡◌, ℕ, ◌+◌, ◌-◌, ◌*◌, ◌/◌, ◌≤◌, ◌↔◌, nat_le, Option, MatchOption, true, inr, subst, arith}
 use Rattle.std.proofs.lemmas.Nat.{mul-le}
 use Rattle.std.proofs.lemmas.Bool.{leb-true, le-leb}
 use Rattle.mh_model.specs.declared.config.Config.{Config}
 use Rattle.mh_model.specs.declared.needs.Needs.{Needs}
 use Rattle.mh_model.specs.Needs.{quanta_needed, units_needed}
+use Rattle.mh_model.specs.Limits.{quantum_overhead}
 use Rattle.mh_sizing_laws.specs.SharpNeeds.{HasSharpEnoughFor}
 use Rattle.mh_sizing.specs.declared.kinds.Kinds.{Kinds}
 use Rattle.mh_sizing.specs.Choices.{NoneFits, IsLeastFit}
@@ -13,7 +15,7 @@ use Rattle.mh_sizing.specs.Shared.{enough_shared_pages, is_enough_shared_with, l
 use Rattle.mh_sizing.proofs.QuantumLemmas.{AreMost, IsByQuanta, enough_fits, value_by_fits, within}
 
 -- A configuration that has enough has what the law asks for
-pub shared-enough : (needs : Needs) (kinds : Kinds) (config : Config) → HasEnoughShared needs kinds config.pages config → enough_trigger needs (quanta_needed needs config) ≤ config.trigger → HasSharpEnoughFor needs kinds.least kinds.kinds config (quanta_needed needs config)
+pub shared-enough : (needs : Needs) (kinds : Kinds) (config : Config) → HasEnoughShared needs kinds config.pages config → enough_trigger needs (quanta_needed needs config) ≤ config.trigger → HasSharpEnoughFor needs kinds.fewest_slots kinds.kinds config (quanta_needed needs config)
 shared-enough needs kinds config enough trigger = record {
   bound = inr (enough.quantum, omega arith);
   pages = omega (arith, enough.enough);
@@ -34,7 +36,7 @@ shared_by_quanta needs kinds pages units most all are = record {
         of_pages = same;
         quantum = fit.some;
         enough = enough;
-        trigger = shared-trigger (needs.live + needs.live / kinds.least + kinds.kinds) needs.opened config.pages (quanta_needed needs config) (omega arith) (omega (arith, enough));
+        trigger = shared-trigger (needs.live + needs.live / kinds.fewest_slots + kinds.kinds) needs.opened config.pages (quanta_needed needs config) (omega arith) (omega (arith, enough));
       };
   fits = λ config has. record { some = has.quantum; few = (within config).most; fits = (enough_fits (enough_shared_pages needs kinds) needs pages units most config all are has.of_pages).0 has.enough };
 }
@@ -43,8 +45,8 @@ shared_by_quanta needs kinds pages units most all are = record {
 pub shared_value : (needs : Needs) (kinds : Kinds) (pages units most : ℕ) (found : Option ℕ) → units ≡ units_needed needs pages → ((quanta : ℕ) → 1 ≤ quanta → (enough_shared_pages needs kinds quanta ≤ pages) ↔ (quanta ≤ most)) → MatchOption found (NoneFits units most) (IsLeastFit units most) → found ≡ least_quantum_shared_of needs kinds pages
 shared_value needs kinds pages units most found all are least = value_by_fits (is_enough_shared_with needs kinds pages) units most found same least
   where
-    same : (quantum : ℕ) → (is_enough_shared_with needs kinds pages quantum ≡ true) ↔ (units / (quantum - 352) + 1 ≤ most)
+    same : (quantum : ℕ) → (is_enough_shared_with needs kinds pages quantum ≡ true) ↔ (units / (quantum - quantum_overhead) + 1 ≤ most)
     same quantum =
-        let fits = are (units / (quantum - 352) + 1) (omega arith) in
-        subst (λ (n : ℕ). (nat_le (enough_shared_pages needs kinds (n / (quantum - 352) + 1)) pages ≡ true) ↔ (units / (quantum - 352) + 1 ≤ most)) all
+        let fits = are (units / (quantum - quantum_overhead) + 1) (omega arith) in
+        subst (λ (n : ℕ). (nat_le (enough_shared_pages needs kinds (n / (quantum - quantum_overhead) + 1)) pages ≡ true) ↔ (units / (quantum - quantum_overhead) + 1 ≤ most)) all
         (λ passed. fits.0 (leb-true _ _ passed), λ few. le-leb _ _ (fits.1 few))

@@ -1,4 +1,5 @@
 -- The least quantum by division, and the ends of a search for a quantum or for what lies between two.
+use Rattle.std.specs.Prelude.{◌<◌, ◌-◌, suc}
 use Rattle.std.proofs.Common.{◌≡◌, ℕ, zero, suc, ◌+◌, ◌-◌, ◌*◌, ◌/◌, ◌<◌, ◌≤◌, ◌↔◌, nat_le, Bool, true, false, if◌then◌else◌, Option, Some, None, MatchOption, refl, sym, ap, ◌∙◌, subst, inl, inr, arith}
 use Rattle.std.proofs.Math.Nat.{div-le_self}
 use Rattle.std.proofs.lemmas.Nat.{mul-le}
@@ -6,7 +7,7 @@ use Rattle.std.proofs.lemmas.Bool.{and_parts, leb-true, le-leb, cases_lt, cases_
 use Rattle.std.proofs.lemmas.Bool.Decides.{nat_tests}
 use Rattle.mh_model.specs.declared.config.Config.{Config}
 use Rattle.mh_model.specs.declared.config.Rules.TheVariants.{Second}
-use Rattle.mh_model.specs.Limits.{is_configuration}
+use Rattle.mh_model.specs.Limits.{is_configuration, least_quantum, quantum_overhead}
 use Rattle.mh_model.specs.Trace.{floor}
 use Rattle.mh_model.specs.declared.needs.Needs.{Needs}
 use Rattle.mh_model.specs.Needs.{quanta_needed, units_needed}
@@ -19,7 +20,7 @@ use Rattle.mh_sizing.proofs.FloorLemmas.{floor_falls, floor_grows}
 -- Limits -----------------------------------------------------------------------------------------
 
 pub record IsWithin (config : Config) : Type 0 where
-  pub least : 209 ≤ config.quantum
+  pub least : least_quantum ≤ config.quantum
   pub most : config.quantum ≤ 1000000
   pub every : config.every ≤ 1000000
 
@@ -27,11 +28,11 @@ pub within : (config : Config) → IsWithin config
 within config =
     let a = (and_parts (nat_le 1 config.pages) _ config.in_limits).1 in
     let b = (and_parts (nat_le config.pages 4096) _ a).1 in
-    let (c, d) = and_parts (nat_le 209 config.quantum) _ b in
+    let (c, d) = and_parts (nat_le least_quantum config.quantum) _ b in
     let (e, f) = and_parts (nat_le config.quantum 1000000) _ d in
-    record { least = leb-true 209 config.quantum c; most = leb-true config.quantum 1000000 e; every = leb-true config.every 1000000 (and_parts (nat_le config.trigger config.pages) _ f).1 }
+    record { least = leb-true least_quantum config.quantum c; most = leb-true config.quantum 1000000 e; every = leb-true config.every 1000000 (and_parts (nat_le config.trigger config.pages) _ f).1 }
 
-limits : (pages quantum every : ℕ) → 1 ≤ pages → pages ≤ 4096 → 209 ≤ quantum → quantum ≤ 1000000 → every ≤ 1000000 → is_configuration pages quantum 0 every ≡ true
+limits : (pages quantum every : ℕ) → 1 ≤ pages → pages ≤ 4096 → least_quantum ≤ quantum → quantum ≤ 1000000 → every ≤ 1000000 → is_configuration pages quantum 0 every ≡ true
 limits pages quantum every a b c d e = grind (arith, nat_tests)
 
 -- Pages and quanta -------------------------------------------------------------------------------
@@ -52,15 +53,15 @@ least_config P pages units quanta (Some quantum) some few by least =
 abbrev pub AreMost : (ℕ → ℕ) → ℕ → ℕ → ℕ → Type 0
 AreMost number pages units most = (quanta : ℕ) → 1 ≤ quanta → quanta ≤ units + 1 → (number quanta ≤ pages) ↔ (quanta ≤ most)
 
-no_more_than_units : (units quantum : ℕ) → units / (quantum - 352) + 1 ≤ units + 1
-no_more_than_units units quantum = let few = div-le_self units (quantum - 352) in omega (arith, few)
+no_more_than_units : (units quantum : ℕ) → units / (quantum - quantum_overhead) + 1 ≤ units + 1
+no_more_than_units units quantum = let few = div-le_self units (quantum - quantum_overhead) in omega (arith, few)
 
 -- pages are enough for a configuration exactly if its quantum fits
 pub enough_fits : (number : ℕ → ℕ) (needs : Needs) (pages units most : ℕ) (config : Config) → units ≡ units_needed needs pages → AreMost number pages units most → config.pages ≡ pages
-    → (number (quanta_needed needs config) ≤ config.pages) ↔ (units / (config.quantum - 352) + 1 ≤ most)
+    → (number (quanta_needed needs config) ≤ config.pages) ↔ (units / (config.quantum - quantum_overhead) + 1 ≤ most)
 enough_fits number needs pages units most config all are same =
-    let quanta : quanta_needed needs config ≡ units / (config.quantum - 352) + 1 = rw (same, all) refl in
-    let most_fit = are (units / (config.quantum - 352) + 1) (omega arith) (no_more_than_units units config.quantum) in (
+    let quanta : quanta_needed needs config ≡ units / (config.quantum - quantum_overhead) + 1 = rw (same, all) refl in
+    let most_fit = are (units / (config.quantum - quantum_overhead) + 1) (omega arith) (no_more_than_units units config.quantum) in (
       λ enough. most_fit.0 (rw (quanta, same) at enough),
       λ few. rw (quanta, same) (most_fit.1 few),
     )
@@ -108,15 +109,15 @@ module _ (test : ℕ → Bool) where
 test_passed : (needs : Needs) (pages : ℕ) (config : Config) → HasEnough needs pages config → is_enough_with needs pages config.quantum ≡ true
 test_passed needs pages config has =
     let same = has.of_pages in
-    let quanta : quanta_needed needs config ≡ units_needed needs pages / (config.quantum - 352) + 1 = rw same refl in
-    let enough : enough_pages needs (units_needed needs pages / (config.quantum - 352) + 1) ≤ pages = rw (quanta, same) at has.enough in
+    let quanta : quanta_needed needs config ≡ units_needed needs pages / (config.quantum - quantum_overhead) + 1 = rw same refl in
+    let enough : enough_pages needs (units_needed needs pages / (config.quantum - quantum_overhead) + 1) ≤ pages = rw (quanta, same) at has.enough in
     le-leb _ _ enough
 
-passed_test : (needs : Needs) (pages quantum : ℕ) → 1 ≤ pages → pages ≤ 4096 → 353 ≤ quantum → quantum ≤ 1000000 → is_enough_with needs pages quantum ≡ true
+passed_test : (needs : Needs) (pages quantum : ℕ) → 1 ≤ pages → pages ≤ 4096 → quantum_overhead < quantum → quantum ≤ 1000000 → is_enough_with needs pages quantum ≡ true
     → (config : Config) × (config.quantum ≡ quantum) × HasEnough needs pages config
 passed_test needs pages quantum some few least most is =
     let config : Config = record { pages = pages; quantum = quantum; trigger = 0; every = 0; rules = Second; in_limits = limits pages quantum 0 some few (omega arith) most (omega arith) } in
-    let enough : enough_pages needs (units_needed needs pages / (quantum - 352) + 1) ≤ pages = leb-true _ _ is in (
+    let enough : enough_pages needs (units_needed needs pages / (quantum - quantum_overhead) + 1) ≤ pages = leb-true _ _ is in (
       config,
       refl,
       record {
@@ -129,7 +130,7 @@ passed_test needs pages quantum some few least most is =
 
 -- so the least with which pages are enough is the least that passes it
 pub least_value : (needs : Needs) (pages : ℕ) (found : Option ℕ) → 1 ≤ pages → pages ≤ 4096 → MatchOption found (HasNone (HasEnough needs pages)) (IsLeastQuantum (HasEnough needs pages)) → found ≡ least_quantum_of needs pages
-least_value needs pages None some few none = sym (least_from-none (is_enough_with needs pages) 353 999648 (λ k from to. elim (cases_Bool (is_enough_with needs pages k)) [
+least_value needs pages None some few none = sym (least_from-none (is_enough_with needs pages) (suc quantum_overhead) (1000000 - quantum_overhead) (λ k from to. elim (cases_Bool (is_enough_with needs pages k)) [
   | inl passed ↦ let (config, same, has) = passed_test needs pages k some few from (omega arith) passed in absurd (none config has)
   | inr missed ↦ missed
 ]))
@@ -137,7 +138,7 @@ least_value needs pages (Some quantum) some few least =
     let (config, same, has) = least.has in
     let limit = within config in
     let passed : is_enough_with needs pages quantum ≡ true = subst (λ (k : ℕ). is_enough_with needs pages k ≡ true) same (test_passed needs pages config has) in
-    sym (least_from-some (is_enough_with needs pages) 353 999648 quantum (omega (arith, has.quantum, same)) (omega (arith, limit.most, same)) passed (λ k from below. elim (cases_Bool (is_enough_with needs pages k)) [
+    sym (least_from-some (is_enough_with needs pages) (suc quantum_overhead) (1000000 - quantum_overhead) quantum (omega (arith, has.quantum, same)) (omega (arith, limit.most, same)) passed (λ k from below. elim (cases_Bool (is_enough_with needs pages k)) [
       | inl also ↦
           let (other, like, so) = passed_test needs pages k some few from (omega (arith, limit.most, same)) also in
           let fewer : quantum ≤ k = subst (λ (n : ℕ). quantum ≤ n) like (least.least other so) in
@@ -146,12 +147,12 @@ least_value needs pages (Some quantum) some few least =
     ]))
 
 -- the same for any test that a quantum passes exactly if it fits
-pub value_by_fits : (test : ℕ → Bool) (units quanta : ℕ) (found : Option ℕ) → ((quantum : ℕ) → (test quantum ≡ true) ↔ (units / (quantum - 352) + 1 ≤ quanta)) → MatchOption found (NoneFits units quanta) (IsLeastFit units quanta) → found ≡ least_from test 353 999648
-value_by_fits test units quanta None same none = sym (least_from-none test 353 999648 (λ k from to. elim (cases_Bool (test k)) [
+pub value_by_fits : (test : ℕ → Bool) (units quanta : ℕ) (found : Option ℕ) → ((quantum : ℕ) → (test quantum ≡ true) ↔ (units / (quantum - quantum_overhead) + 1 ≤ quanta)) → MatchOption found (NoneFits units quanta) (IsLeastFit units quanta) → found ≡ least_from test (suc quantum_overhead) (1000000 - quantum_overhead)
+value_by_fits test units quanta None same none = sym (least_from-none test (suc quantum_overhead) (1000000 - quantum_overhead) (λ k from to. elim (cases_Bool (test k)) [
   | inl passed ↦ absurd (none k (record { some = from; few = omega arith; fits = (same k).0 passed }))
   | inr missed ↦ missed
 ]))
-value_by_fits test units quanta (Some quantum) same least = sym (least_from-some test 353 999648 quantum least.fit.some (omega (arith, least.fit.few)) ((same quantum).1 least.fit.fits) (λ k from below. elim (cases_Bool (test k)) [
+value_by_fits test units quanta (Some quantum) same least = sym (least_from-some test (suc quantum_overhead) (1000000 - quantum_overhead) quantum least.fit.some (omega (arith, least.fit.few)) ((same quantum).1 least.fit.fits) (λ k from below. elim (cases_Bool (test k)) [
   | inl also ↦ absurd (omega (arith, below, least.least k (record { some = from; few = omega (arith, least.fit.few); fits = (same k).0 also })))
   | inr missed ↦ missed
 ]))
@@ -176,13 +177,13 @@ misses_sooner target every other quantum some more met =
     reaches : (low high : ℕ) → low ≤ high → target.percent * target.window ≤ 100 * low → target.percent * target.window ≤ 100 * high
     reaches low high more met = omega arith
 
-pub no_quantum : (target : Target) (every : ℕ) → 1 ≤ every → (IsMetBy target every 209 → ⊥) → HasNone (MeetsAfter target every)
+pub no_quantum : (target : Target) (every : ℕ) → 1 ≤ every → (IsMetBy target every least_quantum → ⊥) → HasNone (MeetsAfter target every)
 no_quantum target every some unmet config has =
     let limit = within config in
     let met : IsMetBy target every config.quantum = rw (← has.of_every) has.share in
-    unmet (misses_greater target every 209 config.quantum some limit.least met)
+    unmet (misses_greater target every least_quantum config.quantum some limit.least met)
 
-pub greatest_found : (target : Target) (every met unmet : ℕ) → 1 ≤ every → every ≤ 1000000 → 209 ≤ met → met < unmet → unmet ≤ suc met → unmet ≤ 1000001
+pub greatest_found : (target : Target) (every met unmet : ℕ) → 1 ≤ every → every ≤ 1000000 → least_quantum ≤ met → met < unmet → unmet ≤ suc met → unmet ≤ 1000001
     → IsMetBy target every met → (unmet ≤ 1000000 → IsMetBy target every unmet → ⊥) → IsGreatestQuantum (MeetsAfter target every) met
 greatest_found target every met unmet some few least order next most is not =
     let config : Config = record { pages = 1; quantum = met; trigger = 0; every = every; rules = Second; in_limits = limits 1 met every (omega arith) (omega arith) least (omega arith) few } in
@@ -226,7 +227,7 @@ no_every target quantum some unmet config has =
     let met : IsMetBy target config.every quantum = subst (λ (n : ℕ). IsMetBy target config.every n) has.of_quantum has.share in
     unmet (misses_sooner target 1000000 config.every quantum some limit.every met)
 
-pub least_found : (target : Target) (quantum unmet met : ℕ) → 209 ≤ quantum → quantum ≤ 1000000 → unmet < met → met ≤ suc unmet → met ≤ 1000000
+pub least_found : (target : Target) (quantum unmet met : ℕ) → least_quantum ≤ quantum → quantum ≤ 1000000 → unmet < met → met ≤ suc unmet → met ≤ 1000000
     → IsMetBy target met quantum → (1 ≤ unmet → IsMetBy target unmet quantum → ⊥) → IsLeastEvery (MeetsWith target quantum) met
 least_found target quantum unmet met least few order next most is not =
     let config : Config = record { pages = 1; quantum = quantum; trigger = 0; every = met; rules = Second; in_limits = limits 1 quantum met (omega arith) (omega arith) least few most } in

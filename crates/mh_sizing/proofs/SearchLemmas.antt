@@ -11,7 +11,7 @@ use Rattle.mh_model.specs.Batches.{NoneTwice}
 use Rattle.mh_model.specs.Paths.{Refers, IsPath, Reachable}
 use Rattle.mh_model.specs.World.{Object, World, births, object_at, slot_at, reference_of, IsClosed}
 use Rattle.mh_table_laws.proofs.Lists.{there_below}
-use Rattle.mh_sizing.specs.Births.{InOrder, is_in, with_name}
+use Rattle.mh_sizing.specs.Births.{InOrder, is_among, with_birth_named}
 use Rattle.mh_sizing.specs.Reached.{NamesBelow, AllReached}
 use Rattle.mh_sizing.proofs.BirthLemmas.{in-push}
 
@@ -27,7 +27,7 @@ all-at P (first ∷ list) zero all inside = all.0
 all-at P (first ∷ list) (suc index) all inside = all-at P list index all.1 (omega (arith, inside))
 
 -- a birth among others stands somewhere
-pub where-in : (list : List ℕ) (birth : ℕ) → is_in list birth ≡ true → (index : ℕ) × (index < length list) × (get_or list index 0 ≡ birth)
+pub where-in : (list : List ℕ) (birth : ℕ) → is_among list birth ≡ true → (index : ℕ) × (index < length list) × (get_or list index 0 ≡ birth)
 where-in list birth is =
     let (index, other, inside, read, same) = Any-from_list_any (λ x. birth == x) list is in
     (index, inside, sym (get_or_read list index other inside (sym read) 0) ∙ sym (eqb-true birth other same))
@@ -35,36 +35,36 @@ where-in list birth is =
 -- One name inserted ------------------------------------------------------------------------------
 
 module _ (list : List ℕ) where
-  if-keeps : (birth other : ℕ) (old : Bool) → is_in list other ≡ true → is_in (if old then list else list ++ birth ∷ []) other ≡ true
+  if-keeps : (birth other : ℕ) (old : Bool) → is_among list other ≡ true → is_among (if old then list else list ++ birth ∷ []) other ≡ true
   if-keeps birth other true there = there
   if-keeps birth other false there = in-push list birth other ∙ ap (λ b. b || (other == birth)) there
 
-  name-keeps : (name : Option ℕ) (other : ℕ) → is_in list other ≡ true → is_in (with_name list name) other ≡ true
+  name-keeps : (name : Option ℕ) (other : ℕ) → is_among list other ≡ true → is_among (with_birth_named list name) other ≡ true
   name-keeps None other there = there
-  name-keeps (Some birth) other there = if-keeps birth other (is_in list birth) there
+  name-keeps (Some birth) other there = if-keeps birth other (is_among list birth) there
 
-  name-all : (P : ℕ → Type 0) (name : Option ℕ) → AllByRecursion P list → ((birth : ℕ) → name ≡ Some birth → P birth) → AllByRecursion P (with_name list name)
+  name-all : (P : ℕ → Type 0) (name : Option ℕ) → AllByRecursion P list → ((birth : ℕ) → name ≡ Some birth → P birth) → AllByRecursion P (with_birth_named list name)
   name-all P None all each = all
-  name-all P (Some birth) all each = go (is_in list birth)
+  name-all P (Some birth) all each = go (is_among list birth)
     where
       go : (old : Bool) → AllByRecursion P (if old then list else list ++ birth ∷ [])
       go true = all
       go false = all-push P list birth all (each birth refl)
 
-  name-there : (birth : ℕ) → is_in (with_name list (Some birth)) birth ≡ true
-  name-there birth = go (is_in list birth) refl
+  name-there : (birth : ℕ) → is_among (with_birth_named list (Some birth)) birth ≡ true
+  name-there birth = go (is_among list birth) refl
     where
       or-true : (b : Bool) → (b || true) ≡ true
       or-true true = refl
       or-true false = refl
 
-      go : (old : Bool) → is_in list birth ≡ old → is_in (if old then list else list ++ birth ∷ []) birth ≡ true
+      go : (old : Bool) → is_among list birth ≡ old → is_among (if old then list else list ++ birth ∷ []) birth ≡ true
       go true is = is
-      go false is = in-push list birth birth ∙ ap (λ b. is_in list birth || b) (eq-eqb birth birth refl) ∙ or-true (is_in list birth)
+      go false is = in-push list birth birth ∙ ap (λ b. is_among list birth || b) (eq-eqb birth birth refl) ∙ or-true (is_among list birth)
 
-  name-more : (name : Option ℕ) → (more : List ℕ) × (with_name list name ≡ list ++ more)
+  name-more : (name : Option ℕ) → (more : List ℕ) × (with_birth_named list name ≡ list ++ more)
   name-more None = ([], sym (append-nil list))
-  name-more (Some birth) = go (is_in list birth)
+  name-more (Some birth) = go (is_among list birth)
     where
       go : (old : Bool) → (more : List ℕ) × ((if old then list else list ++ birth ∷ []) ≡ list ++ more)
       go true = ([], sym (append-nil list))
@@ -72,28 +72,28 @@ module _ (list : List ℕ) where
 
 -- Names inserted in order ------------------------------------------------------------------------
 
-pub names-keep : (list : List ℕ) (names : List (Option ℕ)) (other : ℕ) → is_in list other ≡ true → is_in (fold with_name list names) other ≡ true
+pub names-keep : (list : List ℕ) (names : List (Option ℕ)) (other : ℕ) → is_among list other ≡ true → is_among (fold with_birth_named list names) other ≡ true
 names-keep list [] other there = there
-names-keep list (name ∷ names) other there = names-keep (with_name list name) names other (name-keeps list name other there)
+names-keep list (name ∷ names) other there = names-keep (with_birth_named list name) names other (name-keeps list name other there)
 
-pub names-all : (P : ℕ → Type 0) (list : List ℕ) (names : List (Option ℕ)) → AllByRecursion P list → ((index birth : ℕ) → get_or names index None ≡ Some birth → P birth) → AllByRecursion P (fold with_name list names)
+pub names-all : (P : ℕ → Type 0) (list : List ℕ) (names : List (Option ℕ)) → AllByRecursion P list → ((index birth : ℕ) → get_or names index None ≡ Some birth → P birth) → AllByRecursion P (fold with_birth_named list names)
 names-all P list [] all each = all
-names-all P list (name ∷ names) all each = names-all P (with_name list name) names (name-all list P name all (each 0)) (λ index birth is. each (suc index) birth is)
+names-all P list (name ∷ names) all each = names-all P (with_birth_named list name) names (name-all list P name all (each 0)) (λ index birth is. each (suc index) birth is)
 
-pub names-there : (list : List ℕ) (names : List (Option ℕ)) (index birth : ℕ) → get_or names index None ≡ Some birth → is_in (fold with_name list names) birth ≡ true
+pub names-there : (list : List ℕ) (names : List (Option ℕ)) (index birth : ℕ) → get_or names index None ≡ Some birth → is_among (fold with_birth_named list names) birth ≡ true
 names-there list [] index birth is = absurd (none-some birth is)
-names-there list (name ∷ names) zero birth is = names-keep (with_name list name) names birth (subst (λ (n : Option ℕ). is_in (with_name list n) birth ≡ true) (sym is) (name-there list birth))
-names-there list (name ∷ names) (suc index) birth is = names-there (with_name list name) names index birth is
+names-there list (name ∷ names) zero birth is = names-keep (with_birth_named list name) names birth (subst (λ (n : Option ℕ). is_among (with_birth_named list n) birth ≡ true) (sym is) (name-there list birth))
+names-there list (name ∷ names) (suc index) birth is = names-there (with_birth_named list name) names index birth is
 
-pub names-more : (list : List ℕ) (names : List (Option ℕ)) → (more : List ℕ) × (fold with_name list names ≡ list ++ more)
+pub names-more : (list : List ℕ) (names : List (Option ℕ)) → (more : List ℕ) × (fold with_birth_named list names ≡ list ++ more)
 names-more list [] = ([], sym (append-nil list))
 names-more list (name ∷ names) =
     let (first, is) = name-more list name in
-    let (rest, so) = names-more (with_name list name) names in
+    let (rest, so) = names-more (with_birth_named list name) names in
     (first ++ rest, so ∙ ap (λ (l : List ℕ). l ++ rest) is ∙ append_assoc list first rest)
 
 -- what stood at an index stands there still
-pub names-at : (list : List ℕ) (names : List (Option ℕ)) (index : ℕ) → index < length list → get_or (fold with_name list names) index 0 ≡ get_or list index 0
+pub names-at : (list : List ℕ) (names : List (Option ℕ)) (index : ℕ) → index < length list → get_or (fold with_birth_named list names) index 0 ≡ get_or list index 0
 names-at list names index inside = let (more, is) = names-more list names in ap (λ (l : List ℕ). get_or l index 0) is ∙ get_or-append list more 0 index inside
 
 -- Searches ---------------------------------------------------------------------------------------
@@ -101,8 +101,8 @@ names-at list names index inside = let (more, is) = names-more list names in ap 
 -- A search has found these births, each of which the world reaches, and has looked through the references of the first so many
 pub record IsSearch (world : World) (list : List ℕ) (next : ℕ) : Type 0 where
   pub reached : AllByRecursion (Reachable world) list
-  pub roots : (slot birth : ℕ) → slot_at world slot ≡ Some birth → is_in list birth ≡ true
-  pub looked : (index field target : ℕ) → index < next → reference_of (object_at world (get_or list index 0)) field ≡ Some target → is_in list target ≡ true
+  pub roots : (slot birth : ℕ) → slot_at world slot ≡ Some birth → is_among list birth ≡ true
+  pub looked : (index field target : ℕ) → index < next → reference_of (object_at world (get_or list index 0)) field ≡ Some target → is_among list target ≡ true
 
 -- what is so of each birth that a slot names, and of each that a reference of such a one names, is so of all that are reached
 pub reached-in : (world : World) (P : ℕ → Type 0) → ((slot birth : ℕ) → slot_at world slot ≡ Some birth → P birth)
@@ -131,7 +131,7 @@ module _ (world : World) where
       there_below world.objects (get_or list index 0) (reached-in world (λ b. IsSome (object_at world b)) closed.slots (λ birth target there refers. closed.references birth refers.0 target refers.1) path.0 (get_or list index 0) path.1)
 
   -- it begins with what the slots name
-  pub search-begins : IsSearch world (fold with_name [] world.slots) 0
+  pub search-begins : IsSearch world (fold with_birth_named [] world.slots) 0
   search-begins = record {
     reached = names-all (Reachable world) [] world.slots tt (λ slot birth is. ([], (slot, is)));
     roots = λ slot birth is. names-there [] world.slots slot birth is;
@@ -140,7 +140,7 @@ module _ (world : World) where
 
   -- and goes on with the references of the next birth
   pub search-more : (list : List ℕ) (next birth : ℕ) (references : List (Option ℕ)) → IsSearch world list next → next < length list → birth ≡ get_or list next 0
-      → option_map (λ (object : Object). object.references) (object_at world birth) ≡ Some references → IsSearch world (fold with_name list references) (next + 1)
+      → option_map (λ (object : Object). object.references) (object_at world birth) ≡ Some references → IsSearch world (fold with_birth_named list references) (next + 1)
   search-more list next birth references search inside at is = record {
     reached = names-all (Reachable world) list references search.reached each;
     roots = λ slot other named. names-keep list references other (search.roots slot other named);
@@ -155,7 +155,7 @@ module _ (world : World) where
           let before = subst (Reachable world) (sym at) (all-at (Reachable world) list next search.reached inside) in
           (birth ∷ before.0, ((field, read field ∙ named), before.1))
 
-      looked : (index field target : ℕ) → index < next + 1 → reference_of (object_at world (get_or (fold with_name list references) index 0)) field ≡ Some target → is_in (fold with_name list references) target ≡ true
+      looked : (index field target : ℕ) → index < next + 1 → reference_of (object_at world (get_or (fold with_birth_named list references) index 0)) field ≡ Some target → is_among (fold with_birth_named list references) target ≡ true
       looked index field target before named = elim (cases_lt index next) [
         | inl earlier ↦
             let old = ap (λ (b : ℕ). reference_of (object_at world b) field) (names-at list references index (omega (arith, earlier, inside))) in
@@ -171,10 +171,10 @@ module _ (world : World) where
   search-ends list next once search all = record {
     once = once;
     reached = search.reached;
-    all = λ birth reachable. reached-in world (λ b. is_in list b ≡ true) search.roots along reachable.0 birth reachable.1;
+    all = λ birth reachable. reached-in world (λ b. is_among list b ≡ true) search.roots along reachable.0 birth reachable.1;
   }
     where
-      along : (birth target : ℕ) → is_in list birth ≡ true → Refers world birth target → is_in list target ≡ true
+      along : (birth target : ℕ) → is_among list birth ≡ true → Refers world birth target → is_among list target ≡ true
       along birth target there (field, is) =
           let (index, inside, at) = where-in list birth there in
           search.looked index field target (omega (arith, inside, all)) (ap (λ (b : ℕ). reference_of (object_at world b) field) at ∙ is)
@@ -183,9 +183,9 @@ module _ (world : World) where
 
 -- one more name of a list inserted
 pub inserted-more : (set new : InOrder) (first : List ℕ) (room : ℕ) (names : List (Option ℕ)) (index : ℕ) (name : Option ℕ) → index < length names → name ≡ get_or names index None
-    → set ≡ record { births = fold with_name first (take index names); room = room } → new ≡ record { births = with_name set.births name; room = set.room }
-    → new ≡ record { births = fold with_name first (take (index + 1) names); room = room }
+    → set ≡ record { births = fold with_birth_named first (take index names); room = room } → new ≡ record { births = with_birth_named set.births name; room = set.room }
+    → new ≡ record { births = fold with_birth_named first (take (index + 1) names); room = room }
 inserted-more set new first room names index name inside read before after =
-    after ∙ ap₂ {C = InOrder} (λ list room. record { births = with_name list name; room = room }) (ap (λ (s : InOrder). s.births) before) (ap (λ (s : InOrder). s.room) before)
+    after ∙ ap₂ {C = InOrder} (λ list room. record { births = with_birth_named list name; room = room }) (ap (λ (s : InOrder). s.births) before) (ap (λ (s : InOrder). s.room) before)
     ∙ ap {B = InOrder} (λ (list : List ℕ). record { births = list; room = room })
-    (ap (with_name (fold with_name first (take index names))) read ∙ sym (fold_more with_name first names index None inside))
+    (ap (with_birth_named (fold with_birth_named first (take index names))) read ∙ sym (fold_more with_birth_named first names index None inside))

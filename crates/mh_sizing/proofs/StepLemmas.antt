@@ -20,6 +20,7 @@ use Rattle.mh_model.specs.CycleUnits.{part_units, object_units}
 use Rattle.mh_model.specs.LiveParts.{object_parts}
 use Rattle.mh_model.specs.Paths.{Refers, Reachable}
 use Rattle.mh_model.specs.World.{Object, World, Answer, first_world, births, object_at, object_in, object_named, slot_at, own_slot, board_slot, reference_of, most_fields_under, most_fields, is_bad, first_refusal, refusal, blank, with_reference, with_number, with_slot, with_change, with_object, cleared, with_end, says, effect, unless_refused, sight_of, never_full, heap_step, Performs}
+use Rattle.mh_model.specs.Limits.{root_slots}
 use Rattle.mh_table_laws.proofs.Lists.{get_or-set_either, none_at}
 use Rattle.mh_sizing.specs.Objects.{field_count, IsWellSized}
 use Rattle.mh_sizing.specs.Reached.{sum_of, HasAtMost, HasJust}
@@ -315,7 +316,7 @@ step-sized world who c answer new performs sized = record { slots = step-slots w
     ]
 
 pub first-sized : (config : Config) → IsWellSized (first_world config)
-first-sized config = record { slots = length-replicate {A = Option ℕ} 144 None; small = λ birth. omega arith }
+first-sized config = record { slots = length-replicate {A = Option ℕ} root_slots None; small = λ birth. omega arith }
 
 -- Parts and units --------------------------------------------------------------------------------
 
@@ -328,7 +329,7 @@ units-by_shape = record { none = refl; shape = λ one two references numbers. ap
 -- nothing is reached at first
 pub first-most : (number : Option Object → ℕ) (config : Config) → HasAtMost number 0 (first_world config)
 first-most number config [] once reached = omega arith
-first-most number config (birth ∷ list) once reached = absurd (reached-in (first_world config) (λ b. ⊥) (λ slot b named. none-some b (sym (none_at 144 slot) ∙ named)) (λ near target before refers. before) reached.0.0 birth reached.0.1)
+first-most number config (birth ∷ list) once reached = absurd (reached-in (first_world config) (λ b. ⊥) (λ slot b named. none-some b (sym (none_at root_slots slot) ∙ named)) (λ near target before refers. before) reached.0.0 birth reached.0.1)
 
 pub first-just : (number : Option Object → ℕ) (config : Config) → HasJust number 0 (first_world config)
 first-just number config = record { list = []; once = none-twice; reached = tt; sum = refl }

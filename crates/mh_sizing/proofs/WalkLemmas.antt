@@ -26,7 +26,7 @@ use Rattle.mh_sizing.specs.declared.asked.Asked.{Asked}
 use Rattle.mh_sizing.specs.declared.world.RunWorld.{RunWorld}
 use Rattle.mh_sizing.specs.declared.walk.Walk.{Walk}
 use Rattle.mh_sizing.specs.Asked.{HasAsked}
-use Rattle.mh_sizing.specs.ClassCounts.{HasCounts}
+use Rattle.mh_sizing.specs.ClassCounts.{HasClassCounts}
 use Rattle.mh_sizing.specs.Needed.{AreTheNeeds}
 use Rattle.mh_sizing.specs.Reached.{HasAtMost, HasJust}
 use Rattle.mh_sizing.specs.Runs.{run_after, ended_intervals, running_interval, most_of}
@@ -163,8 +163,8 @@ same-most world worlds most = record {
 -- an event that asks for nothing
 pub asked-nothing : (asked : Asked) (config : Config) (all running : List Event) (ended : List (List Event)) (event : Event) → asked_parts config event ≡ [] → HasAsked asked config all running ended → HasAsked asked config (all ++ event ∷ []) (running ++ event ∷ []) ended
 asked-nothing asked config all running ended event none has = record {
-  counted = subst (λ (list : List Part). HasCounts asked.running list (flat_map (asked_parts config) (running ++ event ∷ []))) (sym (same all))
-      (subst (λ (list : List Part). HasCounts asked.running (flat_map (asked_parts config) all) list) (sym (same running)) has.counted);
+  counted = subst (λ (list : List Part). HasClassCounts asked.running list (flat_map (asked_parts config) (running ++ event ∷ []))) (sym (same all))
+      (subst (λ (list : List Part). HasClassCounts asked.running (flat_map (asked_parts config) all) list) (sym (same running)) has.counted);
   parts = has.parts;
   pages = has.pages;
 }
@@ -174,11 +174,11 @@ asked-nothing asked config all running ended event none has = record {
 
 -- and one that asks for these parts
 pub asked-parts : (old new : Asked) (config : Config) (all running : List Event) (ended : List (List Event)) (event : Event) (list : List Part) → list ≡ asked_parts config event
-    → HasCounts new.running (flat_map (asked_parts config) all ++ list) (flat_map (asked_parts config) running ++ list) → new.parts ≡ old.parts → new.pages ≡ old.pages
+    → HasClassCounts new.running (flat_map (asked_parts config) all ++ list) (flat_map (asked_parts config) running ++ list) → new.parts ≡ old.parts → new.pages ≡ old.pages
     → HasAsked old config all running ended → HasAsked new config (all ++ event ∷ []) (running ++ event ∷ []) ended
 asked-parts old new config all running ended event list is counted parts_same pages_same has = record {
-  counted = subst (λ (l : List Part). HasCounts new.running l (flat_map (asked_parts config) (running ++ event ∷ []))) (sym (same all))
-      (subst (λ (l : List Part). HasCounts new.running (flat_map (asked_parts config) all ++ list) l) (sym (same running)) counted);
+  counted = subst (λ (l : List Part). HasClassCounts new.running l (flat_map (asked_parts config) (running ++ event ∷ []))) (sym (same all))
+      (subst (λ (l : List Part). HasClassCounts new.running (flat_map (asked_parts config) all ++ list) l) (sym (same running)) counted);
   parts = parts_same ∙ has.parts;
   pages = pages_same ∙ has.pages;
 }
@@ -267,10 +267,10 @@ module _ (walk : Walk) (config : Config) (events : List Event) (walked : HasWalk
   interval-few number count most is all = omega (arith, is, most_of-few number (ended_intervals [] (first_run config) events ++ running_interval [] (first_run config) events ∷ []) most (subst (AllByRecursion (λ interval. number interval ≤ most)) cut all))
 
   -- the numbers that were found are the needs
-  pub needs-are : (needs : Needs) → needs.live ≡ walk.world.reach.parts.most → needs.marked ≡ walk.world.reach.units.most
+  pub needs-are : (needs : Needs) → needs.live ≡ walk.world.reach.parts.most → needs.marking_units ≡ walk.world.reach.units.most
       → needs.asked ≡ most_of (asked_count config) (ended_intervals [] (first_run config) events ++ running_interval [] (first_run config) events ∷ [])
       → needs.opened ≡ most_of (opens_at_most config) (ended_intervals [] (first_run config) events ++ running_interval [] (first_run config) events ∷ [])
-      → needs.page ≡ most_slots (flat_map (asked_parts config) events) + most_moves (flat_map (asked_parts config) events) → AreTheNeeds needs config events
+      → needs.page_units ≡ most_slots (flat_map (asked_parts config) events) + most_moves (flat_map (asked_parts config) events) → AreTheNeeds needs config events
   needs-are needs live marked asked opened page = record {
     enough = record {
       live = subst (λ (n : ℕ). AllByRecursion (HasAtMost object_parts n) (run_worlds (first_run config) events)) (sym live) walked.most.parts.enough;

@@ -16,7 +16,7 @@ use Rattle.mh_model.specs.LiveParts.{object_parts}
 use Rattle.mh_model.specs.World.{Object, World, first_world, births, shape_of, never_full, Performs}
 use Rattle.mh_sizing.specs.declared.world.Most.{Most}
 use Rattle.mh_sizing.specs.declared.world.Reach.{Reach}
-use Rattle.mh_sizing.specs.Bounded.{IsBounded, HasRoomFor}
+use Rattle.mh_sizing.specs.Bounded.{ReachesWithinBounds, HasRoomToMake}
 use Rattle.mh_sizing.specs.Objects.{field_count}
 use Rattle.mh_sizing.specs.Reached.{HasAtMost, HasJust}
 use Rattle.mh_sizing.specs.Steps.{made}
@@ -80,7 +80,7 @@ module _ (old new : World) (who : ℕ) (command : Command) (answer : Reply) (per
     pub still-most : (number : Option Object → ℕ) → IsByShape number → (most : ℕ) → HasAtMost number most old → HasAtMost number most new
     still-most number by_shape most has = at-most-more number (most + number (made command answer)) most new (omega (arith, ap number none, by_shape.none)) (step-most number by_shape most has)
 
-    pub still-bounded : (reach : Reach) → IsBounded old reach → HasRoomFor old reach command → IsBounded new reach
+    pub still-bounded : (reach : Reach) → ReachesWithinBounds old reach → HasRoomToMake old reach command → ReachesWithinBounds new reach
     still-bounded reach bounded room = record {
       few = omega (arith, step-births old who command answer new performs, room.few answer);
       room = omega (arith, step-births old who command answer new performs, room.room answer);
@@ -102,8 +102,8 @@ module _ (old new : World) (who : ℕ) (command : Command) (answer : Reply) (per
     pub made-units : object_units (made command answer) ≡ sum_by part_units (parts shape.references shape.numbers)
     made-units = by-shape (λ r n. sum_by part_units (parts r n)) object_units (λ o. refl) (made command answer) shape some
 
-    pub grown-bounded : (old_reach reach : Reach) → IsBounded old old_reach → HasRoomFor old old_reach command → HasGrown object_parts old_reach.parts reach.parts new → HasGrown object_units old_reach.units reach.units new
-        → reach.set.room ≡ old_reach.set.room → IsBounded new reach
+    pub grown-bounded : (old_reach reach : Reach) → ReachesWithinBounds old old_reach → HasRoomToMake old old_reach command → HasGrown object_parts old_reach.parts reach.parts new → HasGrown object_units old_reach.units reach.units new
+        → reach.set.room ≡ old_reach.set.room → ReachesWithinBounds new reach
     grown-bounded old_reach reach bounded room parts' units' same = record {
       few = omega (arith, step-births old who command answer new performs, room.few answer);
       room = omega (arith, step-births old who command answer new performs, room.room answer, same);
@@ -114,17 +114,17 @@ module _ (old new : World) (who : ℕ) (command : Command) (answer : Reply) (per
       units_within = units'.within;
     }
 
-    pub room-grown : (reach : Reach) → HasRoomFor old reach command → births new ≤ reach.set.room
+    pub room-grown : (reach : Reach) → HasRoomToMake old reach command → births new ≤ reach.set.room
     room-grown reach room = omega (arith, step-births old who command answer new performs, room.room answer)
 
     made-some : (object : Option Object) → option_map shape_of object ≡ Some shape → (o : Object) × (object ≡ Some o)
     made-some None is = absurd (none-some shape is)
     made-some (Some o) is = (o, refl)
 
-    pub parts-few : (reach : Reach) → HasRoomFor old reach command → reach.parts.bound < LIFE
+    pub parts-few : (reach : Reach) → HasRoomToMake old reach command → reach.parts.bound < LIFE
     parts-few reach room = let (object, is) = made-some (made command answer) some in room.parts answer object is
 
-    pub units-few : (reach : Reach) → HasRoomFor old reach command → reach.units.bound < LIFE
+    pub units-few : (reach : Reach) → HasRoomToMake old reach command → reach.units.bound < LIFE
     units-few reach room = let (object, is) = made-some (made command answer) some in room.units answer object is
 
     pub parts-grown : (most count : ℕ) → count ≡ length (parts shape.references shape.numbers) → HasAtMost object_parts most old → HasAtMost object_parts (most + count) new
@@ -137,7 +137,7 @@ module _ (old new : World) (who : ℕ) (command : Command) (answer : Reply) (per
 pub still-grown : (number : Option Object → ℕ) (most : Most) (world : World) → most.bound ≤ most.most → HasAtMost number most.bound world → HasGrown number most most world
 still-grown number most world within has = record { within = within; bound = has; most = inl refl }
 
-pub first-bounded : (config : Config) (reach : Reach) → reach.parts.bound ≡ 0 → reach.units.bound ≡ 0 → IsBounded (first_world config) reach
+pub first-bounded : (config : Config) (reach : Reach) → reach.parts.bound ≡ 0 → reach.units.bound ≡ 0 → ReachesWithinBounds (first_world config) reach
 first-bounded config reach parts units = record {
   few = lit< tt;
   room = omega arith;

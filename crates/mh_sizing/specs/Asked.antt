@@ -5,11 +5,11 @@ use Rattle.mh_model.specs.declared.command.Event.{Event}
 use Rattle.mh_model.specs.declared.config.Config.{Config}
 use Rattle.mh_model.specs.Openings.{asked_count, asked_parts, opens_at_most}
 use Rattle.mh_sizing.specs.declared.asked.Asked.{Asked}
-use Rattle.mh_sizing.specs.ClassCounts.{HasCounts}
+use Rattle.mh_sizing.specs.ClassCounts.{HasClassCounts}
 use Rattle.mh_sizing.specs.Runs.{most_of}
 
 -- All events are counted by class, those of the running interval, and the most that an ended one asked for
 pub record HasAsked (asked : Asked) (config : Config) (all running : List Event) (ended : List (List Event)) : Type 0 where
-  pub counted : HasCounts asked.running (flat_map (asked_parts config) all) (flat_map (asked_parts config) running)
+  pub counted : HasClassCounts asked.running (flat_map (asked_parts config) all) (flat_map (asked_parts config) running)
   pub parts : asked.parts ≡ most_of (asked_count config) ended
   pub pages : asked.pages ≡ most_of (opens_at_most config) ended

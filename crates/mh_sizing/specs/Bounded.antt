@@ -12,7 +12,7 @@ use Rattle.mh_sizing.specs.Reached.{HasAtMost}
 use Rattle.mh_sizing.specs.Steps.{made, made_count}
 
 -- The world reaches no more than the bounds, which are no more than the most that was reached, and there is room for its births
-pub record IsBounded (world : World) (reach : Reach) : Type 0 where
+pub record ReachesWithinBounds (world : World) (reach : Reach) : Type 0 where
   pub few : births world < LIFE
   pub room : births world ≤ reach.set.room
   pub sized : IsWellSized world
@@ -22,7 +22,7 @@ pub record IsBounded (world : World) (reach : Reach) : Type 0 where
   pub units_within : reach.units.bound ≤ reach.units.most
 
 -- There is room for what a command makes, whatever it is answered
-pub record HasRoomFor (world : World) (reach : Reach) (command : Command) : Type 0 where
+pub record HasRoomToMake (world : World) (reach : Reach) (command : Command) : Type 0 where
   pub few : (answer : Reply) → births world + made_count (made command answer) < LIFE
   pub room : (answer : Reply) → births world + made_count (made command answer) ≤ reach.set.room
   pub parts : (answer : Reply) (object : Object) → made command answer ≡ Some object → reach.parts.bound < LIFE

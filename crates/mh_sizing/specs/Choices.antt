@@ -1,6 +1,7 @@
 -- The least or the greatest number that passes a test, and of a configuration that has a property.
-use Rattle.std.specs.Prelude.{◌≡◌, ℕ, zero, suc, ◌+◌, ◌-◌, ◌/◌, ◌≤◌, Bool, if◌then◌else◌, Option, Some, None}
+use Rattle.std.specs.Prelude.{◌≡◌, ℕ, zero, suc, ◌+◌, ◌-◌, ◌/◌, ◌≤◌, ◌<◌, Bool, if◌then◌else◌, Option, Some, None}
 use Rattle.mh_model.specs.declared.config.Config.{Config}
+use Rattle.mh_model.specs.Limits.{quantum_overhead}
 
 -- the least number that passes a test, of so many from one on
 unfoldable pub least_from : (ℕ → Bool) → ℕ → ℕ → Option ℕ
@@ -28,9 +29,9 @@ pub record IsLeastEvery (P : Config → Type 0) (every : ℕ) : Type 0 where
 
 -- a quantum of 353 or more within the limit, with which a cycle of so many units takes no more quanta than these
 pub record IsFit (units quanta quantum : ℕ) : Type 0 where
-  pub some : 353 ≤ quantum
+  pub some : quantum_overhead < quantum
   pub few : quantum ≤ 1000000
-  pub fits : units / (quantum - 352) + 1 ≤ quanta
+  pub fits : units / (quantum - quantum_overhead) + 1 ≤ quanta
 
 -- no quantum is such
 abbrev pub NoneFits : ℕ → ℕ → Type 0

@@ -6,7 +6,7 @@ use Rattle.mh_model.specs.Openings.{class_parts}
 use Rattle.mh_sizing.specs.declared.classes.ClassCounts.{ClassCounts}
 
 -- The parts of a running interval are counted by class, and the classes of all parts are known
-pub record HasCounts (counted : ClassCounts) (all running : List Part) : Type 0 where
+pub record HasClassCounts (counted : ClassCounts) (all running : List Part) : Type 0 where
   pub counts : counted.counts ≡ map (λ size. class_parts size running) class_sizes
   pub total : counted.total ≡ length running
   pub occurs : counted.occurs ≡ map (occurs all) class_sizes

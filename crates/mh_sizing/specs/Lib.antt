@@ -19,3 +19,4 @@ pub mod Walk
 pub mod Worlds
 pub mod OfSizingLaws
 pub mod OfClasses
+pub mod OfReport

@@ -1,5 +1,5 @@
--- What the sessions of a run need, and no less.
-use Rattle.std.specs.Prelude.{◌≡◌, ◌⊎◌, ◌+◌, ◌≤◌, ◌^◌, List, []}
+-- What the sessions of a run need, and no less, with the classes of their parts.
+use Rattle.std.specs.Prelude.{◌≡◌, ◌⊎◌, ◌+◌, ◌≤◌, ◌^◌, List, [], length}
 use Rattle.std.specs.List.{Any, flat_map}
 use Rattle.mh_model.specs.declared.command.Event.{Event}
 use Rattle.mh_model.specs.declared.command.Event.TheVariants as event
@@ -10,6 +10,10 @@ use Rattle.mh_model.specs.LiveParts.{object_parts}
 use Rattle.mh_model.specs.Needs.{first_run, run_worlds, run_intervals, NeedNoMore}
 use Rattle.mh_model.specs.Openings.{asked_count, asked_parts, opens_at_most}
 use Rattle.mh_model.specs.World.{IsNew}
+use Rattle.mh_sizing_laws.specs.SharpNeeds.{AskOfClasses}
+use Rattle.mh_sizing_laws.specs.SharpPages.{all_asked, fewest_slots, occurring}
+use Rattle.mh_sizing.specs.declared.demand.Demand.{Demand}
+use Rattle.mh_sizing.specs.declared.kinds.Kinds.{Kinds}
 use Rattle.mh_sizing.specs.Reached.{HasJust}
 use Rattle.mh_sizing.specs.Runs.{most_of}
 
@@ -18,10 +22,21 @@ use Rattle.mh_sizing.specs.Runs.{most_of}
 pub record AreTheNeeds (needs : Needs) (config : Config) (events : List Event) : Type 0 where
   pub enough : NeedNoMore needs config events
   pub live : Any (HasJust object_parts needs.live) (run_worlds (first_run config) events)
-  pub marked : Any (HasJust object_units needs.marked) (run_worlds (first_run config) events)
+  pub marked : Any (HasJust object_units needs.marking_units) (run_worlds (first_run config) events)
   pub asked : needs.asked ≡ most_of (asked_count config) (run_intervals [] (first_run config) events)
   pub opened : needs.opened ≡ most_of (opens_at_most config) (run_intervals [] (first_run config) events)
-  pub page : let list = flat_map (asked_parts config) events in needs.page ≡ most_slots list + most_moves list
+  pub page : let list = flat_map (asked_parts config) events in needs.page_units ≡ most_slots list + most_moves list
+
+-- The classes of the parts that these events ask for: just so many, whose pages have so many slots at least
+pub record AreTheKinds (kinds : Kinds) (config : Config) (events : List Event) : Type 0 where
+  pub count : kinds.kinds ≡ length (occurring (all_asked config events))
+  pub least : kinds.fewest_slots ≡ fewest_slots (all_asked config events)
+  pub asked : AskOfClasses kinds.fewest_slots kinds.kinds config events
+
+-- What the sessions of these events need, and the classes of their parts
+pub record IsTheDemand (demand : Demand) (config : Config) (events : List Event) : Type 0 where
+  pub needs : AreTheNeeds demand.needs config events
+  pub kinds : AreTheKinds demand.kinds config events
 
 -- an event asks for a new object
 abbrev pub AsksForObject : Event → Type 0
@@ -30,4 +45,4 @@ AsksForObject (event.Control control) = ⊥
 
 -- one of the numbers does not fit 32 bits
 abbrev pub IsTooLarge : Needs → Type 0
-IsTooLarge needs = (2 ^ 32 ≤ needs.live) ⊎ ((2 ^ 32 ≤ needs.marked) ⊎ ((2 ^ 32 ≤ needs.asked) ⊎ (2 ^ 32 ≤ needs.opened)))
+IsTooLarge needs = (2 ^ 32 ≤ needs.live) ⊎ ((2 ^ 32 ≤ needs.marking_units) ⊎ ((2 ^ 32 ≤ needs.asked) ⊎ (2 ^ 32 ≤ needs.opened)))

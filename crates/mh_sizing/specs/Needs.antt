@@ -1,8 +1,9 @@
 -- The trigger and the pages that are enough for what sessions need, and what they need by counts.
-use Rattle.std.specs.Prelude.{◌≡◌, ℕ, ◌+◌, ◌-◌, ◌*◌, ◌/◌, ◌≤◌, nat_le, Bool, Option, List}
+use Rattle.std.specs.Prelude.{◌≡◌, ℕ, ◌+◌, ◌-◌, ◌*◌, ◌/◌, ◌≤◌, ◌<◌, suc, nat_le, Bool, Option, List}
 use Rattle.mh_model.specs.declared.config.Config.{Config}
 use Rattle.mh_model.specs.declared.needs.Needs.{Needs}
 use Rattle.mh_model.specs.Needs.{quanta_needed, units_needed}
+use Rattle.mh_model.specs.Limits.{quantum_overhead}
 use Rattle.mh_sizing.specs.Choices.{least_from}
 use Rattle.mh_sizing.specs.declared.openings.ClassParts.{ClassParts}
 use Rattle.mh_sizing.specs.Openings.{counted_classes, pages_of_counts, parts_of_counts}
@@ -18,16 +19,16 @@ enough_pages needs quanta = needs.live + (quanta * needs.asked + quanta * needs.
 
 -- so many pages are enough with such a quantum
 abbrev pub is_enough_with : Needs → ℕ → ℕ → Bool
-is_enough_with needs pages quantum = nat_le (enough_pages needs (units_needed needs pages / (quantum - 352) + 1)) pages
+is_enough_with needs pages quantum = nat_le (enough_pages needs (units_needed needs pages / (quantum - quantum_overhead) + 1)) pages
 
 -- the least quantum with which they are: they are with none below 353, nor with one past the limit
 abbrev pub least_quantum_of : Needs → ℕ → Option ℕ
-least_quantum_of needs pages = least_from (is_enough_with needs pages) 353 999648
+least_quantum_of needs pages = least_from (is_enough_with needs pages) (suc quantum_overhead) (1000000 - quantum_overhead)
 
 -- A configuration of so many pages has enough of them, and room for a trigger that is enough
 pub record HasEnough (needs : Needs) (pages : ℕ) (config : Config) : Type 0 where
   pub of_pages : config.pages ≡ pages
-  pub quantum : 353 ≤ config.quantum
+  pub quantum : quantum_overhead < config.quantum
   pub enough : enough_pages needs (quanta_needed needs config) ≤ config.pages
   pub trigger : enough_trigger needs (quanta_needed needs config) ≤ config.pages
 
@@ -36,8 +37,8 @@ pub record HasEnough (needs : Needs) (pages : ℕ) (config : Config) : Type 0 wh
 abbrev pub needs_of_counts : List ClassParts → ℕ → ℕ → Needs
 needs_of_counts counts live references = record {
   live = live;
-  marked = live + references;
+  marking_units = live + references;
   asked = parts_of_counts counts;
   opened = pages_of_counts counts;
-  page = page_units_of (counted_classes counts);
+  page_units = page_units_of (counted_classes counts);
 }

@@ -4,7 +4,7 @@ use Rattle.std.specs.List.{AllByRecursion, sum_by}
 use Rattle.mh_model.specs.Batches.{NoneTwice}
 use Rattle.mh_model.specs.Paths.{Reachable}
 use Rattle.mh_model.specs.World.{Object, World, object_at}
-use Rattle.mh_sizing.specs.Births.{is_in}
+use Rattle.mh_sizing.specs.Births.{is_among}
 
 -- what these slots or references name is below a number
 abbrev pub NamesBelow : ℕ → List (Option ℕ) → Type 0
@@ -14,7 +14,7 @@ NamesBelow room names = (index birth : ℕ) → get_or names index None ≡ Some
 pub record AllReached (world : World) (list : List ℕ) : Type 0 where
   pub once : NoneTwice list
   pub reached : AllByRecursion (Reachable world) list
-  pub all : (birth : ℕ) → Reachable world birth → is_in list birth ≡ true
+  pub all : (birth : ℕ) → Reachable world birth → is_among list birth ≡ true
 
 -- how much the objects of these births count
 abbrev pub sum_of : (Option Object → ℕ) → World → List ℕ → ℕ

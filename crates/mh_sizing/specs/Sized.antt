@@ -22,5 +22,5 @@ SizedRunsAreNeverFull = (needs : Needs) (config : Config) (events : List Event) 
 
 -- And so it is never full where small new parts share pages, if the pages are then enough for the classes of its parts
 abbrev pub SharedRunsAreNeverFull : Type 0
-SharedRunsAreNeverFull = (needs : Needs) (kinds : Kinds) (config : Config) (events : List Event) → NeedNoMore needs config events → AskOfClasses kinds.least kinds.kinds config events → HasEnoughShared needs kinds config.pages config → enough_trigger needs (quanta_needed needs config) ≤ config.trigger
+SharedRunsAreNeverFull = (needs : Needs) (kinds : Kinds) (config : Config) (events : List Event) → NeedNoMore needs config events → AskOfClasses kinds.fewest_slots kinds.kinds config events → HasEnoughShared needs kinds config.pages config → enough_trigger needs (quanta_needed needs config) ≤ config.trigger
     → IsNeverFull config events

@@ -106,7 +106,7 @@ impl Asked {
     /// The classes of all parts that were asked for.
     pub(crate) fn kinds(&self) -> Kinds
         ensures kinds { (config : Config) (all running : List Event) (ended : List (List Event)) → HasAsked self.now config all running ended → result.kinds ≡ length (occurring (all_asked config all)) }
-        ensures least { (config : Config) (all running : List Event) (ended : List (List Event)) → HasAsked self.now config all running ended → result.least ≡ fewest_slots (all_asked config all) }
+        ensures least { (config : Config) (all running : List Event) (ended : List (List Event)) → HasAsked self.now config all running ended → result.fewest_slots ≡ fewest_slots (all_asked config all) }
     {
         self.running.kinds()
     }

@@ -1,7 +1,7 @@
 //! A set of births, in the order in which they were inserted. So a search can go through it while it grows.
 ghost use Rattle.std.specs.Prelude.{◌≡◌, ℕ, ◌+◌, ◌<◌, ◌≤◌, [], true, false, not, ◌&&◌, length, get_or, OnOk, OnErr};
 ghost use Rattle.mh_model.specs.Batches.{NoneTwice};
-ghost use Rattle.mh_sizing.specs.Births.{is_in, with_birth};
+ghost use Rattle.mh_sizing.specs.Births.{is_among, with_birth};
 
 use mh_model::birth::Birth;
 use mh_model::memory::NoMemory;
@@ -29,8 +29,8 @@ impl Model for BirthSet {
 
 /// Takes the marks of these births away.
 fn unmark(marks: &mut [bool], births: &[Birth])
-    requires { (birth : ℕ) → is_in births.now birth ≡ true → birth < length marks.old }
-    ensures marks { (birth : ℕ) → get_or marks.new birth false ≡ (get_or marks.old birth false && not (is_in births.now birth)) }
+    requires { (birth : ℕ) → is_among births.now birth ≡ true → birth < length marks.old }
+    ensures marks { (birth : ℕ) → get_or marks.new birth false ≡ (get_or marks.old birth false && not (is_among births.now birth)) }
     ensures room { length marks.new ≡ length marks.old }
 {
     for birth in births {

@@ -7,22 +7,15 @@ ghost use Rattle.mh_model.specs.Openings.{pages_of_parts};
 ghost use Rattle.mh_sizing_laws.specs.SharpPages.{occurring, fewest_slots};
 
 use crate::kinds::Kinds;
-use mh_classes::class::Class;
+use mh_classes::class::{CLASSES, Class};
 use mh_classes::parts::Parts;
-
-const CLASSES: usize = 20;
-
-/// The sizes of the classes by their numbers.
-const SIZES: [u8; CLASSES] = [
-    4, 5, 6, 7, 8, 9, 11, 13, 15, 17, 20, 23, 26, 30, 34, 39, 44, 50, 57, 64,
-];
 
 /// The class of this number.
 fn class_at(number: usize) -> Class
     requires { number < 20 }
     ensures { result ≡ get_or class_sizes number 0 }
 {
-    Class::of_size(SIZES[number] as usize)
+    Class::all()[number]
 }
 
 /// How many parts of each class an interval has asked for, and which classes have occurred until now.
@@ -35,10 +28,10 @@ pub(crate) struct ClassCounts {
 }
 
 impl ClassCounts {
-    ghost use Rattle.mh_sizing.specs.ClassCounts.{HasCounts};
+    ghost use Rattle.mh_sizing.specs.ClassCounts.{HasClassCounts};
 
     pub(crate) fn new() -> ClassCounts
-        ensures { HasCounts result [] [] }
+        ensures { HasClassCounts result [] [] }
     {
         ClassCounts {
             counts: [0; CLASSES],
@@ -57,7 +50,7 @@ impl ClassCounts {
     /// Counts a part of a class.
     fn ask_part(&mut self, class: Class)
         requires { self.old.total < 2 ^ 63 }
-        ensures asked { (all running : List Part) (part : Part) → class_of (part_words part) ≡ Some class → HasCounts self.old all running → HasCounts self.new (all ++ part ∷ []) (running ++ part ∷ []) }
+        ensures asked { (all running : List Part) (part : Part) → class_of (part_words part) ≡ Some class → HasClassCounts self.old all running → HasClassCounts self.new (all ++ part ∷ []) (running ++ part ∷ []) }
         ensures total { self.new.total ≡ self.old.total + 1 }
     {
         let number = class.number();
@@ -69,7 +62,7 @@ impl ClassCounts {
     /// Counts the parts of an object.
     pub(crate) fn ask(&mut self, parts: &Parts)
         requires { self.old.total < 2 ^ 62 }
-        ensures asked { (all running : List Part) → HasCounts self.old all running → HasCounts self.new (all ++ parts.now) (running ++ parts.now) }
+        ensures asked { (all running : List Part) → HasClassCounts self.old all running → HasClassCounts self.new (all ++ parts.now) (running ++ parts.now) }
     {
         for index in 0..parts.count() {
             self.ask_part(parts.get(index).class());
@@ -78,7 +71,7 @@ impl ClassCounts {
 
     /// Begins an interval.
     pub(crate) fn clear(&mut self)
-        ensures { (all running : List Part) → HasCounts self.old all running → HasCounts self.new all [] }
+        ensures { (all running : List Part) → HasClassCounts self.old all running → HasClassCounts self.new all [] }
     {
         self.counts = [0; CLASSES];
         self.total = 0;
@@ -86,7 +79,7 @@ impl ClassCounts {
 
     /// How many pages the parts of the interval fill, if each class has pages of its own.
     pub(crate) fn pages(&self) -> u64
-        ensures { (all running : List Part) → HasCounts self.now all running → result ≡ pages_of_parts running }
+        ensures { (all running : List Part) → HasClassCounts self.now all running → result ≡ pages_of_parts running }
     {
         // The pages are no more than the parts, whose number fits.
         let _total = self.total;
@@ -100,7 +93,7 @@ impl ClassCounts {
 
     /// The most units that a cycle spends on a page after marking, for the classes that have occurred.
     pub(crate) fn page_units(&self) -> u32
-        ensures { (all running : List Part) → HasCounts self.now all running → result ≡ most_slots all + most_moves all }
+        ensures { (all running : List Part) → HasClassCounts self.now all running → result ≡ most_slots all + most_moves all }
     {
         let mut slots = 1;
         let mut moves = 1;
@@ -117,8 +110,8 @@ impl ClassCounts {
 
     /// How many classes have occurred, and the fewest slots that a page of them has.
     pub(crate) fn kinds(&self) -> Kinds
-        ensures kinds { (all running : List Part) → HasCounts self.now all running → result.kinds ≡ length (occurring all) }
-        ensures least { (all running : List Part) → HasCounts self.now all running → result.least ≡ fewest_slots all }
+        ensures kinds { (all running : List Part) → HasClassCounts self.now all running → result.kinds ≡ length (occurring all) }
+        ensures least { (all running : List Part) → HasClassCounts self.now all running → result.fewest_slots ≡ fewest_slots all }
     {
         let mut kinds = 0;
         let mut least = 64;
@@ -129,6 +122,9 @@ impl ClassCounts {
                 least = slots.min(least);
             }
         }
-        Kinds { kinds, least }
+        Kinds {
+            kinds,
+            fewest_slots: least,
+        }
     }
 }

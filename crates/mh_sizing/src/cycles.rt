@@ -1,28 +1,14 @@
-//! How many quanta a cycle takes at most.
+//! How many quanta a cycle takes at most, in a run with room whose sessions need no more than some numbers.
 //!
-//! One bound is that of any cycle. The other is that of a run with room whose sessions need no more than some numbers,
-//! by what its cycles mark. Both hold, so the lesser may be taken. The second wants quanta of 353 units, since 352 may
-//! go to charges and to what is left over. The first is written here once more, and not taken from `mh_cycle`, since
-//! this crate stands on no collector.
+//! One bound is that of any cycle (`Config::most_quanta`). The other, here, is by what the cycles of such a run mark.
+//! Both hold, so the lesser may be taken. The second wants quanta of more units than may be spent on no cycle.
 ghost use Rattle.std.specs.Prelude.{◌≡◌, ◌+◌, ◌*◌, ◌^◌, ◌<◌, ◌≤◌};
-ghost use Rattle.mh_model.specs.Bound.{most_quanta};
 ghost use Rattle.mh_model.specs.Needs.{quanta_needed, units_needed};
+ghost use Rattle.mh_model.specs.Limits.{quantum_overhead};
 
 use mh_model::config::Config;
+use mh_model::limits::{QUANTUM_OVERHEAD, ROOT_SLOTS};
 use mh_model::needs::Needs;
-
-/// The most quanta of a cycle, whatever blocks the heap holds.
-pub fn quanta_of_cycle(config: &Config) -> u64
-    ensures { result ≡ most_quanta config.now }
-{
-    let pages = u64::from(config.pages);
-    let quantum = u64::from(config.quantum);
-    let most_steps = 144 + 192 * pages;
-    if quantum < 353 {
-        return most_steps;
-    }
-    most_steps.min((288 + 640 * pages) / (quantum - 352) + 1)
-}
 
 /// What a cycle spends at most, without the charge for slots, in a heap of so many pages.
 pub fn units_needed(pages: u32, needs: &Needs) -> u64
@@ -30,13 +16,15 @@ pub fn units_needed(pages: u32, needs: &Needs) -> u64
     ensures value { result ≡ units_needed needs.now pages }
     ensures few { result < 2 ^ 63 }
 {
-    288 + u64::from(needs.marked) + u64::from(needs.page) * u64::from(pages)
+    2 * ROOT_SLOTS as u64
+        + u64::from(needs.marking_units)
+        + u64::from(needs.page_units) * u64::from(pages)
 }
 
 /// The most quanta of a cycle of a run that has room for it, whose sessions need no more than this.
 pub fn quanta_needed(config: &Config, needs: &Needs) -> u64
-    requires { 353 ≤ config.now.quantum }
+    requires { quantum_overhead < config.now.quantum }
     ensures { result ≡ quanta_needed needs.now config.now }
 {
-    units_needed(config.pages, needs) / u64::from(config.quantum - 352) + 1
+    units_needed(config.pages, needs) / u64::from(config.quantum - QUANTUM_OVERHEAD) + 1
 }

@@ -18,20 +18,20 @@ pub struct Kinds {
     /// How many there are at most.
     pub kinds: u32,
     /// The fewest slots that a page of them has: 64 if there are none.
-    pub least: u32,
-    ghost some: { 1 ≤ least },
+    pub fewest_slots: u32,
+    ghost some: { 1 ≤ fewest_slots },
 }
 
 /// The kinds of parts of which just these classes occur. A class that is listed twice counts twice, which costs a page.
 pub fn kinds_of(classes: &[Class]) -> Kinds
     requires { length classes.now ≤ 20 }
     ensures kinds { result.kinds ≡ length classes.now }
-    ensures least { result.least ≡ least_slots classes.now }
-    ensures parts { (list : List Part) → AreOfJust classes.now list → (length (occurring list) ≤ result.kinds) × (result.least ≡ fewest_slots list) }
-    ensures asked { (config : Config) (events : List Event) → AreOfJust classes.now (all_asked config events) → AskOfClasses result.least result.kinds config events }
+    ensures least { result.fewest_slots ≡ least_slots classes.now }
+    ensures parts { (list : List Part) → AreOfJust classes.now list → (length (occurring list) ≤ result.kinds) × (result.fewest_slots ≡ fewest_slots list) }
+    ensures asked { (config : Config) (events : List Event) → AreOfJust classes.now (all_asked config events) → AskOfClasses result.fewest_slots result.kinds config events }
 {
     Kinds {
         kinds: classes.len() as u32,
-        least: least_slots(classes),
+        fewest_slots: least_slots(classes),
     }
 }

@@ -16,6 +16,7 @@ mod births;
 mod classes;
 mod counts;
 pub mod cycles;
+pub mod demand;
 pub mod kinds;
 pub mod laws;
 pub mod needs;

@@ -8,11 +8,12 @@ ghost use Rattle.std.specs.Prelude.{◌≡◌, ℕ, ◌+◌, ◌^◌, ◌<◌, �
 ghost use Rattle.mh_sizing.specs.Needs.{enough_trigger, enough_pages, least_quantum_of, needs_of_counts, HasEnough};
 ghost use Rattle.mh_sizing.specs.Openings.{parts_of_counts};
 ghost use Rattle.mh_sizing.specs.Choices.{HasNone, IsLeastQuantum, NoneFits, IsLeastFit};
+ghost use Rattle.mh_model.specs.Limits.{quantum_overhead};
 
 use crate::cycles::units_needed;
 use crate::openings::{ClassParts, pages_opened};
 use crate::pages::page_units_counted;
-use mh_model::limits::MOST_QUANTUM;
+use mh_model::limits::{MOST_QUANTUM, QUANTUM_OVERHEAD};
 use mh_model::needs::Needs;
 
 /// The trigger that is enough if a cycle takes so many quanta at most.
@@ -54,7 +55,7 @@ pub(crate) fn least_quantum_for(units: u64, quanta: u64) -> Option<u32>
     if quanta == 0 {
         return None;
     }
-    let quantum = 353 + units / quanta;
+    let quantum = u64::from(QUANTUM_OVERHEAD) + 1 + units / quanta;
     if quantum <= u64::from(MOST_QUANTUM) {
         Some(quantum as u32)
     } else {
@@ -67,7 +68,7 @@ fn least_by_division(pages: u32, needs: &Needs) -> Option<u32>
     requires some { 1 ≤ pages }
     requires few { pages ≤ 4096 }
     ensures least { MatchOption result (HasNone (HasEnough needs.now pages)) (IsLeastQuantum (HasEnough needs.now pages)) }
-    ensures within { IfSome result (λ quantum. (353 ≤ quantum) × (quantum ≤ 1000000)) }
+    ensures within { IfSome result (λ quantum. (quantum_overhead < quantum) × (quantum ≤ 1000000)) }
 {
     let units = units_needed(pages, needs);
     least_quantum_for(units, quanta_in(pages, needs, units))
@@ -79,7 +80,7 @@ pub fn least_quantum(pages: u32, needs: &Needs) -> Option<u32>
     requires few { pages ≤ 4096 }
     ensures least { MatchOption result (HasNone (HasEnough needs.now pages)) (IsLeastQuantum (HasEnough needs.now pages)) }
     ensures value { result ≡ least_quantum_of needs.now pages }
-    ensures within { IfSome result (λ quantum. (353 ≤ quantum) × (quantum ≤ 1000000)) }
+    ensures within { IfSome result (λ quantum. (quantum_overhead < quantum) × (quantum ≤ 1000000)) }
 {
     least_by_division(pages, needs)
 }
@@ -106,9 +107,9 @@ pub fn needs_of(counts: &[ClassParts], live: u32, references: u32) -> Needs
 {
     Needs {
         live,
-        marked: live + references,
+        marking_units: live + references,
         asked: parts_counted(counts) as u32,
         opened: pages_opened(counts) as u32,
-        page: page_units_counted(counts),
+        page_units: page_units_counted(counts),
     }
 }

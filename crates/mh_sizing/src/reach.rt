@@ -4,7 +4,8 @@ ghost use Rattle.std.specs.Prelude.{◌≡◌, ℕ, ◌<◌, ◌≤◌, [], Some
 ghost use Rattle.std.specs.List.{fold};
 ghost use Rattle.mh_heap.specs.PlainHeap.{world_of};
 ghost use Rattle.mh_model.specs.World.{births, object_at, IsClosed};
-ghost use Rattle.mh_sizing.specs.Births.{with_name};
+ghost use Rattle.mh_model.specs.Limits.{root_slots};
+ghost use Rattle.mh_sizing.specs.Births.{with_birth_named};
 ghost use Rattle.mh_sizing.specs.Reached.{AllReached, NamesBelow};
 
 use crate::births::BirthSet;
@@ -15,7 +16,7 @@ use mh_model::limits::ROOT_SLOTS;
 /// Inserts what a slot or a reference names.
 fn insert_named(set: &mut BirthSet, name: Option<Birth>)
     requires { (birth : ℕ) → name ≡ Some birth → birth < set.old.room }
-    ensures { set.new ≡ record { births = with_name set.old.births name; room = set.old.room } }
+    ensures { set.new ≡ record { births = with_birth_named set.old.births name; room = set.old.room } }
 {
     if let Some(birth) = name {
         set.insert(birth);
@@ -25,7 +26,7 @@ fn insert_named(set: &mut BirthSet, name: Option<Birth>)
 /// Inserts what these references name.
 fn insert_all(set: &mut BirthSet, names: &[Option<Birth>])
     requires { NamesBelow set.old.room names.now }
-    ensures { set.new ≡ record { births = fold with_name set.old.births names.now; room = set.old.room } }
+    ensures { set.new ≡ record { births = fold with_birth_named set.old.births names.now; room = set.old.room } }
 {
     for name in names {
         insert_named(set, *name);
@@ -35,8 +36,8 @@ fn insert_all(set: &mut BirthSet, names: &[Option<Birth>])
 /// Inserts what the slots name, also those of the board.
 fn insert_roots(set: &mut BirthSet, heap: &PlainHeap)
     requires room { births (world_of heap.now) ≤ set.old.room }
-    requires slots { length (world_of heap.now).slots ≡ 144 }
-    ensures { set.new ≡ record { births = fold with_name set.old.births (world_of heap.now).slots; room = set.old.room } }
+    requires slots { length (world_of heap.now).slots ≡ root_slots }
+    ensures { set.new ≡ record { births = fold with_birth_named set.old.births (world_of heap.now).slots; room = set.old.room } }
 {
     for slot in 0..ROOT_SLOTS {
         insert_named(set, heap.name_in(slot));
@@ -46,7 +47,7 @@ fn insert_roots(set: &mut BirthSet, heap: &PlainHeap)
 /// Finds what a heap's world reaches.
 pub(crate) fn find_reached(set: &mut BirthSet, heap: &PlainHeap)
     requires room { births (world_of heap.now) ≤ set.old.room }
-    requires slots { length (world_of heap.now).slots ≡ 144 }
+    requires slots { length (world_of heap.now).slots ≡ root_slots }
     ensures found { AllReached (world_of heap.now) set.new.births }
     ensures room { set.new.room ≡ set.old.room }
 {

@@ -1,9 +1,10 @@
 //! The pages that are enough for what sessions need where small parts share pages, and the least quantum for them. They
 //! are as few as the sharp law asks for, by the classes that occur. The trigger is that of `needs`, and the least
 //! quantum is as there.
-ghost use Rattle.std.specs.Prelude.{◌≡◌, ℕ, ◌≤◌, ◌↔◌, IfSome, MatchOption};
+ghost use Rattle.std.specs.Prelude.{◌≡◌, ℕ, ◌≤◌, ◌↔◌, ◌<◌, IfSome, MatchOption};
 ghost use Rattle.mh_sizing.specs.Choices.{HasNone, IsLeastQuantum};
 ghost use Rattle.mh_sizing.specs.Shared.{enough_shared_pages, least_quantum_shared_of, HasEnoughShared};
+ghost use Rattle.mh_model.specs.Limits.{quantum_overhead};
 
 use crate::cycles::units_needed;
 use crate::kinds::Kinds;
@@ -16,7 +17,7 @@ pub fn enough_shared_pages(needs: &Needs, kinds: &Kinds, quanta: u64) -> u128
     ensures { result ≡ enough_shared_pages needs.now kinds.now quanta }
 {
     let opened = u128::from(needs.opened);
-    let live = u128::from(needs.live) + u128::from(needs.live / kinds.least);
+    let live = u128::from(needs.live) + u128::from(needs.live / kinds.fewest_slots);
     let quanta = u128::from(quanta);
     live + 4 * (quanta * opened) + u128::from(kinds.kinds) + quanta - (3 * opened + 1)
 }
@@ -26,7 +27,7 @@ fn quanta_in_shared(pages: u32, needs: &Needs, kinds: &Kinds) -> u64
     ensures { (quanta : ℕ) → 1 ≤ quanta → (enough_shared_pages needs.now kinds.now quanta ≤ pages) ↔ (quanta ≤ result) }
 {
     let opened = u64::from(needs.opened);
-    let live = u64::from(needs.live) + u64::from(needs.live / kinds.least);
+    let live = u64::from(needs.live) + u64::from(needs.live / kinds.fewest_slots);
     let room = u64::from(pages) + 3 * opened + 1;
     match room.checked_sub(live + u64::from(kinds.kinds)) {
         Some(rest) => rest / (4 * opened + 1),
@@ -40,7 +41,7 @@ pub fn least_quantum_shared(pages: u32, needs: &Needs, kinds: &Kinds) -> Option<
     requires few { pages ≤ 4096 }
     ensures least { MatchOption result (HasNone (HasEnoughShared needs.now kinds.now pages)) (IsLeastQuantum (HasEnoughShared needs.now kinds.now pages)) }
     ensures value { result ≡ least_quantum_shared_of needs.now kinds.now pages }
-    ensures within { IfSome result (λ quantum. (353 ≤ quantum) × (quantum ≤ 1000000)) }
+    ensures within { IfSome result (λ quantum. (quantum_overhead < quantum) × (quantum ≤ 1000000)) }
 {
     let units = units_needed(pages, needs);
     least_quantum_for(units, quanta_in_shared(pages, needs, kinds))

@@ -8,6 +8,7 @@
 ghost use Rattle.std.specs.Prelude.{◌≡◌, ◌≤◌, ◌↔◌, IfSome, IsTrue, MatchOption};
 ghost use Rattle.mh_sizing.specs.Choices.{HasNone, IsGreatestQuantum, IsLeastEvery};
 ghost use Rattle.mh_sizing.specs.Targets.{IsMetBy, Meets, MeetsAfter, MeetsWith};
+ghost use Rattle.mh_model.specs.Limits.{least_quantum};
 
 use mh_model::limits::{LEAST_QUANTUM, MOST_EVERY, MOST_QUANTUM};
 use mh_orders::target_options::Target;
@@ -16,7 +17,7 @@ use mh_report::floor::floor;
 /// A quantum of at most so many units after so many of the mutator leaves it the share.
 fn is_met(target: &Target, every: u32, quantum: u32) -> bool
     requires every { every ≤ 1000000 }
-    requires least { 209 ≤ quantum }
+    requires least { least_quantum ≤ quantum }
     requires most { quantum ≤ 1000000 }
     ensures { IsTrue result ↔ IsMetBy target.now every quantum }
 {
@@ -30,7 +31,7 @@ pub fn greatest_quantum_for(target: &Target, every: u32) -> Option<u32>
     requires some { 1 ≤ every }
     requires few { every ≤ 1000000 }
     ensures greatest { MatchOption result (HasNone (MeetsAfter target.now every)) (IsGreatestQuantum (MeetsAfter target.now every)) }
-    ensures within { IfSome result (λ quantum. (209 ≤ quantum) × (quantum ≤ 1000000)) }
+    ensures within { IfSome result (λ quantum. (least_quantum ≤ quantum) × (quantum ≤ 1000000)) }
 {
     if !is_met(target, every, LEAST_QUANTUM) {
         return None;
@@ -52,14 +53,14 @@ pub fn greatest_quantum_for(target: &Target, every: u32) -> Option<u32>
 #[tactic(auto, using(crate::proofs::QuantumLemmas::greatest_of_any))]
 pub fn greatest_quantum(target: &Target) -> Option<u32>
     ensures greatest { MatchOption result (HasNone (Meets target.now)) (IsGreatestQuantum (Meets target.now)) }
-    ensures within { IfSome result (λ quantum. (209 ≤ quantum) × (quantum ≤ 1000000)) }
+    ensures within { IfSome result (λ quantum. (least_quantum ≤ quantum) × (quantum ≤ 1000000)) }
 {
     greatest_quantum_for(target, MOST_EVERY)
 }
 
 /// The least number of units of the mutator after which a quantum may be run that leaves it the share.
 pub fn least_every_for(target: &Target, quantum: u32) -> Option<u32>
-    requires least { 209 ≤ quantum }
+    requires least { least_quantum ≤ quantum }
     requires most { quantum ≤ 1000000 }
     ensures { MatchOption result (HasNone (MeetsWith target.now quantum)) (IsLeastEvery (MeetsWith target.now quantum)) }
 {

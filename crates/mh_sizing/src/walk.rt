@@ -145,31 +145,19 @@ impl Walk {
         let opened = in_32_bits(self.asked.pages())?;
         Some(Needs {
             live,
-            marked,
+            marking_units: marked,
             asked,
             opened,
-            page: self.asked.page_units(),
+            page_units: self.asked.page_units(),
         })
     }
 
     /// The classes of all parts that the events so far ask for.
     pub fn kinds(&self) -> Kinds
         ensures kinds { (config : Config) (events : List Event) → HasWalked self.now config events → result.kinds ≡ length (occurring (all_asked config events)) }
-        ensures least { (config : Config) (events : List Event) → HasWalked self.now config events → result.least ≡ fewest_slots (all_asked config events) }
-        ensures asked { (config : Config) (events : List Event) → HasWalked self.now config events → AskOfClasses result.least result.kinds config events }
+        ensures least { (config : Config) (events : List Event) → HasWalked self.now config events → result.fewest_slots ≡ fewest_slots (all_asked config events) }
+        ensures asked { (config : Config) (events : List Event) → HasWalked self.now config events → AskOfClasses result.fewest_slots result.kinds config events }
     {
         self.asked.kinds()
     }
-}
-
-/// What the sessions of a run need.
-pub fn needs_of(alloc: Global, config: Config, events: &[Event]) -> Result<Option<Needs>, NoMemory>
-    ensures needs { IfOk result (λ needs. IfSome needs (λ needs. AreTheNeeds needs config events.now)) }
-    ensures none { IfOk result (λ needs. IsNone needs → (needs : Needs) → NeedNoMore needs config events.now → IsTooLarge needs) }
-{
-    let mut walk = Walk::open(alloc, config);
-    for event in events {
-        walk.event(event)?;
-    }
-    Ok(walk.needs())
 }

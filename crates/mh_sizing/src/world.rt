@@ -7,7 +7,7 @@ ghost use Rattle.mh_model.specs.declared.birth.TheConstants.{LIFE};
 ghost use Rattle.mh_model.specs.CycleUnits.{object_units};
 ghost use Rattle.mh_model.specs.LiveParts.{object_parts};
 ghost use Rattle.mh_model.specs.World.{World, births, first_world, shape_of, IsNew};
-ghost use Rattle.mh_sizing.specs.Bounded.{IsBounded, HasRoomFor};
+ghost use Rattle.mh_sizing.specs.Bounded.{ReachesWithinBounds, HasRoomToMake};
 ghost use Rattle.mh_sizing.specs.Objects.{IsWellSized};
 ghost use Rattle.mh_sizing.specs.Reached.{HasAtMost};
 ghost use Rattle.mh_sizing.specs.Steps.{made};
@@ -107,7 +107,7 @@ fn made_shape(command: &Command, reply: &Reply) -> Option<Shape>
 pub(crate) struct RunWorld {
     heap: PlainHeap,
     reach: Reach,
-    ghost bounded: { IsBounded (world_of heap) reach },
+    ghost bounded: { ReachesWithinBounds (world_of heap) reach },
 }
 
 impl RunWorld {
@@ -146,7 +146,7 @@ impl RunWorld {
     fn make_room(&mut self, command: &Command) -> Result<(), NoMemory>
         ensures world { world_in self.new ≡ world_in self.old }
         ensures most { (worlds : List World) → HasMost self.old worlds → HasMost self.new worlds }
-        ensures room { OnOk result (HasRoomFor (world_in self.new) self.new.reach command.now) }
+        ensures room { OnOk result (HasRoomToMake (world_in self.new) self.new.reach command.now) }
         ensures memory { OnErr result (IsNew command.now) }
     {
         let Command::New { .. } = *command else {

@@ -1,5 +1,5 @@
 -- Laws of the pages that a finished cycle leaves in use, and of those that suffice.
-use Rattle.std.specs.Prelude.{◌≡◌, ℕ, ◌+◌, ◌≤◌, true, false, List}
+use Rattle.std.specs.Prelude.{◌≡◌, ℕ, ◌+◌, ◌≤◌, ◌<◌, true, false, List}
 use Rattle.std.specs.List.{flat_map}
 use Rattle.mh_model.specs.declared.command.Event.{Event}
 use Rattle.mh_model.specs.declared.config.Config.{Config}
@@ -10,6 +10,7 @@ use Rattle.mh_model.specs.Openings.{asked_parts, free_of}
 use Rattle.mh_model.specs.Intervals.{has_ended, CyclesTakeAtMost, HasRoomFor, IsNeverFull}
 use Rattle.mh_model.specs.CycleUnits.{CyclesMarkAtMost, CyclesReachAtMost, quanta_for}
 use Rattle.mh_model.specs.LiveParts.{HasAtMostLive, parts_since, count_blocks, is_plain, HasPagesFor}
+use Rattle.mh_model.specs.Limits.{quantum_overhead}
 
 -- At every moment of a run, half moments included, but not in a sweep: no more pages are in use than there are blocks that are no forwarders
 pub record PagesInUseHaveBlocks : Type 0 where
@@ -50,7 +51,7 @@ PagesForTheBoundSuffice = (config : Config) (events : List Event) (opened asked 
 abbrev pub PagesForMarkingSuffice : Type 0
 PagesForMarkingSuffice = (config : Config) (events : List Event) (marked opened asked most : ℕ) →
     let quanta = quanta_for config marked (flat_map (asked_parts config) events) in
-    353 ≤ config.quantum → CyclesMarkAtMost marked config events → HasPagesFor config events quanta opened asked most → CyclesTakeAtMost quanta config events × NeverFills config events quanta opened
+    quantum_overhead < config.quantum → CyclesMarkAtMost marked config events → HasPagesFor config events quanta opened asked most → CyclesTakeAtMost quanta config events × NeverFills config events quanta opened
 
 -- Let marking the objects that the snapshot of each cycle reaches, each counted once, cost at most M. Let quanta have at least 353 units. Let a run
 -- have at most L live parts at each moment. Let its intervals ask for q parts and open g pages at most. Let N be
@@ -60,4 +61,4 @@ PagesForMarkingSuffice = (config : Config) (events : List Event) (marked opened 
 abbrev pub PagesForReachedSuffice : Type 0
 PagesForReachedSuffice = (config : Config) (events : List Event) (marked opened asked most : ℕ) →
     let quanta = quanta_for config marked (flat_map (asked_parts config) events) in
-    353 ≤ config.quantum → CyclesReachAtMost marked config events → HasPagesFor config events quanta opened asked most → CyclesTakeAtMost quanta config events × NeverFills config events quanta opened
+    quantum_overhead < config.quantum → CyclesReachAtMost marked config events → HasPagesFor config events quanta opened asked most → CyclesTakeAtMost quanta config events × NeverFills config events quanta opened

@@ -1,5 +1,5 @@
 -- Laws of the pages that suffice, where small parts share pages.
-use Rattle.std.specs.Prelude.{ℕ, ◌+◌, ◌*◌, ◌/◌, ◌≤◌, min, length, filter, flat_map, List, [], ◌∷◌}
+use Rattle.std.specs.Prelude.{ℕ, ◌+◌, ◌*◌, ◌/◌, ◌≤◌, min, length, filter, flat_map, List, [], ◌∷◌, ◌<◌}
 use Rattle.std.specs.List.{AllByRecursion}
 use Rattle.mh_model.specs.declared.command.Event.{Event}
 use Rattle.mh_model.specs.declared.config.Config.{Config}
@@ -11,6 +11,7 @@ use Rattle.mh_model.specs.Openings.{asked_parts, opens_at_most}
 use Rattle.mh_model.specs.Intervals.{intervals, CyclesTakeAtMost}
 use Rattle.mh_model.specs.CycleUnits.{occurs, CyclesMarkAtMost, CyclesReachAtMost, quanta_for}
 use Rattle.mh_model.specs.LiveParts.{HasAtMostLive, worlds}
+use Rattle.mh_model.specs.Limits.{quantum_overhead}
 use Rattle.mh_sizing_laws.specs.PagesLeft.{NeverFills}
 
 -- the classes that occur among these parts
@@ -60,7 +61,7 @@ SharpPagesForTheBoundSuffice = (config : Config) (events : List Event) (opened m
 abbrev pub SharpPagesForMarkingSuffice : Type 0
 SharpPagesForMarkingSuffice = (config : Config) (events : List Event) (marked opened most : ℕ) →
     let quanta = quanta_for config marked (all_asked config events) in
-    353 ≤ config.quantum → CyclesMarkAtMost marked config events → HasSharpPagesFor config events quanta opened most → CyclesTakeAtMost quanta config events × NeverFills config events quanta opened
+    quantum_overhead < config.quantum → CyclesMarkAtMost marked config events → HasSharpPagesFor config events quanta opened most → CyclesTakeAtMost quanta config events × NeverFills config events quanta opened
 
 -- Let marking the objects that the snapshot of each cycle reaches, each counted once, cost at most M. Let quanta have at least 353 units. Let a run
 -- have at most L live parts at each moment. Let its intervals open g pages at most. Let its parts be of k classes, whose pages have s slots at least.
@@ -70,4 +71,4 @@ SharpPagesForMarkingSuffice = (config : Config) (events : List Event) (marked op
 abbrev pub SharpPagesForReachedSuffice : Type 0
 SharpPagesForReachedSuffice = (config : Config) (events : List Event) (marked opened most : ℕ) →
     let quanta = quanta_for config marked (all_asked config events) in
-    353 ≤ config.quantum → CyclesReachAtMost marked config events → HasSharpPagesFor config events quanta opened most → CyclesTakeAtMost quanta config events × NeverFills config events quanta opened
+    quantum_overhead < config.quantum → CyclesReachAtMost marked config events → HasSharpPagesFor config events quanta opened most → CyclesTakeAtMost quanta config events × NeverFills config events quanta opened

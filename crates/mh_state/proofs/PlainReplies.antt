@@ -12,9 +12,9 @@ use Rattle.mh_model.specs.World.{own_slot, names_same, yes_or_no, shape_reply, s
 use Rattle.mh_model.specs.Mutator.{HeapState, root_at, shape_at, heap_sight, heap_effect, mutator_step}
 use Rattle.mh_model.specs.Machine.{Machine, quantum_run, control_step, event_step}
 use Rattle.mh_promise.proofs.AnsweredEvents.{session-reply}
-use Rattle.mh_state.specs.Copies.{IsPlain}
+use Rattle.mh_state.specs.Copies.{IsNoDump}
 
-effect-plain : (heap : HeapState) (who : _) (command : Command) → IsPlain (heap_effect heap who command).reply
+effect-plain : (heap : HeapState) (who : _) (command : Command) → IsNoDump (heap_effect heap who command).reply
 unfolding heap_effect
 effect-plain heap who (command.New slot references numbers) = tt
 effect-plain heap who (command.Get slot source field) = tt
@@ -25,37 +25,37 @@ effect-plain heap who (command.Read slot index) = tt
 effect-plain heap who (command.Write slot index number) = tt
 effect-plain heap who (command.Same left right) = go (names_same (root_at heap (own_slot who left)) (root_at heap (own_slot who right)))
   where
-    go : (same : Bool) → IsPlain (yes_or_no same)
+    go : (same : Bool) → IsNoDump (yes_or_no same)
     go true = tt
     go false = tt
 effect-plain heap who (command.Shape slot) = go (shape_at heap (own_slot who slot))
   where
-    go : (shape : Option Shape) → IsPlain (shape_reply shape)
+    go : (shape : Option Shape) → IsNoDump (shape_reply shape)
     go None = tt
     go (Some shape) = tt
 effect-plain heap who (command.Post board slot) = tt
 effect-plain heap who (command.Take slot board) = tt
 effect-plain heap who command.End = tt
 
-mutator-plain : (heap : HeapState) (who : _) (command : Command) → IsPlain (mutator_step heap who command).reply
+mutator-plain : (heap : HeapState) (who : _) (command : Command) → IsNoDump (mutator_step heap who command).reply
 unfolding mutator_step
 mutator-plain heap who command = go (refusal (heap_sight heap) who command)
   where
-    go : (refused : Option Refusal) → IsPlain (unless_refused refused heap (heap_effect heap who command)).reply
+    go : (refused : Option Refusal) → IsNoDump (unless_refused refused heap (heap_effect heap who command)).reply
     go None = effect-plain heap who command
     go (Some refused) = tt
 
 -- a command of a session is answered none
-pub session-plain : (machine : Machine) (who : _) (command : Command) → IsPlain (event_step machine (event.Session who command)).reply
-session-plain machine who command = subst IsPlain (sym (session-reply machine who command)) (mutator-plain machine.heap who command)
+pub session-plain : (machine : Machine) (who : _) (command : Command) → IsNoDump (event_step machine (event.Session who command)).reply
+session-plain machine who command = subst IsNoDump (sym (session-reply machine who command)) (mutator-plain machine.heap who command)
 
-quantum-plain : (machine : Machine) (test : Bool) → IsPlain (if test then quantum_run machine else says (reply.Spent 0 machine.heap.collector.phase) machine).reply
+quantum-plain : (machine : Machine) (test : Bool) → IsNoDump (if test then quantum_run machine else says (reply.Spent 0 machine.heap.collector.phase) machine).reply
 unfolding quantum_run
 quantum-plain machine true = tt
 quantum-plain machine false = tt
 
 -- nor is another control
-pub control-plain : (machine : Machine) (asked : Control) → ¬ (asked ≡ control.Dump) → IsPlain (event_step machine (event.Control asked)).reply
+pub control-plain : (machine : Machine) (asked : Control) → ¬ (asked ≡ control.Dump) → IsNoDump (event_step machine (event.Control asked)).reply
 unfolding event_step control_step
 control-plain machine control.Quantum other = quantum-plain machine (machine.heap.config.every == 0)
 control-plain machine control.Start other = tt

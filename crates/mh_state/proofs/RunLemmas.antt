@@ -8,9 +8,9 @@ use Rattle.mh_model.specs.declared.reply.Reply.{Reply}
 use Rattle.mh_model.specs.Limits.{most_entries}
 use Rattle.mh_promise.specs.Runs.{AreAnsweredSoFar}
 use Rattle.mh_promise.specs.Replays.{EventsKeepTheReplay, IsReplay}
-use Rattle.mh_state.specs.Running.{Running, first_running}
-use Rattle.mh_state.specs.declared.machine.Stop.{Stop}
-use Rattle.mh_state.specs.declared.machine.Stop.TheVariants.{HistoryFull}
+use Rattle.mh_machine.specs.Running.{Running, first_running}
+use Rattle.mh_machine.specs.declared.machine.Stop.{Stop}
+use Rattle.mh_machine.specs.declared.machine.Stop.TheVariants.{HistoryFull}
 use Rattle.mh_state.specs.Whole.{GoesOn, HasDone, IsStopped}
 
 module _ (law : EventsKeepTheReplay) (config : Config) (events : List Event) where

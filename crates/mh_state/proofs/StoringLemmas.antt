@@ -10,7 +10,7 @@ use Rattle.mh_model.specs.Limits.{most_entries}
 use Rattle.mh_model.specs.Machine.{Machine, first_machine}
 use Rattle.mh_promise.proofs.OfLaws.CyclesInTime.{run-stays}
 use Rattle.mh_promise.specs.Replays.{EventsKeepTheReplay, IsReplay}
-use Rattle.mh_state.specs.Running.{Running, Does}
+use Rattle.mh_machine.specs.Running.{Running, Does}
 use Rattle.mh_state.specs.Storing.{IsStored, with_entry, IsTheReplay, KeepsItsPromise}
 
 -- the machine of a replay has its configuration

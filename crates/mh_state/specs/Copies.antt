@@ -5,11 +5,11 @@ use Rattle.mh_model.specs.declared.reply.Reply.{Reply}
 use Rattle.mh_model.specs.declared.reply.Reply.TheVariants as reply
 
 -- a reply that is no dump
-abbrev pub IsPlain : Reply → Type 0
-IsPlain (reply.Dump items) = ⊥
-IsPlain _ = Unit {0}
+abbrev pub IsNoDump : Reply → Type 0
+IsNoDump (reply.Dump items) = ⊥
+IsNoDump _ = Unit {0}
 
 -- the dump that a reply is, if it is one
 abbrev pub IsDumpOf : Reply → Option (List DumpItem) → Type 0
-IsDumpOf given None = IsPlain given
+IsDumpOf given None = IsNoDump given
 IsDumpOf given (Some items) = given ≡ reply.Dump items

@@ -9,7 +9,7 @@ use Rattle.mh_model.specs.Machine.{Machine, first_machine}
 use Rattle.mh_promise.specs.Replays.{IsReplay}
 use Rattle.mh_promise.specs.Runs.{outcome_of, IsTheMachines}
 use Rattle.mh_promise.specs.Promise.{IsPromised}
-use Rattle.mh_state.specs.Running.{Running, MayAskForMemory}
+use Rattle.mh_machine.specs.Running.{Running, MayAskForMemory}
 
 -- The machine, and each event that it did with its reply, in order; how many segments the trace and how many entries the history have room for without asking for memory
 pub record Stored : Type 0 where

@@ -6,14 +6,14 @@ use Rattle.mh_model.specs.declared.reply.Reply.{Reply}
 use Rattle.mh_model.specs.Limits.{most_entries}
 use Rattle.mh_promise.specs.Replays.{IsReplay}
 use Rattle.mh_promise.specs.Runs as promised
-use Rattle.mh_state.specs.declared.machine.Stop.{Stop}
-use Rattle.mh_state.specs.declared.machine.Stop.TheVariants.{HistoryFull}
+use Rattle.mh_machine.specs.declared.machine.Stop.{Stop}
+use Rattle.mh_machine.specs.declared.machine.Stop.TheVariants.{HistoryFull}
 use Rattle.mh_state.specs.declared.run.Outcome.{Outcome}
-use Rattle.mh_state.specs.Running.{Running, Does}
+use Rattle.mh_machine.specs.Running.{Running, Does}
 
 -- what a run gives back, as what is promised of it
-abbrev pub shown : Outcome → promised.Outcome
-shown outcome = record { replies = outcome.replies.items; heap = outcome.heap.kept; free = outcome.free; trace = outcome.trace.trace }
+abbrev pub shown_outcome : Outcome → promised.Outcome
+shown_outcome outcome = record { replies = outcome.replies.items; heap = outcome.heap.kept; free = outcome.free; trace = outcome.trace.trace }
 
 -- an event was done, and its reply comes after the others
 pub record GoesOn (old : Running) (before : List Reply) (event : Event) (new : Running) (after : List Reply) : Type 0 where

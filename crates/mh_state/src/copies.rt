@@ -9,9 +9,9 @@ ghost use Rattle.std.specs.Prelude.{◌≡◌, IfOk, OnErr};
 ghost use Rattle.mh_model.specs.declared.command.Control.TheVariants as controls;
 ghost use Rattle.mh_model.specs.declared.command.Event.TheVariants as events;
 ghost use Rattle.mh_model.specs.Machine.{event_step};
-ghost use Rattle.mh_state.specs.Copies.{IsPlain, IsDumpOf};
+ghost use Rattle.mh_state.specs.Copies.{IsNoDump, IsDumpOf};
 
-use crate::machine::Machine;
+use mh_machine::machine::Machine;
 use mh_model::command::{Control, Event};
 use mh_model::dump::Dump;
 use mh_model::memory::NoMemory;
@@ -99,7 +99,7 @@ pub(crate) fn dumps_for(
 
 /// An equal reply, which takes no memory.
 fn plain_copy(reply: &Reply) -> Reply
-    requires { IsPlain reply.now }
+    requires { IsNoDump reply.now }
     ensures { result ≡ reply.now }
 {
     match reply {

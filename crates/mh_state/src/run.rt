@@ -12,20 +12,20 @@ ghost use Rattle.mh_model.specs.Limits.{most_entries};
 ghost use Rattle.mh_promise.specs.Runs.{IsTheMachines, AreAnsweredSoFar};
 ghost use Rattle.mh_promise.specs.Replays.{IsReplay};
 ghost use Rattle.mh_promise.specs.Promise.{IsPromised, IsPromisedSoFar};
-ghost use Rattle.mh_state.specs.Whole.{shown, GoesOn, HasDone, IsStopped};
-ghost use Rattle.mh_state.specs.declared.machine.Stop.{Stop};
+ghost use Rattle.mh_state.specs.Whole.{shown_outcome, GoesOn, HasDone, IsStopped};
+ghost use Rattle.mh_machine.specs.declared.machine.Stop.{Stop};
 
-use crate::machine::{Machine, Stop};
+use mh_machine::machine::{Machine, Stop};
+use mh_machine::mh_paged::mh_scan::crew_scan::{CrewGate, CrewScan};
+use mh_machine::mh_paged::mh_scan::scan::Scanner;
+use mh_machine::mh_paged::paged::PagedHeap;
+use mh_machine::mh_report::trace::Trace;
 use mh_model::command::Event;
 use mh_model::config::Config;
 use mh_model::memory::NoMemory;
 use mh_model::reply::Reply;
-use mh_paged::mh_scan::crew_scan::{CrewGate, CrewScan};
-use mh_paged::mh_scan::scan::Scanner;
-use mh_paged::paged::PagedHeap;
 use mh_promise::promise::{runs_keep_their_promise, stopped_runs_keep_their_promise};
 use mh_promise::replays::events_keep_the_replay;
-use mh_report::trace::Trace;
 use std::alloc::Global;
 use std::thread::Threads;
 use thiserror::Error;
@@ -129,8 +129,8 @@ pub fn run<R: Threads, G: CrewGate>(
     gate: &G,
 ) -> Result<Outcome, RunFault>
     requires { (0 < workers) × (workers ≤ 64) }
-    ensures machine { IfOk result (λ outcome. IsTheMachines config events.now (shown outcome)) }
-    ensures promise { IfOk result (λ outcome. IsPromised config events.now (shown outcome)) }
+    ensures machine { IfOk result (λ outcome. IsTheMachines config events.now (shown_outcome outcome)) }
+    ensures promise { IfOk result (λ outcome. IsPromised config events.now (shown_outcome outcome)) }
     ensures so_far { IfErr result (λ fault. IsPromisedSoFar config events.now fault.replies.items) }
     ensures full { IfErr result (λ fault. fault.stop ≡ Stop.HistoryFull → vec_len fault.replies ≡ most_entries) }
     ensures more { IfErr result (λ fault. fault.stop ≡ Stop.HistoryFull → most_entries < length events.now) }

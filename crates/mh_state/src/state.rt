@@ -17,20 +17,20 @@ ghost use Rattle.mh_model.specs.World.{says};
 ghost use Rattle.mh_model.specs.Machine.{event_step};
 ghost use Rattle.mh_state.specs.Copies.{IsDumpOf};
 ghost use Rattle.mh_state.specs.Storing.{first_stored, KeepsState, MayWantMemory, with_entry, IsTheReplay, KeepsItsPromise};
-ghost use Rattle.mh_state.specs.declared.machine.Stop.{Stop};
+ghost use Rattle.mh_machine.specs.declared.machine.Stop.{Stop};
 
 use crate::copies::{Dumps, Twice, copies_of, dumps_for};
-use crate::machine::{Machine, Stop};
+use mh_machine::machine::{Machine, Stop};
+use mh_machine::mh_paged::mh_scan::scan::Scanner;
+use mh_machine::mh_paged::paged::PagedHeap;
+use mh_machine::mh_report::trace::Trace;
 use mh_model::command::Event;
 use mh_model::config::Config;
 use mh_model::history::Entry;
 use mh_model::limits::MOST_EVENTS;
 use mh_model::memory::NoMemory;
 use mh_model::reply::Reply;
-use mh_paged::mh_scan::scan::Scanner;
-use mh_paged::paged::PagedHeap;
 use mh_promise::replays::events_keep_the_replay;
-use mh_report::trace::Trace;
 use std::alloc::Global;
 use std::marker::Model;
 

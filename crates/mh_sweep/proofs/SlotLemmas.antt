@@ -13,7 +13,7 @@ use Rattle.mh_table_laws.proofs.placing.Places.{block_at-with_block_other, with_
 use Rattle.mh_blocks.specs.OfBits.Bits.{has_bit}
 use Rattle.mh_blocks.proofs.OfBits.BitLemmas.{IsLowest, lowest_bit, has_bit-zero, has_bit-clear_same, has_bit-clear_other}
 use Rattle.mh_blocks.specs.Marks.{is_dead}
-use Rattle.mh_sweep.specs.Swept.{slot_swept, slots_swept, is_between}
+use Rattle.mh_sweep.specs.Swept.{slot_swept, slots_swept, is_slot_between}
 
 -- Blocks that are freed and blocks that stay ----------------------------------------------------------
 
@@ -97,7 +97,7 @@ pub record IsFreeingOn (cycle : ℕ) (table : Table Block) (place count : ℕ) (
   pub dead : (k : ℕ) → done ≤ k → k < count → has_bit left (slot_number place + k) ≡ is_dead cycle (block_at table (place + k))
 
 pub freeing-starts : (cycle : ℕ) (table : Table Block) (place count left : ℕ) → slot_number place + count ≤ 64
-    → ((slot : ℕ) → slot < 64 → has_bit left slot ≡ (is_between (slot_number place) (slot_number place + count) slot && is_dead cycle (block_at table (64 * page_number place + slot))))
+    → ((slot : ℕ) → slot < 64 → has_bit left slot ≡ (is_slot_between (slot_number place) (slot_number place + count) slot && is_dead cycle (block_at table (64 * page_number place + slot))))
     → IsFreeingOn cycle table place count table left
 freeing-starts cycle table place count left few word = record {
   done = 0;
@@ -109,10 +109,10 @@ freeing-starts cycle table place count left few word = record {
       word (slot_number place + k) (omega arith) ∙ ap (λ b. b && is_dead cycle (block_at table (64 * page_number place + (slot_number place + k)))) (inside k below) ∙ ap (λ p. is_dead cycle (block_at table p)) at;
 }
   where
-    inside : (k : ℕ) → k < count → is_between (slot_number place) (slot_number place + count) (slot_number place + k) ≡ true
+    inside : (k : ℕ) → k < count → is_slot_between (slot_number place) (slot_number place + count) (slot_number place + k) ≡ true
     inside k below = rw (le-leb (slot_number place) (slot_number place + k) (omega arith), lt-ltb (slot_number place + k) (slot_number place + count) (omega arith)) refl
 
-    between : (slot : ℕ) → (is_between (slot_number place) (slot_number place + count) slot && is_dead cycle (block_at table (64 * page_number place + slot))) ≡ true → (slot_number place + 0 ≤ slot) × (slot < slot_number place + count)
+    between : (slot : ℕ) → (is_slot_between (slot_number place) (slot_number place + count) slot && is_dead cycle (block_at table (64 * page_number place + slot))) ≡ true → (slot_number place + 0 ≤ slot) × (slot < slot_number place + count)
     between slot is = elim (cases_lt slot (slot_number place)) [
       | inl before ↦ absurd (false≢true (sym (ap (λ b. (b && nat_lt slot (slot_number place + count)) && is_dead cycle (block_at table (64 * page_number place + slot))) (lt-leb (slot_number place) slot before)) ∙ is))
       | inr from ↦ elim (cases_lt slot (slot_number place + count)) [
@@ -197,7 +197,7 @@ before_end end slot = elim (cases_lt slot end) [
   | inr from ↦ ap (λ n. n == 1) (bit_at_ones_above end slot from) ∙ sym (le-ltb slot end from)
 ]
 
-pub mask-between : (first end slot : ℕ) → first < end → end ≤ 64 → slot < 64 → has_bit (bit_and ((2 ^ 64 - 1) * 2 ^ first % 2 ^ 64) ((2 ^ 64 - 1) / 2 ^ (64 - end))) slot ≡ is_between first end slot
+pub mask-between : (first end slot : ℕ) → first < end → end ≤ 64 → slot < 64 → has_bit (bit_and ((2 ^ 64 - 1) * 2 ^ first % 2 ^ 64) ((2 ^ 64 - 1) / 2 ^ (64 - end))) slot ≡ is_slot_between first end slot
 mask-between first end slot order few small =
     let whole : 64 - (64 - end) ≡ end = omega arith in
     ap (λ a. has_bit (bit_and a ((2 ^ 64 - 1) / 2 ^ (64 - end))) slot) (ones_shl 64 first (omega arith))

@@ -3,7 +3,7 @@ ghost use Rattle.std.specs.Prelude.{ℕ, ◌≡◌, ◌+◌, ◌*◌, ◌<◌, �
 ghost use Rattle.mh_model.specs.Pages.{page_number, slot_number, block_at};
 ghost use Rattle.mh_blocks.specs.OfBits.Bits.{has_bit};
 ghost use Rattle.mh_blocks.specs.Marks.{is_dead};
-ghost use Rattle.mh_sweep.specs.Swept.{slots_swept, is_between};
+ghost use Rattle.mh_sweep.specs.Swept.{slots_swept, is_slot_between};
 
 use mh_blocks::blocks::Blocks;
 use mh_model::limits::PLACES;
@@ -13,7 +13,7 @@ use mh_model::place::Place;
 fn slots_between(first: usize, end: usize) -> u64
     requires order { first < end }
     requires few { end ≤ 64 }
-    ensures { (slot : ℕ) → slot < 64 → has_bit result slot ≡ is_between first end slot }
+    ensures { (slot : ℕ) → slot < 64 → has_bit result slot ≡ is_slot_between first end slot }
 {
     u64::MAX << first & u64::MAX >> (PLACES - end)
 }
@@ -23,7 +23,7 @@ fn dead_between(blocks: &Blocks, cycle: u64, page: usize, first: usize, end: usi
     requires inside { page < length blocks.now }
     requires order { first < end }
     requires few { end ≤ 64 }
-    ensures { (slot : ℕ) → slot < 64 → has_bit result slot ≡ (is_between first end slot && is_dead cycle (block_at blocks.now (64 * page + slot))) }
+    ensures { (slot : ℕ) → slot < 64 → has_bit result slot ≡ (is_slot_between first end slot && is_dead cycle (block_at blocks.now (64 * page + slot))) }
 {
     blocks.dead_slots(page, cycle) & slots_between(first, end)
 }

@@ -18,7 +18,7 @@ ghost use Rattle.mh_model.specs.Output as model;
 ghost use Rattle.mh_orders.specs.Steps.{is_asked};
 ghost use Rattle.mh_script.specs.Run.{EndsAs, HasReason, Outputs, TakesToRun, WritesBeginning, transcript};
 ghost use Rattle.mh_script.specs.Texts.{LeavesSource, Blames, WantsMemory};
-ghost use Rattle.mh_script.specs.OfState.Running.{Does};
+ghost use Rattle.mh_script.specs.OfMachine.Running.{Does};
 ghost use Rattle.mh_telling.specs.Lines.{account_text, entry_line};
 ghost use Rattle.mh_telling.specs.Steps.{event_text, events_text, steps_text, told_text};
 ghost use Rattle.mh_text.specs.Stream.{AppendsBeginning};
@@ -35,30 +35,14 @@ use mh_model::reply::Reply;
 use mh_orders::steps::Steps;
 use mh_script::end::End;
 use mh_script::fault::{ScriptFault, WriteError};
+use mh_script::mh_machine::machine::Machine;
 use mh_script::mh_scan::scan::{OneScan, Scanner};
-use mh_script::mh_state::machine::{Machine, Stop};
 use mh_script::texts::{flush, flush_full};
 use mh_script::transcript::{Transcript, transcribe};
 use mh_text::script::SCRIPT_BYTES;
 use mh_text::sink::Sink;
 use mh_text::source::Source;
 use std::alloc::Global;
-
-/// Does an event without telling what it does.
-fn answer<C: Scanner>(
-    machine: &mut Machine,
-    event: Event,
-    scanner: &mut C,
-) -> Result<Reply, NoMemory>
-    requires { machine.old.done < most_entries }
-    ensures { IfOk result (λ reply. Does machine.old event reply machine.new) }
-{
-    match machine.step(event, scanner) {
-        Ok(reply) => Ok(reply),
-        Err(Stop::NoMemory) => Err(NoMemory),
-        Err(Stop::HistoryFull) => unreachable!(),
-    }
-}
 
 /// Does an event, and tells what it does. Memory that is refused for a deed is an error, though the event was done.
 pub fn answer_told(
@@ -70,11 +54,7 @@ pub fn answer_told(
     ensures does { IfOk result (λ reply. Does machine.old event reply machine.new) }
     ensures told { OnOk result (account_in account.new ≡ account_of machine.old.machine event) }
 {
-    let reply = match machine.step_told(event, account) {
-        Ok(reply) => reply,
-        Err(Stop::NoMemory) => return Err(NoMemory),
-        Err(Stop::HistoryFull) => unreachable!(),
-    };
+    let reply = machine.step_told_in_room(event, account)?;
     if account.is_whole() {
         Ok(reply)
     } else {
@@ -97,7 +77,7 @@ fn advance<C: Scanner>(
     if is_asked {
         answer_told(machine, event, account)
     } else {
-        answer(machine, event, scanner)
+        machine.step_in_room(event, scanner)
     }
 }
 

@@ -9,7 +9,7 @@ use Rattle.mh_model.specs.Forms.{within, u32, u64, command_rows, command_of, con
 use Rattle.mh_model.specs.declared.history.Version.{Version}
 use Rattle.mh_model.specs.declared.history.Version.TheVariants.{One, Two}
 use Rattle.mh_text.specs.Words.{few_numbers}
-use Rattle.mh_text.specs.Rows.{said, with_count, three_rows, two_rows, one_rows, no_rows, plain_rows}
+use Rattle.mh_text.specs.Rows.{said, rows_with_count, three_rows, two_rows, one_rows, no_rows, plain_rows}
 use Rattle.mh_text.proofs.WordLemmas.{few_same, none_of}
 use Rattle.mh_model.proofs.TextLemmas.{text_is}
 use Rattle.mh_text.proofs.RowLemmas.{are_distinct, are_short, formed_said, said_counted, said_long}
@@ -93,7 +93,7 @@ pub left_unknown : (version : Version) (verb : Text) → (version ≡ Two → �
 left_unknown One verb other is = rw (text_is verb (codes "left") is) refl
 left_unknown Two verb other is = absurd (other refl)
 
-report_by : (version : Version) (verb : Text) (n : ℕ) → nat_lt n u64 ≡ true → is_text verb (codes "report") ≡ true → said (with_count 1 (control_rows version)) verb (n ∷ []) ≡ Some (control.Report n)
+report_by : (version : Version) (verb : Text) (n : ℕ) → nat_lt n u64 ≡ true → is_text verb (codes "report") ≡ true → said (rows_with_count 1 (control_rows version)) verb (n ∷ []) ≡ Some (control.Report n)
 report_by One verb n below is = rw (is, below) refl
 report_by Two verb n below is = rw (is, below) refl
 

@@ -7,7 +7,7 @@ use Rattle.std.proofs.lemmas.Bool.{and_parts}
 use Rattle.mh_model.proofs.TextLemmas.{text_is}
 use Rattle.mh_model.specs.Bytes.{Text, is_text, numbers}
 use Rattle.mh_model.specs.Forms.{Form, within, form_of, formed, are_below, Row, row_form}
-use Rattle.mh_text.specs.Rows.{said, with_count}
+use Rattle.mh_text.specs.Rows.{said, rows_with_count}
 
 -- Words ------------------------------------------------------------------------------------------
 
@@ -53,10 +53,10 @@ counted_by true false r rs counted verb same none more = rw same (more none)
 counted_by false true r rs counted verb same none more = cc
 counted_by false false r rs counted verb same none more = more none
 
-counted-absent : {X : Type 0} (rows : List (Row X)) (count : ℕ) (verb : Text) → is_absent verb rows ≡ true → is_absent verb (with_count count rows) ≡ true
+counted-absent : {X : Type 0} (rows : List (Row X)) (count : ℕ) (verb : Text) → is_absent verb rows ≡ true → is_absent verb (rows_with_count count rows) ≡ true
 counted-absent [] count verb none = refl
 counted-absent (r ∷ rs) count verb none =
-    counted_by (length r.bounds == count) (is_text verb r.verb) r rs (with_count count rs) verb refl none (counted-absent rs count verb)
+    counted_by (length r.bounds == count) (is_text verb r.verb) r rs (rows_with_count count rs) verb refl none (counted-absent rs count verb)
 
 -- so many numbers are not below so many other bounds
 pub below_other : (bounds ns : List ℕ) → (length bounds ≡ length ns → ⊥) → are_below bounds ns ≡ false
@@ -66,8 +66,8 @@ below_other (bound ∷ bounds) [] other = refl
 below_other (bound ∷ bounds) (n ∷ ns) other = rw (below_other bounds ns (λ same. other (ap (λ (k : ℕ). suc k) same))) (and-false (nat_lt n bound))
 
 said_by : {X : Type 0} (fits is : Bool) (r : Row X) (rs : List (Row X)) (verb : Text) (ns : List ℕ) → (length r.bounds == length ns) ≡ fits → is_text verb r.verb ≡ is → is_absent r.verb rs ≡ true
-    → said rs verb ns ≡ said (with_count (length ns) rs) verb ns
-    → (if is then within (are_below r.bounds ns) (r.made ns) else said rs verb ns) ≡ said (if fits then r ∷ with_count (length ns) rs else with_count (length ns) rs) verb ns
+    → said rs verb ns ≡ said (rows_with_count (length ns) rs) verb ns
+    → (if is then within (are_below r.bounds ns) (r.made ns) else said rs verb ns) ≡ said (if fits then r ∷ rows_with_count (length ns) rs else rows_with_count (length ns) rs) verb ns
 said_by true true r rs verb ns count same none rest = rw same refl
 said_by true false r rs verb ns count same none rest = rw same rest
 said_by false false r rs verb ns count same none rest = rest
@@ -75,10 +75,10 @@ said_by false true r rs verb ns count same none rest =
     let word : r.verb ≡ verb = sym (text_is verb r.verb same) in
     let other : length r.bounds ≡ length ns → ⊥ = λ e. grind (arith, nat_tests) in
     let absent : is_absent verb rs ≡ true = ap (λ (v : Text). is_absent v rs) (sym word) ∙ none in
-    rw (below_other r.bounds ns other) (sym (said-absent (with_count (length ns) rs) verb ns (counted-absent rs (length ns) verb absent)))
+    rw (below_other r.bounds ns other) (sym (said-absent (rows_with_count (length ns) rs) verb ns (counted-absent rs (length ns) verb absent)))
 
 -- numbers are read by the rows with as many
-pub said_counted : {X : Type 0} (rows : List (Row X)) (verb : Text) (ns : List ℕ) → are_distinct rows ≡ true → said rows verb ns ≡ said (with_count (length ns) rows) verb ns
+pub said_counted : {X : Type 0} (rows : List (Row X)) (verb : Text) (ns : List ℕ) → are_distinct rows ≡ true → said rows verb ns ≡ said (rows_with_count (length ns) rows) verb ns
 said_counted [] verb ns distinct = refl
 said_counted (r ∷ rs) verb ns distinct =
     said_by (length r.bounds == length ns) (is_text verb r.verb) r rs verb ns refl refl (and_parts (is_absent r.verb rs) (are_distinct rs) distinct).0

@@ -12,23 +12,23 @@ said [] verb ns = None
 said (r ∷ rs) verb ns = if is_text verb r.verb then within (are_below r.bounds ns) (r.made ns) else said rs verb ns
 
 -- the rows with so many numbers
-abbrev pub with_count : {X : Type 0} → ℕ → List (Row X) → List (Row X)
-with_count count [] = []
-with_count count (r ∷ rs) = if length r.bounds == count then r ∷ with_count count rs else with_count count rs
+abbrev pub rows_with_count : {X : Type 0} → ℕ → List (Row X) → List (Row X)
+rows_with_count count [] = []
+rows_with_count count (r ∷ rs) = if length r.bounds == count then r ∷ rows_with_count count rs else rows_with_count count rs
 
 -- the commands with three, two, one and no numbers
 abbrev pub three_rows : List (Row Command)
-three_rows = with_count 3 command_rows
+three_rows = rows_with_count 3 command_rows
 
 abbrev pub two_rows : List (Row Command)
-two_rows = with_count 2 command_rows
+two_rows = rows_with_count 2 command_rows
 
 abbrev pub one_rows : List (Row Command)
-one_rows = with_count 1 command_rows
+one_rows = rows_with_count 1 command_rows
 
 abbrev pub no_rows : List (Row Command)
-no_rows = with_count 0 command_rows
+no_rows = rows_with_count 0 command_rows
 
 -- the controls with no number
 abbrev pub plain_rows : Version → List (Row Control)
-plain_rows version = with_count 0 (control_rows version)
+plain_rows version = rows_with_count 0 (control_rows version)

@@ -1,9 +1,8 @@
 use mh_model::command::{Command, Control, Event};
 use mh_model::config::Config;
-use mh_model::memory::NoMemory;
 use mh_model::needs::Needs;
+use mh_sizing::demand::{Demand, demand_of};
 use mh_sizing::kinds::Kinds;
-use mh_sizing::walk::{Walk, needs_of};
 use std::test::Fail;
 
 fn new(slot: u32, references: u32, numbers: u32) -> Command {
@@ -39,39 +38,24 @@ fn events() -> [Event; 10] {
 
 /// All five parts live, 79 units to mark. The first interval ends with the second object, so it asks for four parts, on a page
 /// for two of 6 words and one each for the others. The refused object has the class of 5 words, whose page has 51 slots and 12
-/// moves of 5 at most.
+/// moves of 5 at most. Blocks of 5, 6, 7, 15 and 64 words are asked for; a page has four of the last.
 #[test]
 fn sessions_need_what_they_reach_and_ask_for(rt: HostRuntime) -> Result<(), Fail> {
     let config = Config::new(100, 1000, 10, 4).ok_or("a configuration")?;
-    let needed = needs_of(rt.alloc(), config, &events())?;
+    let demand = demand_of(rt.alloc(), config, &events())?.ok_or("needs of 32 bits")?;
     let expected = Needs {
         live: 5,
-        marked: 79,
+        marking_units: 79,
         asked: 4,
         opened: 3,
-        page: 162,
+        page_units: 162,
     };
-    assert_eq!(rt; needed, Some(expected));
-    Ok(())
-}
-
-/// What a walk knows of the kinds of blocks after these events.
-fn kinds_after(walk: &mut Walk, events: &[Event]) -> Result<Kinds, NoMemory> {
-    for event in events {
-        walk.event(event)?;
-    }
-    Ok(walk.kinds())
-}
-
-/// Blocks of 5, 6, 7, 15 and 64 words are asked for; a page has four of the last.
-#[test]
-fn a_walk_knows_its_kinds(rt: HostRuntime) -> Result<(), Fail> {
-    let config = Config::new(100, 1000, 10, 4).ok_or("a configuration")?;
-    let kinds = {
-        let mut walk = Walk::open(rt.alloc(), config);
-        kinds_after(&mut walk, &events())
-    };
-    let Kinds { kinds, least } = kinds?;
-    assert_eq!(rt; (kinds, least), (5, 4));
+    let Demand { needs, kinds } = demand;
+    assert_eq!(rt; needs, expected);
+    let Kinds {
+        kinds,
+        fewest_slots,
+    } = kinds;
+    assert_eq!(rt; (kinds, fewest_slots), (5, 4));
     Ok(())
 }

@@ -5,7 +5,7 @@ use mh_classes::class::{Class, class_of};
 use mh_model::config::Config;
 use mh_model::needs::Needs;
 use mh_orders::target_options::Target;
-use mh_sizing::cycles::{quanta_needed, quanta_of_cycle};
+use mh_sizing::cycles::quanta_needed;
 use mh_sizing::kinds::kinds_of;
 use mh_sizing::needs::{enough_pages, enough_trigger, least_quantum, needs_of};
 use mh_sizing::openings::{ClassParts, pages_opened, pages_opened_at_most};
@@ -57,17 +57,17 @@ fn parts_open_pages(rt: HostRuntime) -> Result<(), Fail> {
 fn needs() -> Needs {
     Needs {
         live: 1500,
-        marked: 4500,
+        marking_units: 4500,
         asked: 200,
         opened: 7,
-        page: 192,
+        page_units: 192,
     }
 }
 
 #[test]
 fn cycles_take_quanta(rt: HostRuntime) -> Result<(), Fail> {
     let config = Config::new(4096, 8099, 503, 1000).ok_or("a configuration")?;
-    let quanta = [quanta_of_cycle(&config), quanta_needed(&config, &needs())];
+    let quanta = [config.most_quanta(), quanta_needed(&config, &needs())];
     assert_eq!(rt; quanta, [339, 103]);
     Ok(())
 }
@@ -96,7 +96,7 @@ fn counts_are_needs(rt: HostRuntime) -> Result<(), Fail> {
     let counts = two_counts(two_classes().ok_or("classes")?);
     let counted = needs_of(&counts, 1500, 3000);
     let expected = Needs {
-        page: 135,
+        page_units: 135,
         ..needs()
     };
     let quanta = quanta_needed(&config, &counted);

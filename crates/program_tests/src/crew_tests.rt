@@ -18,7 +18,7 @@ fn cycles(alloc: Global) -> Result<Marked, AllocError> {
     })
 }
 
-/// Whether a run prints what it has to, and what a gate sees of it if each batch is shared by so many workers at least.
+/// Whether a run prints what it has to, and what a hook sees of it if each batch is shared by so many workers at least.
 fn seen_of<R: Threads + Wait + Sync>(
     rt: &R,
     alloc: Global,

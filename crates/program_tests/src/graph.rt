@@ -4,7 +4,7 @@ use std::alloc::{AllocError, Global};
 use test_support::gates::Seen;
 use test_support::graph::graph_script;
 
-/// A cycle that crews mark: the script, what is answered to it, and what a gate sees that wants two workers.
+/// A cycle that crews mark: the script, what is answered to it, and what a hook sees that wants two workers.
 #[derive(Drop)]
 pub struct Marked {
     pub script: Vec<u8>,
@@ -78,7 +78,7 @@ pub fn scheduled_script(alloc: Global) -> Result<Vec<u8>, AllocError> {
     Ok(script)
 }
 
-/// What a gate sees of the scheduled quanta: their batches have 98 pieces, and seven of them more than one.
+/// What a hook sees of the scheduled quanta: their batches have 98 pieces, and seven of them more than one.
 pub const SCHEDULED_SEEN: Seen = Seen {
     passed: 98,
     cut: 7,

@@ -1,8 +1,8 @@
 use crate::cases::{Case, NONE};
 use crate::trial::{Outcome, SOUND_DEVICES};
 use crate::trouble::{Way, trouble_each_write};
+use mh_show::controls::HANDS;
 use mh_show::drawing::DRAWING;
-use mh_show::hands::HANDS;
 use mh_show::page::HEAD;
 use std::alloc::{AllocError, Global};
 use std::io::ErrorKind;

@@ -62,7 +62,7 @@ fn quanta_of(alloc: Global, history: &[u8]) -> Result<Vec<u8>, Fail> {
     Ok(quanta)
 }
 
-/// Whether the history of a race has the lines that speak of quanta, and what a gate sees of it that wants two workers.
+/// Whether the history of a race has the lines that speak of quanta, and what a hook sees of it that wants two workers.
 fn seen_of_quanta<R: Threads + Wait + Sync>(
     rt: &R,
     alloc: Global,

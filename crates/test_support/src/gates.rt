@@ -91,7 +91,7 @@ impl Tally {
     }
 }
 
-/// The gate that holds nobody, and by which a crew pays for each front.
+/// The hook that holds nobody, and by which a crew pays for each front.
 #[derive(Clone, Copy, Drop)]
 pub struct Eager;
 
@@ -119,7 +119,7 @@ impl CrewGate for Eager {
     }
 }
 
-/// A gate that holds each session until as many as are wanted have come. If one thread does the work of two of them it
+/// A hook that holds each session until as many as are wanted have come. If one thread does the work of two of them it
 /// is held for ever.
 #[derive(Drop)]
 pub struct Arrivals {
@@ -180,7 +180,7 @@ impl CrewGate for Arrivals {
     }
 }
 
-/// A gate that holds the worker of the first piece until a later one was begun, for a million turns at most.
+/// A hook that holds the worker of the first piece until a later one was begun, for a million turns at most.
 #[derive(Drop)]
 pub struct Hold {
     until: u64,
@@ -234,7 +234,7 @@ impl CrewGate for Hold {
     }
 }
 
-/// A gate that sees which pieces of each batch pass, and with which workers. If a batch has more than one piece it holds
+/// A hook that sees which pieces of each batch pass, and with which workers. If a batch has more than one piece it holds
 /// each piece until as many workers as are wanted have one. A crew of fewer threads is held for ever.
 #[derive(Drop)]
 pub struct Watch {
@@ -247,7 +247,7 @@ pub struct Watch {
     faults: AtomicU64,
 }
 
-/// What a gate has seen: how many pieces passed, how many batches had more than one, and how many batches were at fault.
+/// What a hook has seen: how many pieces passed, how many batches had more than one, and how many batches were at fault.
 /// A batch is at fault if some piece didn't pass just once, or if it had fewer workers than are wanted, or one whose
 /// number isn't below the most that there may be.
 #[derive(Clone, Copy, Debug, PartialEq, Eq)]

@@ -38,7 +38,7 @@ pub fn graph_script(
 const CYCLES: &[u8] =
     b"* start\n* quantum\n* quantum\n* quantum\n* stat\na put 0 1 15\na put 0 2 15\na put 0 4 15\na put 0 5 15\na put 0 7 15\n* start\n* quantum\n* quantum\n* quantum\n* dump\n* stat\n* start\n* quantum\n* quantum\n* dump\n* stat\n* report 1000\n";
 
-/// What a gate sees of the cycles if more than one worker marks them: their batches have 61 pieces, and four of them more
+/// What a hook sees of the cycles if more than one worker marks them: their batches have 61 pieces, and four of them more
 /// than one.
 pub const CYCLES_SEEN: Seen = Seen {
     passed: 61,

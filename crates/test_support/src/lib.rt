@@ -1,4 +1,4 @@
-//! What tests share: gates that hold and count, graphs to mark, devices that fail, the words of a command line, and a process without memory.
+//! What tests share: hooks that hold and count, graphs to mark, devices that fail, the words of a command line, and a process without memory.
 #![tactic(auto)]
 
 pub mod environment;

@@ -2,7 +2,6 @@
 
 use crate::random_scripts::{EVENTS, PROFILES, script};
 use mh_model::command::Event;
-use mh_model::cycle::Phase;
 use mh_model::reply::{Refusal, Reply};
 use mh_orders::profile::Profile;
 use mh_scan::scan::OneScan;
@@ -23,16 +22,6 @@ struct Seen {
     cycles: u64,
 }
 
-fn phase_number(phase: Phase) -> usize {
-    match phase {
-        Phase::Idle => 0,
-        Phase::Roots => 1,
-        Phase::Mark => 2,
-        Phase::Sweep => 3,
-        Phase::Defrag => 4,
-    }
-}
-
 fn refusal_number(refusal: Refusal) -> usize {
     match refusal {
         Refusal::BadSlot => 0,
@@ -47,7 +36,10 @@ fn refusal_number(refusal: Refusal) -> usize {
 
 impl Seen {
     fn look(&mut self, machine: &Machine) {
-        if let Some(phase) = self.phases.get_mut(phase_number(machine.heap().phase())) {
+        if let Some(phase) = self
+            .phases
+            .get_mut(machine.heap().phase().number() as usize)
+        {
             *phase = true;
         }
         let stat = machine.heap().stat();

@@ -1,6 +1,6 @@
 //! A service whose seats call one after the other.
 ghost use Rattle.std.specs.Prelude.{◌<◌, ◌≤◌, All};
-ghost use Rattle.mh_service.specs.Services.{IsOf};
+ghost use Rattle.mh_service.specs.Services.{IsOfService};
 
 use mh_model::command::Event;
 use mh_model::config::Config;
@@ -23,7 +23,7 @@ pub struct Callers<'a, R, G> {
     rt: &'a R,
     service: Service<'a, G>,
     seats: Vec<Seat>,
-    ghost own: { All (IsOf service) seats.items },
+    ghost own: { All (IsOfService service) seats.items },
 }
 
 /// The number of the seat that makes the call of an event.
@@ -41,8 +41,8 @@ fn answer<R: Threads + Wait, G: CrewGate>(
     seats: &mut [Seat],
     event: Event,
 ) -> Option<Result<Reply, Stop>>
-    requires { All (IsOf service.now) seats.old }
-    ensures { All (IsOf service.now) seats.new }
+    requires { All (IsOfService service.now) seats.old }
+    ensures { All (IsOfService service.now) seats.new }
 {
     let index = owner_of(&event);
     if index >= seats.len() || !seats[index].owns(&event) {

@@ -1,6 +1,6 @@
 //! Draws of the claim word.
 ghost use Rattle.std.specs.Prelude.{◌+◌, ◌^◌, ◌<◌, ◌≤◌, All};
-ghost use Rattle.mh_claims.specs.Seats.{IsOf};
+ghost use Rattle.mh_claims.specs.Seats.{DrawsFrom};
 
 use mh_claims::claims::{Claims, DrawSeat};
 use mh_model::memory::NoMemory;
@@ -9,8 +9,8 @@ use std::test::Fail;
 
 /// What a seat draws. One that has ended draws nothing.
 fn draw(claims: &Claims, seats: &mut [DrawSeat], index: usize) -> Option<u64>
-    requires { All (IsOf claims.now) seats.old }
-    ensures { All (IsOf claims.now) seats.new }
+    requires { All (DrawsFrom claims.now) seats.old }
+    ensures { All (DrawsFrom claims.now) seats.new }
 {
     if index >= seats.len() || seats[index].ended() {
         return None;
@@ -25,7 +25,7 @@ fn drawn_by(
     seats: &mut [DrawSeat],
     order: &[usize],
 ) -> Result<Vec<Option<u64>>, NoMemory>
-    requires { All (IsOf claims.now) seats.old }
+    requires { All (DrawsFrom claims.now) seats.old }
 {
     let mut drawn = Vec::new(alloc);
     for index in order {

@@ -158,7 +158,7 @@ const BATCHES: [Batch; 6] = [
 ];
 
 impl Batch {
-    /// Whether a crew finds what one thread finds, each piece passes the gate once for either, and as many workers as there
+    /// Whether a crew finds what one thread finds, each piece passes the hook once for either, and as many workers as there
     /// can be share the batch.
     fn is_shared<R: Threads>(
         &self,

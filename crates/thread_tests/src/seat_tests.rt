@@ -1,6 +1,6 @@
 //! The nine seats of a service, each in a thread of its own.
 ghost use Rattle.std.specs.Prelude.{All};
-ghost use Rattle.mh_service.specs.Services.{IsOf};
+ghost use Rattle.mh_service.specs.Services.{IsOfService};
 
 use crate::callers::owner_of;
 use mh_model::command::Event;
@@ -52,8 +52,8 @@ fn call<R: Threads + Wait>(
     seat: &mut Seat,
     event: Event,
 ) -> bool
-    requires { IsOf service.now seat.old }
-    ensures { IsOf service.now seat.new }
+    requires { IsOfService service.now seat.old }
+    ensures { IsOfService service.now seat.new }
 {
     seat.owns(&event) && service.call(rt, seat, event).is_ok()
 }
@@ -65,8 +65,8 @@ fn call_each_round<R: Threads + Wait>(
     seat: &mut Seat,
     rounds: &Rounds<'_>,
 )
-    requires { IsOf service.now seat.old }
-    ensures { IsOf service.now seat.new }
+    requires { IsOfService service.now seat.old }
+    ensures { IsOfService service.now seat.new }
 {
     for round in 0..ROUNDS {
         if let Some(event) = rounds.event(round, seat.number()) {
@@ -84,11 +84,11 @@ fn call_by_threads<R: Threads + Wait + Sync>(
     seats: &mut Vec<Seat>,
     rounds: &Rounds<'_>,
 )
-    requires { All (IsOf service.now) seats.old.items }
-    ensures { All (IsOf service.now) seats.new.items }
+    requires { All (IsOfService service.now) seats.old.items }
+    ensures { All (IsOfService service.now) seats.new.items }
 {
     let one = |_index: usize, seat: &mut Seat|
-        requires { IsOf service.now seat.now }
+        requires { IsOfService service.now seat.now }
     { call_each_round(rt, service, seat, rounds) };
     thread::for_each_mut(rt, seats.as_mut_slice(), 9, &one);
 }
@@ -139,7 +139,7 @@ fn is_shared(alloc: Global, history: &[Entry], logs: &str) -> Result<bool, Alloc
 
 /// The history that a service leaves, which is empty if it doesn't close.
 fn history_left(alloc: Global, service: Service<'_, Eager>, seats: Vec<Seat>) -> Vec<Entry>
-    requires { All (IsOf service) seats.items }
+    requires { All (IsOfService service) seats.items }
 {
     match service.close(seats) {
         Ok(closed) => closed.history,

@@ -30,7 +30,7 @@ fn answers_are<R: Threads + Wait, G: CrewGate>(
     callers.answers_are(alloc, script.events(), wanted)
 }
 
-/// Whether so many workers answer the script of three cycles, and what the gate sees that wants two of them.
+/// Whether so many workers answer the script of three cycles, and what the hook sees that wants two of them.
 fn cycles_by<R: Threads + Wait>(rt: &R, alloc: Global, workers: usize) -> Result<(bool, Seen), Fail>
     requires { (0 < workers) × (workers ≤ 64) }
 {

@@ -1,4 +1,5 @@
 -- A cycle within its bounds: what commands and quanta leave of it, at every moment of a run.
+use Rattle.std.specs.Prelude.{◌-◌}
 use Rattle.std.proofs.Common.{◌≡◌, ℕ, zero, suc, ◌+◌, ◌-◌, ◌*◌, ◌<◌, ◌≤◌, ◌==◌, Bool, true, false, ◌||◌, nat_lt, if◌then◌else◌, inl, inr, List, [], ◌∷◌, length, get_or, Option, Some, None, is_some, unwrap_or, refl, sym, ap, ◌∙◌, subst, arith}
 use Rattle.std.specs.List.{sum_by}
 use Rattle.std.proofs.Math.Nat.{mul-suc}
@@ -12,6 +13,7 @@ use Rattle.mh_model.specs.Table.{Block}
 use Rattle.mh_model.specs.Collector.{Collector, Spending, Move, is_marked, next_move, with_move, move_cost, after_mark, cost_in, step_cost, is_moving_in, is_moving, step_in, is_past, with_phase, cycle_end, phase_after, collector_step, is_idle, quantum_start, steps, quantum}
 use Rattle.mh_model.specs.Mutator.{in_roots_or_mark}
 use Rattle.mh_model.specs.CycleBounds.{IsRoomyPage, IsRoomy, class_at, slot_weight, page_weight, table_weight, in_steps, in_units, size_at, movable, movable_words, steps_left, units_left, StageOf, IsUnderway}
+use Rattle.mh_model.specs.Limits.{least_quantum, root_slots}
 use Rattle.mh_laws.proofs.costs.Quanta.{steps-stop, steps-go, step_cost-positive, step_cost-bounded}
 use Rattle.mh_laws.specs.Commands.{IsOnCourse}
 use Rattle.mh_table_laws.proofs.tables.BlockRoom.{few_slots, roomy-sized}
@@ -77,7 +79,7 @@ module _ (old new : Collector) {made : ℕ} (course : IsOnCourse made old new) (
 -- what a quantum may still be charged for slots
 abbrev pub charge : Bool → ℕ
 charge true = 0
-charge false = 144
+charge false = root_slots
 
 charged : (phase : Phase) (collector : Collector) (has_moved : Bool) → cost_in phase collector has_moved + charge (has_moved || is_moving_in phase collector) ≡ cost_in phase collector true + charge has_moved
 charged Idle collector true = refl
@@ -91,7 +93,7 @@ charged Sweep collector false = refl
 charged Defrag collector true = refl
 charged Defrag collector false = go (next_move collector.table collector.cursor)
   where
-    go : (move : Option Move) → move_cost false move + charge (is_some move) ≡ move_cost true move + 144
+    go : (move : Option Move) → move_cost false move + charge (is_some move) ≡ move_cost true move + root_slots
     go None = refl
     go (Some move) = omega arith
 
@@ -104,12 +106,12 @@ pub record Spends (has_moved : Bool) (left : ℕ) (old : Collector) (after : Spe
   pub under : IsUnderway after.collector
   pub steps_paid : steps_left after.collector.phase after.collector ≤ steps_left old.phase old
   pub units_paid : units_left after.collector.phase after.collector + after.units ≤ units_left old.phase old + charge has_moved
-  pub rest : is_idle after.collector.phase ≡ false → left ≤ after.units + 208
+  pub rest : is_idle after.collector.phase ≡ false → left ≤ after.units + (least_quantum - 1)
 
-nothing_spent : (has_moved : Bool) (left : ℕ) (collector : Collector) → IsUnderway collector → (is_idle collector.phase ≡ false → left ≤ 208) → Spends has_moved left collector (record { units = 0; collector = collector })
+nothing_spent : (has_moved : Bool) (left : ℕ) (collector : Collector) → IsUnderway collector → (is_idle collector.phase ≡ false → left ≤ least_quantum - 1) → Spends has_moved left collector (record { units = 0; collector = collector })
 nothing_spent has_moved left collector under small = record { under = under; steps_paid = omega arith; units_paid = omega arith; rest = λ runs. omega (arith, small runs) }
 
-stopped_small : (collector : Collector) (has_moved : Bool) (left : ℕ) → IsUnderway collector → (is_idle collector.phase || nat_lt left (step_cost collector has_moved)) ≡ true → is_idle collector.phase ≡ false → left ≤ 208
+stopped_small : (collector : Collector) (has_moved : Bool) (left : ℕ) → IsUnderway collector → (is_idle collector.phase || nat_lt left (step_cost collector has_moved)) ≡ true → is_idle collector.phase ≡ false → left ≤ least_quantum - 1
 stopped_small collector has_moved left under stops runs = elim (cases_Bool (nat_lt left (step_cost collector has_moved))) [
   | inl short ↦ omega (arith, ltb-true left (step_cost collector has_moved) short, step_cost-bounded collector has_moved (roomy-sized collector.table (under.sound).roomy))
   | inr fits ↦ absurd (true≢false (sym stops ∙ ap (λ b. b || nat_lt left (step_cost collector has_moved)) runs ∙ fits))
@@ -135,7 +137,7 @@ steps-spend (suc more) left has_moved collector enough under = elim (cases_Bool 
 ]
 
 -- A quantum of at least 209 units takes a step of a cycle that runs
-pub steps-some : (quantum : ℕ) (has_moved : Bool) (collector : Collector) → 209 ≤ quantum → IsUnderway collector → is_idle collector.phase ≡ false
+pub steps-some : (quantum : ℕ) (has_moved : Bool) (collector : Collector) → least_quantum ≤ quantum → IsUnderway collector → is_idle collector.phase ≡ false
     → steps_left (steps quantum quantum has_moved collector).collector.phase (steps quantum quantum has_moved collector).collector + 1 ≤ steps_left collector.phase collector
 unfolding steps
 steps-some zero has_moved collector enough under runs = absurd (omega arith)
@@ -169,7 +171,7 @@ with_move-count collector (Some move) = (refl, refl)
 
 step-count : (phase : Phase) (collector : Collector) → collector.phase ≡ phase → is_idle phase ≡ false → KeepsCount collector (phase_after phase (step_in phase collector))
 step-count Idle collector is runs = absurd (true≢false runs)
-step-count Roots collector is runs = go (new.cursor == 144)
+step-count Roots collector is runs = go (new.cursor == root_slots)
   where
     new : Collector
     new = step_in Roots collector

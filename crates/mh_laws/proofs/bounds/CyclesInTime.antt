@@ -1,5 +1,6 @@
 -- A cycle ends in time: at every moment of a run what is left of it and the quanta that it has had are within its bounds.
 -- From this the reply of `left` follows.
+use Rattle.std.specs.Prelude.{◌<◌, ◌-◌, suc, nat_lt}
 use Rattle.std.proofs.Common.{◌≡◌, ◌⊎◌, ℕ, suc, ◌+◌, ◌-◌, ◌*◌, ◌/◌, ◌<◌, ◌≤◌, min, Bool, true, false, nat_le, nat_lt, if◌then◌else◌, inl, inr, List, length, None, refl, sym, ap, ◌∙◌, subst, arith}
 use Rattle.std.proofs.Math.Nat.{le-div_iff_mul-le, suc-mul}
 use Rattle.std.proofs.lemmas.Bool.{cases_Bool, leb-true, ltb-true, ltb-false, true≢false, and_parts}
@@ -18,7 +19,8 @@ use Rattle.mh_model.specs.World.{says}
 use Rattle.mh_model.specs.Machine.{Machine, first_machine, quanta_left, with_collector, quantum_run, command_step, control_step, half_step, machine_after}
 use Rattle.mh_model.specs.Bound.{most_steps, most_units, most_quanta}
 use Rattle.mh_model.specs.CycleBounds.{IsRoomy, in_steps, in_units, steps_left, units_left, StageOf, IsUnderway, IsWithin, IsInBounds}
-use Rattle.mh_laws.specs.Bounds.{IsInTime, HasEnded, HasRun, CycleEndsWithinItsBound, left_of, QuantaLeftEndTheCycle, CollectorsStayInBounds}
+use Rattle.mh_model.specs.Limits.{least_quantum, quantum_overhead}
+use Rattle.mh_laws.specs.Bounds.{IsInTime, HasEnded, HasRunQuanta, CycleEndsWithinItsBound, left_of, QuantaLeftEndTheCycle, CollectorsStayInBounds}
 use Rattle.mh_laws.proofs.costs.Quanta.{steps-idle}
 use Rattle.mh_laws.proofs.commands.LeftUnchanged.{mutator_step-course, steps-keeps}
 use Rattle.mh_table_laws.proofs.Lists.{none_at}
@@ -32,11 +34,11 @@ use Rattle.mh_laws.proofs.costs.QuantumStarts.{begins}
 pub config-pages : (config : Config) → 0 < config.pages
 config-pages config = leb-true 1 config.pages (and_parts (nat_le 1 config.pages) _ config.in_limits).0
 
-pub config-quantum : (config : Config) → 209 ≤ config.quantum
+pub config-quantum : (config : Config) → least_quantum ≤ config.quantum
 config-quantum config =
     let rest = (and_parts (nat_le 1 config.pages) _ config.in_limits).1 in
     let rest' = (and_parts (nat_le config.pages 4096) _ rest).1 in
-    leb-true 209 config.quantum (and_parts (nat_le 209 config.quantum) _ rest').0
+    leb-true least_quantum config.quantum (and_parts (nat_le least_quantum config.quantum) _ rest').0
 
 -- a collector as its first quantum's or next quantum's steps begin: one quantum more is counted than was paid for
 record IsStarted (config : Config) (old new : Collector) : Type 0 where
@@ -132,7 +134,7 @@ quantum_start-started config collector bounds = elim (begins config collector).c
 -- What a quantum leaves: the bounds, one quantum more of the same cycle while it runs, and little that was not spent
 pub record IsQuantum (config : Config) (old : Collector) (after : Spending) : Type 0 where
   pub bounds : IsInBounds config after.collector
-  pub rest : is_idle after.collector.phase ≡ false → config.quantum ≤ after.units + 208
+  pub rest : is_idle after.collector.phase ≡ false → config.quantum ≤ after.units + (least_quantum - 1)
   pub cycle : old.cycle ≤ after.collector.cycle
   pub same : after.collector.cycle ≡ old.cycle → is_idle after.collector.phase ≡ false → (is_idle old.phase ≡ false) × (after.collector.quanta ≡ old.quanta + 1)
 
@@ -162,7 +164,7 @@ started-within config old new started after spent some count = elim (cases_Bool 
   | inr runs ↦
       subst (λ n. IsWithin config n (steps_left after.collector.phase after.collector) (units_left after.collector.phase after.collector)) (sym (count.running runs ∙ started.count)) (record {
         by_steps = omega (arith, some, (started.within).by_steps);
-        by_units = λ large. omega (arith, (started.within).by_units large, suc-mul started.before (config.quantum - 352), spent.units_paid, spent.rest runs);
+        by_units = λ large. omega (arith, (started.within).by_units large, suc-mul started.before (config.quantum - quantum_overhead), spent.units_paid, spent.rest runs);
       })
 ]
 
@@ -241,27 +243,27 @@ asked-in_bounds config collector bounds = record {
 fewer-than_most : (config : Config) (collector : Collector) → IsInBounds config collector → is_idle collector.phase ≡ false → collector.quanta < most_quanta config
 fewer-than_most config collector bounds runs =
     let by_steps : collector.quanta < most_steps config = omega (arith, (bounds.within).by_steps, steps_left-positive collector bounds.under runs) in
-    go (nat_le 353 config.quantum) refl by_steps
+    go (nat_lt quantum_overhead config.quantum) refl by_steps
   where
-    go : (large : Bool) → nat_le 353 config.quantum ≡ large → collector.quanta < most_steps config → collector.quanta < (if large then min (most_steps config) (most_units config / (config.quantum - 352) + 1) else most_steps config)
+    go : (large : Bool) → nat_lt quantum_overhead config.quantum ≡ large → collector.quanta < most_steps config → collector.quanta < (if large then min (most_steps config) (most_units config / (config.quantum - quantum_overhead) + 1) else most_steps config)
     go false e by_steps = by_steps
     go true e by_steps =
-        let large : 353 ≤ config.quantum = leb-true 353 config.quantum e in
-        let room : collector.quanta * (config.quantum - 352) ≤ most_units config = omega (arith, (bounds.within).by_units large) in
-        let positive : 0 < config.quantum - 352 = omega arith in
-        let divided : collector.quanta ≤ most_units config / (config.quantum - 352) = (le-div_iff_mul-le positive).1 room in
+        let large : quantum_overhead < config.quantum = leb-true (suc quantum_overhead) config.quantum e in
+        let room : collector.quanta * (config.quantum - quantum_overhead) ≤ most_units config = omega (arith, (bounds.within).by_units large) in
+        let positive : 0 < config.quantum - quantum_overhead = omega arith in
+        let divided : collector.quanta ≤ most_units config / (config.quantum - quantum_overhead) = (le-div_iff_mul-le positive).1 room in
         omega arith
 
 in_time : (config : Config) (collector : Collector) → IsInBounds config collector → IsInTime config collector
 in_time config collector bounds = record { running = fewer-than_most config collector bounds; idle = bounds.idle }
 
 most_quanta-few : (config : Config) → most_quanta config ≤ 786576
-most_quanta-few config = go (nat_le 353 config.quantum)
+most_quanta-few config = go (nat_lt quantum_overhead config.quantum)
   where
     pages : config.pages ≤ 4096
     pages = leb-true config.pages 4096 (and_parts (nat_le config.pages 4096) _ (and_parts (nat_le 1 config.pages) _ config.in_limits).1).0
 
-    go : (large : Bool) → (if large then min (most_steps config) (most_units config / (config.quantum - 352) + 1) else most_steps config) ≤ 786576
+    go : (large : Bool) → (if large then min (most_steps config) (most_units config / (config.quantum - quantum_overhead) + 1) else most_steps config) ≤ 786576
     go true = omega (arith, pages)
     go false = omega (arith, pages)
 
@@ -346,7 +348,7 @@ module _ (config : Config) where
   asking-later : (first machine : Machine) → IsLater first machine → IsLater first (with_collector machine (record (machine.heap.collector) { is_asked = true }))
   asking-later first machine later = record { stays = by_asking machine later.stays; cycle = later.cycle; same = later.same }
 
-  ends-later : (first later : Machine) → IsLater first later → HasRun (most_quanta config - first.heap.collector.quanta) first later → HasEnded first.heap.collector.cycle later.heap.collector
+  ends-later : (first later : Machine) → IsLater first later → HasRunQuanta (most_quanta config - first.heap.collector.quanta) first later → HasEnded first.heap.collector.cycle later.heap.collector
   ends-later first later is run = elim (cases_Bool (is_idle later.heap.collector.phase)) [
     | inl idle ↦ elim (cases_Bool (nat_lt (first.heap.collector).cycle (later.heap.collector).cycle)) [
       | inl more ↦ inl (ltb-true (first.heap.collector).cycle (later.heap.collector).cycle more)
@@ -392,5 +394,5 @@ cycle_tells = record {
   ends = λ config events more runs run.
       let machine = machine_after (first_machine config) events in
       let left = quanta_left-running config machine (run-stays config events).config_is runs in
-      cycle_ends.ends config events more runs (subst (λ count. HasRun count machine (machine_after machine more)) left run);
+      cycle_ends.ends config events more runs (subst (λ count. HasRunQuanta count machine (machine_after machine more)) left run);
 }

@@ -10,6 +10,7 @@ use Rattle.mh_model.specs.Pages.{Page, Table, page_number, slot_number, page_at,
 use Rattle.mh_model.specs.Table.{Block}
 use Rattle.mh_model.specs.Collector.{Collector, Marking, Move, marking_of, with_marking, with_phase, with_shade, mark_first, first_mark_cost, next_page, next_place, is_last_slot, flagged_page, next_move, moved_table, move_cost, with_move, after_mark, is_past, cycle_end, step_in, phase_after, collector_step, cost_in, is_idle}
 use Rattle.mh_model.specs.CycleBounds.{IsRoomy, count_at, class_at, weight, IsGreySound, in_steps, in_units, size_at, movable, movable_words, steps_left, units_left, StageOf, IsUnderway}
+use Rattle.mh_model.specs.Limits.{root_slots}
 use Rattle.mh_laws.proofs.commands.LeftUnchanged.{shade-keeps, mark_first-keeps, step_in-keeps}
 use Rattle.mh_laws.proofs.moving.NextMove.{IsNextMove, next_move-is}
 use Rattle.mh_table_laws.proofs.placing.Places.{least_dense_place-page, block_at-with_taken_other}
@@ -92,9 +93,9 @@ after_mark-paid collector some sound (place ∷ grey) e = record {
 paid_more : (taken spent steps units steps' units' : ℕ) (new : Collector) → steps + taken ≤ steps' → units + spent ≤ units' → IsPaid 0 0 steps units new → IsPaid taken spent steps' units' new
 paid_more taken spent steps units steps' units' new s u paid = record { under = paid.under; steps_paid = omega (arith, paid.steps_paid); units_paid = omega (arith, paid.units_paid) }
 
-roots-paid : (collector : Collector) → 0 < length collector.table → IsGreySound (marking_of collector) → collector.cursor < 144
+roots-paid : (collector : Collector) → 0 < length collector.table → IsGreySound (marking_of collector) → collector.cursor < root_slots
     → IsPaid 1 2 (steps_left Roots collector) (units_left Roots collector) (phase_after Roots (step_in Roots collector))
-roots-paid collector some sound inside = go (new.cursor == 144) refl
+roots-paid collector some sound inside = go (new.cursor == root_slots) refl
   where
     reference : Option ℕ
     reference = get_or collector.slots collector.cursor None
@@ -120,10 +121,10 @@ roots-paid collector some sound inside = go (new.cursor == 144) refl
     lighter_units : weight in_units (marking_of new) ≤ weight in_units (marking_of collector)
     lighter_units = carries.lighter in_units
 
-    go : (last : Bool) → (new.cursor == 144) ≡ last → IsPaid 1 2 (steps_left Roots collector) (units_left Roots collector) (if last then after_mark new new.grey else new)
+    go : (last : Bool) → (new.cursor == root_slots) ≡ last → IsPaid 1 2 (steps_left Roots collector) (units_left Roots collector) (if last then after_mark new new.grey else new)
     go true e = paid_more _ _ _ _ _ _ (after_mark new new.grey) (omega (arith, lighter_steps, pages)) (omega (arith, lighter_units, pages)) (after_mark-paid new some' sound' new.grey refl)
     go false e = record {
-      under = record { some_page = some'; sound = sound'; stage = omega (arith, λ (k : collector.cursor + 1 ≡ 144). true≢false (sym (eq-eqb (collector.cursor + 1) 144 k) ∙ e)) };
+      under = record { some_page = some'; sound = sound'; stage = omega (arith, λ (k : collector.cursor + 1 ≡ root_slots). true≢false (sym (eq-eqb (collector.cursor + 1) root_slots k) ∙ e)) };
       steps_paid = omega (arith, lighter_steps, pages);
       units_paid = omega (arith, lighter_units, pages);
     }

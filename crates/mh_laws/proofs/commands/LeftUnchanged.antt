@@ -20,6 +20,7 @@ use Rattle.mh_model.specs.Collector.{Collector, first_collector, Marking, shade,
 use Rattle.mh_model.specs.Mutator.{HeapState, new_group, heap_sight, heap_effect, mutator_step}
 use Rattle.mh_model.specs.Machine.{Machine, first_machine, with_collector, quantum_run, command_step, machine_after}
 use Rattle.mh_model.specs.Invariant.{HasItsPages}
+use Rattle.mh_model.specs.Limits.{root_slots}
 use Rattle.mh_table_laws.specs.Tables.{KeepsItsPages}
 use Rattle.mh_laws.specs.Tables.{EventKeeps, TablesKeepTheirPages}
 use Rattle.mh_laws.specs.Commands.{IsOnCourse}
@@ -65,7 +66,7 @@ table-if false collector other e = refl
 
 pub table-phase_after : (phase : Phase) (collector : Collector) → (phase_after phase collector).table ≡ collector.table
 table-phase_after Idle collector = refl
-table-phase_after Roots collector = table-if (collector.cursor == 144) collector (after_mark collector collector.grey) (after_mark-table collector collector.grey)
+table-phase_after Roots collector = table-if (collector.cursor == root_slots) collector (after_mark collector collector.grey) (after_mark-table collector collector.grey)
 table-phase_after Mark collector = after_mark-table collector collector.grey
 table-phase_after Sweep collector = table-if (is_past collector.table collector.cursor) collector (with_phase collector Defrag 0) refl
 table-phase_after Defrag collector = table-if (is_past collector.table collector.cursor) collector (cycle_end collector) refl

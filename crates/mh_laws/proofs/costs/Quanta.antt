@@ -9,6 +9,7 @@ use Rattle.mh_model.specs.Table.{Block}
 use Rattle.mh_laws.proofs.moving.NextMove.{next_move-is}
 use Rattle.mh_table_laws.specs.Tables.{IsSized}
 use Rattle.mh_model.specs.Collector.{Collector, Move, first_mark_cost, next_move, move_cost, cost_in, step_cost, is_moving, collector_step, is_idle, with_units, quantum_start, Spending, steps, quantum}
+use Rattle.mh_model.specs.Limits.{least_quantum}
 
 -- steps stop, or one is taken
 pub steps-stop : (more left : ℕ) (has_moved : Bool) (collector : Collector) → (is_idle collector.phase || nat_lt left (step_cost collector has_moved)) ≡ true → steps (suc more) left has_moved collector ≡ record { units = 0; collector = collector }
@@ -64,7 +65,7 @@ first_mark_cost-bounded : (table : Table Block) → IsSized table → (grey : Li
 first_mark_cost-bounded table sized [] = omega arith
 first_mark_cost-bounded table sized (place ∷ grey) = omega (arith, sized.references place)
 
-move_cost-bounded : (has_moved : Bool) (move : Option Move) → ((m : Move) → move ≡ Some m → m.class_size ≤ 64) → move_cost has_moved move ≤ 209
+move_cost-bounded : (has_moved : Bool) (move : Option Move) → ((m : Move) → move ≡ Some m → m.class_size ≤ 64) → move_cost has_moved move ≤ least_quantum
 move_cost-bounded has_moved None small = omega arith
 move_cost-bounded true (Some move) small = omega (arith, small move refl)
 move_cost-bounded false (Some move) small = omega (arith, small move refl)
@@ -72,7 +73,7 @@ move_cost-bounded false (Some move) small = omega (arith, small move refl)
 next_move-small : (table : Table Block) (place : ℕ) → IsSized table → (move : Move) → next_move table place ≡ Some move → move.class_size ≤ 64
 next_move-small table place sized move e = let is = next_move-is table place move e in rw (← is.class) (sized.classes (page_number place) is.page is.in_use)
 
-cost_in-bounded : (phase : Phase) (collector : Collector) (has_moved : Bool) → IsSized collector.table → cost_in phase collector has_moved ≤ 209
+cost_in-bounded : (phase : Phase) (collector : Collector) (has_moved : Bool) → IsSized collector.table → cost_in phase collector has_moved ≤ least_quantum
 cost_in-bounded Idle collector has_moved sized = omega arith
 cost_in-bounded Roots collector has_moved sized = omega arith
 cost_in-bounded Mark collector has_moved sized = omega (arith, first_mark_cost-bounded collector.table sized collector.grey)
@@ -80,7 +81,7 @@ cost_in-bounded Sweep collector has_moved sized = omega arith
 cost_in-bounded Defrag collector has_moved sized = move_cost-bounded has_moved (next_move collector.table collector.cursor) (next_move-small collector.table collector.cursor sized)
 
 -- The dearest step costs 209
-pub step_cost-bounded : (collector : Collector) (has_moved : Bool) → IsSized collector.table → step_cost collector has_moved ≤ 209
+pub step_cost-bounded : (collector : Collector) (has_moved : Bool) → IsSized collector.table → step_cost collector has_moved ≤ least_quantum
 unfolding step_cost
 step_cost-bounded collector has_moved sized = cost_in-bounded collector.phase collector has_moved sized
 

@@ -10,6 +10,7 @@ use Rattle.mh_model.specs.Pages.{block_at}
 use Rattle.mh_model.specs.Table.{Block, forward_at}
 use Rattle.mh_model.specs.Collector.{Collector, Move, Spending, with_phase, with_move, with_marking, marking_of, mark_step, roots_step, sweep_step, defrag_step, next_move, after_mark, is_past, cycle_end, phase_after, step_in, collector_step, step_cost, is_moving, is_idle, is_start_due, quantum_start, steps, quantum}
 use Rattle.mh_model.specs.Invariant.{in_trace, in_defrag, KeepsSnapshot, IsSteady}
+use Rattle.mh_model.specs.Limits.{root_slots}
 use Rattle.mh_laws.specs.Forwarders.{after_steps, BeginsToDefragment, IsMadeSince, MakesItsForwarders, QuantaMakeTheirForwarders}
 use Rattle.mh_laws.proofs.costs.Quanta.{steps-stop, steps-go}
 use Rattle.mh_laws.proofs.costs.QuantumStarts.{begins}
@@ -38,7 +39,7 @@ trace-step c trace ended = go c.phase refl trace ended
 
     go : (phase : Phase) → c.phase ≡ phase → in_trace phase ≡ true → in_trace (phase_after phase (step_in phase c)).phase ≡ false → (c.phase ≡ Sweep) × ((phase_after phase (step_in phase c)).phase ≡ Defrag)
     go Idle is t e = absurd (false≢true t)
-    go Roots is t e = absurd (false≢true (sym e ∙ after_roots ((roots_step c).cursor == 144)))
+    go Roots is t e = absurd (false≢true (sym e ∙ after_roots ((roots_step c).cursor == root_slots)))
     go Mark is t e = let m : Collector = with_marking c (mark_step (marking_of c)) in absurd (false≢true (sym e ∙ trace-after_mark m m.grey))
     go Sweep is t e = (is, after_sweep (is_past (sweep_step c).table (sweep_step c).cursor) is e)
     go Defrag is t e = absurd (false≢true t)
@@ -70,7 +71,7 @@ cycle-collector_step c = go c.phase
 
     go : (phase : Phase) → (phase_after phase (step_in phase c)).cycle ≡ c.cycle
     go Idle = refl
-    go Roots = after_roots ((roots_step c).cursor == 144)
+    go Roots = after_roots ((roots_step c).cursor == root_slots)
     go Mark = let m : Collector = with_marking c (mark_step (marking_of c)) in cycle-after_mark m m.grey
     go Sweep = after_sweep (is_past (sweep_step c).table (sweep_step c).cursor)
     go Defrag = after_defrag (is_past (defrag_step c).table (defrag_step c).cursor)

@@ -6,7 +6,7 @@ use Rattle.std.proofs.lemmas.Option.{same_Some}
 use Rattle.mh_model.specs.Pages.{block_at}
 use Rattle.mh_model.specs.Table.{Block}
 use Rattle.mh_model.specs.Collector.{Collector}
-use Rattle.mh_model.specs.Invariant.{IsIn, IsMarkedAt, Links, IsFromRoot, IsFromGrey, IsWay, IsPromised}
+use Rattle.mh_model.specs.Invariant.{IsIn, IsMarkedAt, Links, IsFromRoot, IsFromGrey, IsWay, WillBeMarked}
 
 -- what becomes of a block: it stays but for its stamp and its fields, and if it is marked anew it is grey
 abbrev pub StaysAt : Collector → Collector → ℕ → Block → Type 0
@@ -17,8 +17,8 @@ pub record Keeps (c d : Collector) : Type 0 where
   pub cycle : d.cycle ≡ c.cycle
   pub blocks : (place : ℕ) (block : Block) → block_at c.table place ≡ Some block → StaysAt c d place block
   pub back : (place : ℕ) (new : Block) → block_at d.table place ≡ Some new → ((block : Block) × (block_at c.table place ≡ Some block)) ⊎ (new.stamp ≡ d.cycle)
-  pub roots : (target : ℕ) (block : Block) → block_at c.table target ≡ Some block → IsFromRoot c target → IsMarkedAt d target ⊎ IsPromised d target
-  pub grey : (target : ℕ) (block : Block) → block_at c.table target ≡ Some block → IsFromGrey c target → IsMarkedAt d target ⊎ IsPromised d target
+  pub roots : (target : ℕ) (block : Block) → block_at c.table target ≡ Some block → IsFromRoot c target → IsMarkedAt d target ⊎ WillBeMarked d target
+  pub grey : (target : ℕ) (block : Block) → block_at c.table target ≡ Some block → IsFromGrey c target → IsMarkedAt d target ⊎ WillBeMarked d target
   pub links : (place target : ℕ) (block : Block) → block_at c.table target ≡ Some block → Links c.table place target → IsMarkedAt d target ⊎ Links d.table place target
 
 -- what is marked stays so
@@ -27,13 +27,13 @@ marked_stays c d keeps place (block, there, stamp) =
     let (new, there', birth, forward, marks) = keeps.blocks place block there in
     (new, there', elim marks [ inl same ↦ same ∙ stamp ∙ sym keeps.cycle | inr anew ↦ anew.0 ∙ sym keeps.cycle ])
 
-pub promise_stays : (c d : Collector) → Keeps c d → (way : List ℕ) (target : ℕ) (block : Block) → block_at c.table target ≡ Some block → IsWay c target way → IsMarkedAt d target ⊎ IsPromised d target
+pub promise_stays : (c d : Collector) → Keeps c d → (way : List ℕ) (target : ℕ) (block : Block) → block_at c.table target ≡ Some block → IsWay c target way → IsMarkedAt d target ⊎ WillBeMarked d target
 promise_stays c d keeps [] target block there (inl from) = keeps.roots target block there from
 promise_stays c d keeps [] target block there (inr from) = keeps.grey target block there from
 promise_stays c d keeps (near ∷ way) target block there ((white, at_white, live, unmarked), links, after) =
     go (keeps.blocks near white at_white) (keeps.links near target block there links) (promise_stays c d keeps way near white at_white after)
   where
-    go : StaysAt c d near white → IsMarkedAt d target ⊎ Links d.table near target → IsMarkedAt d near ⊎ IsPromised d near → IsMarkedAt d target ⊎ IsPromised d target
+    go : StaysAt c d near white → IsMarkedAt d target ⊎ Links d.table near target → IsMarkedAt d near ⊎ WillBeMarked d near → IsMarkedAt d target ⊎ WillBeMarked d target
     go stays (inl marked) before = inl marked
     go (new, at_new, birth, forward, inr anew) (inr link) before = inr ([], inr (near, anew.1, link))
     go (new, at_new, birth, forward, inl same) (inr link) (inl (other, at_other, stamp)) =
@@ -44,12 +44,12 @@ promise_stays c d keeps (near ∷ way) target block there ((white, at_white, liv
 
 -- Each block of some births is marked or promised: it stays so
 abbrev pub PromisesEach : (ℕ → Type 0) → Collector → Type 0
-PromisesEach Of c = (place : ℕ) (block : Block) → block_at c.table place ≡ Some block → block.forward ≡ None → Of block.birth → IsMarkedAt c place ⊎ IsPromised c place
+PromisesEach Of c = (place : ℕ) (block : Block) → block_at c.table place ≡ Some block → block.forward ≡ None → Of block.birth → IsMarkedAt c place ⊎ WillBeMarked c place
 
 pub promises_stay : (Of : ℕ → Type 0) (c d : Collector) → Keeps c d → PromisesEach Of c → PromisesEach Of d
 promises_stay Of c d keeps each place new there live of = elim (keeps.back place new there) [ inr marked ↦ inl (new, there, marked) | inl old ↦ go old.0 old.1 ]
   where
-    go : (block : Block) → block_at c.table place ≡ Some block → IsMarkedAt d place ⊎ IsPromised d place
+    go : (block : Block) → block_at c.table place ≡ Some block → IsMarkedAt d place ⊎ WillBeMarked d place
     go block at_block =
         let (other, at_other, birth, forward, marks) = keeps.blocks place block at_block in
         let one : other ≡ new = same_Some other new (sym at_other ∙ there) in
@@ -59,7 +59,7 @@ promises_stay Of c d keeps each place new there live of = elim (keeps.back place
         ]
 
 -- Where no root that isn't scanned and no grey block is left, nothing is promised
-pub nothing_promised : (c : Collector) → c.grey ≡ [] → ((target : ℕ) → IsFromRoot c target → ⊥) → (target : ℕ) → IsPromised c target → ⊥
+pub nothing_promised : (c : Collector) → c.grey ≡ [] → ((target : ℕ) → IsFromRoot c target → ⊥) → (target : ℕ) → WillBeMarked c target → ⊥
 nothing_promised c no_grey no_root target promised = go promised.0 target promised.1
   where
     go : (way : List ℕ) (target : ℕ) → IsWay c target way → ⊥

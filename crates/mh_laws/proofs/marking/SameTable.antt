@@ -11,6 +11,7 @@ use Rattle.mh_model.specs.Mutator.{in_roots_or_mark}
 use Rattle.mh_model.specs.View.{in_sweep}
 use Rattle.mh_model.specs.Snapshot.{IsKept}
 use Rattle.mh_model.specs.Invariant.{IsIn, IsPlainAt, IsStraight, IsUnflagged, in_trace, in_defrag, IsSound, IsMarkedAt, IsFromRoot, IsFromGrey, IsWhole, KeepsCycle, KeepsSnapshot}
+use Rattle.mh_model.specs.Limits.{root_slots}
 use Rattle.mh_laws.proofs.marking.MarkingPaths.{Keeps, promises_stay}
 
 module _ (c : Collector) (slots' : List (Option ℕ)) (phase' : Phase) (cursor' : ℕ) (grey' : List ℕ) (asked' : Bool) (quanta' : ℕ) where
@@ -21,7 +22,7 @@ module _ (c : Collector) (slots' : List (Option ℕ)) (phase' : Phase) (cursor' 
   pub record IsTurn : Type 0 where
     pub enters : in_sweep phase' ≡ true → in_sweep c.phase ≡ true
     pub leaves : in_sweep phase' ≡ false → in_sweep c.phase ≡ true → (q : ℕ) (x : Block) → block_at c.table q ≡ Some x → x.stamp ≡ c.cycle
-    pub roots : length slots' ≡ 144
+    pub roots : length slots' ≡ root_slots
     pub slots : (i r : ℕ) → get_or slots' i None ≡ Some r → (x : Block) × IsPlainAt c r x × (x.part ≡ 0)
     pub listed : (q : ℕ) → IsIn q grey' → IsIn q c.grey
     pub quiet : in_roots_or_mark phase' ≡ false → grey' ≡ []

@@ -11,7 +11,7 @@ use Rattle.mh_model.specs.Table.{Block, resolve, is_spine}
 use Rattle.mh_model.specs.Collector.{Collector, cycle_start}
 use Rattle.mh_model.specs.Mutator.{HeapState}
 use Rattle.mh_model.specs.View.{in_sweep, block_of_birth, birth_named, arraylet_words, object_of, object_shown, heap_view}
-use Rattle.mh_model.specs.Invariant.{IsPlainAt, IsPartOf, first_child, IsSound, IsMarkedAt, IsPromised, IsWhole, KeepsSnapshot}
+use Rattle.mh_model.specs.Invariant.{IsPlainAt, IsPartOf, first_child, IsSound, IsMarkedAt, WillBeMarked, IsWhole, KeepsSnapshot}
 use Rattle.mh_laws.proofs.marking.BlockChanges.{resolve-live, live_plain}
 use Rattle.mh_table_laws.proofs.objects.Parts.{later_part, IsChild, parent_of, child_is}
 use Rattle.mh_table_laws.proofs.objects.Headers.{header_is}
@@ -106,9 +106,9 @@ module _ (heap : HeapState) (no_sweep : in_sweep heap.collector.phase ≡ false)
     live : block.forward ≡ None
     birth_is : block.birth ≡ birth
     first : block.part ≡ 0
-    promised : IsPromised started place
+    promised : WillBeMarked started place
 
-  further : (p : ℕ) (b : Block) → block_at t₀ p ≡ Some b → b.forward ≡ None → IsPromised started p → (i r : ℕ) → get_or b.references i None ≡ Some r → IsPromised started (resolve t₀ r)
+  further : (p : ℕ) (b : Block) → block_at t₀ p ≡ Some b → b.forward ≡ None → WillBeMarked started p → (i r : ℕ) → get_or b.references i None ≡ Some r → WillBeMarked started (resolve t₀ r)
   further p b there live promised i r e = (p ∷ promised.0, ((b, there, live, unmarked p b there), (b, i, r, there, e, refl), promised.1))
 
   -- a part of an object that is reached
@@ -118,7 +118,7 @@ module _ (heap : HeapState) (no_sweep : in_sweep heap.collector.phase ≡ false)
     plain : IsPlainAt c place block
     birth_is : block.birth ≡ birth
     part_is : block.part ≡ number
-    promised : IsPromised started place
+    promised : WillBeMarked started place
 
   abbrev parts_of : ℕ → List Part
   parts_of birth = parts (h.shapes birth).references (h.shapes birth).numbers
@@ -144,11 +144,11 @@ module _ (heap : HeapState) (no_sweep : in_sweep heap.collector.phase ≡ false)
           record { place = resolve t₀ w; block = y; plain = plain_y; birth_is = birth_y ∙ r.birth_is; part_is = part_y ∙ k.number_is; promised = further r.place r.block r.plain.there r.plain.original r.promised k.index w e }
 
   -- a block of an object that is reached is its part
-  reached_block : (q : ℕ) (x : Block) → block_at t₀ q ≡ Some x → x.forward ≡ None → IsReached x.birth → IsPromised started q
+  reached_block : (q : ℕ) (x : Block) → block_at t₀ q ≡ Some x → x.forward ≡ None → IsReached x.birth → WillBeMarked started q
   reached_block q x there live f =
       let part_x : IsPartOf (h.shapes x.birth) x = h.parts q x there in
       let r = reached_part (suc x.part) x.birth x.part f (omega arith) (slice_get_within _ _ _ part_x.is) in
-      subst (IsPromised started) (h.one r.place q r.block x r.plain.there there r.plain.original live r.birth_is r.part_is) r.promised
+      subst (WillBeMarked started) (h.one r.place q r.block x r.plain.there there r.plain.original live r.birth_is r.part_is) r.promised
 
   found : (path : List ℕ) (birth : ℕ) → IsPath view birth path → IsReached birth
   found [] birth (slot, e) =
@@ -159,7 +159,7 @@ module _ (heap : HeapState) (no_sweep : in_sweep heap.collector.phase ≡ false)
       record { place = r; block = x; there = plain.there; live = plain.original; birth_is = ap (λ z. z.birth) same ∙ is; first = first; promised = ([], inl (refl, (slot, r, omega arith, at, self))) }
   found (nearest ∷ path) birth ((field, e), after) = go (found path nearest after)
     where
-      onward : (q : ℕ) (y : Block) → block_at t₀ q ≡ Some y → y.forward ≡ None → first_child (h.shapes y.birth) y.part ≡ None → IsPromised started q → (j r : ℕ) (t : Block) → get_or y.references j None ≡ Some r → block_at t₀ (resolve t₀ r) ≡ Some t → t.birth ≡ birth → IsReached birth
+      onward : (q : ℕ) (y : Block) → block_at t₀ q ≡ Some y → y.forward ≡ None → first_child (h.shapes y.birth) y.part ≡ None → WillBeMarked started q → (j r : ℕ) (t : Block) → get_or y.references j None ≡ Some r → block_at t₀ (resolve t₀ r) ≡ Some t → t.birth ≡ birth → IsReached birth
       onward q y there live flat promised j r t word there_t is =
           let (x, plain, first) = h.fields q y (plain_of q y there live) flat j r word in
           let same : x ≡ t = same_Some x t (sym plain.there ∙ there_t) in
@@ -188,7 +188,7 @@ module _ (heap : HeapState) (no_sweep : in_sweep heap.collector.phase ≡ false)
           ]
 
   -- each block of an object that is reachable
-  path-started : (q : ℕ) (x : Block) → block_at t₀ q ≡ Some x → x.forward ≡ None → Reachable view x.birth → IsMarkedAt started q ⊎ IsPromised started q
+  path-started : (q : ℕ) (x : Block) → block_at t₀ q ≡ Some x → x.forward ≡ None → Reachable view x.birth → IsMarkedAt started q ⊎ WillBeMarked started q
   path-started q x there live (path, is_path) = inr (reached_block q x there live (found path x.birth is_path))
 
   whole-started : (birth : ℕ) → Reachable view birth → IsWhole started birth

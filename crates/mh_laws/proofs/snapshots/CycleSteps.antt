@@ -11,6 +11,7 @@ use Rattle.mh_model.specs.World.{World}
 use Rattle.mh_model.specs.Collector.{Collector, mark_step, marking_of, with_marking, with_phase, roots_step, sweep_step, defrag_step, after_mark, is_past, cycle_end, phase_after, step_in, collector_step, step_cost, is_moving, is_idle, quantum_start, steps, quantum}
 use Rattle.mh_model.specs.Mutator.{in_roots_or_mark, in_roots}
 use Rattle.mh_model.specs.Invariant.{IsFromRoot, KeepsSnapshot, Continues}
+use Rattle.mh_model.specs.Limits.{root_slots}
 use Rattle.mh_laws.proofs.costs.Quanta.{steps-stop, steps-go}
 use Rattle.mh_laws.proofs.marking.SameTable.{snapshot-turned}
 use Rattle.mh_laws.proofs.marking.MarkSteps.{snapshot-roots_step, snapshot-mark_step}
@@ -20,9 +21,9 @@ use Rattle.mh_laws.proofs.costs.QuantumStarts.{begins}
 
 module _ (snapshot : World) (n : ℕ) where
   after_roots : (c : Collector) → c.phase ≡ Roots → KeepsSnapshot snapshot n c → Continues snapshot n (phase_after Roots c)
-  after_roots c phase h = go (c.cursor == 144) refl
+  after_roots c phase h = go (c.cursor == root_slots) refl
     where
-      no_root : c.cursor ≡ 144 → (q : ℕ) → IsFromRoot c q → ⊥
+      no_root : c.cursor ≡ root_slots → (q : ℕ) → IsFromRoot c q → ⊥
       no_root last q from =
           let (i, r, after, at, to) = from.1 in
           absurd (none-some r (sym (get_or_past c.slots i None (omega (arith, h.sound.roots, after, last))) ∙ at))
@@ -31,8 +32,8 @@ module _ (snapshot : World) (n : ℕ) where
       running [] k = record { keeps = k; ends = λ i. absurd (false≢true i) }
       running (g ∷ grey) k = record { keeps = k; ends = λ i. absurd (false≢true i) }
 
-      go : (b : Bool) → (c.cursor == 144) ≡ b → Continues snapshot n (if b then after_mark c c.grey else c)
-      go true e = running c.grey (snapshot-after_mark snapshot n c (ap in_roots_or_mark phase) (no_root (eqb-true c.cursor 144 e)) h)
+      go : (b : Bool) → (c.cursor == root_slots) ≡ b → Continues snapshot n (if b then after_mark c c.grey else c)
+      go true e = running c.grey (snapshot-after_mark snapshot n c (ap in_roots_or_mark phase) (no_root (eqb-true c.cursor root_slots e)) h)
       go false e = record { keeps = h; ends = λ i. absurd (false≢true (ap is_idle (sym phase) ∙ i)) }
 
   after_marking : (c : Collector) → c.phase ≡ Mark → KeepsSnapshot snapshot n c → Continues snapshot n (phase_after Mark c)

@@ -14,6 +14,7 @@ use Rattle.mh_model.specs.Mutator.{HeapState, first_heap, in_roots_or_mark}
 use Rattle.mh_model.specs.Machine.{Machine, first_machine, with_collector, quantum_run, command_step, half_step, machine_after}
 use Rattle.mh_model.specs.View.{in_sweep, heap_view}
 use Rattle.mh_model.specs.Invariant.{IsSound, KeepsSnapshot, Continues, IsLinked, IsKeeping}
+use Rattle.mh_model.specs.Limits.{root_slots}
 use Rattle.mh_laws.specs.Snapshots.{MomentsKeepASnapshot}
 use Rattle.mh_table_laws.proofs.Lists.{none_at}
 use Rattle.mh_laws.proofs.runs.EveryMoment.{half_step-keeps, machine_after-keeps}
@@ -93,7 +94,7 @@ keeps-first config = snapshot-idle (first_world config) 0 (first_collector confi
       shapes = λ birth. record { references = 0; numbers = 0 };
       parts = λ q x e. absurd (no_block q x e);
       one = λ q r x y e f. absurd (no_block q x e);
-      slots = λ i r e. absurd (none-some r (sym (none_at 144 i) ∙ e));
+      slots = λ i r e. absurd (none-some r (sym (none_at root_slots i) ∙ e));
       fields = λ q x plain. absurd (no_block q x plain.there);
       spines = λ q x child plain. absurd (no_block q x plain.there);
       grey = λ q is. absurd is;

@@ -19,7 +19,7 @@ use Rattle.mh_model.specs.Mutator.{heap_effect, mutator_step}
 use Rattle.mh_model.specs.Machine.{first_machine, quantum_run, command_step, control_step, event_step}
 use Rattle.mh_model.specs.Deeds.{step_deeds, deeds_of_steps, quantum_deeds, command_deeds, account_of}
 use Rattle.mh_table_laws.specs.TableMaps.{table_map}
-use Rattle.mh_picture_laws.specs.Picture.{Drawn, Picture, drawn_of, empty_picture, drawn, drawn_all, accounts_of, drawn_run, dump_of}
+use Rattle.mh_picture_laws.specs.Picture.{Drawn, Picture, drawn_of, empty_picture, drawn, drawn_all, accounts_of, drawn_run, pictured_dump}
 
 -- a row that unfolds this name computes
 unfoldable worked : ℕ
@@ -132,7 +132,7 @@ command_before_its_quantum = refl
 
 -- the dump of a picture with a moved block
 -- refuses: a forwarder is dumped as a block; a kept block is taken away
-pub dumped_from_a_run : option_map dump_of (drawn_under 4 1000 0 0 (event.Session 0 (New 0 0 60) ∷ event.Session 0 (New 1 0 60) ∷ event.Session 0 (New 2 0 60) ∷ event.Session 0 (New 3 0 60) ∷ event.Session 0 (New 4 0 60) ∷ event.Session 0 (Clear 1) ∷ event.Control control.Start ∷ event.Control control.Quantum ∷ []))
+pub dumped_from_a_run : option_map pictured_dump (drawn_under 4 1000 0 0 (event.Session 0 (New 0 0 60) ∷ event.Session 0 (New 1 0 60) ∷ event.Session 0 (New 2 0 60) ∷ event.Session 0 (New 3 0 60) ∷ event.Session 0 (New 4 0 60) ∷ event.Session 0 (Clear 1) ∷ event.Control control.Start ∷ event.Control control.Quantum ∷ []))
     ≡ Some (item.Page 0 64 false ∷ item.Block 0 0 0 ∷ item.Block 1 4 0 ∷ item.Block 2 2 0 ∷ item.Block 3 3 0 ∷ item.Page 1 64 true ∷ item.Forwarder 0 0 1 ∷ [])
 unfolding worked
 dumped_from_a_run = refl

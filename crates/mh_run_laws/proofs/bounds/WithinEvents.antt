@@ -23,6 +23,7 @@ use Rattle.mh_model.specs.Trace.{M, C}
 use Rattle.mh_model.specs.Collector.{quantum}
 use Rattle.mh_model.specs.Mutator.{HeapState, heap_sight, new_group, with_born, heap_effect, mutator_step}
 use Rattle.mh_model.specs.Machine.{Machine, new_units, command_units, first_machine, is_quantum_due, quantum_run, command_step, control_step, half_step, event_step, machine_after}
+use Rattle.mh_model.specs.Limits.{least_quantum}
 use Rattle.mh_run_laws.specs.Bounds.{most_blocks, most_letters, IsWithinItsEvents, RunsStayWithinTheirEvents}
 use Rattle.mh_laws.proofs.OfTableLaws.Parts.{parts_fit}
 use Rattle.mh_laws.proofs.costs.Quanta.{units-quantum}
@@ -197,7 +198,7 @@ module _ (config : Config) where
   few-letters =
       let (pages, others) = and_parts (nat_le 1 config.pages) _ config.in_limits in
       let (most_pages, quanta) = and_parts (nat_le config.pages 4096) _ others in
-      let (least, rest) = and_parts (nat_le 209 config.quantum) _ quanta in
+      let (least, rest) = and_parts (nat_le least_quantum config.quantum) _ quanta in
       let (most, last) = and_parts (nat_le config.quantum 1000000) _ rest in
       omega (arith, leb-true config.quantum 1000000 most)
 

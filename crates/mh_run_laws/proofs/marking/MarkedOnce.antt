@@ -7,6 +7,7 @@ use Rattle.mh_model.specs.declared.cycle.Phase.TheVariants.{Idle, Roots, Mark, S
 use Rattle.mh_model.specs.Collector.{Collector, Marking, marking_of, with_marking, with_phase, mark_first, after_mark, is_past, cycle_end, step_in, phase_after, collector_step}
 use Rattle.mh_model.specs.Mutator.{HeapState, in_roots_or_mark, mutator_step}
 use Rattle.mh_model.specs.CycleBounds.{count_at, IsGreySound, StageOf, IsUnderway}
+use Rattle.mh_model.specs.Limits.{root_slots}
 use Rattle.mh_laws.specs.Deeds.{Deed, Step, Perform, with_step, heap_after}
 use Rattle.mh_run_laws.specs.GreyRoom.{StaysOut, NoPlaceTurnsGreyAgain}
 use Rattle.mh_laws.specs.OfTableLaws.Marking.{IsSettled}
@@ -27,7 +28,7 @@ after_mark-settled place collector (first ∷ grey) s = record { marked = s.mark
 
 step-settled : (place : ℕ) (phase : Phase) (collector : Collector) → collector.phase ≡ phase → IsGreySound (marking_of collector) → StaysSettled place collector → StaysSettled place (phase_after phase (step_in phase collector))
 step-settled place Idle collector is sound s = s
-step-settled place Roots collector is sound s = go (new.cursor == 144)
+step-settled place Roots collector is sound s = go (new.cursor == root_slots)
   where
     new : Collector
     new = step_in Roots collector

@@ -18,6 +18,7 @@ use Rattle.mh_model.specs.Machine.{Machine, is_quantum_due, quantum_run, command
 use Rattle.mh_model.specs.View.{heap_view}
 use Rattle.mh_model.specs.Snapshot.{Moment, first_moment, half_moment, next_moment, moment_after, is_heap_full, world_beside_event}
 use Rattle.mh_model.specs.Invariant.{HeapKeeps, IsKeeping, IsFinished}
+use Rattle.mh_model.specs.Limits.{root_slots}
 use Rattle.mh_run_laws.specs.BesideTheWorld.{IsFaithful, MomentsAreFaithful, RepliesAreTheWorlds, IsInCycle, FinishedCyclesAreExact}
 use Rattle.mh_run_laws.specs.Following.{Follows, has_no_place}
 use Rattle.mh_laws.proofs.OfTableLaws.Lists.{none_at}
@@ -30,7 +31,7 @@ use Rattle.mh_laws.proofs.costs.QuantumStarts.{idle_is}
 
 -- the first world reaches nothing
 none-reached : (config : Config) (path : List ℕ) (birth : ℕ) → IsPath (first_world config) birth path → ⊥
-none-reached config [] birth (slot, e) = none-some birth (sym (none_at 144 slot) ∙ e)
+none-reached config [] birth (slot, e) = none-some birth (sym (none_at root_slots slot) ∙ e)
 none-reached config (nearest ∷ path) birth is = none-reached config path nearest is.1
 
 first-faithful : (config : Config) → IsFaithful (first_moment config)

@@ -13,6 +13,7 @@ use Rattle.mh_model.specs.Collector.{Collector, mark_step, marking_of, with_mark
 use Rattle.mh_model.specs.Mutator.{HeapState, in_roots_or_mark, in_roots}
 use Rattle.mh_model.specs.View.{in_sweep, block_of_birth, object_of, object_shown, heap_view}
 use Rattle.mh_model.specs.Invariant.{IsPlainAt, IsFromRoot, IsSound, KeepsSnapshot, HeapKeeps}
+use Rattle.mh_model.specs.Limits.{root_slots}
 use Rattle.mh_laws.proofs.marking.BlockChanges.{not_sweep}
 use Rattle.mh_laws.proofs.marking.MarkSteps.{snapshot-roots_step, snapshot-mark_step}
 use Rattle.mh_laws.proofs.sweeping.SweepSteps.{snapshot-sweeping, snapshot-after_mark, snapshot-sweep_step, snapshot-after_sweep}
@@ -131,15 +132,15 @@ module _ (snapshot world : World) where
           (λ p x plain. (p, record { there = plain.there; original = plain.original; surviving = λ s. absurd (not_sweep heap.collector.phase marks s) })))) agrees
 
   agrees-after_roots : (heap : HeapState) → heap.collector.phase ≡ Roots → HeapKeeps snapshot heap → Agrees (heap_view heap) world → Agrees (heap_view (record heap { collector = phase_after Roots heap.collector })) world
-  agrees-after_roots heap phase h agrees = go (heap.collector.cursor == 144) refl
+  agrees-after_roots heap phase h agrees = go (heap.collector.cursor == root_slots) refl
     where
-      no_root : heap.collector.cursor ≡ 144 → (q : ℕ) → IsFromRoot heap.collector q → ⊥
+      no_root : heap.collector.cursor ≡ root_slots → (q : ℕ) → IsFromRoot heap.collector q → ⊥
       no_root last q from =
           let (i, r, after, at, to) = from.1 in
           absurd (none-some r (sym (get_or_past heap.collector.slots i None (omega (arith, h.sound.roots, after, last))) ∙ at))
 
-      go : (b : Bool) → (heap.collector.cursor == 144) ≡ b → Agrees (heap_view (record heap { collector = if b then after_mark heap.collector heap.collector.grey else heap.collector })) world
-      go true e = agrees-after_mark heap (ap in_roots_or_mark phase) (no_root (eqb-true heap.collector.cursor 144 e)) h agrees
+      go : (b : Bool) → (heap.collector.cursor == root_slots) ≡ b → Agrees (heap_view (record heap { collector = if b then after_mark heap.collector heap.collector.grey else heap.collector })) world
+      go true e = agrees-after_mark heap (ap in_roots_or_mark phase) (no_root (eqb-true heap.collector.cursor root_slots e)) h agrees
       go false e = agrees
 
   agrees-after_sweep : (heap : HeapState) → heap.collector.phase ≡ Sweep → HeapKeeps snapshot heap → Agrees (heap_view heap) world → Agrees (heap_view (record heap { collector = phase_after Sweep heap.collector })) world

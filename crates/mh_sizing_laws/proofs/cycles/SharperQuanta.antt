@@ -1,4 +1,5 @@
 -- What commands and quanta leave of a cycle in which nothing goes into flagged pages: it is within its bound.
+use Rattle.std.specs.Prelude.{◌<◌, ◌-◌, ◌*◌}
 use Rattle.std.proofs.Common.{◌≡◌, inl, inr, ℕ, suc, ◌+◌, ◌-◌, ◌*◌, ◌≤◌, Bool, true, false, if◌then◌else◌, Option, Some, None, length, refl, sym, ap, ◌∙◌, subst, arith}
 use Rattle.std.proofs.Math.Nat.{suc-mul}
 use Rattle.std.proofs.lemmas.Bool.{cases_Bool, true≢false, false≢true}
@@ -21,6 +22,7 @@ use Rattle.mh_laws.proofs.commands.LeftUnchanged.{mutator_step-course}
 use Rattle.mh_laws.proofs.costs.QuantumStarts.{begins, quantum-rests}
 use Rattle.mh_model.specs.Openings.{asked_parts}
 use Rattle.mh_model.specs.CycleUnits.{slot_units, page_units, marking_units}
+use Rattle.mh_model.specs.Limits.{quantum_overhead, root_slots}
 use Rattle.mh_sizing_laws.proofs.openings.Rooms.{LeavesAlone}
 use Rattle.mh_sizing_laws.proofs.cycles.SparsePages.{AreSparse, sparse-alone, IsAtSlot, at_slot-inside, at_slot-kept, page_left, page_left-alone, IsSwept}
 use Rattle.mh_sizing_laws.proofs.cycles.Classes.{HasClasses, PartsFit, command-classes, steps-classes, FitsClass}
@@ -48,13 +50,13 @@ table_weight-less cycle table = sum_by-le-sum_by (page_weight in_units cycle) pa
 
 -- what a cycle spends at most, by what it marks and what it spends on a page
 abbrev pub units_by : Config → ℕ → ℕ → ℕ → ℕ
-units_by config marked wide dear = 288 + marked + (wide + dear) * config.pages
+units_by config marked wide dear = 2 * root_slots + marked + (wide + dear) * config.pages
 
 -- a collector whose quanta and what is left are within the units of its cycle, with pages of classes that fit
 pub record IsSharp (config : Config) (marked wide dear : ℕ) (collector : Collector) : Type 0 where
   pub fits : FitsStage wide dear collector.phase collector
   pub classes : HasClasses (FitsClass wide dear) collector.table
-  pub within : collector.quanta * (config.quantum - 352) + sharp_left wide dear collector.phase collector ≤ units_by config marked wide dear
+  pub within : collector.quanta * (config.quantum - quantum_overhead) + sharp_left wide dear collector.phase collector ≤ units_by config marked wide dear
 
 pub idle-sharp : (wide dear : ℕ) (phase : Phase) (collector : Collector) → is_idle phase ≡ true → sharp_left wide dear phase collector ≡ 0
 idle-sharp wide dear Idle collector idle = refl
@@ -101,10 +103,10 @@ sharp-asked config marked wide dear collector is = record {
 
 -- Quanta -----------------------------------------------------------------------------------------
 
-module _ (config : Config) (marked wide dear : ℕ) (large : 353 ≤ config.quantum) (some_wide : 1 ≤ wide) (some_dear : 1 ≤ dear) where
+module _ (config : Config) (marked wide dear : ℕ) (large : quantum_overhead < config.quantum) (some_wide : 1 ≤ wide) (some_dear : 1 ≤ dear) where
   -- a cycle that runs as a quantum begins, which is counted and not yet paid for
   started-sharp : (before : ℕ) (new : Collector) → IsUnderway new → HaveTheirSlots new.table → HasClasses (FitsClass wide dear) new.table → FitsStage wide dear new.phase new → is_idle new.phase ≡ false → new.quanta ≡ suc before
-      → before * (config.quantum - 352) + sharp_left wide dear new.phase new ≤ units_by config marked wide dear → IsSharp config marked wide dear (steps config.quantum config.quantum false new).collector
+      → before * (config.quantum - quantum_overhead) + sharp_left wide dear new.phase new ≤ units_by config marked wide dear → IsSharp config marked wide dear (steps config.quantum config.quantum false new).collector
   started-sharp before new under slots classes fits runs counted within =
       let after = steps config.quantum config.quantum false new in
       let spent = steps-spend config.quantum config.quantum false new (omega arith) under in
@@ -114,8 +116,8 @@ module _ (config : Config) (marked wide dear : ℕ) (large : 353 ≤ config.quan
         fits = sharp.fits;
         classes = steps-classes (FitsClass wide dear) config.quantum config.quantum false new classes;
         within = elim (cases_Bool (is_idle after.collector.phase)) [
-          | inl idle ↦ omega (arith, ap (λ n. n * (config.quantum - 352)) (count.ended idle), idle-sharp wide dear after.collector.phase after.collector idle)
-          | inr still ↦ omega (arith, ap (λ n. n * (config.quantum - 352)) (count.running still ∙ counted), suc-mul before (config.quantum - 352), within, sharp.paid, spent.rest still)
+          | inl idle ↦ omega (arith, ap (λ n. n * (config.quantum - quantum_overhead)) (count.ended idle), idle-sharp wide dear after.collector.phase after.collector idle)
+          | inr still ↦ omega (arith, ap (λ n. n * (config.quantum - quantum_overhead)) (count.running still ∙ counted), suc-mul before (config.quantum - quantum_overhead), within, sharp.paid, spent.rest still)
         ];
       }
 
@@ -182,5 +184,5 @@ command-sharp config marked wide dear heap who command under slots alone fit is 
     record {
       fits = subst (λ p. FitsStage wide dear p new) (sym course.phase) (fits-alone wide dear old new course carried under slots alone old.phase is.fits);
       classes = command-classes (FitsClass wide dear) heap who command fit is.classes;
-      within = omega (arith, is.within, ap (λ n. n * (config.quantum - 352)) course.quanta, sharp-alone wide dear old new course carried under slots alone is.fits);
+      within = omega (arith, is.within, ap (λ n. n * (config.quantum - quantum_overhead)) course.quanta, sharp-alone wide dear old new course carried under slots alone is.fits);
     }

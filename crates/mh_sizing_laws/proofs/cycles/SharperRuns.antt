@@ -1,4 +1,5 @@
 -- Runs with room for cycles that mark few blocks: nothing goes into flagged pages, so cycles stay within their bound, so nothing does.
+use Rattle.std.specs.Prelude.{◌<◌, ◌-◌}
 use Rattle.std.proofs.Common.{◌≡◌, ◌⊎◌, inl, inr, ℕ, ◌+◌, ◌-◌, ◌*◌, ◌/◌, ◌<◌, ◌≤◌, true, false, ◌&&◌, if◌then◌else◌, List, [], ◌∷◌, refl, sym, ap, ◌∙◌, subst, arith}
 use Rattle.std.specs.List.{AllByRecursion, flat_map}
 use Rattle.std.proofs.Math.Nat.{le-div_iff_mul-le}
@@ -20,6 +21,7 @@ use Rattle.mh_table_laws.proofs.Lists.{none_at}
 use Rattle.mh_model.specs.Openings.{class_parts, asked_parts}
 use Rattle.mh_model.specs.Intervals.{moments, intervals, has_ended, cycle_ends, LeaveFlagged}
 use Rattle.mh_model.specs.CycleUnits.{marking_units, cycle_starts, most_slots, most_moves, quanta_for}
+use Rattle.mh_model.specs.Limits.{quantum_overhead}
 use Rattle.mh_sizing_laws.specs.Cycles.{RoomForMarkingSuffices}
 use Rattle.mh_sizing_laws.proofs.openings.Rooms.{LeavesAlone}
 use Rattle.mh_sizing_laws.proofs.openings.MadeParts.{pages_of}
@@ -44,10 +46,10 @@ quiet-collector machine (event.Control control.Dump) quiet = inl refl
 quiet-collector machine (event.Control control.Left) quiet = inl refl
 quiet-collector machine (event.Control (control.Report window)) quiet = inl refl
 
-module _ (config : Config) (marked wide dear : ℕ) (large : 353 ≤ config.quantum) (some_wide : 1 ≤ wide) (some_dear : 1 ≤ dear) where
+module _ (config : Config) (marked wide dear : ℕ) (large : quantum_overhead < config.quantum) (some_wide : 1 ≤ wide) (some_dear : 1 ≤ dear) where
   -- the most quanta of a cycle
   abbrev most : ℕ
-  most = units_by config marked wide dear / (config.quantum - 352) + 1
+  most = units_by config marked wide dear / (config.quantum - quantum_overhead) + 1
 
   -- the parts that events ask for have classes that fit
   abbrev AskFitting : List Event → Type 0
@@ -60,9 +62,9 @@ module _ (config : Config) (marked wide dear : ℕ) (large : 353 ≤ config.quan
   -- a collector within its bound has had fewer quanta than the most
   sharp-fewer : (collector : Collector) → IsSharp config marked wide dear collector → collector.quanta < most
   sharp-fewer collector is =
-      let room : collector.quanta * (config.quantum - 352) ≤ units_by config marked wide dear = omega (arith, is.within) in
-      let positive : 0 < config.quantum - 352 = omega arith in
-      let divided : collector.quanta ≤ units_by config marked wide dear / (config.quantum - 352) = (le-div_iff_mul-le positive).1 room in
+      let room : collector.quanta * (config.quantum - quantum_overhead) ≤ units_by config marked wide dear = omega (arith, is.within) in
+      let positive : 0 < config.quantum - quantum_overhead = omega arith in
+      let divided : collector.quanta ≤ units_by config marked wide dear / (config.quantum - quantum_overhead) = (le-div_iff_mul-le positive).1 room in
       omega arith
 
   half-sharp : (opened : ℕ) (before : List Event) (start : Table Block) (machine : Machine) (event : Event) → IsReady config most opened before start machine → LeavesAlone machine.heap.collector.table (half_step machine event).heap.collector.table

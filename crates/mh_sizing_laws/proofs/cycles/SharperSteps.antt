@@ -9,6 +9,7 @@ use Rattle.mh_model.specs.Pages.{Page, Table, page_number, slot_number, page_at,
 use Rattle.mh_model.specs.Table.{Block}
 use Rattle.mh_model.specs.Collector.{Collector, Spending, Move, marking_of, next_page, next_place, is_last_slot, if_flagged, flagged_page, next_move, moved_table, move_cost, with_move, with_phase, after_mark, is_past, cycle_end, step_in, phase_after, collector_step, cost_in, step_cost, is_moving_in, is_moving, is_idle, steps}
 use Rattle.mh_model.specs.CycleBounds.{weight, in_units, steps_left, units_left, IsUnderway}
+use Rattle.mh_model.specs.Limits.{root_slots}
 use Rattle.mh_table_laws.proofs.marking.GreyList.{class-with_block, class-with_taken}
 use Rattle.mh_table_laws.proofs.placing.Places.{shaped-slots, least_dense_place-page, block_at-with_taken_other}
 use Rattle.mh_laws.proofs.bounds.CycleBounds.{charge}
@@ -115,7 +116,7 @@ module _ (wide dear : ℕ) where
   -- how many units a cycle may still spend without the charge for slots, if nothing goes into flagged pages
   abbrev pub sharp_left : Phase → Collector → ℕ
   sharp_left Idle collector = 0
-  sharp_left Roots collector = 2 * (144 - collector.cursor) + weight in_units (marking_of collector) + (wide + dear) * length collector.table
+  sharp_left Roots collector = 2 * (root_slots - collector.cursor) + weight in_units (marking_of collector) + (wide + dear) * length collector.table
   sharp_left Mark collector = weight in_units (marking_of collector) + (wide + dear) * length collector.table
   sharp_left Sweep collector = sweep_left collector + dear * length collector.table
   sharp_left Defrag collector = defrag_left collector
@@ -161,7 +162,7 @@ module _ (wide dear : ℕ) where
   after_mark-early collector some (place ∷ grey) = record { beside = omega arith; fits = tt }
 
   roots-early : (collector : Collector) → 0 < length collector.table → collector.phase ≡ Roots → IsEarly (phase_after Roots collector)
-  roots-early collector some phase = go (collector.cursor == 144)
+  roots-early collector some phase = go (collector.cursor == root_slots)
     where
       go : (last : Bool) → IsEarly (if last then after_mark collector collector.grey else collector)
       go true = after_mark-early collector some collector.grey
@@ -320,7 +321,7 @@ charged Sweep collector false = refl
 charged Defrag collector true = refl
 charged Defrag collector false = go (next_move collector.table collector.cursor)
   where
-    go : (move : Option Move) → move_cost false move + charge (is_some move) ≡ move_cost true move + 144
+    go : (move : Option Move) → move_cost false move + charge (is_some move) ≡ move_cost true move + root_slots
     go None = refl
     go (Some move) = omega arith
 

@@ -1,4 +1,5 @@
 -- Pages that suffice for cycles that mark few blocks, or whose snapshots reach little: each part of a run has room, so its cycles take few quanta, so the next one leaves enough.
+use Rattle.std.specs.Prelude.{◌<◌, ◌-◌}
 use Rattle.std.proofs.Common.{◌≡◌, ℕ, ◌+◌, ◌-◌, ◌*◌, ◌/◌, ◌==◌, ◌<◌, ◌≤◌, max, not, Bool, true, false, ◌&&◌, if◌then◌else◌, List, [], ◌∷◌, ◌++◌, flat_map, refl, sym, ap, ◌∙◌, subst, arith, eq-eqb}
 use Rattle.std.specs.List.{AllByRecursion}
 use Rattle.std.proofs.Math.Nat.{le-div_iff_mul-le, mul-le-mul_right, le-max_left, le-max_right, max-le}
@@ -15,6 +16,7 @@ use Rattle.mh_model.specs.Intervals.{moments, intervals, cycle_ends, CyclesTakeA
 use Rattle.mh_model.specs.CycleUnits.{marking_units, cycle_starts, CyclesMarkAtMost, occurs, greatest_of, most_slots, slots_and_moves, most_moves, units_for, quanta_for}
 use Rattle.mh_model.specs.CycleUnits.{ReachesAtMost, snapshots, CyclesReachAtMost}
 use Rattle.mh_model.specs.LiveParts.{HasPagesFor}
+use Rattle.mh_model.specs.Limits.{quantum_overhead}
 use Rattle.mh_sizing_laws.specs.PagesLeft.{NeverFills, PagesForMarkingSuffice, PagesForReachedSuffice}
 use Rattle.mh_sizing_laws.proofs.openings.Intervals.{asked_of, asked-append}
 use Rattle.mh_sizing_laws.proofs.openings.MadeParts.{pages_of-more}
@@ -55,13 +57,13 @@ div-more first second k some less =
     let least : first / k * k ≤ first = (le-div_iff_mul-le some).0 (omega arith) in
     (le-div_iff_mul-le some).1 (omega (arith, least, less))
 
-pub quanta-more : (config : Config) (marked : ℕ) (old new : List Part) → 353 ≤ config.quantum → HasNoMore old new → quanta_for config marked old ≤ quanta_for config marked new
+pub quanta-more : (config : Config) (marked : ℕ) (old new : List Part) → quantum_overhead < config.quantum → HasNoMore old new → quanta_for config marked old ≤ quanta_for config marked new
 quanta-more config marked old new large few =
     let slots = greatest-more slots_in old new class_sizes few in
     let moves = greatest-more slots_and_moves old new class_sizes few in
     let product : (most_slots old + most_moves old) * config.pages ≤ (most_slots new + most_moves new) * config.pages = mul-le-mul_right config.pages (omega (arith, slots, moves)) in
     let units : units_for config marked old ≤ units_for config marked new = omega (arith, product) in
-    omega (arith, div-more (units_for config marked old) (units_for config marked new) (config.quantum - 352) (omega (arith, large)) units)
+    omega (arith, div-more (units_for config marked old) (units_for config marked new) (config.quantum - quantum_overhead) (omega (arith, large)) units)
 
 -- Parts of runs ----------------------------------------------------------------------------------
 
@@ -140,7 +142,7 @@ record IsFew (config : Config) (marked opened : ℕ) (Few : List Event → Type 
   suffices : (events : List Event) → Few events → HasRoomFor config events (quanta_of config marked events) opened → CyclesTakeAtMost (quanta_of config marked events) config events × IsNeverFull config events
 
 -- pages suffice for such a run
-few-pages-suffice : (config : Config) (events : List Event) (marked opened asked most : ℕ) (Few : List Event → Type 0) → 353 ≤ config.quantum → IsFew config marked opened Few → Few events
+few-pages-suffice : (config : Config) (events : List Event) (marked opened asked most : ℕ) (Few : List Event → Type 0) → quantum_overhead < config.quantum → IsFew config marked opened Few → Few events
     → HasPagesFor config events (quanta_of config marked events) opened asked most → CyclesTakeAtMost (quanta_of config marked events) config events × NeverFills config events (quanta_of config marked events) opened
 few-pages-suffice config events marked opened asked most Few large is_few few has =
     let room : HasRoomFor config events quanta opened = room-of config events quanta opened asked most (omega arith) so_far has in

@@ -19,6 +19,7 @@ use Rattle.mh_laws.proofs.commands.LeftUnchanged.{step_in-keeps}
 use Rattle.mh_laws.proofs.moving.NextMove.{next_move-is}
 use Rattle.mh_laws.proofs.sweeping.SweepSteps.{snapshot-sweep_step}
 use Rattle.mh_model.specs.LiveParts.{slot_count, page_count, count_blocks, is_plain}
+use Rattle.mh_model.specs.Limits.{root_slots}
 use Rattle.mh_sizing_laws.proofs.openings.Rooms.{if_free, free_pages-set, same_room-with_block}
 use Rattle.mh_sizing_laws.proofs.Weighing.{place-of}
 use Rattle.mh_sizing_laws.proofs.pages_left.Counting.{count-set, count-with_block}
@@ -230,7 +231,7 @@ step-blocks c (snapshot, n, keeps) slots has = go c.phase refl
 
     go : (phase : Phase) → c.phase ≡ phase → HasItsBlocks (phase_after phase (step_in phase c))
     go Idle is = has
-    go Roots is = after_roots (roots_step c) refl (with_shade-feeds c (get_or c.slots c.cursor None)) (used (ap in_sweep is)) ((roots_step c).cursor == 144)
+    go Roots is = after_roots (roots_step c) refl (with_shade-feeds c (get_or c.slots c.cursor None)) (used (ap in_sweep is)) ((roots_step c).cursor == root_slots)
     go Mark is =
         let marked : Collector = with_marking c (mark_step (marking_of c)) in
         let feeds = mark_first-feeds (marking_of c) c.grey in

@@ -1,4 +1,5 @@
 -- What quanta and commands leave of a cycle whose snapshot reaches little: it is within the bound of what is reached.
+use Rattle.std.specs.Prelude.{◌<◌, ◌-◌}
 use Rattle.std.proofs.Common.{◌≡◌, inl, inr, ℕ, suc, ◌+◌, ◌-◌, ◌*◌, ◌≤◌, true, false, ◌&&◌, ◌||◌, nat_le, if◌then◌else◌, slice_get, refl, sym, ap, ◌∙◌, subst, arith}
 use Rattle.std.proofs.Math.Nat.{suc-mul}
 use Rattle.std.proofs.lemmas.Bool.{cases_Bool, true≢false, false≢true}
@@ -32,6 +33,7 @@ use Rattle.mh_run_laws.proofs.snapshots.AgreeingWorlds.{snapshot-agreeing}
 use Rattle.mh_model.specs.Openings.{asked_parts}
 use Rattle.mh_model.specs.CycleUnits.{marking_units}
 use Rattle.mh_model.specs.CycleUnits.{parts_of, ReachesAtMost}
+use Rattle.mh_model.specs.Limits.{quantum_overhead}
 use Rattle.mh_sizing_laws.proofs.openings.Rooms.{LeavesAlone}
 use Rattle.mh_sizing_laws.proofs.cycles.Classes.{HasClasses, PartsFit, FitsClass}
 use Rattle.mh_sizing_laws.proofs.cycles.SharperSteps.{sharp_left, FitsStage}
@@ -91,7 +93,7 @@ left-weighs wide dear Sweep collector e = absurd (false≢true e)
 left-weighs wide dear Defrag collector e = absurd (false≢true e)
 
 -- Its quanta have spent no more than that
-pub reaching-spent : (config : Config) (marked wide dear : ℕ) (snapshot : World) (n : ℕ) (collector : Collector) → KeepsSnapshot snapshot n collector → IsReaching config marked wide dear snapshot collector → collector.quanta * (config.quantum - 352) ≤ units_by config marked wide dear
+pub reaching-spent : (config : Config) (marked wide dear : ℕ) (snapshot : World) (n : ℕ) (collector : Collector) → KeepsSnapshot snapshot n collector → IsReaching config marked wide dear snapshot collector → collector.quanta * (config.quantum - quantum_overhead) ≤ units_by config marked wide dear
 reaching-spent config marked wide dear snapshot n collector keeps is = elim (cases_Bool (in_roots_or_mark collector.phase)) [
   | inl early ↦
       let (first, sharp, begun, few) = is.early early in
@@ -102,10 +104,10 @@ reaching-spent config marked wide dear snapshot n collector keeps is = elim (cas
 
 -- Quanta -----------------------------------------------------------------------------------------
 
-module _ (config : Config) (marked wide dear : ℕ) (large : 353 ≤ config.quantum) (some_wide : 1 ≤ wide) (some_dear : 1 ≤ dear) where
+module _ (config : Config) (marked wide dear : ℕ) (large : quantum_overhead < config.quantum) (some_wide : 1 ≤ wide) (some_dear : 1 ≤ dear) where
   -- a cycle that runs as a quantum begins, in which blocks are marked
   started-reaching : (snapshot : World) (n before : ℕ) (first : Table Block) (new : Collector) → ReachesAtMost marked snapshot → in_roots_or_mark new.phase ≡ true → KeepsSnapshot snapshot n new → IsUnderway new → HaveTheirSlots new.table → HasClasses (FitsClass wide dear) new.table
-      → FitsStage wide dear new.phase new → HasBegun snapshot first new.table → new.quanta ≡ suc before → before * (config.quantum - 352) + sharp_left wide dear new.phase new ≤ units_by config (marking_units first) wide dear
+      → FitsStage wide dear new.phase new → HasBegun snapshot first new.table → new.quanta ≡ suc before → before * (config.quantum - quantum_overhead) + sharp_left wide dear new.phase new ≤ units_by config (marking_units first) wide dear
       → IsSharp config (marking_units first) wide dear (steps config.quantum config.quantum false new).collector → IsReaching config marked wide dear snapshot (steps config.quantum config.quantum false new).collector
   started-reaching snapshot n before first new few early keeps under slots classes fits begun counted within sharp =
       let after = steps config.quantum config.quantum false new in
@@ -117,8 +119,8 @@ module _ (config : Config) (marked wide dear : ℕ) (large : 353 ≤ config.quan
           fits = sharp.fits;
           classes = sharp.classes;
           within = elim (cases_Bool (is_idle after.collector.phase)) [
-            | inl idle ↦ omega (arith, ap (λ q. q * (config.quantum - 352)) (count.ended idle), idle-sharp wide dear after.collector.phase after.collector idle)
-            | inr still ↦ omega (arith, ap (λ q. q * (config.quantum - 352)) (count.running still ∙ counted), suc-mul before (config.quantum - 352), within, reached.late l, spent.rest still)
+            | inl idle ↦ omega (arith, ap (λ q. q * (config.quantum - quantum_overhead)) (count.ended idle), idle-sharp wide dear after.collector.phase after.collector idle)
+            | inr still ↦ omega (arith, ap (λ q. q * (config.quantum - quantum_overhead)) (count.running still ∙ counted), suc-mul before (config.quantum - quantum_overhead), within, reached.late l, spent.rest still)
           ];
         };
         early = λ e. (first, sharp, reached.early e, few);
@@ -136,7 +138,7 @@ module _ (config : Config) (marked wide dear : ℕ) (large : 353 ≤ config.quan
         let before : IsSharp config (marking_units old.table) wide dear old = record {
           fits = late.fits;
           classes = late.classes;
-          within = omega (arith, ap (λ q. q * (config.quantum - 352)) (bounds.idle (ap is_idle idle)), idle-sharp wide dear old.phase old (ap is_idle idle));
+          within = omega (arith, ap (λ q. q * (config.quantum - quantum_overhead)) (bounds.idle (ap is_idle idle)), idle-sharp wide dear old.phase old (ap is_idle idle));
         } in
         let sharp = quantum-sharp config (marking_units old.table) wide dear large some_wide some_dear old bounds slots before (λ d. omega arith) in
         let kept : KeepsSnapshot world heap.next_birth new = snapshot-counted world heap.next_birth (cycle_start old) false 1 (started-keeps heap world (ap in_sweep idle) keeps.sound agrees) in

@@ -1,4 +1,5 @@
 -- Runs with room for cycles whose snapshots reach little: nothing goes into flagged pages, so cycles stay within their bound, so nothing does.
+use Rattle.std.specs.Prelude.{◌<◌, ◌-◌}
 use Rattle.std.proofs.Common.{◌≡◌, inl, inr, ℕ, ◌+◌, ◌-◌, ◌*◌, ◌/◌, ◌<◌, ◌≤◌, Bool, true, false, ◌&&◌, if◌then◌else◌, List, [], ◌∷◌, refl, sym, ap, ◌∙◌, subst, arith}
 use Rattle.std.specs.List.{AllByRecursion, flat_map}
 use Rattle.std.proofs.Math.Nat.{le-div_iff_mul-le}
@@ -20,6 +21,7 @@ use Rattle.mh_model.specs.Openings.{class_parts, asked_parts}
 use Rattle.mh_model.specs.Intervals.{moments, intervals, has_ended, cycle_ends, LeaveFlagged}
 use Rattle.mh_model.specs.CycleUnits.{most_slots, most_moves, quanta_for}
 use Rattle.mh_model.specs.CycleUnits.{ReachesAtMost, snapshots}
+use Rattle.mh_model.specs.Limits.{quantum_overhead}
 use Rattle.mh_sizing_laws.specs.Reached.{RoomForReachedSuffices}
 use Rattle.mh_sizing_laws.proofs.openings.Rooms.{LeavesAlone}
 use Rattle.mh_sizing_laws.proofs.openings.MadeParts.{pages_of}
@@ -87,10 +89,10 @@ faithful-first config = record { at_each = (moments-faithful commands-follow).at
 
 -- Events -----------------------------------------------------------------------------------------
 
-module _ (config : Config) (marked wide dear : ℕ) (large : 353 ≤ config.quantum) (some_wide : 1 ≤ wide) (some_dear : 1 ≤ dear) where
+module _ (config : Config) (marked wide dear : ℕ) (large : quantum_overhead < config.quantum) (some_wide : 1 ≤ wide) (some_dear : 1 ≤ dear) where
   -- the most quanta of a cycle
   abbrev most : ℕ
-  most = units_by config marked wide dear / (config.quantum - 352) + 1
+  most = units_by config marked wide dear / (config.quantum - quantum_overhead) + 1
 
   -- the parts that events ask for have classes that fit
   abbrev AskFitting : List Event → Type 0
@@ -101,9 +103,9 @@ module _ (config : Config) (marked wide dear : ℕ) (large : 353 ≤ config.quan
 
   reaching-fewer : (moment : Moment) → IsFaithful moment → IsWithinReach moment → moment.machine.heap.collector.quanta < most
   reaching-fewer moment faithful is =
-      let room : moment.machine.heap.collector.quanta * (config.quantum - 352) ≤ units_by config marked wide dear = reaching-spent config marked wide dear moment.snapshot moment.machine.heap.next_birth moment.machine.heap.collector faithful.keeps is in
-      let positive : 0 < config.quantum - 352 = omega arith in
-      let divided : moment.machine.heap.collector.quanta ≤ units_by config marked wide dear / (config.quantum - 352) = (le-div_iff_mul-le positive).1 room in
+      let room : moment.machine.heap.collector.quanta * (config.quantum - quantum_overhead) ≤ units_by config marked wide dear = reaching-spent config marked wide dear moment.snapshot moment.machine.heap.next_birth moment.machine.heap.collector faithful.keeps is in
+      let positive : 0 < config.quantum - quantum_overhead = omega arith in
+      let divided : moment.machine.heap.collector.quanta ≤ units_by config marked wide dear / (config.quantum - quantum_overhead) = (le-div_iff_mul-le positive).1 room in
       omega arith
 
   half-reaching : (opened : ℕ) (before : List Event) (start : Table Block) (moment : Moment) (event : Event) → IsFaithful moment → IsReady config most opened before start moment.machine

@@ -21,6 +21,7 @@ use Rattle.mh_laws.proofs.marking.MarkSteps.{runs}
 use Rattle.mh_laws.proofs.snapshots.CycleSteps.{continues-collector_step}
 use Rattle.mh_model.specs.CycleUnits.{marking_units}
 use Rattle.mh_model.specs.CycleUnits.{ReachesAtMost}
+use Rattle.mh_model.specs.Limits.{root_slots}
 use Rattle.mh_sizing_laws.proofs.cycles.Classes.{HasClasses, collector_step-classes, FitsClass}
 use Rattle.mh_sizing_laws.proofs.cycles.SharperSteps.{sharp_left, FitsStage, collector_step-sharp, step-charged, steps-sharp}
 use Rattle.mh_sizing_laws.proofs.reached.HeldBlocks.{Holds, holds-then, mark_first-holds, with_shade-holds}
@@ -75,7 +76,7 @@ module _ (most : ℕ) where
 
       go : (phase : Phase) → in_roots_or_mark phase ≡ true → Holds most c.table (phase_after phase (step_in phase c)).table
       go Idle e = absurd (false≢true e)
-      go Roots e = rooting ((roots_step c).cursor == 144)
+      go Roots e = rooting ((roots_step c).cursor == root_slots)
       go Mark e = subst (Holds most c.table) (sym (after_mark-table (step_in Mark c) (step_in Mark c).grey)) (mark_first-holds most (marking_of c) c.grey)
       go Sweep e = absurd (false≢true e)
       go Defrag e = absurd (false≢true e)
@@ -98,7 +99,7 @@ module _ (wide dear : ℕ) where
   unfolding collector_step
   last-paid c under early late = go c.phase early late under.stage
     where
-      rooting : (last : Bool) → c.cursor < 144 → in_roots_or_mark (if last then after_mark (roots_step c) (roots_step c).grey else roots_step c).phase ≡ false → IsLast 2 (sharp_left wide dear Roots c) (if last then after_mark (roots_step c) (roots_step c).grey else roots_step c)
+      rooting : (last : Bool) → c.cursor < root_slots → in_roots_or_mark (if last then after_mark (roots_step c) (roots_step c).grey else roots_step c).phase ≡ false → IsLast 2 (sharp_left wide dear Roots c) (if last then after_mark (roots_step c) (roots_step c).grey else roots_step c)
       rooting true inside l =
           let lighter : weight in_units (marking_of (roots_step c)) ≤ weight in_units (marking_of c) = (with_shade-carries c (get_or c.slots c.cursor None) under.sound).lighter in_units in
           let pages : length (roots_step c).table ≡ length c.table = (step_in-keeps 0 Roots c).pages in
@@ -119,7 +120,7 @@ module _ (wide dear : ℕ) where
 
       go : (phase : Phase) → in_roots_or_mark phase ≡ true → in_roots_or_mark (phase_after phase (step_in phase c)).phase ≡ false → StageOf phase c → IsLast (cost_in phase c true) (sharp_left wide dear phase c) (phase_after phase (step_in phase c))
       go Idle e l stage = absurd (false≢true e)
-      go Roots e l stage = rooting ((roots_step c).cursor == 144) stage l
+      go Roots e l stage = rooting ((roots_step c).cursor == root_slots) stage l
       go Mark e l stage = marking c.grey refl stage l
       go Sweep e l stage = absurd (false≢true e)
       go Defrag e l stage = absurd (false≢true e)

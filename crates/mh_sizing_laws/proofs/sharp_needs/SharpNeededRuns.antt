@@ -1,4 +1,5 @@
 -- Runs with pages enough for what their sessions need, where small parts share pages: each part of a run has what the whole needs.
+use Rattle.std.specs.Prelude.{◌<◌, ◌-◌}
 use Rattle.std.proofs.Common.{◌≡◌, inl, inr, ℕ, ◌+◌, ◌-◌, ◌*◌, ◌/◌, ◌<◌, ◌≤◌, false, List, [], ◌∷◌, ◌++◌, flat_map, refl, sym, ap, ◌∙◌, subst, arith}
 use Rattle.std.specs.List.{AllByRecursion}
 use Rattle.std.proofs.Math.Nat.{le-div_iff_mul-le, div-mul-le_self, mul-le-mul_left, mul-le-mul_right}
@@ -17,6 +18,7 @@ use Rattle.mh_model.specs.Intervals.{moments, intervals, CyclesTakeAtMost}
 use Rattle.mh_model.specs.CycleUnits.{ReachesAtMost, CyclesReachAtMost, most_slots, most_moves, units_for, quanta_for}
 use Rattle.mh_model.specs.LiveParts.{HasAtMostLive, worlds}
 use Rattle.mh_model.specs.Needs.{WorldRun, first_run, run_worlds, run_intervals, NeedNoMore, units_needed, quanta_needed}
+use Rattle.mh_model.specs.Limits.{quantum_overhead}
 use Rattle.mh_sizing_laws.specs.PagesLeft.{NeverFills}
 use Rattle.mh_sizing_laws.proofs.openings.Intervals.{asked_of, asked-append}
 use Rattle.mh_sizing_laws.proofs.openings.MadeParts.{pages_of-more}
@@ -51,14 +53,14 @@ asked-first config (event ∷ more) size = omega (arith, asked-append config (ev
 
 module _ (needs : Needs) (least kinds : ℕ) (config : Config) (events : List Event) (need : NeedNoMore needs config events) (asks : AskOfClasses least kinds config events) where
   -- the quanta of a part of the run are no more than what is needed
-  few-quanta : (done more : List Event) → done ++ more ≡ events → 353 ≤ config.quantum → quanta_for config needs.marked (flat_map (asked_parts config) (done ++ first_of more)) ≤ quanta_needed needs config
+  few-quanta : (done more : List Event) → done ++ more ≡ events → quantum_overhead < config.quantum → quanta_for config needs.marking_units (flat_map (asked_parts config) (done ++ first_of more)) ≤ quanta_needed needs config
   few-quanta done more split large =
       let whole : List Part = flat_map (asked_parts config) events in
-      let part = quanta-more config needs.marked (flat_map (asked_parts config) (done ++ first_of more)) whole large
+      let part = quanta-more config needs.marking_units (flat_map (asked_parts config) (done ++ first_of more)) whole large
       (λ size. omega (arith, asked-append config done (first_of more) size, asked-append config done more size, asked-first config more size, ap (λ list. asked_of config list size) split)) in
-      let product : (most_slots whole + most_moves whole) * config.pages ≤ needs.page * config.pages = mul-le-mul_right config.pages need.page in
-      let units : units_for config needs.marked whole ≤ units_needed needs config.pages = omega (arith, product) in
-      omega (arith, part, div-more (units_for config needs.marked whole) (units_needed needs config.pages) (config.quantum - 352) (omega (arith, large)) units)
+      let product : (most_slots whole + most_moves whole) * config.pages ≤ needs.page_units * config.pages = mul-le-mul_right config.pages need.page in
+      let units : units_for config needs.marking_units whole ≤ units_needed needs config.pages = omega (arith, product) in
+      omega (arith, part, div-more (units_for config needs.marking_units whole) (units_needed needs config.pages) (config.quantum - quantum_overhead) (omega (arith, large)) units)
 
   module _ (quanta : ℕ) (has : HasSharpEnoughFor needs least kinds config quanta) where
     part-worlds : (P : World → Type 0) (done more : List Event) → done ++ more ≡ events → NoneIsFull (machine_replies (first_machine config) done) → AllByRecursion P (run_worlds (first_run config) events) → AllByRecursion P (worlds (first_moment config) (done ++ first_of more))
@@ -89,17 +91,17 @@ module _ (needs : Needs) (least kinds : ℕ) (config : Config) (events : List Ev
         of_intervals : (P : List Event → Type 0) → ((before later : List Event) → P (before ++ later) → P before) → AllByRecursion P (run_intervals [] run events) → AllByRecursion P (intervals [] (first_machine config) (done ++ first_of more))
         of_intervals P start all = intervals-hold config P start done more [] first run (first-beside config) none (subst (λ list. AllByRecursion P (run_intervals [] run list)) (sym split) all)
 
-    part-reached : (done more : List Event) → done ++ more ≡ events → NoneIsFull (machine_replies (first_machine config) done) → CyclesReachAtMost needs.marked config (done ++ first_of more)
-    part-reached done more split none = snapshots-hold (ReachesAtMost needs.marked) (done ++ first_of more) (first_moment config) (part-worlds (ReachesAtMost needs.marked) done more split none need.marked)
+    part-reached : (done more : List Event) → done ++ more ≡ events → NoneIsFull (machine_replies (first_machine config) done) → CyclesReachAtMost needs.marking_units config (done ++ first_of more)
+    part-reached done more split none = snapshots-hold (ReachesAtMost needs.marking_units) (done ++ first_of more) (first_moment config) (part-worlds (ReachesAtMost needs.marking_units) done more split none need.marked)
 
     -- so their cycles take no more quanta
     part-takes : (done more : List Event) → done ++ more ≡ events → NoneIsFull (machine_replies (first_machine config) done) → CyclesTakeAtMost quanta config (done ++ first_of more)
     part-takes done more split none = elim has.bound [
       | inl bound ↦ take-fewer (most_quanta config) bound (cycles-bounded config part)
       | inr sharp ↦
-          let few : quanta_for config needs.marked (flat_map (asked_parts config) part) ≤ quanta = omega (arith, few-quanta done more split sharp.0, sharp.1) in
-          take-fewer (quanta_for config needs.marked (flat_map (asked_parts config) part)) few
-          (sharp-reached-suffices config part needs.marked needs.opened needs.live sharp.0 (part-reached done more split none) (part-pages done more split none (quanta_for config needs.marked (flat_map (asked_parts config) part)) few)).0
+          let few : quanta_for config needs.marking_units (flat_map (asked_parts config) part) ≤ quanta = omega (arith, few-quanta done more split sharp.0, sharp.1) in
+          take-fewer (quanta_for config needs.marking_units (flat_map (asked_parts config) part)) few
+          (sharp-reached-suffices config part needs.marking_units needs.opened needs.live sharp.0 (part-reached done more split none) (part-pages done more split none (quanta_for config needs.marking_units (flat_map (asked_parts config) part)) few)).0
     ]
       where
         part : List Event

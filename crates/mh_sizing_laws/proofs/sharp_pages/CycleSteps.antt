@@ -17,6 +17,7 @@ use Rattle.mh_model.specs.Mutator.{HeapState}
 use Rattle.mh_model.specs.View.{in_sweep, heap_view}
 use Rattle.mh_model.specs.World.{World, births}
 use Rattle.mh_model.specs.Invariant.{in_trace, in_defrag, IsSound, IsFinished, HeapKeeps}
+use Rattle.mh_model.specs.Limits.{root_slots}
 use Rattle.mh_table_laws.proofs.Lists.{below_length, get_or-set_either}
 use Rattle.mh_table_laws.proofs.placing.Places.{shaped-slots, block-slot}
 use Rattle.mh_laws.proofs.commands.LeftUnchanged.{step_in-keeps}
@@ -268,7 +269,7 @@ module _ (sizes : List ℕ) (from most bound : ℕ) (base fresh : ℕ → ℕ) w
 
           go : (phase : Phase) → c.phase ≡ phase → (in_defrag (phase_after phase (step_in phase c)).phase ≡ true → count_blocks (is_old from) (phase_after phase (step_in phase c)).table ≤ most) → Goes (phase_after phase (step_in phase c))
           go Idle is few = absurd (true≢false (sym (ap is_idle is) ∙ runs))
-          go Roots is few = after_roots (roots_step c) refl (ap in_trace is) (ap in_sweep is) (with_shade-ages c (get_or c.slots c.cursor None)) ((roots_step c).cursor == 144)
+          go Roots is few = after_roots (roots_step c) refl (ap in_trace is) (ap in_sweep is) (with_shade-ages c (get_or c.slots c.cursor None)) ((roots_step c).cursor == root_slots)
           go Mark is few = after (with_marking c (mark_step (marking_of c))) (with_marking c (mark_step (marking_of c))).grey (ap in_trace is) (ap in_sweep is) (mark_first-ages (marking_of c) c.grey)
           go Sweep is few = after_sweep is (is_past swept.table swept.cursor) refl few
           go Defrag is few =

@@ -1,4 +1,5 @@
 -- Sharp pages for cycles that mark few blocks, or whose snapshots reach little: each part of a run has room, so its cycles take few quanta, so the next one leaves enough.
+use Rattle.std.specs.Prelude.{◌<◌}
 use Rattle.std.proofs.Common.{◌≡◌, ℕ, ◌+◌, ◌*◌, ◌<◌, ◌≤◌, false, List, [], ◌++◌, refl, sym, subst, arith}
 use Rattle.std.specs.List.{AllByRecursion}
 use Rattle.std.proofs.Math.Nat.{mul-le-mul_right}
@@ -11,6 +12,7 @@ use Rattle.mh_model.specs.Openings.{free_of}
 use Rattle.mh_model.specs.Intervals.{intervals, cycle_ends, CyclesTakeAtMost, HasRoomFor, IsNeverFull}
 use Rattle.mh_model.specs.CycleUnits.{marking_units, CyclesMarkAtMost, quanta_for}
 use Rattle.mh_model.specs.CycleUnits.{ReachesAtMost, snapshots, CyclesReachAtMost}
+use Rattle.mh_model.specs.Limits.{quantum_overhead}
 use Rattle.mh_sizing_laws.specs.PagesLeft.{NeverFills}
 use Rattle.mh_sizing_laws.proofs.openings.Intervals.{asked-append}
 use Rattle.mh_sizing_laws.proofs.triggers.SizedRuns.{IsShort}
@@ -31,7 +33,7 @@ record IsFew (config : Config) (marked opened : ℕ) (Few : List Event → Type 
   suffices : (events : List Event) → Few events → HasRoomFor config events (quanta_of config marked events) opened → CyclesTakeAtMost (quanta_of config marked events) config events × IsNeverFull config events
 
 -- pages suffice for such a run
-few-pages-suffice : (config : Config) (events : List Event) (marked opened most : ℕ) (Few : List Event → Type 0) → 353 ≤ config.quantum → IsFew config marked opened Few → Few events
+few-pages-suffice : (config : Config) (events : List Event) (marked opened most : ℕ) (Few : List Event → Type 0) → quantum_overhead < config.quantum → IsFew config marked opened Few → Few events
     → HasSharpPagesFor config events (quanta_of config marked events) opened most → CyclesTakeAtMost (quanta_of config marked events) config events × NeverFills config events (quanta_of config marked events) opened
 few-pages-suffice config events marked opened most Few large is_few few has =
     let room : HasRoomFor config events quanta opened = sharp-room config events quanta opened most (omega arith) so_far has in

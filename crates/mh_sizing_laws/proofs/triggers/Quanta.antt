@@ -9,6 +9,7 @@ use Rattle.mh_model.specs.Pages.{Page, Table, page_number, slot_number, page_at,
 use Rattle.mh_model.specs.Table.{Block}
 use Rattle.mh_model.specs.Collector.{Collector, marking_of, swept_page, swept_table, Move, next_move, with_move, with_phase, after_mark, is_past, cycle_end, step_in, phase_after, collector_step, step_cost, is_moving, is_idle, cycle_start, steps, quantum}
 use Rattle.mh_model.specs.CycleBounds.{IsInBounds}
+use Rattle.mh_model.specs.Limits.{root_slots}
 use Rattle.mh_table_laws.proofs.Lists.{below_length}
 use Rattle.mh_table_laws.proofs.marking.StandingStill.{after_mark-table}
 use Rattle.mh_table_laws.proofs.placing.Places.{shaped-slots, least_dense_place-page}
@@ -65,7 +66,7 @@ table-if false collector other e = refl
 
 pub table-phase_after : (phase : Phase) (collector : Collector) → (phase_after phase collector).table ≡ collector.table
 table-phase_after Idle collector = refl
-table-phase_after Roots collector = table-if (collector.cursor == 144) collector (after_mark collector collector.grey) (after_mark-table collector collector.grey)
+table-phase_after Roots collector = table-if (collector.cursor == root_slots) collector (after_mark collector collector.grey) (after_mark-table collector collector.grey)
 table-phase_after Mark collector = after_mark-table collector collector.grey
 table-phase_after Sweep collector = table-if (is_past collector.table collector.cursor) collector (with_phase collector Defrag 0) refl
 table-phase_after Defrag collector = table-if (is_past collector.table collector.cursor) collector (cycle_end collector) refl

@@ -1,6 +1,7 @@
 -- The induction over a run with room for its intervals and cycles: as an interval begins, the free pages suffice for it and for those that the cycle may still have.
 -- Between cycles this holds for one of three reasons: the run has just begun, the last quantum found more free pages than the trigger, or it ended a cycle.
 -- So it doesn't matter who starts a cycle, the trigger or a session, nor who runs quanta, the scheduler or the control.
+use Rattle.std.specs.Prelude.{◌-◌, nat_lt}
 use Rattle.std.proofs.Common.{◌≡◌, ◌⊎◌, inl, inr, ℕ, zero, suc, ◌+◌, ◌-◌, ◌*◌, ◌/◌, ◌<◌, ◌≤◌, min, nat_le, nat_lt, not, Bool, true, false, ◌||◌, if◌then◌else◌, Option, None, List, [], ◌∷◌, ◌++◌, replicate, refl, sym, ap, ◌∙◌, subst, arith}
 use Rattle.std.specs.List.{AllByRecursion}
 use Rattle.std.proofs.Math.Nat.{suc-mul, mul-le-mul_right}
@@ -23,6 +24,7 @@ use Rattle.mh_model.specs.Intervals.{moments, intervals, has_ended, LeaveFlagged
 use Rattle.mh_sizing_laws.specs.Needs.{CyclesTakeTheBound}
 use Rattle.mh_sizing_laws.specs.Triggers.{RoomSuffices, RoomForTheBoundSuffices}
 use Rattle.mh_model.specs.Intervals as run
+use Rattle.mh_model.specs.Limits.{quantum_overhead}
 use Rattle.mh_sizing_laws.proofs.openings.MadeParts.{opened-none, opened-few, pages_of, pages_of-more}
 use Rattle.mh_sizing_laws.proofs.openings.Intervals.{asked_of, asked-cons, asked-append, quiet-event, quantum-event, IsSince, since-half, since-likewise, since-more, since-first}
 use Rattle.mh_sizing_laws.proofs.triggers.Commands.{event-served}
@@ -237,9 +239,9 @@ room-suffices config events quanta opened some fewer has =
 -- The bound of a cycle ---------------------------------------------------------------------------
 
 pub some-quanta : (config : Config) → 1 ≤ most_quanta config
-some-quanta config = go (nat_le 353 config.quantum)
+some-quanta config = go (nat_lt quantum_overhead config.quantum)
   where
-    go : (large : Bool) → 1 ≤ (if large then min (most_steps config) (most_units config / (config.quantum - 352) + 1) else most_steps config)
+    go : (large : Bool) → 1 ≤ (if large then min (most_steps config) (most_units config / (config.quantum - quantum_overhead) + 1) else most_steps config)
     go true = omega arith
     go false = omega arith
 

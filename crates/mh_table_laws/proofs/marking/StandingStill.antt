@@ -10,6 +10,7 @@ use Rattle.mh_model.specs.Table.{Block, references_at, with_reference_at, resolv
 use Rattle.mh_model.specs.Collector.{Collector, Marking, is_marked, with_grey, shade_block, shade, mark_reference, mark_references, mark_first, mark_step, marking_of, after_mark, step_in, phase_after, collector_step}
 use Rattle.mh_model.specs.Mutator.{in_roots_or_mark}
 use Rattle.mh_model.specs.Batches.{written_back}
+use Rattle.mh_model.specs.Limits.{root_slots}
 use Rattle.mh_table_laws.specs.Tables.{IsSamePage, IsStillThere, StandsStill, MarkingMovesNothing}
 use Rattle.mh_table_laws.proofs.placing.Places.{block_at-with_block_same, block_at-with_block_other, block-slot}
 use Rattle.mh_table_laws.proofs.tables.BlockRoom.{with_block-none}
@@ -176,7 +177,7 @@ after_mark-table collector [] = refl
 after_mark-table collector (place ∷ grey) = refl
 
 roots-table : (collector : Collector) → (phase_after Roots (step_in Roots collector)).table ≡ (shade (marking_of collector) (get_or collector.slots collector.cursor None)).table
-roots-table collector = go (new.cursor == 144)
+roots-table collector = go (new.cursor == root_slots)
   where
     new : Collector
     new = step_in Roots collector

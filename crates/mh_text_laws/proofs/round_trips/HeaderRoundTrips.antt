@@ -4,7 +4,7 @@ use Rattle.std.proofs.lemmas.Bool.{and_parts, and_from, leb-true, lt-ltb}
 use Rattle.mh_model.specs.declared.config.Config.{Config}
 use Rattle.mh_model.specs.declared.config.Rules.{Rules}
 use Rattle.mh_model.specs.declared.config.Rules.TheVariants.{First, Second}
-use Rattle.mh_model.specs.Limits.{is_configuration}
+use Rattle.mh_model.specs.Limits.{is_configuration, least_quantum}
 use Rattle.mh_model.specs.Bytes.{words, joined}
 use Rattle.mh_model.specs.Forms.{u64}
 use Rattle.mh_model.specs.Replies.{are_u64}
@@ -23,7 +23,7 @@ within_limits : (p q t e : ℕ) → is_configuration p q t e ≡ true → Within
 within_limits p q t e h =
     let after_1 = (and_parts (nat_le 1 p) _ h).1 in
     let after_2 = (and_parts (nat_le p 4096) _ after_1).1 in
-    let after_3 = (and_parts (nat_le 209 q) _ after_2).1 in
+    let after_3 = (and_parts (nat_le least_quantum q) _ after_2).1 in
     let after_4 = (and_parts (nat_le q 1000000) _ after_3).1 in
     let pages : p ≤ 4096 = leb-true p 4096 (and_parts _ _ after_1).0 in
     let trigger : t ≤ p = leb-true t p (and_parts _ _ after_4).0 in

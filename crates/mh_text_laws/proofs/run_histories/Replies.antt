@@ -1,4 +1,5 @@
 -- Replies to controls are well formed, and so are the units of each event.
+use Rattle.std.specs.Prelude.{◌-◌, nat_lt}
 use Rattle.std.proofs.Common.{◌≡◌, ◌∙◌, ℕ, suc, ◌+◌, ◌-◌, ◌*◌, ◌/◌, ◌%◌, ◌==◌, ◌<◌, ◌≤◌, ◌^◌, min, nat_le, nat_lt, Bool, true, false, if◌then◌else◌, List, [], ◌∷◌, ◌++◌, length, map, take, Option, Some, None, option_to_list, refl, subst, arith, length-append}
 use Rattle.std.specs.List.{list_all}
 use Rattle.std.proofs.Math.Nat.{div-add-mod, mul-le-mul_left}
@@ -20,6 +21,7 @@ use Rattle.mh_model.specs.Machine.{Machine, control_step, event_step, first_mach
 use Rattle.mh_model.specs.Replies.{are_u64, is_reply}
 use Rattle.mh_model.specs.Trace.{C, Letter, M, collector_count, floor, least_mutator, least_of, lesser, mutator_count, stretches}
 use Rattle.mh_model.specs.World.{says}
+use Rattle.mh_model.specs.Limits.{quantum_overhead}
 use Rattle.mh_laws.proofs.costs.Quanta.{units-quantum}
 use Rattle.mh_run_laws.proofs.bounds.WithinEvents.{runs_within_events}
 use Rattle.mh_run_laws.proofs.forwarders.RunForwarders.{after-more, after-one}
@@ -85,10 +87,10 @@ min-first : (a b : ℕ) → min a b ≤ a
 min-first a b = omega arith
 
 quanta-few : (config : Config) → most_quanta config ≤ 1000000
-quanta-few config = go (nat_le 353 config.quantum)
+quanta-few config = go (nat_lt quantum_overhead config.quantum)
   where
-    go : (test : Bool) → (if test then min (most_steps config) (most_units config / (config.quantum - 352) + 1) else most_steps config) ≤ 1000000
-    go true = omega (arith, min-first (most_steps config) (most_units config / (config.quantum - 352) + 1), (config_limits config).pages_most)
+    go : (test : Bool) → (if test then min (most_steps config) (most_units config / (config.quantum - quantum_overhead) + 1) else most_steps config) ≤ 1000000
+    go true = omega (arith, min-first (most_steps config) (most_units config / (config.quantum - quantum_overhead) + 1), (config_limits config).pages_most)
     go false = omega (arith, (config_limits config).pages_most)
 
 left-few : (config : Config) (collector : Collector) → quanta_left config collector ≤ 1000000

@@ -1,5 +1,5 @@
-use Rattle.std.proofs.Common.{◌∙◌, ap, arith}
-use Rattle.mh_script.specs.OfState.Running.{Running}
+use Rattle.std.proofs.Common.{◌∙◌, ap, arith, sym}
+use Rattle.mh_script.specs.OfMachine.Running.{Running}
 use Rattle.mh_curve.proofs.RunLemmas.{after_all, after_none, after_one}
 use Rattle.mh_curve.proofs.script.machine_after.Goals as goal
 
@@ -11,8 +11,8 @@ loop-event-init g c = record {
 
 pub loop-event-preserved : goal.loop-event-preserved
 loop-event-preserved g c = record {
-  machine = after_one _ _ _ _ _ _ c.loop-event-test.true c.loop-event.invariant.machine c.in_ok-pass.ensures.machine;
-  count = omega (arith, c.in_ok-pass.ensures.done, c.loop-event.invariant.count);
+  machine = after_one _ _ _ _ _ _ c.loop-event-test.true c.loop-event.invariant.machine (sym (ap (λ a. a.state) c.in_ok-step_in_room.ensures.step.step));
+  count = omega (arith, c.in_ok-step_in_room.ensures.step.done, c.loop-event.invariant.count);
 }
 
 pub returns : goal.returns

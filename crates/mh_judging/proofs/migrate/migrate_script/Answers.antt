@@ -18,7 +18,7 @@ returns-clause-migrated g c =
 
 pub returns-clause-explained : goal.returns-clause-explained
 returns-clause-explained g c =
-    both_ok c.write_migrated.result _ _ _ (λ found made explained. check_explains _ _ _ _ found c.as_slice.ensures.value c.in_ok-text.ensures.read c.args.config c.in_ok-text.ensures.whole made.checked explained)
+    both_ok c.write_migrated.result _ _ _ (λ found made explained. check_explains c.args.config _ _ _ _ found c.as_slice.ensures.value c.in_ok-text.ensures.read c.in_ok-text.ensures.whole made.checked explained)
     c.write_migrated.ensures.done c.write_migrated.ensures.explained
 
 pub returns-clause-begun : goal.returns-clause-begun

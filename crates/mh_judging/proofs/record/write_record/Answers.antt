@@ -2,7 +2,7 @@ use Rattle.std.proofs.Common.{ap}
 use Rattle.std.proofs.lemmas.Result.{on_err_weaker, on_ok_weaker}
 use Rattle.std.specs.Io.KnownBytes.{Appends}
 use Rattle.mh_text.specs.Stream.{AppendsBeginning}
-use Rattle.mh_script.specs.OfState.Running.{Running}
+use Rattle.mh_script.specs.OfMachine.Running.{Running}
 use Rattle.mh_script.proofs.AddedLines.{AppendsBeginning-nothing, on_err}
 use Rattle.mh_judging.proofs.RecordingLemmas.{of_first}
 use Rattle.mh_judging.proofs.record.write_record.Goals as goal

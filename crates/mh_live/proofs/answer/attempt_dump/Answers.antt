@@ -10,4 +10,4 @@ pub returns-then-is_err-2 : goal.returns-then-is_err-2
 returns-then-is_err-2 g c = Starved tt (search rules) (search rules)
 
 pub returns : goal.returns
-returns g c = dump_done c.args.machine.now c.step.new.self c.step.result _ c.requires.room c.step.ensures.step (sym c.if-is_err-2.ensures.value) (search rules)
+returns g c = dump_done c.args.machine.now c.step_in_room.new.self c.step_in_room.result _ c.requires.room c.step_in_room.ensures.step (sym c.if-is_err-2.ensures.value) (search rules)

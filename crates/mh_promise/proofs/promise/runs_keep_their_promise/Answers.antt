@@ -20,8 +20,8 @@ use Rattle.mh_laws.proofs.bounds.CyclesInTime.{run-stays}
 use Rattle.mh_model.specs.Intervals as run
 use Rattle.mh_sizing_laws.specs.Triggers.{NeverFullIsTheWorld}
 use Rattle.mh_promise.specs.Promise.{NeverAnswersFull}
-use Rattle.mh_promise.specs.Runs.{machine_at, moment_at}
-use Rattle.mh_promise.proofs.RunsByEvents.{after_more, replies-length}
+use Rattle.mh_run_laws.specs.Replays.{machine_at, moment_at}
+use Rattle.mh_run_laws.proofs.runs.RunsByEvents.{after_more, replies-length}
 use Rattle.mh_run_laws.proofs.forwarders.RunForwarders.{event-quantum}
 use Rattle.mh_promise.proofs.AnsweredEvents.{answered-is, beside-is, session-reply, told-left, half-heap, half-machine}
 use Rattle.mh_run_laws.proofs.worlds.FullAlone.{full-alone, new-alone}

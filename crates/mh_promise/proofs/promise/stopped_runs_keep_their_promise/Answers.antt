@@ -1,5 +1,6 @@
 use Rattle.std.proofs.Common.{refl}
-use Rattle.mh_promise.specs.Runs.{machine_at, outcome_of}
+use Rattle.mh_run_laws.specs.Replays.{machine_at}
+use Rattle.mh_promise.specs.Runs.{outcome_of}
 use Rattle.mh_promise.proofs.promise.stopped_runs_keep_their_promise.Goals as goal
 
 pub returns : goal.returns

@@ -5,7 +5,7 @@ use Rattle.mh_model.specs.declared.reply.Reply.{Reply}
 use Rattle.mh_model.specs.Machine.{Machine, first_machine, event_step, machine_replies}
 use Rattle.mh_promise.specs.Runs.{outcome_of, IsTheMachines}
 use Rattle.mh_promise.specs.Replays.{IsReplay}
-use Rattle.mh_promise.proofs.RunsByEvents.{no-events, no-replies}
+use Rattle.mh_run_laws.proofs.runs.RunsByEvents.{no-events, no-replies}
 use Rattle.mh_promise.proofs.replays.events_keep_the_replay.Goals as goal
 
 the-machines : (config : Config) (events : List Event) (replies : List Reply) (machine : Machine) → IsReplay config events replies machine → IsTheMachines config events (outcome_of machine replies)

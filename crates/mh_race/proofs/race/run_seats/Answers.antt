@@ -1,7 +1,7 @@
 use Rattle.std.proofs.Common.{◌≡◌, ◌++◌, All, map, ap, ◌∙◌, sym, subst, replicate, None}
 use Rattle.std.proofs.lemmas.List.Elements.{All-append, All-map}
 use Rattle.mh_race.specs.Racing.{AreRun}
-use Rattle.mh_service.specs.Services.{IsOf}
+use Rattle.mh_service.specs.Services.{IsOfService}
 use Rattle.mh_race.proofs.RunSeats.{nobody-stopped, seats-run}
 use Rattle.mh_race.proofs.race.run_seats.Goals as goal
 
@@ -15,9 +15,9 @@ pub returns-clause-own : goal.returns-clause-own
 returns-clause-own g c =
     let is : c.take_seats-2.new.seats.items ≡ map (λ racer. racer.seat) c.run_all.new.racers.items ++ map (λ racer. racer.seat) c.run_all-2.new.racers.items
     = c.take_seats-2.ensures.seats ∙ ap (λ l. l ++ map (λ racer. racer.seat) c.run_all-2.new.racers.items) (c.take_seats.ensures.seats ∙ ap (λ l. l ++ map (λ racer. racer.seat) c.run_all.new.racers.items) c.in_ok-back.ensures.items) in
-    let busy = All-map (IsOf c.args.service.now) (λ racer. racer.seat) c.run_all.new.racers.items (λ k d lt. (c.run_all.ensures.run k d lt).0) in
-    let idle = All-map (IsOf c.args.service.now) (λ racer. racer.seat) c.run_all-2.new.racers.items (λ k d lt. (c.run_all-2.ensures.run k d lt).0) in
-    subst (All (IsOf c.args.service.now)) (sym is) (All-append (IsOf c.args.service.now) (map (λ racer. racer.seat) c.run_all.new.racers.items) (map (λ racer. racer.seat) c.run_all-2.new.racers.items) busy idle)
+    let busy = All-map (IsOfService c.args.service.now) (λ racer. racer.seat) c.run_all.new.racers.items (λ k d lt. (c.run_all.ensures.run k d lt).0) in
+    let idle = All-map (IsOfService c.args.service.now) (λ racer. racer.seat) c.run_all-2.new.racers.items (λ k d lt. (c.run_all-2.ensures.run k d lt).0) in
+    subst (All (IsOfService c.args.service.now)) (sym is) (All-append (IsOfService c.args.service.now) (map (λ racer. racer.seat) c.run_all.new.racers.items) (map (λ racer. racer.seat) c.run_all-2.new.racers.items) busy idle)
 
 pub returns-clause-run : goal.returns-clause-run
 returns-clause-run g c =

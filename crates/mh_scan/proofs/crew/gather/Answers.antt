@@ -1,6 +1,6 @@
 use Rattle.std.proofs.Common.{arith, ◌≡◌, ℕ, List, true, false, Some}
 use Rattle.std.proofs.lemmas.List.Elements.{All-pop, All-push, All-append}
-use Rattle.mh_claims.specs.Seats.{DrawSeatView, IsOf, seat_ended}
+use Rattle.mh_claims.specs.Seats.{DrawSeatView, DrawsFrom, seat_ended}
 use Rattle.mh_scan.specs.Crew.{IsFound, HasWorked}
 use Rattle.mh_scan.proofs.PieceLemmas.{gathered-more}
 use Rattle.mh_scan.proofs.crew.gather.Goals as goal
@@ -18,7 +18,7 @@ loop-worker-preserved c =
     let has : HasWorked claims table asks batch worker = popped.1 in record {
       count = omega (arith, c.in_ok-push.ensures.len, c.in-Some.ensures.len, loop.invariant.count);
       left = popped.0;
-      ended = rw c.in_ok-push.ensures.items (All-push (λ (seat : DrawSeatView). IsOf claims seat × (seat_ended seat ≡ true)) loop.seats.items worker.seat loop.invariant.ended (has.own, has.ended granted));
+      ended = rw c.in_ok-push.ensures.items (All-push (λ (seat : DrawSeatView). DrawsFrom claims seat × (seat_ended seat ≡ true)) loop.seats.items worker.seat loop.invariant.ended (has.own, has.ended granted));
       found = rw c.in_ok-append.ensures.items (All-append (IsFound table asks batch) loop.found.items worker.done.items loop.invariant.found has.found);
       times = λ number below. rw (c.in_ok-push.ensures.items, c.in_ok-append.ensures.items)
           (gathered-more number claims.bound has.last loop.seats.items worker.seat loop.found.items worker.done.items (has.drawn granted) (has.past granted) below (loop.invariant.times number below));

@@ -1,11 +1,11 @@
 use Rattle.std.proofs.Common.{◌≡◌, ◌-◌, All, false}
-use Rattle.mh_claims.specs.Seats.{IsOf, seat_ended, next_of}
+use Rattle.mh_claims.specs.Seats.{DrawsFrom, seat_ended, next_of}
 use Rattle.mh_scan.specs.Crew.{IsFound, pieces_of}
 use Rattle.mh_scan.proofs.crew.work.Given as goal
 
 abbrev pub invariant-loop-piece : goal.invariant-loop-piece
 invariant-loop-piece g l = record {
-  own : IsOf l.claims l.worker.seat;
+  own : DrawsFrom l.claims l.worker.seat;
   going : seat_ended l.worker.seat ≡ false;
   found : All (IsFound l.blocks l.asks l.batch) l.worker.done.items;
   drawn : l.worker.seat.drawn ≡ pieces_of l.worker.done.items;

@@ -1,6 +1,6 @@
 use Rattle.mh_curve.proofs.OfScript.AddedLines.{on_err}
 use Rattle.mh_show.specs.declared.drawing.TheConstants.{DRAWING}
-use Rattle.mh_show.specs.declared.hands.TheConstants.{HANDS}
+use Rattle.mh_show.specs.declared.controls.TheConstants.{HANDS}
 use Rattle.mh_show.specs.declared.page.TheConstants.{HEAD}
 use Rattle.mh_show.specs.Page.{object_text}
 use Rattle.mh_show.proofs.PieceLemmas.{four-all, four-first, four-fourth, four-second, four-third}

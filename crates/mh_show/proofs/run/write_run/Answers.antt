@@ -4,7 +4,7 @@ use Rattle.mh_model.specs.Machine.{Machine, machine_after}
 use Rattle.mh_model.specs.Trace.{TraceState}
 use Rattle.mh_curve.proofs.RunLemmas.{short_run}
 use Rattle.mh_curve.proofs.OfScript.AddedLines.{AppendsBeginning-nothing, on_err}
-use Rattle.mh_curve.specs.OfState.Running.{Running}
+use Rattle.mh_curve.specs.OfMachine.Running.{Running}
 use Rattle.mh_show.proofs.RunLemmas.{events_begun, events_done, front_begun, rest_begun, rest_none, rest_text, run_done}
 use Rattle.mh_show.proofs.run.write_run.Goals as goal
 

@@ -10,7 +10,7 @@ returns-then-window-longest c =
 
 pub loop-preserved : goal.loop-preserved
 loop-preserved c =
-    rw c.next_window-window.ensures
+    rw c.next_window_rounded_up-window.ensures
     (floors_more c.args.every c.args.quantum 32 c.loop.counter c.loop.window (20 * (c.from.result + c.from-2.result)) (string_bytes c.loop.text) (string_bytes c.push_floor.new.text)
     (string_bytes c.args.text.now ++ floors_text c.args.every c.args.quantum) (omega arith) (omega arith) c.in_ok-push_floor.ensures c.loop.invariant)
 

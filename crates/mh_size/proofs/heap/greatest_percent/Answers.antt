@@ -1,6 +1,6 @@
 use Rattle.std.proofs.Common.{◌∙◌, ◌-◌, ap, refl, sym, arith}
-use Rattle.mh_size.specs.declared.demand.Demand.{Demand}
-use Rattle.mh_size.specs.Heaps.{greatest_percent, has_quantum, demand_scaled}
+use Rattle.mh_sizing.specs.declared.demand.Demand.{Demand}
+use Rattle.mh_size.specs.Heaps.{greatest_percent, some_quantum_fits, demand_scaled}
 use Rattle.mh_size.proofs.HeapLemmas.{falling_here, falling_next, falling_none}
 use Rattle.mh_size.proofs.heap.greatest_percent.Goals as goal
 
@@ -11,19 +11,19 @@ loop-percent-init c = record { few = omega arith; value = refl }
 pub returns-then-has_quantum : goal.returns-then-has_quantum
 returns-then-has_quantum c =
     let options = c.args.options.now in
-    falling_here (λ percent. has_quantum (demand_scaled percent options) options.pages) c.loop-percent.percent (c.loop-percent.percent - 1) (greatest_percent options) (omega arith)
-    (ap (λ (demand : Demand). has_quantum demand options.pages) (sym c.demand_scaled.ensures) ∙ (sym c.has_quantum.ensures ∙ c.if-has_quantum.true)) c.loop-percent.invariant.value
+    falling_here (λ percent. some_quantum_fits (demand_scaled percent options) options.pages) c.loop-percent.percent (c.loop-percent.percent - 1) (greatest_percent options) (omega arith)
+    (ap (λ (demand : Demand). some_quantum_fits demand options.pages) (sym c.demand_scaled.ensures) ∙ (sym c.has_quantum.ensures ∙ c.if-has_quantum.true)) c.loop-percent.invariant.value
 
 pub loop-percent-preserved : goal.loop-percent-preserved
 loop-percent-preserved c =
     let options = c.args.options.now in
     record {
       few = omega (arith, c.loop-percent.invariant.few);
-      value = falling_next (λ percent. has_quantum (demand_scaled percent options) options.pages) c.loop-percent.percent (c.loop-percent.percent - 1) (greatest_percent options) (omega arith)
-          (ap (λ (demand : Demand). has_quantum demand options.pages) (sym c.demand_scaled.ensures) ∙ (sym c.has_quantum.ensures ∙ c.if-has_quantum.false)) c.loop-percent.invariant.value;
+      value = falling_next (λ percent. some_quantum_fits (demand_scaled percent options) options.pages) c.loop-percent.percent (c.loop-percent.percent - 1) (greatest_percent options) (omega arith)
+          (ap (λ (demand : Demand). some_quantum_fits demand options.pages) (sym c.demand_scaled.ensures) ∙ (sym c.has_quantum.ensures ∙ c.if-has_quantum.false)) c.loop-percent.invariant.value;
     }
 
 pub returns : goal.returns
 returns c =
     let options = c.args.options.now in
-    falling_none (λ percent. has_quantum (demand_scaled percent options) options.pages) c.loop-percent.percent (greatest_percent options) (omega arith) c.loop-percent.invariant.value
+    falling_none (λ percent. some_quantum_fits (demand_scaled percent options) options.pages) c.loop-percent.percent (greatest_percent options) (omega arith) c.loop-percent.invariant.value

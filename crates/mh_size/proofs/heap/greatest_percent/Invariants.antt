@@ -1,11 +1,11 @@
 use Rattle.std.proofs.Common.{◌≡◌, ◌≤◌}
-use Rattle.mh_size.specs.Heaps.{greatest_below, greatest_percent, has_quantum, demand_scaled}
+use Rattle.mh_size.specs.Heaps.{greatest_below, greatest_percent, some_quantum_fits, demand_scaled}
 use Rattle.mh_size.proofs.heap.greatest_percent.Given as goal
 
 abbrev pub invariant-loop-percent : goal.invariant-loop-percent
 invariant-loop-percent l = record {
   few : l.percent ≤ 100;
-  value : greatest_below (λ percent. has_quantum (demand_scaled percent l.options) l.options.pages) l.percent ≡ greatest_percent l.options;
+  value : greatest_below (λ percent. some_quantum_fits (demand_scaled percent l.options) l.options.pages) l.percent ≡ greatest_percent l.options;
 }
 
 abbrev pub decreases-loop-percent : goal.decreases-loop-percent

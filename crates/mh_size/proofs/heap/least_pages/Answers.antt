@@ -1,5 +1,5 @@
 use Rattle.std.proofs.Common.{◌∙◌, refl, sym, arith}
-use Rattle.mh_size.specs.Heaps.{has_quantum, least_pages}
+use Rattle.mh_size.specs.Heaps.{some_quantum_fits, least_pages}
 use Rattle.mh_size.proofs.HeapLemmas.{search_here, search_next, search_none}
 use Rattle.mh_size.proofs.heap.least_pages.Goals as goal
 
@@ -9,11 +9,11 @@ loop-pages-init c = refl
 
 pub returns-then-has_quantum : goal.returns-then-has_quantum
 returns-then-has_quantum c =
-    search_here (has_quantum c.args.demand.now) c.loop-pages.pages 4097 (least_pages c.args.demand.now) (omega arith) (sym c.has_quantum.ensures ∙ c.if-has_quantum.true) c.loop-pages.invariant
+    search_here (some_quantum_fits c.args.demand.now) c.loop-pages.pages 4097 (least_pages c.args.demand.now) (omega arith) (sym c.has_quantum.ensures ∙ c.if-has_quantum.true) c.loop-pages.invariant
 
 pub loop-pages-preserved : goal.loop-pages-preserved
 loop-pages-preserved c =
-    search_next (has_quantum c.args.demand.now) c.loop-pages.pages 4097 (least_pages c.args.demand.now) (omega arith) (sym c.has_quantum.ensures ∙ c.if-has_quantum.false) c.loop-pages.invariant
+    search_next (some_quantum_fits c.args.demand.now) c.loop-pages.pages 4097 (least_pages c.args.demand.now) (omega arith) (sym c.has_quantum.ensures ∙ c.if-has_quantum.false) c.loop-pages.invariant
 
 pub returns : goal.returns
-returns c = search_none (has_quantum c.args.demand.now) c.loop-pages.pages 4097 (least_pages c.args.demand.now) (omega arith) c.loop-pages.invariant
+returns c = search_none (some_quantum_fits c.args.demand.now) c.loop-pages.pages 4097 (least_pages c.args.demand.now) (omega arith) c.loop-pages.invariant

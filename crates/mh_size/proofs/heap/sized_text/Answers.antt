@@ -1,6 +1,6 @@
 use Rattle.std.proofs.Common.{◌≡◌, ◌∙◌, ap}
 use Rattle.std.specs.String.{string_bytes}
-use Rattle.mh_size.specs.declared.demand.Demand.{Demand}
+use Rattle.mh_sizing.specs.declared.demand.Demand.{Demand}
 use Rattle.mh_size.specs.Heaps.{IsSizedText, heap_text}
 use Rattle.mh_size.proofs.HeapLemmas.{if_ok}
 use Rattle.mh_size.proofs.heap.sized_text.Goals as goal

@@ -1,6 +1,6 @@
 use Rattle.std.proofs.Common.{◌≡◌, ◌∙◌, ℕ, Option, None, ap, subst}
 use Rattle.std.specs.String.{string_bytes}
-use Rattle.mh_size.specs.declared.demand.Demand.{Demand}
+use Rattle.mh_sizing.specs.declared.demand.Demand.{Demand}
 use Rattle.mh_size.specs.Heaps.{IsSmallText, least_pages, demand_asked, quantum_of, small_text}
 use Rattle.mh_size.proofs.HeapLemmas.{if_ok}
 use Rattle.mh_size.proofs.heap.small_text.Goals as goal

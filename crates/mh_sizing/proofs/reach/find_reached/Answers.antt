@@ -2,13 +2,13 @@ use Rattle.std.proofs.Common.{ℕ, ◌+◌, ◌<◌, length, ap, sym, ◌∙◌,
 use Rattle.std.specs.List.{fold}
 use Rattle.mh_heap.specs.PlainHeap.{world_of}
 use Rattle.mh_model.specs.World.{births}
-use Rattle.mh_sizing.specs.Births.{InOrder, with_name}
+use Rattle.mh_sizing.specs.Births.{InOrder, with_birth_named}
 use Rattle.mh_sizing.proofs.SearchLemmas.{IsSearch, search-begins, search-more, search-ends, listed-below, references-below}
 use Rattle.mh_sizing.proofs.reach.find_reached.Goals as goal
 
 pub loop-next-init : goal.loop-next-init
 loop-next-init c =
-    let set = c.insert_roots.ensures ∙ ap {B = InOrder} (λ (set : InOrder). record { births = fold with_name set.births (world_of c.args.heap.now).slots; room = set.room }) c.clear.ensures in
+    let set = c.insert_roots.ensures ∙ ap {B = InOrder} (λ (set : InOrder). record { births = fold with_birth_named set.births (world_of c.args.heap.now).slots; room = set.room }) c.clear.ensures in
     (subst (λ (set : InOrder). IsSearch (world_of c.args.heap.now) set.births 0) (sym set) (search-begins (world_of c.args.heap.now)), ap (λ (set : InOrder). set.room) set)
 
 pub references-requires : goal.references-requires

@@ -2,7 +2,7 @@ use Rattle.std.proofs.Common.{◌≡◌, ◌<◌, List, Option, ℕ, length, tak
 use Rattle.std.specs.List.{fold}
 use Rattle.std.proofs.Math.Seq.{take-length}
 use Rattle.mh_heap.specs.PlainHeap.{world_of}
-use Rattle.mh_sizing.specs.Births.{InOrder, with_name}
+use Rattle.mh_sizing.specs.Births.{InOrder, with_birth_named}
 use Rattle.mh_sizing.proofs.SearchLemmas.{slots-below, inserted-more}
 use Rattle.mh_sizing.proofs.reach.insert_roots.Goals as goal
 
@@ -20,5 +20,5 @@ pub returns : goal.returns
 returns c =
     let slots = (world_of c.args.heap.now).slots in
     let last : c.loop-slot.slot ≡ length slots = omega (arith, c.requires.slots) in
-    c.loop-slot.invariant ∙ ap {B = InOrder} (λ (names : List (Option ℕ)). record { births = fold with_name c.args.set.now.births names; room = c.args.set.now.room })
+    c.loop-slot.invariant ∙ ap {B = InOrder} (λ (names : List (Option ℕ)). record { births = fold with_birth_named c.args.set.now.births names; room = c.args.set.now.room })
     (ap (λ n. take n slots) last ∙ take-length slots)

@@ -1,10 +1,11 @@
 use Rattle.std.proofs.Common.{◌-◌, ◌<◌, ◌≤◌}
 use Rattle.mh_sizing.specs.Targets.{IsMetBy}
 use Rattle.mh_sizing.proofs.targets.greatest_quantum_for.Given as goal
+use Rattle.mh_model.specs.Limits.{least_quantum}
 
 abbrev pub invariant-loop-unmet : goal.invariant-loop-unmet
 invariant-loop-unmet l = record {
-  least : 209 ≤ l.met;
+  least : least_quantum ≤ l.met;
   order : l.met < l.unmet;
   most : l.unmet ≤ 1000001;
   met : IsMetBy l.target l.every l.met;

@@ -4,13 +4,13 @@ use Rattle.std.proofs.lemmas.List.{nil_from_length, length-map}
 use Rattle.atomic_table.specs.Table.{Seen}
 use Rattle.mh_model.specs.History.{times_drawn}
 use Rattle.mh_seat_laws.specs.ClaimWord.{Lists, IsClaimed}
-use Rattle.mh_claims.specs.Seats.{ClaimsView, DrawSeatView, IsOf, seat_ended}
+use Rattle.mh_claims.specs.Seats.{ClaimsView, DrawSeatView, DrawsFrom, seat_ended}
 use Rattle.mh_claims.proofs.ClaimSteps.{join-kept}
 use Rattle.mh_claims.proofs.FinishedClaims.{lists_of, lists_of-pop, lists_of-ended, finished-drawn_once, AllEnded}
 use Rattle.mh_claims.proofs.claims.Claims.finish.Goals as goal
 
 abbrev IsDone : ClaimsView → DrawSeatView → Type 0
-IsDone claims seat = IsOf claims seat × (seat_ended seat ≡ true)
+IsDone claims seat = DrawsFrom claims seat × (seat_ended seat ≡ true)
 
 pub join_seat-requires : goal.join_seat-requires
 join_seat-requires c =

@@ -1,11 +1,11 @@
 use Rattle.std.proofs.Common.{◌≡◌, length}
-use Rattle.mh_history.specs.Beginnings.{entries_left, entry_line}
+use Rattle.mh_history.specs.Beginnings.{entries_left, line_as_entry}
 use Rattle.mh_judging.proofs.AgainLemmas.{WritesAgain}
 use Rattle.mh_judging.proofs.recording.Recording.write_lines.Given as goal
 
 abbrev pub invariant-loop-entry : goal.invariant-loop-entry
 invariant-loop-entry g l = record {
-  again : WritesAgain l.fn.self l.self (entries_left entry_line l.initial.lines) (entries_left entry_line l.lines) (g.W.Sink.written l.initial.sink) (g.W.Sink.written l.sink);
+  again : WritesAgain l.fn.self l.self (entries_left line_as_entry l.initial.lines) (entries_left line_as_entry l.lines) (g.W.Sink.written l.initial.sink) (g.W.Sink.written l.sink);
   failures : g.W.Sink.failures l.sink ≡ g.W.Sink.failures l.initial.sink;
 }
 

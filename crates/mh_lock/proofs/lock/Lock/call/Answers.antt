@@ -2,7 +2,7 @@ use Rattle.std.proofs.Common.{◌≡◌, ◌++◌, [], ℕ, List, Option, Some, 
 use Rattle.std.specs.Option.{option_to_list}
 use Rattle.mh_model.specs.History.{owned_by}
 use Rattle.mh_seat_laws.specs.declared.seat_view.Found.{Found}
-use Rattle.mh_lock.specs.Seats.{entry_of}
+use Rattle.mh_lock.specs.Seats.{entry_of_call}
 use Rattle.mh_lock.specs.Steps.{number_in, log_in, held, held_origin, found_of, holding, Grows, WasAtHome}
 use Rattle.mh_lock.proofs.CalledLocks.{entries-answered, entry-owned, owned-more, taken-given}
 use Rattle.mh_lock.proofs.LockSteps.{answer-grows}
@@ -42,7 +42,7 @@ returns-clause-alone g c =
     let taken = c.take.ensures.taken in
     let run = c.run_on-answer in
     let work = run.ensures.does in
-    let entry : Option g.row.E.Denot = entry_of (g.W.Work.entry c.args.work) run.result in
+    let entry : Option g.row.E.Denot = entry_of_call (g.W.Work.entry c.args.work) run.result in
     let value : Some work.0 ≡ Some taken.0 = sym (ap (held_origin (λ (v : g.row.T.Denot). v)) work.2) ∙ ap (λ me. held_origin (λ (v : g.row.T.Denot). v) me.1) taken.1 in
     let same : work.0 ≡ taken.0 = cc in
     let number : number_in first ≡ c.args.seat.now.number = ap (λ me. number_in me) c.seat.invariant ∙ ap (λ view. view.number) c.seat.view_is in

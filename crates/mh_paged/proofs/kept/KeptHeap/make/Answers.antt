@@ -9,7 +9,7 @@ use Rattle.mh_paged.proofs.StepLemmas.{is-open, is-passed, born-steps}
 use Rattle.mh_paged.proofs.kept.KeptHeap.make.Goals as goal
 
 pub write_root-requires-clause-steady : goal.write_root-requires-clause-steady
-write_root-requires-clause-steady c =
+write_root-requires-clause-steady g c =
     let heap : HeapState = heap_of c.self.inside.cycle c.self.inside.next_birth c.self.inside.ended in
     let made : Made = record { place = c.in-Ok.place; table = c.make_parts.new.cycle.collector.table } in
     let few = rw c.config.ensures at (is-passed _ _ _ _ c.in_ok-all.ensures).passed in
@@ -18,7 +18,7 @@ write_root-requires-clause-steady c =
     steady-made c.objects_made_keep_the_snapshot.ensures heap c.self.invariant.keeping c.args.references c.args.numbers made c.make_parts.new.cycle.collector group (ap (λ s. s.collector) c.in-Ok.ensures.table)
 
 pub invariant_of-self-in-Ok : goal.invariant_of-self-in-Ok
-invariant_of-self-in-Ok c =
+invariant_of-self-in-Ok g c =
     let heap : HeapState = heap_of c.self.inside.cycle c.self.inside.next_birth c.self.inside.ended in
     let new : HeapState = heap_of c.write_root.new.cycle (c.self.inside.next_birth + 1) c.self.inside.ended in
     let made : Made = record { place = c.in-Ok.place; table = c.make_parts.new.cycle.collector.table } in
@@ -31,8 +31,8 @@ invariant_of-self-in-Ok c =
     (born-steps c.commands_are_answered.ensures heap c.args.who c.in_ok-session.session seat c.args.slot c.args.references c.args.numbers c.in_ok-slot.slot made (is-passed _ _ _ _ c.in_ok-slot.ensures.step) few group) in
     kept-after c.heaps_stay_kept.ensures c.collectors_stay_in_bounds.ensures c.self.inside.cycle c.write_root.new.cycle c.self.inside.next_birth (c.self.inside.next_birth + 1) c.self.inside.ended c.self.inside.ended c.self.invariant (ap (λ s. s.config) c.write_root.ensures ∙ ap (λ s. s.config) c.in-Ok.ensures.table) c.args.who (command.New c.args.slot c.args.references c.args.numbers) reply.Done steps
 
-pub returns-in-Ok : goal.returns-in-Ok
-returns-in-Ok c =
+pub returns-in-Ok-clause-step : goal.returns-in-Ok-clause-step
+returns-in-Ok-clause-step g c =
     let heap : HeapState = heap_of c.self.inside.cycle c.self.inside.next_birth c.self.inside.ended in
     let new : HeapState = heap_of c.write_root.new.cycle (c.self.inside.next_birth + 1) c.self.inside.ended in
     let made : Made = record { place = c.in-Ok.place; table = c.make_parts.new.cycle.collector.table } in

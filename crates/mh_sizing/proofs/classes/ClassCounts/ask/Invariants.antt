@@ -1,8 +1,8 @@
 use Rattle.std.proofs.Common.{◌≡◌, ◌+◌, ◌++◌, List, take}
 use Rattle.mh_model.specs.Classes.{Part}
-use Rattle.mh_sizing.specs.ClassCounts.{HasCounts}
+use Rattle.mh_sizing.specs.ClassCounts.{HasClassCounts}
 use Rattle.mh_sizing.proofs.classes.ClassCounts.ask.Given as goal
 
 abbrev pub invariant-loop-index : goal.invariant-loop-index
 invariant-loop-index l =
-    (l.self.total ≡ l.initial.self.total + l.index) × ((all running : List Part) → HasCounts l.initial.self all running → HasCounts l.self (all ++ take l.index l.parts) (running ++ take l.index l.parts))
+    (l.self.total ≡ l.initial.self.total + l.index) × ((all running : List Part) → HasClassCounts l.initial.self all running → HasClassCounts l.self (all ++ take l.index l.parts) (running ++ take l.index l.parts))

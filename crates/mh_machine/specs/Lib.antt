@@ -1,0 +1,5 @@
+pub mod Engines
+pub mod Judging
+pub mod Rules
+pub mod Running
+pub mod Telling

@@ -1,0 +1,90 @@
+//! Entries of either version, as they are judged.
+//!
+//! An entry is right if it is what the machine makes of its event: its reply is the machine's, and if it states its
+//! units, they are those that the event added. That is all in which the versions differ for a judge.
+ghost use Rattle.std.specs.Prelude.{◌≡◌, List, IfOk, OnErr};
+ghost use Rattle.mh_model.specs.declared.command.Event.{Event};
+ghost use Rattle.mh_model.specs.declared.config.Config.{Config};
+ghost use Rattle.mh_model.specs.History.{IsLegal};
+ghost use Rattle.mh_model.specs.HistoryTexts.{IsLegalRecord};
+ghost use Rattle.mh_model.specs.Machine as model;
+ghost use Rattle.mh_machine.specs.Judging.{HasItsReply, IsEventRule, IsMeasured, IsTried};
+ghost use Rattle.mh_machine.specs.Running.{MayAskForMemory};
+ghost use Rattle.mh_machine.specs.Rules.{legal_rule, record_rule};
+
+use crate::machine::{Machine, Stop};
+use crate::same::is_same;
+use mh_model::command::Event;
+use mh_model::history::{Entry, Measured};
+use mh_model::memory::NoMemory;
+use mh_paged::mh_scan::scan::OneScan;
+
+/// An entry of the histories of some version.
+pub trait JudgedEntry {
+    ghost event_of: { Self → Event };
+
+    // that it is what the machine makes of its event
+    ghost fits: { model.Machine → Self → Type 0 };
+
+    // which lists of them are histories under a configuration
+    ghost lawful: { Config → List Self → Type 0 };
+
+    fn event(&self) -> Event
+        ensures { result ≡ event_of self.now };
+
+    /// Does its event, unless 1,000,000 were done, and reports whether it is what the machine made of it.
+    fn try_on(&self, machine: &mut Machine, scanner: &mut OneScan) -> Result<bool, NoMemory>
+        ensures tried { IfOk result (IsTried (fits machine.old.machine self.now) machine.old (event_of self.now) machine.new) }
+        ensures stopped { OnErr result (machine.new ≡ machine.old) }
+        ensures memory { OnErr result (MayAskForMemory machine.old.room (event_of self.now)) };
+
+    ghost rule: { (config : Config) → IsEventRule config event_of fits (lawful config) };
+}
+
+impl JudgedEntry for Entry {
+    ghost event_of = { λ entry. entry.event };
+
+    ghost fits = { HasItsReply };
+
+    ghost lawful = { IsLegal };
+
+    fn event(&self) -> Event {
+        self.event
+    }
+
+    fn try_on(&self, machine: &mut Machine, scanner: &mut OneScan) -> Result<bool, NoMemory> {
+        match machine.step(self.event, scanner) {
+            Ok(reply) => Ok(is_same(&self.reply, &reply)),
+            Err(Stop::HistoryFull) => Ok(false),
+            Err(Stop::NoMemory) => Err(NoMemory),
+        }
+    }
+
+    ghost rule = { legal_rule };
+}
+
+impl JudgedEntry for Measured {
+    ghost event_of = { λ measured. measured.entry.event };
+
+    ghost fits = { IsMeasured };
+
+    ghost lawful = { IsLegalRecord };
+
+    fn event(&self) -> Event {
+        self.entry.event
+    }
+
+    fn try_on(&self, machine: &mut Machine, scanner: &mut OneScan) -> Result<bool, NoMemory> {
+        let mutator = machine.trace().mutator_count();
+        let collector = machine.trace().collector_count();
+        let answered = self.entry.try_on(machine, scanner)?;
+        let trace = machine.trace();
+        Ok(
+            answered
+                && self.mutator == trace.mutator_count().saturating_sub(mutator)
+                && self.collector == trace.collector_count().saturating_sub(collector),
+        )
+    }
+
+    ghost rule = { record_rule };
+}

@@ -1,4 +1,0 @@
-use Rattle.mh_program.proofs.telling.line_complaint.Goals as goal
-
-pub returns : goal.returns
-returns g c = rw c.in_ok-place.ensures at c.complaint.ensures

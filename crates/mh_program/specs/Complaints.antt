@@ -1,0 +1,123 @@
+-- What the program tells on standard error.
+use Rattle.std.specs.Prelude.{◌≡◌, ℕ, ◌+◌, ◌<◌, Bool, true, false, List, [], ◌∷◌, ◌++◌, Result, Ok, Err, codes, decimal}
+use Rattle.std.specs.Io.KnownBytes.{Appends}
+use Rattle.std.specs.List.{All}
+use Rattle.mh_show.specs.OfCurve.CurveEnd.{CurveEnd}
+use Rattle.mh_show.specs.OfCurve.CurveEnd.TheVariants as curve
+use Rattle.mh_sessions.specs.OfJudging.Judgement.{Judgement}
+use Rattle.mh_sessions.specs.OfJudging.Judgement.TheVariants as judgement
+use Rattle.mh_model.specs.Bytes.{Text, line_text}
+use Rattle.mh_command_line.specs.declared.fault.LineFault.{LineFault}
+use Rattle.mh_command_line.specs.declared.fault.LineFault.TheVariants as line
+use Rattle.mh_orders.specs.declared.order.ConfigOption.{ConfigOption}
+use Rattle.mh_orders.specs.declared.order.ConfigOption.TheVariants.{Pages, Quantum, Trigger, Every}
+use Rattle.mh_command_line.specs.Printable.{IsPrintable, IsSign}
+use Rattle.mh_live.specs.OfScript.End.{End}
+use Rattle.mh_live.specs.OfScript.End.TheVariants.{Done, Refused}
+use Rattle.mh_live.specs.OfScript.LineRefusal.{LineRefusal}
+use Rattle.mh_live.specs.OfScript.ScriptFault.{ScriptFault}
+use Rattle.mh_live.specs.OfScript.ScriptFault.TheVariants.{Read, Write, NoMemory, HistoryFull}
+use Rattle.mh_live.specs.OfScript.Run.{Device}
+use Rattle.mh_text.specs.Stream.{AppendsBeginning}
+
+-- The stream -------------------------------------------------------------------------------------
+
+-- standard error, and whether a write to it has failed
+pub record ErrorStream : Type 0 where
+  pub device : Device
+  pub has_failed : Bool
+
+-- one to which nothing was told yet
+abbrev pub fresh : Device → ErrorStream
+fresh device = record { device = device; has_failed = false }
+
+-- a text was written whole, or a prefix of it if the device failed; nothing after a failure
+pub data Says (old new : ErrorStream) (text : Text) : Type 0 where
+  Whole : old.has_failed ≡ false → Appends old.device.bytes new.device.bytes text → new.device.failures ≡ old.device.failures → new.has_failed ≡ false → Says old new text
+  Broken : old.has_failed ≡ false → AppendsBeginning old.device.bytes new.device.bytes text → old.device.failures < new.device.failures → new.has_failed ≡ true → Says old new text
+  Silent : old.has_failed ≡ true → new ≡ old → Says old new text
+
+-- nothing was told
+abbrev pub SaysNothing : ErrorStream → ErrorStream → Type 0
+SaysNothing old new = new ≡ old
+
+-- Texts ------------------------------------------------------------------------------------------
+
+-- the line of a fault
+abbrev pub fault_text : ScriptFault → Text
+fault_text Read = codes "metroheap: read failed"
+fault_text Write = codes "metroheap: write failed"
+fault_text NoMemory = codes "metroheap: no memory"
+fault_text HistoryFull = codes "metroheap: history full"
+
+-- the line for an option that is outside the limits of a configuration
+abbrev pub outside_text : ConfigOption → Text
+outside_text Pages = codes "metroheap: bad configuration: --pages goes from 1 to 4096"
+outside_text Quantum = codes "metroheap: bad configuration: --quantum goes from 209 to 1000000"
+outside_text Trigger = codes "metroheap: bad configuration: --trigger goes from 0 to the number of pages"
+outside_text Every = codes "metroheap: bad configuration: --every goes from 0 to 1000000"
+
+-- how a complaint of a line begins, and one of an entry of a history, whose entries begin at line 2
+abbrev pub line_place : ℕ → Text
+line_place line = codes "metroheap: line " ++ decimal line ++ codes ": "
+
+abbrev pub entry_place : ℕ → Text
+entry_place number = codes "metroheap: line " ++ decimal (number + 1) ++ codes ", entry " ++ decimal number ++ codes ": "
+
+-- a complaint on one line: where, and what, of which each byte can be printed
+abbrev pub IsComplaint : Text → Text → Type 0
+IsComplaint place text = (what : Text) × All IsSign what × (text ≡ place ++ line_text what)
+
+-- What it gets ------------------------------------------------------------------------------------
+
+-- what quotes an input: a text of this kind, or another if there is no memory for that
+pub data SaysQuoted (old new : ErrorStream) (Is : Text → Type 0) (other : Text) : Type 0 where
+  Quoted : (text : Text) → Is text → Says old new text → SaysQuoted old new Is other
+  Unquoted : Says old new other → SaysQuoted old new Is other
+
+-- of words that `clap` refuses: what it says of them
+abbrev pub SaysWords : ErrorStream → ErrorStream → Type 0
+SaysWords old new = SaysQuoted old new IsPrintable (line_text (codes "metroheap: bad command line"))
+
+-- of a script that is refused: where, and why
+abbrev pub SaysRefusal : ErrorStream → ErrorStream → LineRefusal → Type 0
+SaysRefusal old new refusal = SaysQuoted old new (IsComplaint (line_place refusal.line)) (line_text (codes "metroheap: the script is outside the grammar"))
+
+-- of lines that are refused one by one: the same of each in turn
+pub data SaysRefusals : ErrorStream → List LineRefusal → ErrorStream → Type 0 where
+  None : (old : ErrorStream) → SaysRefusals old [] old
+  One : (old new : ErrorStream) (refusal : LineRefusal) → SaysRefusal old new refusal → SaysRefusals old (refusal ∷ []) new
+  More : (old mid new : ErrorStream) (before : List LineRefusal) (refusal : LineRefusal) → SaysRefusals old before mid → SaysRefusals mid (refusal ∷ []) new → SaysRefusals old (before ++ refusal ∷ []) new
+
+-- of how a run or a race ended: nothing if the script was done
+abbrev pub SaysEnd : ErrorStream → ErrorStream → End → Type 0
+SaysEnd old new Done = SaysNothing old new
+SaysEnd old new (Refused refusal) = SaysRefusal old new refusal
+
+-- of a history: nothing if it is legal, and else where and why it isn't
+abbrev pub SaysJudgement : ErrorStream → ErrorStream → Judgement → Type 0
+SaysJudgement old new (judgement.Legal count) = SaysNothing old new
+SaysJudgement old new (judgement.Refused line reason) = SaysQuoted old new (IsComplaint (line_place line)) (line_text (codes "metroheap: the history is outside the grammar"))
+SaysJudgement old new (judgement.FirstBad number fault) = SaysQuoted old new (IsComplaint (entry_place number)) (line_text (codes "metroheap: an entry is bad"))
+
+-- of the curve of a history: nothing if it was drawn, and else where and why it wasn't
+abbrev pub SaysCurve : ErrorStream → ErrorStream → CurveEnd → Type 0
+SaysCurve old new curve.Done = SaysNothing old new
+SaysCurve old new (curve.Refused line reason) = SaysQuoted old new (IsComplaint (line_place line)) (line_text (codes "metroheap: the history is outside the grammar"))
+SaysCurve old new curve.TooLong = Says old new (line_text (codes "metroheap: line 0: a history has fewer than 4611686018427387904 units"))
+
+-- of what ends with more to tell, or with a fault
+abbrev pub SaysRun : {T : Type 0} → (ErrorStream → ErrorStream → T → Type 0) → ErrorStream → ErrorStream → Result T ScriptFault → Type 0
+SaysRun SaysDone old new (Ok done) = SaysDone old new done
+SaysRun SaysDone old new (Err fault) = Says old new (line_text (fault_text fault))
+
+-- of a run that ends well without a word
+abbrev pub SaysFault : {T : Type 0} → ErrorStream → ErrorStream → Result T ScriptFault → Type 0
+SaysFault = SaysRun (λ old new done. SaysNothing old new)
+
+-- of words that gave no order
+abbrev pub SaysLine : ErrorStream → ErrorStream → LineFault → Type 0
+SaysLine old new (line.Words error) = SaysWords old new
+SaysLine old new line.NotText = Says old new (line_text (codes "metroheap: a word is not text"))
+SaysLine old new (line.Configuration option) = Says old new (line_text (outside_text option))
+SaysLine old new line.NoMemory = Says old new (line_text (codes "metroheap: no memory"))

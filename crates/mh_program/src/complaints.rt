@@ -1,0 +1,290 @@
+//! What standard error gets of words, scripts and histories that are refused, and of faults.
+//!
+//! Only a line that quotes its input takes memory. If there is none, a line comes that gives no reason; for words it
+//! is `metroheap: bad command line`. The lines of `ScriptFault` are named once, in `mh_script`. Those of `LineFault`
+//! stand here once more, since a contract names them, with the limits of a configuration.
+ghost use Rattle.std.specs.Prelude.{◌≡◌, ◌+◌, IfOk, MatchResult};
+ghost use Rattle.std.specs.String.{string_bytes};
+ghost use Rattle.mh_model.specs.Bytes.{line_text};
+ghost use Rattle.mh_command_line.specs.Printable.{IsPrintable};
+ghost use Rattle.mh_program.specs.Complaints.{IsComplaint, More, None, Says, SaysCurve, SaysEnd, SaysFault, SaysJudgement, SaysLine, SaysRefusal, SaysRefusals, SaysRun, SaysWords, entry_place, fault_text, line_place, outside_text};
+
+use crate::errors::Errors;
+use mh_command_line::fault::LineFault;
+use mh_command_line::quoted::{printable, signs};
+use mh_live::listener::Listener;
+use mh_live::mh_script::end::{End, LineRefusal};
+use mh_live::mh_script::fault::{HISTORY_FULL, NO_MEMORY, READ_FAILED, ScriptFault, WRITE_FAILED};
+use mh_live::mh_script::mh_reasons::history_reason::HistoryReason;
+use mh_orders::order::ConfigOption;
+use mh_sessions::mh_judging::judgement::Judgement;
+use mh_show::mh_curve::end::CurveEnd;
+use mh_text::sink::Sink;
+use std::alloc::{AllocError, Global};
+use std::fmt;
+use std::fmt::Write;
+
+/// The line that names a fault of a run.
+fn fault_line(fault: ScriptFault) -> &'static [u8]
+    ensures { result.now ≡ line_text (fault_text fault) }
+{
+    match fault {
+        ScriptFault::Read => READ_FAILED.as_bytes(),
+        ScriptFault::Write => WRITE_FAILED.as_bytes(),
+        ScriptFault::NoMemory => NO_MEMORY.as_bytes(),
+        ScriptFault::HistoryFull => HISTORY_FULL.as_bytes(),
+    }
+}
+
+/// The line for an option that is outside the limits of a configuration.
+fn outside_line(option: ConfigOption) -> &'static [u8]
+    ensures { result.now ≡ line_text (outside_text option) }
+{
+    match option {
+        ConfigOption::Pages => b"metroheap: bad configuration: --pages goes from 1 to 4096\n",
+        ConfigOption::Quantum =>
+            b"metroheap: bad configuration: --quantum goes from 209 to 1000000\n",
+        ConfigOption::Trigger =>
+            b"metroheap: bad configuration: --trigger goes from 0 to the number of pages\n",
+        ConfigOption::Every => b"metroheap: bad configuration: --every goes from 0 to 1000000\n",
+    }
+}
+
+fn line_place(alloc: Global, line: u64) -> Result<String, AllocError>
+    ensures { IfOk result (λ place. string_bytes place ≡ line_place line) }
+{
+    format!(in alloc; "metroheap: line {line}: ")
+}
+
+/// The line of an entry. Entries begin at line 2.
+fn line_of_entry(number: u64) -> u128
+    ensures { result ≡ number + 1 }
+{
+    u128::from(number) + 1
+}
+
+fn entry_place(alloc: Global, number: u64) -> Result<String, AllocError>
+    ensures { IfOk result (λ place. string_bytes place ≡ entry_place number) }
+{
+    let line = line_of_entry(number);
+    let mut place = format!(in alloc; "metroheap: line {line}")?;
+    write!(place, ", entry {number}: ")?;
+    Ok(place)
+}
+
+/// A line that says at which place what is wrong.
+fn complaint<T: fmt::Display>(alloc: Global, place: String, what: &T) -> Result<Vec<u8>, AllocError>
+    ensures { IfOk result (λ text. IsComplaint (string_bytes place) text.items) }
+{
+    let what = format!(in alloc; "{what}")?;
+    let what = signs(alloc, what.as_str())?;
+    let mut text = place.into_bytes();
+    text.extend_from_slice(what.as_slice())?;
+    text.push(b'\n')?;
+    Ok(text)
+}
+
+fn line_complaint<T: fmt::Display>(
+    alloc: Global,
+    line: u64,
+    what: &T,
+) -> Result<Vec<u8>, AllocError>
+    ensures { IfOk result (λ text. IsComplaint (line_place line) text.items) }
+{
+    let place = line_place(alloc, line)?;
+    complaint(alloc, place, what)
+}
+
+fn entry_complaint<T: fmt::Display>(
+    alloc: Global,
+    number: u64,
+    what: &T,
+) -> Result<Vec<u8>, AllocError>
+    ensures { IfOk result (λ text. IsComplaint (entry_place number) text.items) }
+{
+    let place = entry_place(alloc, number)?;
+    complaint(alloc, place, what)
+}
+
+fn words_text(alloc: Global, error: &clap::Error) -> Result<Vec<u8>, AllocError>
+    ensures { IfOk result (λ text. IsPrintable text.items) }
+{
+    let text = format!(in alloc; "{error}")?;
+    printable(alloc, text.as_str())
+}
+
+/// Why a history is refused that is judged by what its sessions see. The entries of one that was cut off were judged.
+#[derive(Clone, Copy)]
+struct SeenRefusal<'a> {
+    line: u64,
+    reason: &'a HistoryReason,
+}
+
+impl fmt::Display for SeenRefusal<'_> {
+    fn fmt<W: fmt::Write>(&self, f: &mut fmt::Formatter<W>) -> fmt::Result {
+        write!(f, "{}", self.reason)?;
+        if self.line > 1 && matches!(self.reason, HistoryReason::NoNewline) {
+            let legal = self.line - 2;
+            write!(f, "; legal entries before it: {legal}")?;
+        }
+        Ok(())
+    }
+}
+
+impl<E: Sink> Errors<E> {
+    /// Writes a text that quotes an input, or another if there was no memory for it.
+    fn say_quoted(&mut self, text: Result<Vec<u8>, AllocError>, other: &[u8])
+        ensures { MatchResult text (λ text. Says self.old self.new text.items) (λ _. Says self.old self.new other.now) }
+    {
+        match text {
+            Ok(text) => self.say(text.as_slice()),
+            Err(_) => self.say(other),
+        }
+    }
+
+    /// Says what `clap` says of words, or if there is no memory for that, that they are bad.
+    fn say_words(&mut self, error: &clap::Error)
+        ensures { SaysWords self.old self.new }
+    {
+        let text = words_text(self.alloc(), error);
+        self.say_quoted(text, b"metroheap: bad command line\n");
+    }
+
+    /// Says why words gave no order.
+    pub(crate) fn say_line(&mut self, fault: &LineFault)
+        ensures { SaysLine self.old self.new fault.now }
+    {
+        match fault {
+            LineFault::Words(error) => self.say_words(error),
+            LineFault::NotText => self.say(b"metroheap: a word is not text\n"),
+            LineFault::Configuration(option) => self.say(outside_line(*option)),
+            LineFault::NoMemory => self.say(b"metroheap: no memory\n"),
+        }
+    }
+
+    /// Says where and why a script is refused.
+    pub(crate) fn say_refusal(&mut self, refusal: &LineRefusal)
+        ensures { SaysRefusal self.old self.new refusal.now }
+    {
+        let text = line_complaint(self.alloc(), refusal.line, &refusal.reason);
+        self.say_quoted(text, b"metroheap: the script is outside the grammar\n");
+    }
+
+    fn say_done(&mut self, end: &End)
+        ensures { SaysEnd self.old self.new end.now }
+    {
+        if let End::Refused(refusal) = end {
+            self.say_refusal(refusal);
+        }
+    }
+
+    /// Says how a run or a race ended, if not well.
+    pub(crate) fn say_end(&mut self, ended: &Result<End, ScriptFault>)
+        ensures { SaysRun SaysEnd self.old self.new ended.now }
+    {
+        match ended {
+            Ok(end) => self.say_done(end),
+            Err(fault) => self.say(fault_line(*fault)),
+        }
+    }
+
+    fn say_found(&mut self, judgement: &Judgement)
+        ensures { SaysJudgement self.old self.new judgement.now }
+    {
+        match judgement {
+            Judgement::Legal(_) => {}
+            Judgement::Refused { line, reason } => {
+                let text = line_complaint(self.alloc(), *line, reason);
+                self.say_quoted(text, b"metroheap: the history is outside the grammar\n");
+            }
+            Judgement::FirstBad { number, fault } => {
+                let text = entry_complaint(self.alloc(), *number, fault);
+                self.say_quoted(text, b"metroheap: an entry is bad\n");
+            }
+        }
+    }
+
+    fn say_seen_found(&mut self, judgement: &Judgement)
+        ensures { SaysJudgement self.old self.new judgement.now }
+    {
+        match judgement {
+            Judgement::Refused { line, reason } => {
+                let refusal = SeenRefusal {
+                    line: *line,
+                    reason,
+                };
+                let text = line_complaint(self.alloc(), *line, &refusal);
+                self.say_quoted(text, b"metroheap: the history is outside the grammar\n");
+            }
+            _ => self.say_found(judgement),
+        }
+    }
+
+    /// The same of a history that is judged by what its sessions see.
+    pub(crate) fn say_seen(&mut self, ended: &Result<Judgement, ScriptFault>)
+        ensures { SaysRun SaysJudgement self.old self.new ended.now }
+    {
+        match ended {
+            Ok(judgement) => self.say_seen_found(judgement),
+            Err(fault) => self.say(fault_line(*fault)),
+        }
+    }
+
+    /// Says what is wrong with a history, or the fault at which its judging ended.
+    pub(crate) fn say_judgement(&mut self, ended: &Result<Judgement, ScriptFault>)
+        ensures { SaysRun SaysJudgement self.old self.new ended.now }
+    {
+        match ended {
+            Ok(judgement) => self.say_found(judgement),
+            Err(fault) => self.say(fault_line(*fault)),
+        }
+    }
+
+    fn say_drawn(&mut self, end: &CurveEnd)
+        ensures { SaysCurve self.old self.new end.now }
+    {
+        match end {
+            CurveEnd::Done => {}
+            CurveEnd::Refused { line, reason } => {
+                let text = line_complaint(self.alloc(), *line, reason);
+                self.say_quoted(text, b"metroheap: the history is outside the grammar\n");
+            }
+            CurveEnd::TooLong => {
+                self.say(
+                    b"metroheap: line 0: a history has fewer than 4611686018427387904 units\n",
+                );
+            }
+        }
+    }
+
+    /// Says why the curve of a history wasn't drawn, or the fault at which that ended.
+    pub(crate) fn say_curve(&mut self, ended: &Result<CurveEnd, ScriptFault>)
+        ensures { SaysRun SaysCurve self.old self.new ended.now }
+    {
+        match ended {
+            Ok(end) => self.say_drawn(end),
+            Err(fault) => self.say(fault_line(*fault)),
+        }
+    }
+
+    /// Says the fault of a run, if it has one.
+    pub(crate) fn say_fault<T>(&mut self, ended: &Result<T, ScriptFault>)
+        ensures { SaysFault self.old self.new ended.now }
+    {
+        if let Err(fault) = ended {
+            self.say(fault_line(*fault));
+        }
+    }
+}
+
+impl<E: Sink> Listener for Errors<E> {
+    ghost hears = { SaysRefusals };
+
+    fn refused(&mut self, refusal: &LineRefusal) {
+        self.say_refusal(refusal);
+    }
+
+    ghost silence = { None };
+
+    ghost onward = { More };
+}

@@ -1,2 +1,0 @@
--- Modules of mh_promise that crates above name, so that they list this one alone.
-pub use Rattle.mh_state.proofs.OfPromise.RunsByEvents

@@ -1,3 +1,0 @@
--- Modules of mh_promise that crates above name, so that they list this one alone.
-pub use Rattle.mh_state.specs.OfPromise.Runs
-pub use Rattle.mh_state.specs.OfPromise.Promise

@@ -1,9 +1,0 @@
-use Rattle.mh_state.specs.Engines.{machine_of}
-use Rattle.mh_state.specs.Running.{Running}
-use Rattle.mh_state.proofs.RunningLemmas.{config-running}
-use Rattle.mh_state.proofs.machine.Machine.config.Goals as goal
-
-pub returns : goal.returns
-returns c =
-    let running : Running = record { machine = machine_of c.self.inside.engine; done = c.self.inside.done; room = c.self.inside.engine.trace.room } in
-    rw (← c.self.view_is) (config-running c.self.inside.config running c.self.invariant)

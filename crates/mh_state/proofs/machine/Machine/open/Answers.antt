@@ -1,6 +1,0 @@
-use Rattle.mh_state.specs.Engines.{machine_of}
-use Rattle.mh_state.proofs.RunningLemmas.{first-running}
-use Rattle.mh_state.proofs.machine.Machine.open.Goals as goal
-
-pub invariant_of-result : goal.invariant_of-result
-invariant_of-result c = first-running c.args.config (machine_of c.in_ok-open.field-0) _ c.in_ok-open.ensures.machine
