@@ -34,7 +34,7 @@ use Rattle.std.specs.contracts.alloc.Global as heap
 use Rattle.std.specs.contracts.impls.GlobalAllocator.TheImpl.{ghosts, dict}
 use Rattle.std.proofs.alloc.Global.TheLaws as heap_laws
 use Rattle.metroheap_c.specs.contracts.parts.Parts as Parts
-use Rattle.metroheap_c.specs.Held.{Kept, held}
+use Rattle.metroheap_c.specs.Held.{Kept, handle_owns}
 use Rattle.mh_embed.specs.contracts.embedded.Embedded as kept
 use Rattle.mh_embed.proofs.embedded.Embedded.TheLaws as kept_laws
 use Rattle.metroheap_c.specs.contracts.handle.Handle as handle
@@ -58,7 +58,7 @@ null_typed h fits = (and_tt (has_ty (α E.al) h) fits.0, (record { fits = lit< t
 module _ {M : Type 1} {𝓤 : Ura M} {𝓛 : Logic 𝓤} {K : Type 0} {Γ : List (Item 𝓤)} {G : Goal 𝓤 𝓛.H} where
   by_held : K → (a : Global) (p : Ptr) (v : Option Kept) → (p ≡ null_ptr → v ≡ None → Seq K 𝓛 Γ G)
       → ((b o : ℕ) (x : Kept) → p ≡ block_ptr b o → v ≡ Some x → Testable (block_ptr b o) → Seq K 𝓛 (‵ (box_owns (ghosts.dealloc_token a) kept.the_row (block_ptr b o) x) ∷ Γ) G)
-      → Seq K 𝓛 (‵ (held a p v) ∷ Γ) G
+      → Seq K 𝓛 (‵ (handle_owns a p v) ∷ Γ) G
   by_held t a null_ptr None none some = drop t $ none refl refl
   by_held t a null_ptr (Some x) none some = use1 𝓛 (given ⊥ (‵ ftrue)) (never_e 𝓤 _) $ learn t (λ w. absurd w)
   by_held t a (block_ptr b o) None none some = use1 𝓛 (given ⊥ (‵ ftrue)) (never_e 𝓤 _) $ learn t (λ w. absurd w)
@@ -81,7 +81,7 @@ module _ {M : Type 1} {𝓤 : Ura M} {𝓛 : Logic 𝓤} {K : Type 0} {Γ : List
       (λ b o x e f test. some h b o x f (subst (λ (p : Ptr). vs ≡ both (ptr_val p) h ∷ []) e word) fits test)))))
 
   pub handle_in : K → (p : Ptr) (h : Val) (a : heap.the_row.Denot) (v : Option Kept)
-      → Step K 𝓛 (‵ (handle.the_row.own_val (record { at = p; alloc = a; value = v }) (both (ptr_val p) h ∷ [])) ∷ Γ) G (‵ (held a p v) ∷ ‵ (heap.the_row.own_val a (h ∷ [])) ∷ Γ) G
+      → Step K 𝓛 (‵ (handle.the_row.own_val (record { at = p; alloc = a; value = v }) (both (ptr_val p) h ∷ [])) ∷ Γ) G (‵ (handle_owns a p v) ∷ ‵ (heap.the_row.own_val a (h ∷ [])) ∷ Γ) G
   handle_in t p h a v = step (λ s.
       nothing t $ move t (2 ∷ 0 ∷ []) $ fjoin t $ feq_i t (List Val) (ptr_val p ∷ []) (ptr_val p ∷ []) refl $ fjoin t $ feq_i t (List Val) (both (ptr_val p) h ∷ []) (both (ptr_val p) h ∷ []) refl $ fjoin t $
       fpack t (Valss (RawPtr ∷ heap.the_row ∷ [])) (within (shape handle.the_type) (to handle.the_type (record { at = p; alloc = a; value = v })) (both (ptr_val p) h ∷ [])) (ptr_val p ∷ [], (h ∷ [], tt)) $ fjoin t $ s)

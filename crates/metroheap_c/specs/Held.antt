@@ -13,8 +13,8 @@ abbrev pub Kept : Type 0
 Kept = the_row.Denot
 
 -- a pointer owns what its handle keeps: nothing if it is null, and else a box
-abbrev pub held : Global → Ptr → Option Kept → Fml
-held a null_ptr None = ftrue
-held a null_ptr (Some x) = ffalse
-held a (block_ptr b o) None = ffalse
-held a (block_ptr b o) (Some x) = box_owns (ghosts.dealloc_token a) the_row (block_ptr b o) x
+abbrev pub handle_owns : Global → Ptr → Option Kept → Fml
+handle_owns a null_ptr None = ftrue
+handle_owns a null_ptr (Some x) = ffalse
+handle_owns a (block_ptr b o) None = ffalse
+handle_owns a (block_ptr b o) (Some x) = box_owns (ghosts.dealloc_token a) the_row (block_ptr b o) x

@@ -1,7 +1,7 @@
 //! What C keeps of a machine. A call takes the box out of the handle and puts it back, so the bodies of the calls need
 //! no `unsafe`.
 ghost use Rattle.std.specs.Prelude.{◌≡◌, Option, None, Some, MatchOption};
-ghost use Rattle.metroheap_c.specs.Held.{Kept, held};
+ghost use Rattle.metroheap_c.specs.Held.{Kept, handle_owns};
 
 use crate::parts::Parts;
 use mh_embed::embedded::Embedded;
@@ -19,7 +19,7 @@ pub struct Handle {
 }
 
 impl Model for Handle {
-    ghost also_owns = { λ l. held l.alloc l.at l.value };
+    ghost also_owns = { λ l. handle_owns l.alloc l.at l.value };
 }
 
 impl Handle {

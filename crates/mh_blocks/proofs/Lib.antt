@@ -1,4 +1,4 @@
-pub mod PageMapLemmas
+pub mod AddressMap
 pub mod ChangeLemmas
 pub mod CountLemmas
 pub mod CountedLemmas

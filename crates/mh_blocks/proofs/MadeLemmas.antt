@@ -12,7 +12,7 @@ use Rattle.mh_pages.specs.OfClasses.Counts.{reference_count, number_count}
 use Rattle.mh_pages.specs.OfClasses.Fits.{FitsItsHeader}
 use Rattle.mh_pages.specs.declared.header.Header.{Header}
 use Rattle.mh_pages.specs.Words.{with_word, with_header}
-use Rattle.mh_blocks.specs.Words.{place_in, header_in, block_of, blocks_of}
+use Rattle.mh_blocks.specs.Words.{place_in, header_in, block_of, block_table}
 use Rattle.mh_blocks.specs.Packed.{IsPacked, ArePacked}
 use Rattle.mh_blocks.specs.Headers.{IsNewHeader}
 use Rattle.mh_table_laws.proofs.TableMapLemmas.{with_taken-table_map}
@@ -120,19 +120,19 @@ new_words_packed size birth stamp index part header room most fits new =
 -- a block put with its header is the new block of the part
 pub record IsMadeAt (table : Table (List ℕ)) (above : Table Block) (size place birth stamp index : ℕ) (part : Part) (header : Header) : Type 0 where
   pub packed : ArePacked (with_header (with_taken table size place (replicate size 0)) place header)
-  pub made : IfSome (class_of (part_words part)) (λ s. blocks_of (with_header (with_taken table size place (replicate size 0)) place header) ≡ with_taken above s place (new_block birth stamp index part))
+  pub made : IfSome (class_of (part_words part)) (λ s. block_table (with_header (with_taken table size place (replicate size 0)) place header) ≡ with_taken above s place (new_block birth stamp index part))
 
-pub made_at : (table : Table (List ℕ)) (above : Table Block) (size place birth stamp index : ℕ) (part : Part) (header : Header) → blocks_of table ≡ above → ArePacked table → IsFreeFor table size place → class_of (part_words part) ≡ Some size → FitsItsHeader part → IsNewHeader birth stamp index part.header header
+pub made_at : (table : Table (List ℕ)) (above : Table Block) (size place birth stamp index : ℕ) (part : Part) (header : Header) → block_table table ≡ above → ArePacked table → IsFreeFor table size place → class_of (part_words part) ≡ Some size → FitsItsHeader part → IsNewHeader birth stamp index part.header header
     → IsMadeAt table above size place birth stamp index part header
 made_at table above size place birth stamp index part header view packed free class fits new =
     let room = class_room (part_words part) size class in
     let put = with_header-taken table size place (replicate size 0) header free in
-    let made : blocks_of (with_header (with_taken table size place (replicate size 0)) place header) ≡ with_taken above size place (new_block birth stamp index part)
-    = ap blocks_of put
+    let made : block_table (with_header (with_taken table size place (replicate size 0)) place header) ≡ with_taken above size place (new_block birth stamp index part)
+    = ap block_table put
     ∙ with_taken-table_map block_of table size place (new_words size header)
-    ∙ ap (with_taken (blocks_of table) size place) (new_block_is size birth stamp index part header room.room fits new)
+    ∙ ap (with_taken (block_table table) size place) (new_block_is size birth stamp index part header room.room fits new)
     ∙ ap (λ t. with_taken t size place (new_block birth stamp index part)) view in
     record {
       packed = subst ArePacked (sym put) (taken_packed table size place (new_words size header) (new_words_packed size birth stamp index part header room.room room.most fits new) packed);
-      made = at_some (class_of (part_words part)) (λ s. blocks_of (with_header (with_taken table size place (replicate size 0)) place header) ≡ with_taken above s place (new_block birth stamp index part)) size class made;
+      made = at_some (class_of (part_words part)) (λ s. block_table (with_header (with_taken table size place (replicate size 0)) place header) ≡ with_taken above s place (new_block birth stamp index part)) size class made;
     }

@@ -5,11 +5,11 @@ use Rattle.mh_model.specs.Pages.{Table, page_number, block_at, class_at, with_bl
 use Rattle.mh_model.specs.Table.{Block}
 use Rattle.mh_model.specs.Collector.{moved_table}
 use Rattle.mh_pages.specs.Words.{words_at, with_word}
-use Rattle.mh_blocks.specs.Words.{place_in, block_of, blocks_of}
+use Rattle.mh_blocks.specs.Words.{place_in, block_of, block_table}
 use Rattle.mh_blocks.specs.Packed.{ArePacked}
 use Rattle.mh_table_laws.proofs.TableMapLemmas.{block_at-table_map, with_taken-table_map}
-use Rattle.mh_blocks.proofs.PageMapLemmas.{class_at-table_map, free_above}
 use Rattle.mh_table_laws.proofs.placing.Places.{block_at-with_taken_there}
+use Rattle.mh_table_laws.proofs.PageMapLemmas.{class_at-table_map, free_above}
 use Rattle.mh_blocks.proofs.ReadLemmas.{words_there, header_within, small_place}
 use Rattle.mh_blocks.proofs.WriteLemmas.{with_word-forward}
 use Rattle.mh_blocks.proofs.PackedLemmas.{taken_packed, word_packed}
@@ -27,9 +27,9 @@ pub record IsMoved (table : Table (List ℕ)) (above : Table Block) (size place 
   pub within : 3 < length (words_at (copied table size place target) place)
   pub packed : (word : ℕ) → ArePacked (with_word (copied table size place target) place 3 word)
   pub moved : (word : ℕ) → place_in word ≡ Some target
-      → IfSome (block_at above place) (λ block. IfSome (class_at above (page_number place)) (λ s. blocks_of (with_word (copied table size place target) place 3 word) ≡ moved_table above place (record { block = block; class_size = s; target = target })))
+      → IfSome (block_at above place) (λ block. IfSome (class_at above (page_number place)) (λ s. block_table (with_word (copied table size place target) place 3 word) ≡ moved_table above place (record { block = block; class_size = s; target = target })))
 
-moves_below : (table : Table (List ℕ)) (size place target : ℕ) → ArePacked table → IsSome (block_at (blocks_of table) place) → IsFreeFor table size target → class_at table (page_number place) ≡ Some size → IsMoved table (blocks_of table) size place target
+moves_below : (table : Table (List ℕ)) (size place target : ℕ) → ArePacked table → IsSome (block_at (block_table table) place) → IsFreeFor table size target → class_at table (page_number place) ≡ Some size → IsMoved table (block_table table) size place target
 moves_below table size place target packed there free class =
     let words = words_there table place packed there in
     let all : ArePacked (copied table size place target) = taken_packed table size target (words_at table place) words.packed packed in
@@ -41,14 +41,14 @@ moves_below table size place target packed there free class =
       there = ap is_some still;
       within = omega (arith, header_within table place words, ap (λ content. length (unwrap_or content [])) still);
       packed = λ word. word_packed (copied table size place target) place 3 word (omega arith) all;
-      moved = λ word leads. if_some (block_at (blocks_of table) place) _ (λ block is.
-          at_some (class_at (blocks_of table) (page_number place)) _ size (class_at-table_map block_of table (page_number place) ∙ class)
+      moved = λ word leads. if_some (block_at (block_table table) place) _ (λ block is.
+          at_some (class_at (block_table table) (page_number place)) _ size (class_at-table_map block_of table (page_number place) ∙ class)
           (with_word-forward (copied table size place target) place word target all leads
-          ∙ ap (λ content. with_block (blocks_of (copied table size place target)) place (option_map (λ (b : Block). record b { forward = Some target }) content)) (block_at-table_map block_of (copied table size place target) place ∙ ap (option_map block_of) still ∙ sym words.block ∙ is)
-          ∙ ap (λ t. with_block t place (Some (record block { forward = Some target }))) (with_taken-table_map block_of table size target (words_at table place) ∙ ap (with_taken (blocks_of table) size target) (same_Some (block_of (words_at table place)) block (sym words.block ∙ is)))));
+          ∙ ap (λ content. with_block (block_table (copied table size place target)) place (option_map (λ (b : Block). record b { forward = Some target }) content)) (block_at-table_map block_of (copied table size place target) place ∙ ap (option_map block_of) still ∙ sym words.block ∙ is)
+          ∙ ap (λ t. with_block t place (Some (record block { forward = Some target }))) (with_taken-table_map block_of table size target (words_at table place) ∙ ap (with_taken (block_table table) size target) (same_Some (block_of (words_at table place)) block (sym words.block ∙ is)))));
     }
 
-pub moves : (table : Table (List ℕ)) (above : Table Block) (size place target : ℕ) → blocks_of table ≡ above → ArePacked table → IsSome (block_at above place) → IfSome (class_at above (page_number place)) (λ s. IsFreeFor above s target) → class_at table (page_number place) ≡ Some size
+pub moves : (table : Table (List ℕ)) (above : Table Block) (size place target : ℕ) → block_table table ≡ above → ArePacked table → IsSome (block_at above place) → IfSome (class_at above (page_number place)) (λ s. IsFreeFor above s target) → class_at table (page_number place) ≡ Some size
     → IsMoved table above size place target
 moves table above size place target view packed there free class =
     let above_class : class_at above (page_number place) ≡ Some size = ap (λ t. class_at t (page_number place)) (sym view) ∙ class_at-table_map block_of table (page_number place) ∙ class in

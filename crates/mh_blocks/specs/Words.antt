@@ -48,5 +48,5 @@ unfoldable pub block_of : List ℕ → Block
 block_of words = block_from (get_or words 0 0) (get_or words 1 0) (get_or words 2 0) (get_or words 3 0) (drop 4 words)
 
 -- the table of blocks that a table of words stands for
-abbrev pub blocks_of : Table (List ℕ) → Table Block
-blocks_of table = table_map block_of table
+abbrev pub block_table : Table (List ℕ) → Table Block
+block_table table = table_map block_of table

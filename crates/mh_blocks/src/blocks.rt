@@ -50,15 +50,15 @@ pub struct Blocks {
 impl Model for Blocks {
     ghost use Rattle.mh_model.specs.Pages.{Table};
     ghost use Rattle.mh_model.specs.Table.{Block};
-    ghost use Rattle.mh_blocks.specs.Words.{blocks_of};
+    ghost use Rattle.mh_blocks.specs.Words.{block_table};
     ghost use Rattle.mh_blocks.specs.Counted.{AreCounted};
     ghost use Rattle.mh_blocks.specs.Marks.{IsIndexOf};
 
     ghost Value = { Table Block };
 
-    ghost view = { λ blocks. blocks_of blocks.pages };
+    ghost view = { λ blocks. block_table blocks.pages };
 
-    ghost invariant = { λ blocks. AreCounted blocks.pages blocks.block_count blocks.forwarder_count × IsIndexOf (blocks_of blocks.pages) blocks.index };
+    ghost invariant = { λ blocks. AreCounted blocks.pages blocks.block_count blocks.forwarder_count × IsIndexOf (block_table blocks.pages) blocks.index };
 }
 
 /// Pages and places.

@@ -19,7 +19,7 @@ AsksAllocations rows allocations = IsSomeAnd (one_of (codes "allocates") rows) (
 pub record AreHeapOptions (rows : List Row) (options : HeapOptions) : Type 0 where
   pub target : one_of (codes "target") rows ≡ None
   pub window : one_of (codes "window") rows ≡ None
-  pub pages : HasNumber rows (codes "pages") options.pages
+  pub pages : options.pages ≡ optional_number (codes "pages") rows
   pub every : HasNumber rows (codes "every") options.every
   pub allocations : AsksAllocations rows options.allocations
   pub live : HasNumber rows (codes "live") options.live
@@ -50,11 +50,13 @@ has_size rows =
 
 -- Faults -----------------------------------------------------------------------------------------
 
--- an option that the others want: a window with a target, a target with a window, and otherwise what describes a heap, once a part of that is given
+-- an option that the others want: a window with a target, a target with a window, and otherwise what describes a heap, once a part of that is given: its
+-- pages only without a quantum
 pub data IsWanted (rows : List Row) (name : Text) : Type 0 where
   ForTarget : name ≡ codes "window" → IsSome (one_of (codes "target") rows) → IsWanted rows name
   ForWindow : name ≡ codes "target" → IsSome (one_of (codes "window") rows) → IsWanted rows name
-  ForHeap : (name ≡ codes "pages") ⊎ (name ≡ codes "every") ⊎ (name ≡ codes "allocates") ⊎ (name ≡ codes "live") → one_of (codes "target") rows ≡ None → has_size rows ≡ true → IsWanted rows name
+  ForHeap : (name ≡ codes "every") ⊎ (name ≡ codes "allocates") ⊎ (name ≡ codes "live") → one_of (codes "target") rows ≡ None → has_size rows ≡ true → IsWanted rows name
+  ForPages : name ≡ codes "pages" → one_of (codes "quantum") rows ≡ None → one_of (codes "target") rows ≡ None → has_size rows ≡ true → IsWanted rows name
 
 -- an option that is not to stand beside another: none of a heap's blocks beside a target, and then no two numbers of a configuration
 pub data IsAlone (rows : List Row) (name other : Text) : Type 0 where

@@ -1,7 +1,7 @@
 //! The subcommand that sizes a heap: of a script, of what intervals ask for, or of a share of the mutator. `clap`
 //! proves the limits of its numbers, and no rule between them. So which options go together is looked at here, and a
 //! refusal names the option that is missing or too many.
-ghost use Rattle.std.specs.Prelude.{◌≡◌, IfErr, IfOk, IfSome, IsSome, IsTrue, OnOk, None, false, true, codes, is_some};
+ghost use Rattle.std.specs.Prelude.{◌≡◌, ◌||◌, IfErr, IfOk, IfSome, IsSome, IsTrue, OnOk, None, false, true, codes, is_some};
 ghost use Rattle.clap.specs.Words.{IsUnsignedIn, app_of, found_of, one_of, rows_of, rule_of};
 ghost use Rattle.clap.specs.declared.builder.command.Command.TheViews.{out-Command};
 ghost use Rattle.mh_command_line.specs.Line.{AsksToSize, HasNumber, any_text, blocks_app, optional_number, parsed_rule, share_app, size_app, sized_app};
@@ -27,7 +27,7 @@ const ABOUT_SIZE: &str =
     "Print how many pages, and which trigger and quantum, are enough for a script, or for what an interval between two quanta asks for; or which quantum leaves the mutator a share of each window";
 
 const SIZE_USAGE: &str =
-    "metroheap size [--rules <R>] < SCRIPT\n       metroheap size --pages <P> --every <M> --allocates <WORDS:COUNT,..> --live <L> [--references <R>] [--quantum <K>]\n       metroheap size --target <U> --window <D> [--every <M> | --quantum <K>] [--pages <P>]";
+    "metroheap size [--rules <R>] < SCRIPT\n       metroheap size [--pages <P>] [--quantum <K>] --every <M> --allocates <WORDS:COUNT,..> --live <L> [--references <R>]\n       metroheap size --target <U> --window <D> [--every <M> | --quantum <K>] [--pages <P>]";
 
 const SIZE_STATUSES: &str =
     "Exit status: 0 if the size was printed, 1 if the script was refused, 2 if the command line was, 3 if memory was refused, a device failed or the history was full";
@@ -41,7 +41,8 @@ fn sized<'a>(alloc: Global) -> Result<Command<'a>, AllocError>
     ensures local { IfOk result (λ command. (out-Command command).has_globals ≡ false) }
 {
     let command = subcommand(alloc, "size", ABOUT_SIZE, SIZE_USAGE, SIZE_STATUSES);
-    let help = "How many pages the heap has, from 1 to 4096";
+    let help =
+        "How many pages the heap has, from 1 to 4096; if they are not given, the fewest that are enough with the quantum";
     let command = with_option(Ok(command), pages(alloc, help));
     let help = "After how many units a quantum is run, from 1 to 1000000";
     let command = with_option(command, every(alloc, "M", 1, help));
@@ -163,6 +164,23 @@ fn no_window<'a>(matches: &ArgMatches<'a>) -> Result<(), OptionFault<'a>>
     }
 }
 
+/// The pages of a heap, which are wanted if no quantum is given.
+fn pages_asked<'a>(matches: &ArgMatches<'a>) -> Result<Option<u32>, OptionFault<'a>>
+    requires asks { AsksToSize (rows_of (found_of matches.now)) }
+    requires target { one_of (codes "target") (rows_of (found_of matches.now)) ≡ None }
+    requires sized { has_size (rows_of (found_of matches.now)) ≡ true }
+    ensures pages { IfOk result (λ pages. pages ≡ optional_number (codes "pages") (rows_of (found_of matches.now))) }
+    ensures either { IfOk result (λ pages. IsTrue (is_some pages || is_some (optional_number (codes "quantum") (rows_of (found_of matches.now))))) }
+    ensures fault { IfErr result (HasOptionFault (codes "size") (rows_of (found_of matches.now))) }
+{
+    let pages = number(matches, "pages");
+    let quantum = number(matches, "quantum");
+    if pages.is_none() && quantum.is_none() {
+        return Err(OptionFault::Lacking("pages"));
+    }
+    Ok(pages)
+}
+
 /// Which heap is asked for.
 fn heap_asked<'a>(matches: &ArgMatches<'a>) -> Result<HeapOptions, OptionFault<'a>>
     requires asks { AsksToSize (rows_of (found_of matches.now)) }
@@ -172,7 +190,7 @@ fn heap_asked<'a>(matches: &ArgMatches<'a>) -> Result<HeapOptions, OptionFault<'
     ensures fault { IfErr result (HasOptionFault (codes "size") (rows_of (found_of matches.now))) }
 {
     no_window(matches)?;
-    let pages = needed(matches, "pages")?;
+    let pages = pages_asked(matches)?;
     let every = needed(matches, "every")?;
     let allocations = allocations_asked(matches)?;
     let live = needed(matches, "live")?;

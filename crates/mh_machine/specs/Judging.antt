@@ -70,6 +70,6 @@ abbrev pub HasSeenMeasured : Config → List Measured → Judging → Type 0
 HasSeenMeasured config seen judging = HasSeen config (λ measured. measured.entry.event) (IsLegalRecord config) seen judging
 
 -- A fault names the first bad entry by a rule; refused memory says nothing of the history
-abbrev pub TellsFirstBad : {X : Type 0} → (List X → Type 0) → List X → CheckFault → Type 0
-TellsFirstBad Lawful history (FirstBad number) = IsFirstBadOf Lawful history number
-TellsFirstBad Lawful history NoMemory = Unit {0}
+abbrev pub NamesFirstBad : {X : Type 0} → (List X → Type 0) → List X → CheckFault → Type 0
+NamesFirstBad Lawful history (FirstBad number) = IsFirstBadOf Lawful history number
+NamesFirstBad Lawful history NoMemory = Unit {0}

@@ -15,7 +15,7 @@ abbrev pub nothing : model.Account
 nothing = command_alone []
 
 -- a quantum, if one was run, was told after the deeds of a command, by a relation that says what was told
-abbrev pub AddsRan : {Pace : Type 0} → (model.Account → Pace → Type 0) → Pace → Option Ran → Pace → Type 0
+abbrev pub AddsRan : {Executor : Type 0} → (model.Account → Executor → Type 0) → Executor → Option Ran → Executor → Type 0
 AddsRan tells old ran new = (deeds : List Deed) → tells (command_alone deeds) old → tells (record { command = deeds; quantum = ran }) new
 
 -- an account was told this, unless memory was refused for a deed; it has no deeds of a quantum that it wasn't told of

@@ -2,7 +2,7 @@
 //! to 2^62 (`IsShort`). The machine around it counts events, from which a law gives that. Room in the trace is made
 //! before anything changes.
 //!
-//! Commands and quanta are done by a `Pace`. What that was told is the model's account of the event, and an event that
+//! Commands and quanta are done by a `Executor`. What that was told is the model's account of the event, and an event that
 //! isn't done leaves it as it was.
 ghost use Rattle.std.specs.Prelude.{◌≡◌, ℕ, ◌+◌, ◌<◌, ◌≤◌, ◌==◌, IfOk, OnErr, Some, length};
 ghost use Rattle.mh_model.specs.declared.birth.TheConstants.{LIFE};
@@ -18,7 +18,7 @@ ghost use Rattle.mh_machine.specs.Engines.{machine_of, IsShort};
 ghost use Rattle.mh_machine.specs.Running.{MayAskForMemory};
 ghost use Rattle.mh_machine.specs.Telling.{AddsRan, command_alone, nothing};
 
-use crate::pace::Pace;
+use crate::executor::Executor;
 use mh_classes::parts::parts;
 use mh_model::command::{Command, Control, Event};
 use mh_model::config::{Config, Rules};
@@ -79,13 +79,13 @@ impl Engine {
 
     /// Runs a quantum.
     #[tactic(auto, unfolding(mh_model::specs::Machine::quantum_run))]
-    fn quantum<P: Pace>(&mut self, pace: &mut P) -> Reply
+    fn quantum<P: Executor>(&mut self, executor: &mut P) -> Reply
         requires room { 0 < self.old.trace.room }
         requires short { IsShort (machine_of self.old) }
         ensures step { quantum_run (machine_of self.old) ≡ says result (machine_of self.new) }
-        ensures told { AddsRan P.tells pace.old (Some (ran_by self.old.heap.kept)) pace.new }
+        ensures told { AddsRan P.tells executor.old (Some (ran_by self.old.heap.kept)) executor.new }
     {
-        let units = pace.quantum(&mut self.heap);
+        let units = executor.quantum(&mut self.heap);
         self.trace.spent(units.0);
         self.units = 0;
         Reply::Spent {
@@ -96,24 +96,24 @@ impl Engine {
 
     /// Performs a command.
     #[tactic(auto, unfolding(mh_model::specs::Machine::command_step))]
-    fn command<P: Pace>(
+    fn command<P: Executor>(
         &mut self,
         config: &Config,
         who: u8,
         command: &Command,
-        pace: &mut P,
+        executor: &mut P,
     ) -> Reply
         requires config { config.now ≡ self.old.heap.kept.config }
         requires room { 1 < self.old.trace.room }
         requires short { IsShort (machine_of self.old) }
         requires half { IsShort (half_step (machine_of self.old) (events.Session who command.now)) }
-        requires fresh { P.tells nothing pace.old }
+        requires fresh { P.tells nothing executor.old }
         ensures step { command_step (machine_of self.old) who command.now ≡ says result (machine_of self.new) }
         ensures config { self.new.heap.kept.config ≡ self.old.heap.kept.config }
         ensures room { 0 < self.new.trace.room }
-        ensures told { P.tells (command_alone (command_deeds self.old.heap.kept who command.now)) pace.new }
+        ensures told { P.tells (command_alone (command_deeds self.old.heap.kept who command.now)) executor.new }
     {
-        let reply = pace.perform(&mut self.heap, who, command);
+        let reply = executor.perform(&mut self.heap, who, command);
         let units = units_of(config, command, &reply);
         self.trace.mutator(units);
         self.units += units;
@@ -121,55 +121,55 @@ impl Engine {
     }
 
     /// Runs the quantum that is due, if one is.
-    fn run_due<P: Pace>(&mut self, config: &Config, pace: &mut P)
+    fn run_due<P: Executor>(&mut self, config: &Config, executor: &mut P)
         requires config { config.now ≡ self.old.heap.kept.config }
         requires room { 0 < self.old.trace.room }
         requires short { IsShort (machine_of self.old) }
         ensures step { machine_of self.new ≡ with_due_quantum (machine_of self.old) }
-        ensures told { AddsRan P.tells pace.old (ran_if (is_quantum_due (machine_of self.old)) self.old.heap.kept) pace.new }
+        ensures told { AddsRan P.tells executor.old (ran_if (is_quantum_due (machine_of self.old)) self.old.heap.kept) executor.new }
     {
         let every = u64::from(config.every);
         if every > 0 && self.units >= every {
-            let _ = self.quantum(pace);
+            let _ = self.quantum(executor);
         }
     }
 
     /// Performs a command of the session `who`, and then runs the quantum that it makes due.
     #[tactic(auto, unfolding(mh_model::specs::Machine::event_step, mh_model::specs::Deeds::account_of))]
-    fn session<P: Pace>(
+    fn session<P: Executor>(
         &mut self,
         config: &Config,
         who: u8,
         command: &Command,
-        pace: &mut P,
+        executor: &mut P,
     ) -> Result<Reply, NoMemory>
         requires config { config.now ≡ self.old.heap.kept.config }
         requires short { IsShort (machine_of self.old) }
         requires half { IsShort (half_step (machine_of self.old) (events.Session who command.now)) }
-        requires fresh { P.tells nothing pace.old }
+        requires fresh { P.tells nothing executor.old }
         ensures step { IfOk result (λ reply. event_step (machine_of self.old) (events.Session who command.now) ≡ says reply (machine_of self.new)) }
         ensures err { OnErr result (self.new ≡ self.old) }
         ensures memory { OnErr result (self.old.trace.room < 2) }
-        ensures told { IfOk result (λ reply. P.tells (account_of (machine_of self.old) (events.Session who command.now)) pace.new) }
-        ensures quiet { OnErr result (pace.new ≡ pace.old) }
+        ensures told { IfOk result (λ reply. P.tells (account_of (machine_of self.old) (events.Session who command.now)) executor.new) }
+        ensures quiet { OnErr result (executor.new ≡ executor.old) }
     {
         self.trace.room()?;
-        let reply = self.command(config, who, command, pace);
-        self.run_due(config, pace);
+        let reply = self.command(config, who, command, executor);
+        self.run_due(config, executor);
         Ok(reply)
     }
 
     /// Runs a quantum on request, if the scheduler runs none.
     #[tactic(auto, unfolding(mh_model::specs::Machine::control_step))]
-    fn quantum_by_hand<P: Pace>(&mut self, config: &Config, pace: &mut P) -> Reply
+    fn quantum_by_hand<P: Executor>(&mut self, config: &Config, executor: &mut P) -> Reply
         requires config { config.now ≡ self.old.heap.kept.config }
         requires room { 0 < self.old.trace.room }
         requires short { IsShort (machine_of self.old) }
         ensures step { control_step (machine_of self.old) controls.Quantum ≡ says result (machine_of self.new) }
-        ensures told { AddsRan P.tells pace.old (ran_if (self.old.heap.kept.config.every == 0) self.old.heap.kept) pace.new }
+        ensures told { AddsRan P.tells executor.old (ran_if (self.old.heap.kept.config.every == 0) self.old.heap.kept) executor.new }
     {
         if config.every == 0 {
-            return self.quantum(pace);
+            return self.quantum(executor);
         }
         Reply::Spent {
             units: Spent(0),
@@ -179,26 +179,26 @@ impl Engine {
 
     /// Does a control.
     #[tactic(auto, unfolding(mh_model::specs::Machine::control_step, mh_model::specs::Deeds::account_of))]
-    fn control<P: Pace>(
+    fn control<P: Executor>(
         &mut self,
         alloc: Global,
         config: &Config,
         control: Control,
-        pace: &mut P,
+        executor: &mut P,
     ) -> Result<Reply, NoMemory>
         requires config { config.now ≡ self.old.heap.kept.config }
         requires short { IsShort (machine_of self.old) }
-        requires fresh { P.tells nothing pace.old }
+        requires fresh { P.tells nothing executor.old }
         ensures step { IfOk result (λ reply. control_step (machine_of self.old) control ≡ says reply (machine_of self.new)) }
         ensures err { OnErr result (self.new ≡ self.old) }
         ensures memory { OnErr result (MayAskForMemory self.old.trace.room (events.Control control)) }
-        ensures told { IfOk result (λ reply. P.tells (account_of (machine_of self.old) (events.Control control)) pace.new) }
-        ensures quiet { OnErr result (pace.new ≡ pace.old) }
+        ensures told { IfOk result (λ reply. P.tells (account_of (machine_of self.old) (events.Control control)) executor.new) }
+        ensures quiet { OnErr result (executor.new ≡ executor.old) }
     {
         let reply = match control {
             Control::Quantum => {
                 self.trace.room()?;
-                self.quantum_by_hand(config, pace)
+                self.quantum_by_hand(config, executor)
             }
             Control::Start => {
                 self.heap.start();
@@ -214,26 +214,26 @@ impl Engine {
 
     /// Does an event with the quantum that it makes due.
     #[tactic(auto, unfolding(mh_model::specs::Machine::event_step, mh_model::specs::Deeds::account_of))]
-    pub(crate) fn event<P: Pace>(
+    pub(crate) fn event<P: Executor>(
         &mut self,
         alloc: Global,
         config: &Config,
         event: Event,
-        pace: &mut P,
+        executor: &mut P,
     ) -> Result<Reply, NoMemory>
         requires config { config.now ≡ self.old.heap.kept.config }
         requires short { IsShort (machine_of self.old) }
         requires half { IsShort (half_step (machine_of self.old) event) }
-        requires fresh { P.tells nothing pace.old }
+        requires fresh { P.tells nothing executor.old }
         ensures step { IfOk result (λ reply. event_step (machine_of self.old) event ≡ says reply (machine_of self.new)) }
         ensures err { OnErr result (self.new ≡ self.old) }
         ensures memory { OnErr result (MayAskForMemory self.old.trace.room event) }
-        ensures told { IfOk result (λ reply. P.tells (account_of (machine_of self.old) event) pace.new) }
-        ensures quiet { OnErr result (pace.new ≡ pace.old) }
+        ensures told { IfOk result (λ reply. P.tells (account_of (machine_of self.old) event) executor.new) }
+        ensures quiet { OnErr result (executor.new ≡ executor.old) }
     {
         match event {
-            Event::Session(who, command) => self.session(config, who, &command, pace),
-            Event::Control(control) => self.control(alloc, config, control, pace),
+            Event::Session(who, command) => self.session(config, who, &command, executor),
+            Event::Control(control) => self.control(alloc, config, control, executor),
         }
     }
 }

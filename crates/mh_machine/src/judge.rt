@@ -13,7 +13,7 @@ ghost use Rattle.mh_model.specs.declared.history.Entry.{Entry};
 ghost use Rattle.mh_model.specs.declared.history.Measured.{Measured};
 ghost use Rattle.mh_model.specs.History.{IsLegal};
 ghost use Rattle.mh_model.specs.HistoryTexts.{IsJudged, IsLegalRecord};
-ghost use Rattle.mh_machine.specs.Judging.{HasSeen, HasSeenEntries, HasSeenMeasured, TellsFirstBad, first_judging, found_by};
+ghost use Rattle.mh_machine.specs.Judging.{HasSeen, HasSeenEntries, HasSeenMeasured, NamesFirstBad, first_judging, found_by};
 ghost use Rattle.mh_machine.specs.Running.{MayAskForMemory};
 ghost use Rattle.mh_machine.specs.declared.judge.CheckFault.{CheckFault};
 
@@ -94,7 +94,7 @@ impl Judge {
     /// Shows it a whole history, and reports what it found.
     fn settle<E: JudgedEntry>(&mut self, history: &[E]) -> Result<(), CheckFault>
         ensures legal { OnOk result ((config : Config) → HasSeen config E.event_of (E.lawful config) [] self.old → E.lawful config history.now) }
-        ensures bad { IfErr result (λ fault. (config : Config) → HasSeen config E.event_of (E.lawful config) [] self.old → TellsFirstBad (E.lawful config) history.now fault) }
+        ensures bad { IfErr result (λ fault. (config : Config) → HasSeen config E.event_of (E.lawful config) [] self.old → NamesFirstBad (E.lawful config) history.now fault) }
     {
         for entry in history {
             self.entry(entry)?;
@@ -121,7 +121,7 @@ impl Judge {
 /// Replays a history with one worker. An entry past the 1,000,000th is bad.
 pub fn check(alloc: Global, config: Config, history: &[Entry]) -> Result<(), CheckFault>
     ensures legal { OnOk result (IsLegal config history.now) }
-    ensures bad { IfErr result (TellsFirstBad (IsLegal config) history.now) }
+    ensures bad { IfErr result (NamesFirstBad (IsLegal config) history.now) }
 {
     let mut judge = Judge::open(alloc, config)?;
     judge.settle(history)
@@ -130,7 +130,7 @@ pub fn check(alloc: Global, config: Config, history: &[Entry]) -> Result<(), Che
 /// Replays a history whose entries state their units, with one worker. An entry past the 1,000,000th is bad.
 pub fn audit(alloc: Global, config: Config, entries: &[Measured]) -> Result<(), CheckFault>
     ensures legal { OnOk result (IsLegalRecord config entries.now) }
-    ensures bad { IfErr result (TellsFirstBad (IsLegalRecord config) entries.now) }
+    ensures bad { IfErr result (NamesFirstBad (IsLegalRecord config) entries.now) }
 {
     let mut judge = Judge::open(alloc, config)?;
     judge.settle(entries)

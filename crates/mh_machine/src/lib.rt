@@ -11,7 +11,7 @@ pub use mh_report;
 
 mod engine;
 pub mod entry;
+mod executor;
 pub mod judge;
 pub mod machine;
-mod pace;
 pub mod same;

@@ -24,7 +24,7 @@ ghost use Rattle.mh_machine.specs.Telling.{nothing};
 ghost use Rattle.mh_machine.specs.declared.machine.Stop.{Stop};
 
 use crate::engine::Engine;
-use crate::pace::{Pace, Plain};
+use crate::executor::{Executor, Plain};
 use mh_deeds::account::Account;
 use mh_model::command::Event;
 use mh_model::config::Config;
@@ -106,24 +106,24 @@ impl Machine {
         })
     }
 
-    /// Does an event by a pace that was told nothing yet.
+    /// Does an event by an executor that was told nothing yet.
     #[tactic(auto, unfolding(mh_model::specs::Limits::most_entries))]
-    fn advance<P: Pace>(&mut self, event: Event, pace: &mut P) -> Result<Reply, Stop>
-        requires fresh { P.tells nothing pace.old }
+    fn advance<P: Executor>(&mut self, event: Event, executor: &mut P) -> Result<Reply, Stop>
+        requires fresh { P.tells nothing executor.old }
         ensures step { IfOk result (λ reply. Does self.old event reply self.new) }
         ensures stopped { OnErr result (self.new ≡ self.old) }
         ensures full { IsErrOf result Stop.HistoryFull → self.old.done ≡ most_entries }
         ensures ends { self.old.done ≡ most_entries → IsErrOf result Stop.HistoryFull }
         ensures memory { IsErrOf result Stop.NoMemory → MayAskForMemory self.old.room event }
-        ensures told { IfOk result (λ reply. P.tells (account_of self.old.machine event) pace.new) }
-        ensures quiet { OnErr result (pace.new ≡ pace.old) }
+        ensures told { IfOk result (λ reply. P.tells (account_of self.old.machine event) executor.new) }
+        ensures quiet { OnErr result (executor.new ≡ executor.old) }
     {
         runs_stay_within_their_events();
         machine_after_more();
         if self.done == MOST_EVENTS {
             return Err(Stop::HistoryFull);
         }
-        match self.engine.event(self.alloc, &self.config, event, pace) {
+        match self.engine.event(self.alloc, &self.config, event, executor) {
             Err(NoMemory) => Err(Stop::NoMemory),
             Ok(reply) => {
                 self.done += 1;

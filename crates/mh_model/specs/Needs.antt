@@ -2,7 +2,7 @@
 -- Quanta are run as in a machine that is never full: by the scheduler, or on request without one. So what is needed doesn't depend on pages, quantum
 -- or trigger.
 use Rattle.std.specs.Prelude.{ℕ, ◌+◌, ◌-◌, ◌*◌, ◌/◌, ◌==◌, ◌≤◌, ◌⊎◌, nat_le, Bool, false, not, ◌&&◌, if◌then◌else◌, List, [], ◌∷◌, ◌++◌, ◌<◌}
-use Rattle.std.specs.List.{AllByRecursion, flat_map}
+use Rattle.std.specs.List.{AllByRecursion, flat_map, sum_by}
 use Rattle.mh_model.specs.declared.command.Control.TheVariants as control
 use Rattle.mh_model.specs.declared.command.Event.{Event}
 use Rattle.mh_model.specs.declared.command.Event.TheVariants as event
@@ -66,6 +66,10 @@ pub record NeedNoMore (needs : Needs) (config : Config) (events : List Event) : 
   pub asked : AllByRecursion (λ interval. asked_count config interval ≤ needs.asked) (run_intervals [] (first_run config) events)
   pub opened : AllByRecursion (λ interval. opens_at_most config interval ≤ needs.opened) (run_intervals [] (first_run config) events)
   pub page : let list = flat_map (asked_parts config) events in most_slots list + most_moves list ≤ needs.page_units
+
+-- the pages that the intervals of a run open at most, all together
+abbrev pub opened_in_all : Config → List Event → ℕ
+opened_in_all config events = sum_by (opens_at_most config) (run_intervals [] (first_run config) events)
 
 -- what a cycle spends at most by these needs, without the charge for slots: 2 for each root, what it marks, and the sweep and the defragmentation of each page
 abbrev pub units_needed : Needs → ℕ → ℕ

@@ -1,20 +1,32 @@
 -- A command leaves the heap kept and within its bounds, by the laws of commands.
-use Rattle.std.proofs.Common.{◌≡◌, ℕ, ◌+◌, Bool, true, false, List, Some, None, replicate, sym, ap, subst}
+use Rattle.std.proofs.Common.{◌≡◌, ℕ, ◌+◌, ◌<◌, Bool, true, false, List, Some, None, replicate, sym, ap, subst}
 use Rattle.std.proofs.lemmas.Option.{none-some}
 use Rattle.mh_model.specs.declared.command.Command.{Command}
 use Rattle.mh_model.specs.declared.config.Config.{Config}
 use Rattle.mh_model.specs.declared.reply.Reply.{Reply}
+use Rattle.mh_model.specs.declared.shape.Shape.{Shape}
 use Rattle.mh_model.specs.World.{Answer}
 use Rattle.mh_model.specs.Table.{Made}
 use Rattle.mh_model.specs.Collector.{Collector, quantum}
 use Rattle.mh_model.specs.Mutator.{HeapState, new_group, with_root}
 use Rattle.mh_model.specs.CycleBounds.{IsInBounds}
-use Rattle.mh_model.specs.Invariant.{HeapKeeps, IsKeeping, IsSteady}
+use Rattle.mh_model.specs.Invariant.{HeapKeeps, IsKeeping, IsSteady, IsObjectAt, IsFindable, HasField}
 use Rattle.mh_laws.specs.Barriers.{RootsWrittenKeepTheSnapshot, ObjectsMadeKeepTheSnapshot}
-use Rattle.mh_laws.specs.Snapshots.{CommandsKeepTheSnapshot, HeapsStayKept}
+use Rattle.mh_laws.specs.Snapshots.{CollectorsStaySteady, CommandsKeepTheSnapshot, HeapsStayKept}
 use Rattle.mh_laws.specs.Bounds.{CollectorsStayInBounds}
+use Rattle.mh_laws.specs.Fields.{FieldsAreFound}
 use Rattle.mh_cycle.specs.State.{CycleState, state_with_collector, first_state}
 use Rattle.mh_paged.specs.Kept.{KeepsEachWorld, Steps, heap_of, IsHeap}
+
+-- a field of an object of a kept heap is found, and lies where the object has it
+pub record IsFoundField (collector : Collector) (place : ℕ) (shape : Shape) (field : ℕ) : Type 0 where
+  pub findable : IsFindable collector.table place field
+  pub has : HasField collector place shape field
+
+pub found-field : CollectorsStaySteady → FieldsAreFound → (cycle : CycleState) (birth : ℕ) (ended : List Bool) → IsHeap cycle birth ended → (place : ℕ) (shape : Shape) → IsObjectAt cycle.collector place shape → (field : ℕ) → field < shape.references + shape.numbers → IsFoundField cycle.collector place shape field
+found-field steady found cycle birth ended is place shape object field within =
+    let keeps = steady.of_heaps (heap_of cycle birth ended) is.keeping in
+    record { findable = found.findable cycle.collector keeps place shape object field within; has = found.lies cycle.collector keeps place shape object field within }
 
 pub kept-after : HeapsStayKept → CollectorsStayInBounds → (old new : CycleState) (birth next : ℕ) (ended left : List Bool) → IsHeap old birth ended → new.config ≡ old.config → (who : ℕ) (command : Command) (reply : Reply) → Steps (heap_of old birth ended) who command reply (heap_of new next left)
     → IsHeap new next left

@@ -7,6 +7,7 @@ use Rattle.mh_model.specs.Table.{Block, is_forwarder}
 use Rattle.mh_model.specs.Collector.{Collector}
 use Rattle.mh_model.specs.Machine.{dump_block, dump_slots, dump_pages, blocks_in, blocks_of, stat_on}
 use Rattle.mh_table_laws.specs.TableMaps.{page_map, table_map}
+use Rattle.mh_table_laws.proofs.PageMapLemmas.{free_pages-table_map}
 use Rattle.mh_picture_laws.specs.Picture.{drawn_of, picture_of, bare_block, pictured_dump, pictured_stat}
 use Rattle.mh_picture_laws.specs.Laws.{PictureGivesTheDump}
 
@@ -37,15 +38,8 @@ dump-drawn collector = dump-pages 0 collector.table
 
 -- Counts -----------------------------------------------------------------------------------------
 
-module _ {X Y : Type 0} (f : X → Y) where
-  free-map : (table : Table X) → free_pages (map (option_map (page_map f)) table) ≡ free_pages table
-  free-map [] = refl
-  free-map (None ∷ table) = ap suc (free-map table)
-  free-map (Some page ∷ table) = free-map table
-
 free-drawn : (table : Table Block) → free_pages table ≡ free_pages (table_map bare_block (table_map drawn_of table))
-unfolding table_map
-free-drawn table = sym (free-map bare_block (map (option_map (page_map drawn_of)) table) ∙ free-map drawn_of table)
+free-drawn table = sym (free_pages-table_map bare_block (table_map drawn_of table) ∙ free_pages-table_map drawn_of table)
 
 slots-drawn : (slots : List (Option Block)) → blocks_in (map (option_map bare_block) (map (option_map drawn_of) slots)) ≡ map seen (blocks_in slots)
 slots-drawn [] = refl

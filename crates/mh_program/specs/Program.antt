@@ -16,7 +16,7 @@ use Rattle.mh_show.specs.OfCurve.Runs.{IsDrawing, curve_output}
 use Rattle.mh_orders.specs.declared.generate_options.Options.{Options}
 use Rattle.mh_generate.specs.Generated.{WritesAsked}
 use Rattle.mh_sessions.specs.OfJudging.Judged.{IsAuditing, IsChecking, IsMigrating}
-use Rattle.mh_racing.specs.Raced.{IsRaceRun}
+use Rattle.mh_race_text.specs.Raced.{IsRaceRun}
 use Rattle.mh_sessions.specs.OfJudging.RunHistory.{IsHistoryRun}
 use Rattle.mh_live.specs.Feeding.{IsLiveRun}
 use Rattle.mh_model.specs.RunHistories.{output_under}
@@ -24,9 +24,9 @@ use Rattle.mh_model.specs.declared.config.Rules.{Rules}
 use Rattle.mh_sessions.specs.Texts.{IsSessionsJudging}
 use Rattle.mh_live.specs.OfScript.Run.{Device, IsRun, transcript}
 use Rattle.mh_show.specs.Page.{page_text}
-use Rattle.mh_size.specs.Heaps.{IsHeapText}
-use Rattle.mh_size.specs.Scripts.{IsSizing}
-use Rattle.mh_size.specs.Targets.{IsTargetText}
+use Rattle.mh_size_text.specs.Heaps.{IsHeapText}
+use Rattle.mh_size_text.specs.Scripts.{IsSizing}
+use Rattle.mh_size_text.specs.Targets.{IsTargetText}
 use Rattle.mh_show.specs.OfTelling.Steps.{told_text}
 use Rattle.mh_program.specs.Status.{judgement_status_of, line_status_of, live_status_of, status_of, curve_status_of}
 use Rattle.mh_program.specs.Complaints.{ErrorStream, SaysEnd, SaysFault, SaysJudgement, SaysLine, SaysRefusals, SaysRun, SaysCurve}

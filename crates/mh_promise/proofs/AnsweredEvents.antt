@@ -49,5 +49,5 @@ unfolding half_moment
 half-machine moment event = refl
 
 -- who asks for the quanta left is answered with them
-pub told-left : QuantaLeftEndTheCycle → (machine : Machine) (given : Reply) → given ≡ (event_step machine (event.Control control.Left)).reply → given ≡ reply.Left (left_of machine)
-told-left law machine given same = same ∙ control-reply machine control.Left ∙ ap (λ (a : Answer Machine). a.reply) (law.told machine)
+pub left-is : QuantaLeftEndTheCycle → (machine : Machine) (given : Reply) → given ≡ (event_step machine (event.Control control.Left)).reply → given ≡ reply.Left (left_of machine)
+left-is law machine given same = same ∙ control-reply machine control.Left ∙ ap (λ (a : Answer Machine). a.reply) (law.told machine)

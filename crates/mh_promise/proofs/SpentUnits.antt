@@ -77,6 +77,6 @@ module _ (keeps : QuantumKeepsItsLimit) where
   event-units machine (event.Session who command) = let none = ap units_of (session-reply machine who command) ∙ mutator-units machine.heap who command in omega (arith, none)
   event-units machine (event.Control control) = subst (λ r. units_of r ≤ machine.heap.config.quantum) (sym (control-reply machine control)) (control-units machine control)
 
-  pub told-units : (config : Config) (machine : Machine) → machine.heap.config ≡ config → (event : Event) (units : ℕ) (phase : Phase) → reply.Spent units phase ≡ (event_step machine event).reply → units ≤ config.quantum
+  pub spent-is : (config : Config) (machine : Machine) → machine.heap.config ≡ config → (event : Event) (units : ℕ) (phase : Phase) → reply.Spent units phase ≡ (event_step machine event).reply → units ≤ config.quantum
   unfolding units_of
-  told-units config machine same event units phase told = subst (λ (c : Config). units ≤ c.quantum) same (subst (λ r. units_of r ≤ machine.heap.config.quantum) (sym told) (event-units machine event))
+  spent-is config machine same event units phase told = subst (λ (c : Config). units ≤ c.quantum) same (subst (λ r. units_of r ≤ machine.heap.config.quantum) (sym told) (event-units machine event))

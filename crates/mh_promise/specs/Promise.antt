@@ -23,7 +23,7 @@ use Rattle.mh_model.specs.Invariant.{IsFinished, IsLinked}
 use Rattle.mh_model.specs.Snapshot.{Moment, half_moment, has_quantum, is_heap_full, snapshot_at, world_beside}
 use Rattle.mh_model.specs.Trace.{least_mutator, floor}
 use Rattle.mh_model.specs.Intervals.{CyclesTakeAtMost, HasRoomFor, LeaveFlagged, AnswerAsTheWorld}
-use Rattle.mh_model.specs.Needs.{NeedNoMore, HasEnoughFor}
+use Rattle.mh_model.specs.Needs.{NeedNoMore, HasEnoughFor, opened_in_all}
 use Rattle.mh_run_laws.specs.BesideTheWorld.{IsFaithful, IsInCycle}
 use Rattle.mh_laws.specs.Bounds.{HasEnded, HasRunQuanta}
 use Rattle.mh_sizing_laws.specs.SharpNeeds.{AskOfClasses, HasSharpEnoughFor}
@@ -118,15 +118,15 @@ CyclesEnd config events = (before : List Event) →
     is_idle collector.phase ≡ false → EndsAfter config events before (most_quanta config - collector.quanta)
 
 -- a reply to the control `left` that is true: some quanta are left, at least 1, and once so many have been run the cycle has ended
-pub record TellsTheEnd (config : Config) (events before : List Event) (given : Reply) : Type 0 where
+pub record CountsToTheEnd (config : Config) (events before : List Event) (given : Reply) : Type 0 where
   pub count : ℕ
-  pub told : given ≡ reply.Left count
+  pub is : given ≡ reply.Left count
   pub some : 1 ≤ count
   pub ends : EndsAfter config events before count
 
 -- The control `left` is answered 0 if no cycle runs, and otherwise a number of quanta, at least 1, after which the cycle has ended
-pub record LeftTellsTheEnd (config : Config) (events : List Event) (replies : List Reply) : Type 0 where
-  pub running : (before : List Event) (given : Reply) → IsAnswered events replies before (event.Control control.Left) given → is_idle (machine_at config before).heap.collector.phase ≡ false → TellsTheEnd config events before given
+pub record LeftCountsToTheEnd (config : Config) (events : List Event) (replies : List Reply) : Type 0 where
+  pub running : (before : List Event) (given : Reply) → IsAnswered events replies before (event.Control control.Left) given → is_idle (machine_at config before).heap.collector.phase ≡ false → CountsToTheEnd config events before given
   pub idle : (before : List Event) (given : Reply) → IsAnswered events replies before (event.Control control.Left) given → is_idle (machine_at config before).heap.collector.phase ≡ true → given ≡ reply.Left 0
 
 -- Room -------------------------------------------------------------------------------------------
@@ -145,12 +145,14 @@ pub record HasRoom (config : Config) (events : List Event) (replies : List Reply
   pub never_full : NeverAnswersFull config events replies
 
 -- A run is never full whose trigger and pages are enough: for what its cycles take and leave, or for what its sessions need, by the ever-growing
--- world alone. For these needs each new part may keep a page, or small parts share pages. No cycle takes more quanta than its bound
+-- world alone. For these needs each new part may keep a page, or small parts share pages. Nor is it full if its pages are as many as all its intervals
+-- open together. No cycle takes more quanta than its bound
 pub record RoomIsEnough (config : Config) (events : List Event) (replies : List Reply) : Type 0 where
   pub bound : CyclesTakeAtMost (most_quanta config) config events
   pub room : (quanta opened : ℕ) → 1 ≤ quanta → CyclesTakeAtMost quanta config events → HasRoomFor config events quanta opened → NeverAnswersFull config events replies
   pub needs : (needs : Needs) (quanta : ℕ) → NeedNoMore needs config events → HasEnoughFor needs config quanta → HasRoom config events replies quanta needs.opened
   pub shared : (needs : Needs) (least kinds quanta : ℕ) → NeedNoMore needs config events → AskOfClasses least kinds config events → HasSharpEnoughFor needs least kinds config quanta → HasRoom config events replies quanta needs.opened
+  pub together : opened_in_all config events ≤ config.pages → NeverAnswersFull config events replies
 
 -- The promise ------------------------------------------------------------------------------------
 
@@ -175,7 +177,7 @@ pub record IsPromised (config : Config) (events : List Event) (outcome : Outcome
   -- a cycle that runs ends within its bound of quanta
   pub ends : CyclesEnd config events
   -- and once as many quanta as are reported to be left have been run, it has ended
-  pub left : LeftTellsTheEnd config events outcome.replies
+  pub left : LeftCountsToTheEnd config events outcome.replies
   -- with room for its cycles it is never full
   pub room : RoomIsEnough config events outcome.replies
   -- if the scheduler runs quanta, the mutator has its share of the units

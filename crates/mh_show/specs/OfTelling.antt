@@ -1,2 +1,2 @@
--- Modules of mh_telling that crates above name, so that they list this one alone.
-pub use Rattle.mh_telling.specs.Steps
+-- Modules of mh_steps that crates above name, so that they list this one alone.
+pub use Rattle.mh_steps.specs.Steps

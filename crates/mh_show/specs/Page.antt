@@ -10,11 +10,11 @@ use Rattle.mh_model.specs.Machine.{Machine, first_machine, event_step, machine_a
 use Rattle.mh_model.specs.Replies.{reply_text}
 use Rattle.mh_curve.specs.declared.point.Point.{Point}
 use Rattle.mh_curve.specs.Points.{points_of}
-use Rattle.mh_telling.specs.Lines.{quoted}
+use Rattle.mh_steps.specs.Lines.{quoted}
 use Rattle.mh_text.specs.Names.{names_in}
 use Rattle.mh_show.specs.declared.page.TheConstants.{HEAD}
 use Rattle.mh_show.specs.declared.drawing.TheConstants.{DRAWING}
-use Rattle.mh_show.specs.declared.controls.TheConstants.{HANDS}
+use Rattle.mh_show.specs.declared.controls.TheConstants.{CONTROLS}
 use Rattle.mh_model.specs.Numbered.{phase_number}
 use Rattle.mh_show.specs.Rows.{PageRow, row_of, row_text, listed, deed_rows_text}
 
@@ -106,4 +106,4 @@ object_text script config events = names_part (names_in script) ++ run_text conf
 
 -- The page of a run of these events, which are those of this script
 abbrev pub page_text : Text → Config → List Event → Text
-page_text script config events = HEAD.now ++ (object_text script config events ++ (DRAWING.now ++ HANDS.now))
+page_text script config events = HEAD.now ++ (object_text script config events ++ (DRAWING.now ++ CONTROLS.now))

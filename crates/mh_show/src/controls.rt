@@ -2,7 +2,7 @@
 //! page, trace and curve, lists, roots, the map as text, mouse and keys.
 
 /// What stands after that, to the end of the page.
-pub const HANDS: &[u8] =
+pub const CONTROLS: &[u8] =
     br##"// The chosen page ----------------------------------------------------------------------------------
 const PAGE_HEIGHT = 128;
 function chosenCell(slot, width) {

@@ -24,7 +24,7 @@ use mh_model::history::{Entry, Measured};
 use mh_model::limits::ROOT_SLOTS;
 use mh_model::memory::NoMemory;
 use mh_model::place::Place;
-use mh_telling::run::answer_told;
+use mh_steps::run::answer_told;
 use mh_text::sink::Sink;
 use std::alloc::Global;
 

@@ -9,7 +9,7 @@
 #![tactic(auto)]
 
 pub use mh_curve;
-pub use mh_telling;
+pub use mh_steps;
 
 pub mod controls;
 pub mod drawing;

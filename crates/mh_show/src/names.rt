@@ -3,7 +3,7 @@
 ghost use Rattle.std.specs.Prelude.{◌≡◌, ◌<◌, ◌≤◌, ◌^◌, ◌++◌, codes, IfOk, OnOk, OnErr, IsErrOf, length};
 ghost use Rattle.std.specs.Io.KnownBytes.{Appends};
 ghost use Rattle.mh_show.specs.Page.{names_part};
-ghost use Rattle.mh_telling.specs.Lines.{quoted};
+ghost use Rattle.mh_steps.specs.Lines.{quoted};
 ghost use Rattle.mh_text.specs.Names.{names_in, names_shown};
 ghost use Rattle.mh_text.specs.Stream.{AppendsBeginning};
 

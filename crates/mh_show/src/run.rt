@@ -12,7 +12,7 @@ ghost use Rattle.mh_curve.specs.OfScript.Texts.{LeavesSource, Blames, WantsMemor
 ghost use Rattle.mh_show.specs.Page.{page_text, run_text, object_text};
 ghost use Rattle.mh_text.specs.Stream.{AppendsBeginning};
 
-use crate::controls::HANDS;
+use crate::controls::CONTROLS;
 use crate::drawing::DRAWING;
 use crate::events::write_events;
 use crate::names::write_names;
@@ -101,7 +101,7 @@ fn write_page<W: Sink>(
     write_text(sink, HEAD)?;
     write_object(alloc, script, config, events, sink)?;
     write_text(sink, DRAWING)?;
-    write_text(sink, HANDS)?;
+    write_text(sink, CONTROLS)?;
     Ok(())
 }
 

@@ -23,7 +23,7 @@ shared-enough needs kinds config enough trigger = record {
 }
 
 -- enough pages are no fewer than the trigger
-shared-trigger : (fixed opened pages quanta : ℕ) → 1 ≤ quanta → fixed + 4 * (quanta * opened) + quanta - (3 * opened + 1) ≤ pages → quanta * opened - 1 ≤ pages
+pub shared-trigger : (fixed opened pages quanta : ℕ) → 1 ≤ quanta → fixed + 4 * (quanta * opened) + quanta - (3 * opened + 1) ≤ pages → quanta * opened - 1 ≤ pages
 shared-trigger fixed opened pages quanta some enough =
     let least : 1 * opened ≤ quanta * opened = mul-le 1 opened quanta opened some (omega arith) in
     omega (arith, least, enough)

@@ -5,6 +5,8 @@ pub mod PageLemmas
 pub mod SizedLemmas
 pub mod KindLemmas
 pub mod FitLemmas
+pub mod EnoughLemmas
+pub mod FoundLemmas
 pub mod BirthLemmas
 pub mod ClassLemmas
 pub mod CountLemmas

@@ -67,7 +67,7 @@ enough_fits number needs pages units most config all are same =
     )
 
 -- enough pages are no fewer than the trigger
-trigger_within : (live asked opened pages quanta : ℕ) → 1 ≤ quanta → live + (quanta * asked + quanta * opened) - asked ≤ pages → quanta * opened - 1 ≤ pages
+pub trigger_within : (live asked opened pages quanta : ℕ) → 1 ≤ quanta → live + (quanta * asked + quanta * opened) - asked ≤ pages → quanta * opened - 1 ≤ pages
 trigger_within live asked opened pages quanta some enough =
     let least : 1 * asked ≤ quanta * asked = mul-le 1 asked quanta asked some (omega arith) in
     omega (arith, least, enough)

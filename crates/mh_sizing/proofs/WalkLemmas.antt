@@ -1,6 +1,6 @@
 -- Walks with one more event.
 use Rattle.std.proofs.Common.{◌≡◌, ℕ, zero, suc, ◌+◌, ◌==◌, ◌<◌, ◌≤◌, ◌&&◌, not, nat_le, Bool, true, false, if◌then◌else◌, Option, Some, None, List, [], ◌∷◌, ◌++◌, length, refl, sym, ap, ap₂, ◌∙◌, subst, arith}
-use Rattle.std.specs.List.{AllByRecursion, Any, flat_map}
+use Rattle.std.specs.List.{AllByRecursion, Any, flat_map, sum_by}
 use Rattle.std.proofs.lemmas.Bool.{eq-eqb, ne_eqb, lt-leb, le-leb}
 use Rattle.std.proofs.lemmas.List.{append-nil, length-replicate}
 use Rattle.mh_model.specs.declared.command.Command.{Command}
@@ -19,7 +19,7 @@ use Rattle.mh_model.specs.declared.needs.Needs.{Needs}
 use Rattle.mh_model.specs.CycleUnits.{object_units, most_slots, most_moves}
 use Rattle.mh_model.specs.LiveParts.{object_parts}
 use Rattle.mh_model.specs.Machine.{new_units, command_units}
-use Rattle.mh_model.specs.Needs.{WorldRun, first_run, half_run, runs_quantum, next_run, run_worlds, run_intervals}
+use Rattle.mh_model.specs.Needs.{WorldRun, first_run, half_run, runs_quantum, next_run, run_worlds, run_intervals, opened_in_all}
 use Rattle.mh_model.specs.Openings.{asked_parts, asked_count, opens_at_most}
 use Rattle.mh_model.specs.World.{Object, World, Answer, refusal, with_change, effect, says, unless_refused, sight_of, never_full, heap_step, slot_at, own_slot, with_reference, with_number, Performs}
 use Rattle.mh_sizing.specs.declared.asked.Asked.{Asked}
@@ -167,6 +167,7 @@ asked-nothing asked config all running ended event none has = record {
       (subst (λ (list : List Part). HasClassCounts asked.running (flat_map (asked_parts config) all) list) (sym (same running)) has.counted);
   parts = has.parts;
   pages = has.pages;
+  in_all = has.in_all;
 }
   where
     same : (list : List Event) → flat_map (asked_parts config) (list ++ event ∷ []) ≡ flat_map (asked_parts config) list
@@ -174,13 +175,14 @@ asked-nothing asked config all running ended event none has = record {
 
 -- and one that asks for these parts
 pub asked-parts : (old new : Asked) (config : Config) (all running : List Event) (ended : List (List Event)) (event : Event) (list : List Part) → list ≡ asked_parts config event
-    → HasClassCounts new.running (flat_map (asked_parts config) all ++ list) (flat_map (asked_parts config) running ++ list) → new.parts ≡ old.parts → new.pages ≡ old.pages
+    → HasClassCounts new.running (flat_map (asked_parts config) all ++ list) (flat_map (asked_parts config) running ++ list) → new.parts ≡ old.parts → new.pages ≡ old.pages → new.in_all ≡ old.in_all
     → HasAsked old config all running ended → HasAsked new config (all ++ event ∷ []) (running ++ event ∷ []) ended
-asked-parts old new config all running ended event list is counted parts_same pages_same has = record {
+asked-parts old new config all running ended event list is counted parts_same pages_same all_same has = record {
   counted = subst (λ (l : List Part). HasClassCounts new.running l (flat_map (asked_parts config) (running ++ event ∷ []))) (sym (same all))
       (subst (λ (l : List Part). HasClassCounts new.running (flat_map (asked_parts config) all ++ list) l) (sym (same running)) counted);
   parts = parts_same ∙ has.parts;
   pages = pages_same ∙ has.pages;
+  in_all = all_same ∙ has.in_all;
 }
   where
     same : (events : List Event) → flat_map (asked_parts config) (events ++ event ∷ []) ≡ flat_map (asked_parts config) events ++ list
@@ -265,6 +267,10 @@ module _ (walk : Walk) (config : Config) (events : List Event) (walked : HasWalk
   pub interval-few : (number : List Event → ℕ) (count most : ℕ) → count ≡ most_of number (ended_intervals [] (first_run config) events ++ running_interval [] (first_run config) events ∷ [])
       → AllByRecursion (λ interval. number interval ≤ most) (run_intervals [] (first_run config) events) → count ≤ most
   interval-few number count most is all = omega (arith, is, most_of-few number (ended_intervals [] (first_run config) events ++ running_interval [] (first_run config) events ∷ []) most (subst (AllByRecursion (λ interval. number interval ≤ most)) cut all))
+
+  -- all intervals open together what those open that have ended and the running one
+  pub all-opened : opened_in_all config events ≡ sum_by (opens_at_most config) (ended_intervals [] (first_run config) events ++ running_interval [] (first_run config) events ∷ [])
+  all-opened = ap (sum_by (opens_at_most config)) cut
 
   -- the numbers that were found are the needs
   pub needs-are : (needs : Needs) → needs.live ≡ walk.world.reach.parts.most → needs.marking_units ≡ walk.world.reach.units.most

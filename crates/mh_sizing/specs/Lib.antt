@@ -4,6 +4,8 @@ pub mod PageUnits
 pub mod Needs
 pub mod Shared
 pub mod Targets
+pub mod Enough
+pub mod Found
 pub mod Sized
 pub mod Asked
 pub mod Births

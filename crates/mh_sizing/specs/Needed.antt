@@ -1,5 +1,5 @@
 -- What the sessions of a run need, and no less, with the classes of their parts.
-use Rattle.std.specs.Prelude.{◌≡◌, ◌⊎◌, ◌+◌, ◌≤◌, ◌^◌, List, [], length}
+use Rattle.std.specs.Prelude.{◌≡◌, ◌⊎◌, ◌+◌, ◌≤◌, ◌^◌, List, [], length, MatchOption}
 use Rattle.std.specs.List.{Any, flat_map}
 use Rattle.mh_model.specs.declared.command.Event.{Event}
 use Rattle.mh_model.specs.declared.command.Event.TheVariants as event
@@ -7,12 +7,12 @@ use Rattle.mh_model.specs.declared.config.Config.{Config}
 use Rattle.mh_model.specs.declared.needs.Needs.{Needs}
 use Rattle.mh_model.specs.CycleUnits.{object_units, most_slots, most_moves}
 use Rattle.mh_model.specs.LiveParts.{object_parts}
-use Rattle.mh_model.specs.Needs.{first_run, run_worlds, run_intervals, NeedNoMore}
+use Rattle.mh_model.specs.Needs.{first_run, run_worlds, run_intervals, NeedNoMore, opened_in_all}
 use Rattle.mh_model.specs.Openings.{asked_count, asked_parts, opens_at_most}
 use Rattle.mh_model.specs.World.{IsNew}
 use Rattle.mh_sizing_laws.specs.SharpNeeds.{AskOfClasses}
 use Rattle.mh_sizing_laws.specs.SharpPages.{all_asked, fewest_slots, occurring}
-use Rattle.mh_sizing.specs.declared.demand.Demand.{Demand}
+use Rattle.mh_sizing.specs.declared.profile.Profile.{Profile}
 use Rattle.mh_sizing.specs.declared.kinds.Kinds.{Kinds}
 use Rattle.mh_sizing.specs.Reached.{HasJust}
 use Rattle.mh_sizing.specs.Runs.{most_of}
@@ -33,10 +33,11 @@ pub record AreTheKinds (kinds : Kinds) (config : Config) (events : List Event) :
   pub least : kinds.fewest_slots ≡ fewest_slots (all_asked config events)
   pub asked : AskOfClasses kinds.fewest_slots kinds.kinds config events
 
--- What the sessions of these events need, and the classes of their parts
-pub record IsTheDemand (demand : Demand) (config : Config) (events : List Event) : Type 0 where
-  pub needs : AreTheNeeds demand.needs config events
-  pub kinds : AreTheKinds demand.kinds config events
+-- What the sessions of these events need, the classes of their parts, and what their intervals open together
+pub record IsTheProfile (profile : Profile) (config : Config) (events : List Event) : Type 0 where
+  pub needs : AreTheNeeds profile.needs config events
+  pub kinds : AreTheKinds profile.kinds config events
+  pub in_all : MatchOption profile.opened_in_all (2 ^ 32 ≤ opened_in_all config events) (λ pages. pages ≡ opened_in_all config events)
 
 -- an event asks for a new object
 abbrev pub AsksForObject : Event → Type 0

@@ -1,14 +1,18 @@
 -- Heaps that are sized for what their sessions need.
-use Rattle.std.specs.Prelude.{◌≤◌, List}
+use Rattle.std.specs.Prelude.{◌≤◌, List, IfSome}
 use Rattle.mh_model.specs.declared.command.Event.{Event}
 use Rattle.mh_model.specs.declared.config.Config.{Config}
 use Rattle.mh_model.specs.declared.needs.Needs.{Needs}
 use Rattle.mh_model.specs.Intervals.{IsNeverFull}
-use Rattle.mh_model.specs.Needs.{quanta_needed, NeedNoMore, HasEnoughFor}
+use Rattle.mh_model.specs.Needs.{quanta_needed, NeedNoMore, HasEnoughFor, opened_in_all}
 use Rattle.mh_sizing_laws.specs.SharpNeeds.{AskOfClasses}
 use Rattle.mh_sizing.specs.declared.kinds.Kinds.{Kinds}
 use Rattle.mh_sizing.specs.Needs.{enough_trigger, HasEnough}
 use Rattle.mh_sizing.specs.Shared.{HasEnoughShared}
+use Rattle.mh_sizing.specs.Enough.{Suffices}
+use Rattle.mh_sizing.specs.Found.{IsEnoughHeap}
+use Rattle.mh_sizing.specs.declared.found.Found.{Found}
+use Rattle.mh_sizing.specs.declared.profile.Profile.{Profile}
 
 -- A configuration whose pages are enough, and whose trigger is enough or more, has enough for the quanta that its cycles need
 abbrev pub SizedHeapsHaveEnough : Type 0
@@ -24,3 +28,15 @@ SizedRunsAreNeverFull = (needs : Needs) (config : Config) (events : List Event) 
 abbrev pub SharedRunsAreNeverFull : Type 0
 SharedRunsAreNeverFull = (needs : Needs) (kinds : Kinds) (config : Config) (events : List Event) → NeedNoMore needs config events → AskOfClasses kinds.fewest_slots kinds.kinds config events → HasEnoughShared needs kinds config.pages config → enough_trigger needs (quanta_needed needs config) ≤ config.trigger
     → IsNeverFull config events
+
+-- The sessions of a run ask for no more than a profile says
+pub record AskNoMore (profile : Profile) (config : Config) (events : List Event) : Type 0 where
+  pub needs : NeedNoMore profile.needs config events
+  pub kinds : AskOfClasses profile.kinds.fewest_slots profile.kinds.kinds config events
+  pub in_all : IfSome profile.opened_in_all (λ pages. opened_in_all config events ≤ pages)
+
+-- Such a run is never full in a configuration that is enough for the profile, by whichever law. Nor is it in a heap that was found for the quantum of
+-- its own configuration
+pub record SufficientHeapsAreNeverFull : Type 0 where
+  pub enough : (profile : Profile) (config : Config) (events : List Event) → AskNoMore profile config events → Suffices profile config → IsNeverFull config events
+  pub found : (profile : Profile) (config : Config) (found : Found) (events : List Event) → AskNoMore profile config events → IsEnoughHeap profile config found → IsNeverFull found.config events

@@ -1,13 +1,13 @@
 //! What the events of a run ask for between quanta. It is apart from the world, since an object counts as asked for
 //! also if its command is refused.
-ghost use Rattle.std.specs.Prelude.{◌≡◌, ◌+◌, ◌<◌, ◌^◌, [], ◌∷◌, ◌++◌, false, ℕ, unwrap_or, IsSome, IsTrue, List, length};
+ghost use Rattle.std.specs.Prelude.{◌≡◌, ◌+◌, ◌-◌, ◌<◌, ◌^◌, min, [], ◌∷◌, ◌++◌, false, ℕ, unwrap_or, IsSome, IsTrue, List, length};
 ghost use Rattle.mh_model.specs.declared.command.Event.{Event};
 ghost use Rattle.mh_model.specs.declared.command.Event.TheVariants as events;
 ghost use Rattle.mh_model.specs.declared.config.Config.{Config};
 ghost use Rattle.mh_model.specs.CycleUnits.{most_slots, most_moves};
 ghost use Rattle.mh_model.specs.Openings.{asked_count, asked_parts, opens_at_most};
 ghost use Rattle.mh_model.specs.World.{IsNew};
-ghost use Rattle.std.specs.List.{flat_map};
+ghost use Rattle.std.specs.List.{flat_map, sum_by};
 ghost use Rattle.mh_sizing_laws.specs.SharpPages.{all_asked, fewest_slots, occurring};
 ghost use Rattle.mh_sizing.specs.Runs.{most_of};
 
@@ -34,12 +34,13 @@ pub(crate) fn parts_asked(rules: Rules, command: &Command) -> Option<Parts>
     parts(rules, references, numbers)
 }
 
-/// What a run asks for: in the running interval by class, and the most of those that have ended.
+/// What a run asks for: in the running interval by class, the most of those that have ended, and what these open together.
 #[derive(Drop)]
 pub(crate) struct Asked {
     running: ClassCounts,
     parts: u64,
     pages: u64,
+    in_all: u64,
 }
 
 impl Asked {
@@ -52,6 +53,7 @@ impl Asked {
             running: ClassCounts::new(),
             parts: 0,
             pages: 0,
+            in_all: 0,
         }
     }
 
@@ -77,8 +79,10 @@ impl Asked {
     pub(crate) fn end_interval(&mut self)
         ensures { (config : Config) (all running : List Event) (ended : List (List Event)) → HasAsked self.old config all running ended → HasAsked self.new config all [] (ended ++ running ∷ []) }
     {
+        let pages = self.running.pages();
         self.parts = self.parts.max(self.running.total());
-        self.pages = self.pages.max(self.running.pages());
+        self.pages = self.pages.max(pages);
+        self.in_all = self.in_all.saturating_add(pages);
         self.running.clear();
     }
 
@@ -94,6 +98,13 @@ impl Asked {
         ensures { (config : Config) (all running : List Event) (ended : List (List Event)) → HasAsked self.now config all running ended → result ≡ most_of (opens_at_most config) (ended ++ running ∷ []) }
     {
         self.pages.max(self.running.pages())
+    }
+
+    /// The pages that all intervals open together, and 2^64 - 1 if they are more.
+    pub(crate) fn pages_in_all(&self) -> u64
+        ensures { (config : Config) (all running : List Event) (ended : List (List Event)) → HasAsked self.now config all running ended → result ≡ min (sum_by (opens_at_most config) (ended ++ running ∷ [])) (2 ^ 64 - 1) }
+    {
+        self.in_all.saturating_add(self.running.pages())
     }
 
     /// The most units that a cycle spends on a page after marking.

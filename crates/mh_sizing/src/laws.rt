@@ -3,9 +3,11 @@
 //! No reply of a run is `heap full` if pages and trigger are enough for what its sessions need: live parts, what
 //! marking them costs, and what each interval asks for and opens. All of these are as the ever-growing world has them.
 //! So it is where small new parts share pages, with as few pages as the sharp law asks for.
-ghost use Rattle.mh_sizing.specs.Sized.{SizedHeapsHaveEnough, SizedRunsAreNeverFull, SharedRunsAreNeverFull};
+ghost use Rattle.mh_sizing.specs.Sized.{SizedHeapsHaveEnough, SizedRunsAreNeverFull, SharedRunsAreNeverFull, SufficientHeapsAreNeverFull};
 
-use mh_sizing_laws::needs::enough_for_needs_suffices;
+use mh_sizing_laws::needs::{
+    enough_for_needs_suffices, needs_are_of_the_scheduler, pages_for_all_suffice,
+};
 use mh_sizing_laws::sharp_needs::sharp_enough_for_needs_suffices;
 
 /// A configuration with enough pages, and with a trigger that is enough or more, has enough for what its sessions need.
@@ -25,4 +27,14 @@ pub fn shared_runs_are_never_full()
     ensures { SharedRunsAreNeverFull }
 {
     sharp_enough_for_needs_suffices();
+}
+
+/// A run is never full in a configuration that is enough for its profile, nor in a heap that was found for it.
+pub fn sufficient_heaps_are_never_full()
+    ensures { SufficientHeapsAreNeverFull }
+{
+    enough_for_needs_suffices();
+    sharp_enough_for_needs_suffices();
+    pages_for_all_suffice();
+    needs_are_of_the_scheduler();
 }

@@ -3,9 +3,11 @@
 //! sessions of a run need is found by the ever-growing world alone, so that a heap can be sized before the run. It is
 //! found under the scheduler of the configuration, and doesn't depend on pages, quantum or trigger.
 //!
-//! Two numbers of pages are enough: that of the law by which each new part may keep a page (`needs`), and that of the
-//! law by which small new parts share pages (`shared`). The lesser of them is enough, and neither is always the lesser.
-//! The laws of this crate say of the numbers that its calls work out what those of `mh_sizing_laws` say of any.
+//! Two numbers of pages are enough for cycles: that of the law by which each new part may keep a page (`needs`), and
+//! that of the law by which small new parts share pages (`shared`). The lesser of them is enough, and neither is always
+//! the lesser. So are pages for all that the intervals of a run open together, whatever its cycles. `enough` says
+//! whether a configuration is enough by any of these, and `found` searches for the fewest pages. The laws of this crate
+//! say of such numbers what those of `mh_sizing_laws` say of any.
 #![tactic(auto)]
 
 pub use mh_classes;
@@ -16,12 +18,14 @@ mod births;
 mod classes;
 mod counts;
 pub mod cycles;
-pub mod demand;
+pub mod enough;
+pub mod found;
 pub mod kinds;
 pub mod laws;
 pub mod needs;
 pub mod openings;
 pub mod pages;
+pub mod profile;
 mod reach;
 pub mod shared;
 pub mod targets;

@@ -4,7 +4,8 @@
 //! It finds the most live parts at a time, and the most that marking them costs. Of an interval it finds the most parts
 //! that it asks for, and the most pages that these open. By the classes that occur it finds what a page costs a cycle.
 //! None are given exactly if a number has more than 32 bits: no heap of 4,096 pages is enough for such needs.
-//! `Walk::kinds` says how many classes occur, and the fewest slots of their pages.
+//! `Walk::kinds` says how many classes occur, and the fewest slots of their pages, and `Walk::opened_in_all` how many
+//! pages all intervals open together.
 //!
 //! A walk that is refused memory is as it was, and only an event that asks for an object may be. A refused object
 //! counts as asked for, unless it is too large for the rules. So one `new` of a large object that a bad slot refuses
@@ -14,7 +15,7 @@ ghost use Rattle.mh_model.specs.declared.command.Event.{Event};
 ghost use Rattle.mh_model.specs.declared.command.Event.TheVariants as events;
 ghost use Rattle.mh_model.specs.declared.config.Config.{Config};
 ghost use Rattle.mh_model.specs.declared.needs.Needs.{Needs};
-ghost use Rattle.mh_model.specs.Needs.{WorldRun, NeedNoMore, runs_quantum};
+ghost use Rattle.mh_model.specs.Needs.{WorldRun, NeedNoMore, opened_in_all, runs_quantum};
 ghost use Rattle.mh_model.specs.World.{IsNew};
 ghost use Rattle.mh_sizing_laws.specs.SharpNeeds.{AskOfClasses};
 ghost use Rattle.mh_sizing_laws.specs.SharpPages.{all_asked, fewest_slots, occurring};
@@ -150,6 +151,13 @@ impl Walk {
             opened,
             page_units: self.asked.page_units(),
         })
+    }
+
+    /// The most pages that the intervals of the events so far open, all together. None if they are 2^32 or more.
+    pub fn opened_in_all(&self) -> Option<u32>
+        ensures { (config : Config) (events : List Event) → HasWalked self.now config events → MatchOption result (2 ^ 32 ≤ opened_in_all config events) (λ pages. pages ≡ opened_in_all config events) }
+    {
+        in_32_bits(self.asked.pages_in_all())
     }
 
     /// The classes of all parts that the events so far ask for.

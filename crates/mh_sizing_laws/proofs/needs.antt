@@ -1,2 +1,5 @@
 pub mod BesideRuns
+pub mod NeededParts
 pub mod NeededRuns
+pub mod OpenedInAll
+pub mod OtherConfigs

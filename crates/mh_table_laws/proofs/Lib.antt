@@ -2,3 +2,4 @@ pub mod Lists
 pub mod objects
 pub mod marking
 pub mod TableMapLemmas
+pub mod PageMapLemmas

@@ -1,7 +1,7 @@
 use crate::cases::{Case, NONE};
 use crate::trial::{Outcome, SOUND_DEVICES};
 use crate::trouble::{Way, trouble_each_write};
-use mh_show::controls::HANDS;
+use mh_show::controls::CONTROLS;
 use mh_show::drawing::DRAWING;
 use mh_show::page::HEAD;
 use std::alloc::{AllocError, Global};
@@ -20,7 +20,7 @@ const NUMBERS: &[u8] = b"{\"names\":[\"a\",0],\"config\":[2,4,353,0,0],\"events\
 /// The page with these numbers.
 fn page(alloc: Global, numbers: &[u8]) -> Result<Vec<u8>, AllocError> {
     let mut page = Vec::new(alloc);
-    for piece in [HEAD, numbers, DRAWING, HANDS] {
+    for piece in [HEAD, numbers, DRAWING, CONTROLS] {
         page.extend_from_slice(piece)?;
     }
     Ok(page)

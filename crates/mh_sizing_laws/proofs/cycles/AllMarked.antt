@@ -51,7 +51,7 @@ module _ (config : Config) where
   starts-few : (events : List Event) (machine : Machine) → StaysInBounds config machine → AllByRecursion MarksFew (cycle_starts machine events)
   starts-few [] machine stays = tt
   starts-few (event ∷ events) machine stays =
-      go (has_quantum machine event && is_start_due half.heap.config half.heap.collector) (bounds-few half (half-stays config 0 0 machine event stays)) (starts-few events (event_step machine event).state (next-stays config 0 0 machine event stays))
+      go (has_quantum machine event && is_start_due half.heap.config half.heap.collector) (bounds-few half (half-stays config machine event stays)) (starts-few events (event_step machine event).state (next-stays config machine event stays))
     where
       half : Machine
       half = half_step machine event

@@ -85,7 +85,7 @@ module _ (config : Config) (marked wide dear : ℕ) (large : quantum_overhead < 
       → IsSharp config marked wide dear machine.heap.collector → IsSharp config marked wide dear (event_step machine event).state.heap.collector
   next-sharp opened before start machine event rest ready alone fit starts is = elim (cases_Bool (has_quantum machine event)) [
     | inl runs ↦
-        let stays = half-stays config most opened machine event ready.stays in
+        let stays = half-stays config machine event ready.stays in
         let since = since-half config (asked_of config before) start machine event ready.since in
         let collector : (event_step machine event).state.heap.collector ≡ (quantum config half.heap.collector).collector = ap (λ (m : Machine). m.heap.collector) (quantum-event machine event runs) ∙ run-collector half ∙ ap (λ c. (quantum c half.heap.collector).collector) since.config_is in
         subst (IsSharp config marked wide dear) (sym collector)
@@ -115,7 +115,7 @@ module _ (config : Config) (marked wide dear : ℕ) (large : quantum_overhead < 
       let half : Machine = half_step machine event in
       let fewer = sharp-fewer machine.heap.collector sharp in
       let room : pages_of (λ k. asked_of config before k + class_parts k (asked_parts config event)) class_sizes ≤ free_pages start =
-      omega (arith, opens-event config most opened before event, event-short config most opened events before machine event short, start-room config most opened before start machine ready (omega (arith, fewer)) (λ runs. fewer)) in
+      omega (arith, opens-event config before event, event-short config most opened events before machine event short, start-room config most opened before start machine ready (omega (arith, fewer)) (λ runs. fewer)) in
       let served = event-served config (asked_of config before) start machine event ready.since room in
       let (now, from, on, shorter) = ready-next config most opened events before start machine event trigger ready short left in
       let sharper = next-sharp opened before start machine event (cycle_starts next events) ready served.flagged (λ size some. fit size (omega (arith, some, asked-cons config event events size))) starts sharp in

@@ -15,10 +15,11 @@ use Rattle.mh_model.specs.Mutator.{HeapState, new_group, with_born, heap_sight, 
 use Rattle.mh_model.specs.Openings.{class_parts, asked_parts}
 use Rattle.mh_table_laws.proofs.TableMapLemmas.{with_taken-table_map}
 use Rattle.mh_table_laws.proofs.tables.PageSlots.{class_of-class_size}
+use Rattle.mh_table_laws.proofs.PageMapLemmas.{least_place-table_map, have_their_slots}
 use Rattle.mh_sizing_laws.proofs.openings.MadeParts.{one_of, one_of-same, first-made, taken-slots, class_parts-cons}
 use Rattle.mh_sizing_laws.proofs.openings.Intervals.{new-allowed}
 use Rattle.mh_sizing_laws.proofs.filling.Fillings.{Kind, Allows, Fills, fills-more, fills-own, fills-other}
-use Rattle.mh_sizing_laws.proofs.filling.Ages.{birth_of, ages, least_place-map, slots-map}
+use Rattle.mh_sizing_laws.proofs.filling.Ages.{birth_of, ages}
 use Rattle.mh_sizing_laws.proofs.filling.AgedCommands.{linked_parts-ages, with_root-ages, heap_effect-ages}
 
 -- a weight for each class, and what is counted for so many blocks of it
@@ -53,18 +54,18 @@ module _ (family : Family) (base : ℕ → ℕ) where
       larger = base k + family.due more
 
       seen : least_place (ages now) size ≡ Some place
-      seen = least_place-map birth_of now size ∙ least
+      seen = least_place-table_map birth_of now size ∙ least
 
       by_class : (k ≡ size) ⊎ (k ≡ size → ⊥) → Fills (family.kind k) more larger (with_taken (ages now) size place block.birth)
       by_class (inl same) =
           let own : (family.kind k).size ≡ size = family.size k ∙ same in
           let one : one_of size k ≡ 1 = one_of-same size k same in
           subst (λ n. Fills (family.kind k) more larger (with_taken (ages now) n place block.birth)) own
-          (fills-own (family.kind k) block.birth (allows k) (ap is_class_size own ∙ class) (ages now) (slots-map birth_of now slots) place (ap (least_place (ages now)) own ∙ seen) (asked k) more (base k + family.due (asked k)) larger
+          (fills-own (family.kind k) block.birth (allows k) (ap is_class_size own ∙ class) (ages now) (have_their_slots birth_of now slots) place (ap (least_place (ages now)) own ∙ seen) (asked k) more (base k + family.due (asked k)) larger
           (omega (arith, one)) (omega (arith, family.rises k (asked k), ap (λ n. family.due (asked k + n)) one)) (fill k is))
       by_class (inr apart) =
           fills-more (family.kind k) (asked k) more (base k + family.due (asked k)) larger (with_taken (ages now) size place block.birth) (λ some. omega (arith, some)) (omega (arith, family.climbs (asked k) more (omega arith)))
-          (fills-other (family.kind k) size block.birth (λ e. apart (sym (family.size k) ∙ sym e)) class (ages now) (slots-map birth_of now slots) place seen (asked k) (base k + family.due (asked k)) (fill k is))
+          (fills-other (family.kind k) size block.birth (λ e. apart (sym (family.size k) ∙ sym e)) class (ages now) (have_their_slots birth_of now slots) place seen (asked k) (base k + family.due (asked k)) (fill k is))
 
   -- parts that are made in order
   made_parts-fill : (list : List Part) (asked : ℕ → ℕ) (now : Table Block) (birth stamp index : ℕ) (made : MadeParts) → ((k : ℕ) → Allows (family.kind k) birth) → HaveTheirSlots now → made_parts now birth stamp index list ≡ Some made

@@ -55,12 +55,16 @@ after-run run event = go (runs_quantum run event)
     go false = refl
 
 -- a quantum leaves the world
-after-world : (run : WorldRun) (event : Event) → (next_run run event).world ≡ (half_run run event).world
+pub after-world : (run : WorldRun) (event : Event) → (next_run run event).world ≡ (half_run run event).world
 after-world run event = go (runs_quantum run event)
   where
     go : (cut : Bool) → (if cut then record { world = (half_run run event).world; units = 0 } else half_run run event).world ≡ (half_run run event).world
     go true = refl
     go false = refl
+
+pub config-kept : (run : WorldRun) (event : Event) → (half_run run event).world.config ≡ run.world.config
+config-kept run (event.Session who command) = (event-grows run.world (event.Session who command) reply.Done).config
+config-kept run (event.Control control) = refl
 
 -- Moments beside runs ----------------------------------------------------------------------------
 
@@ -89,7 +93,7 @@ module _ (config : Config) where
   }
 
   half-config : (moment : Moment) (run : WorldRun) (event : Event) → IsBeside moment run → (half_step moment.machine event).heap.config ≡ run.world.config
-  half-config moment run event beside = (half-stays config 0 0 moment.machine event beside.stays).config_is ∙ sym beside.config_is
+  half-config moment run event beside = (half-stays config moment.machine event beside.stays).config_is ∙ sym beside.config_is
 
   half-units : (moment : Moment) (run : WorldRun) (event : Event) → IsBeside moment run → is_heap_full (event_step moment.machine event).reply ≡ false → (half_step moment.machine event).units ≡ (half_run run event).units
   unfolding event_step command_step moment_after
@@ -102,7 +106,7 @@ module _ (config : Config) where
   half-units moment run (event.Control control) beside none = beside.units
 
   -- a quantum is run after the same events
-  same-quantum : (moment : Moment) (run : WorldRun) (event : Event) → IsBeside moment run → is_heap_full (event_step moment.machine event).reply ≡ false → has_quantum moment.machine event ≡ runs_quantum run event
+  pub same-quantum : (moment : Moment) (run : WorldRun) (event : Event) → IsBeside moment run → is_heap_full (event_step moment.machine event).reply ≡ false → has_quantum moment.machine event ≡ runs_quantum run event
   same-quantum moment run (event.Session who command) beside none =
       ap₂ (λ (c : Config) n. not (c.every == 0) && nat_le c.every n) (half-config moment run (event.Session who command) beside) (half-units moment run (event.Session who command) beside none)
   same-quantum moment run (event.Control control.Quantum) beside none = ap (λ (c : Config). c.every == 0) (beside.stays.config_is ∙ sym beside.config_is)
@@ -118,15 +122,11 @@ module _ (config : Config) where
       ap (λ full. if full then moment.world else (world_step moment.world who command).state) none ∙ ap (λ w. (world_step w who command).state) beside.world
   world-beside moment run (event.Control control) beside none = beside.world
 
-  config-kept : (run : WorldRun) (event : Event) → (half_run run event).world.config ≡ run.world.config
-  config-kept run (event.Session who command) = (event-grows run.world (event.Session who command) reply.Done).config
-  config-kept run (event.Control control) = refl
-
   -- so it goes on until a full heap answers
-  next-beside : (moment : Moment) (run : WorldRun) (event : Event) → IsBeside moment run → is_heap_full (event_step moment.machine event).reply ≡ false → IsBeside (next_moment moment event) (next_run run event)
+  pub next-beside : (moment : Moment) (run : WorldRun) (event : Event) → IsBeside moment run → is_heap_full (event_step moment.machine event).reply ≡ false → IsBeside (next_moment moment event) (next_run run event)
   unfolding next_moment half_moment moment_after
   next-beside moment run event beside none = record {
-    stays = next-stays config 0 0 moment.machine event beside.stays;
+    stays = next-stays config moment.machine event beside.stays;
     config_is = ap (λ (w : World). w.config) (after-world run event) ∙ config-kept run event ∙ beside.config_is;
     world = world-beside moment run event beside none ∙ sym (after-world run event);
     units = after-units moment.machine event ∙ ap₂ (λ (cut : Bool) (n : ℕ). if cut then 0 else n) (same-quantum moment run event beside none) (half-units moment run event beside none) ∙ sym (after-run run event);

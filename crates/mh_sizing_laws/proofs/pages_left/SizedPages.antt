@@ -188,7 +188,7 @@ module _ (config : Config) (quanta opened asked most : ℕ) where
         after = (event_step machine event).state.heap.collector
 
         halves : StaysInBounds config middle
-        halves = half-stays config quanta opened machine event sized.stays
+        halves = half-stays config machine event sized.stays
 
         is_after : IsAfter config middle.heap.collector after
         is_after = subst (IsAfter config middle.heap.collector) (sym (ran-collector machine event runs ∙ ap (λ c. (quantum c middle.heap.collector).collector) halves.config_is)) (quantum-after config middle.heap.collector halves.bounds ((event-keeps machine event).half.slots sized.slots))
@@ -203,7 +203,7 @@ module _ (config : Config) (quanta opened asked most : ℕ) where
     goes-on : (now : List Event) → HasAtMostLive most next.world → (is_idle (event_step machine event).state.heap.collector.phase ≡ false → parts_since next.snapshot next.world + asked ≤ (event_step machine event).state.heap.collector.quanta * asked + asked_count config now) → IsSized now next
     unfolding next_moment
     goes-on now live since = record {
-      stays = next-stays config quanta opened machine event sized.stays;
+      stays = next-stays config machine event sized.stays;
       slots = (event-keeps machine event).whole.slots sized.slots;
       grown = next-grown moment event sized.grown;
       config_is = (half-grows moment event).config ∙ sized.config_is;

@@ -123,7 +123,7 @@ module _ (config : Config) (marked wide dear : ℕ) (large : quantum_overhead < 
       → IsWithinReach moment → IsReaching config marked wide dear (next_moment moment event).snapshot (event_step moment.machine event).state.heap.collector
   next-reaching opened before start moment event rest on ready alone fit starts is = elim (cases_Bool (has_quantum moment.machine event)) [
     | inl runs ↦
-        let stays = half-stays config most opened moment.machine event ready.stays in
+        let stays = half-stays config moment.machine event ready.stays in
         let since = since-half config (asked_of config before) start moment.machine event ready.since in
         let faithful : IsFaithful (record { machine = halved; world = world; snapshot = moment.snapshot }) = half-faithful moment event (faithful-half moment event on) in
         let few : is_start_due config halved.heap.collector ≡ true → ReachesAtMost marked world = λ due.
@@ -170,7 +170,7 @@ module _ (config : Config) (marked wide dear : ℕ) (large : quantum_overhead < 
       let later : Moment = next_moment moment event in
       let fewer = reaching-fewer moment (faithful-now moment on) reaching in
       let room : pages_of (λ k. asked_of config before k + class_parts k (asked_parts config event)) class_sizes ≤ free_pages start =
-      omega (arith, opens-event config most opened before event, event-short config most opened events before machine event short, start-room config most opened before start machine ready (omega (arith, fewer)) (λ runs. fewer)) in
+      omega (arith, opens-event config before event, event-short config most opened events before machine event short, start-room config most opened before start machine ready (omega (arith, fewer)) (λ runs. fewer)) in
       let served = event-served config (asked_of config before) start machine event ready.since room in
       let (now, from, on_time, shorter) = ready-next config most opened events before start machine event trigger ready short left in
       let here = next-reaching opened before start moment event (snapshots later events) on ready served.flagged (λ size some. fit size (omega (arith, some, asked-cons config event events size))) starts reaching in

@@ -14,6 +14,7 @@ use Rattle.mh_model.specs.Mutator.{HeapState}
 use Rattle.mh_model.specs.View.{in_sweep, heap_view}
 use Rattle.mh_model.specs.World.{World, births}
 use Rattle.mh_model.specs.Invariant.{IsSound, KeepsSnapshot, HeapKeeps}
+use Rattle.mh_table_laws.proofs.PageMapLemmas.{have_their_slots}
 use Rattle.mh_laws.proofs.commands.LeftUnchanged.{collector_step-keeps}
 use Rattle.mh_laws.proofs.costs.Quanta.{steps-stop, steps-go}
 use Rattle.mh_laws.proofs.costs.QuantumStarts.{begins}
@@ -32,7 +33,7 @@ use Rattle.mh_sizing_laws.proofs.filling.Newborns.{none-young}
 use Rattle.mh_sizing_laws.proofs.filling.Weights.{weights, weigh, weigh-less}
 use Rattle.mh_sizing_laws.proofs.filling.Slots.{youngs, olds, blocks-empties}
 use Rattle.mh_sizing_laws.proofs.filling.PageWeights.{traced, traced_by, roomy}
-use Rattle.mh_sizing_laws.proofs.filling.Ages.{birth_of, ages, slots-map}
+use Rattle.mh_sizing_laws.proofs.filling.Ages.{birth_of, ages}
 use Rattle.mh_sizing_laws.proofs.filling.FilledTables.{AllFill}
 use Rattle.mh_sizing_laws.proofs.sharp_pages.ClassSums.{weights-same, weights-zero}
 use Rattle.mh_sizing_laws.proofs.sharp_pages.Moves.{resting_family}
@@ -120,7 +121,7 @@ module _ (sizes : List ℕ) (most : ℕ) (once : NoneTwice sizes) (are_classes :
         elim (fill k class) [
           | inl light ↦ omega (arith, light, less)
           | inr at ↦
-              let has = slots-map birth_of table slots at.number at.page at.in_use in
+              let has = have_their_slots birth_of table slots at.number at.page at.in_use in
               omega (arith, at.weight, less, blocks-empties at.page.slots, has.slots, ap slots_in at.class, small (nat_lt 0 (empties at.page.slots)) (block_count at.page.slots))
         ]
       where

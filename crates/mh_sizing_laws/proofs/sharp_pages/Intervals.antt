@@ -10,12 +10,13 @@ use Rattle.mh_model.specs.Pages.{Page, Table, page_at, block_count, HaveTheirSlo
 use Rattle.mh_model.specs.Table.{Block}
 use Rattle.mh_model.specs.Machine.{Machine, command_step, half_step}
 use Rattle.mh_model.specs.Openings.{class_parts, asked_parts, pages_for}
+use Rattle.mh_table_laws.proofs.PageMapLemmas.{have_their_slots}
 use Rattle.mh_sizing_laws.proofs.openings.Intervals.{asked_of, asked-cons, asked-append}
 use Rattle.mh_sizing_laws.proofs.openings.Rooms.{empties}
 use Rattle.mh_sizing_laws.proofs.filling.Weights.{weights, weigh, weigh-less}
 use Rattle.mh_sizing_laws.proofs.filling.Slots.{youngs, olds, blocks-empties}
 use Rattle.mh_sizing_laws.proofs.filling.PageWeights.{traced_by, traced, marking, newborn}
-use Rattle.mh_sizing_laws.proofs.filling.Ages.{birth_of, ages, slots-map}
+use Rattle.mh_sizing_laws.proofs.filling.Ages.{birth_of, ages}
 use Rattle.mh_sizing_laws.proofs.filling.Fillings.{Allows, Fills}
 use Rattle.mh_sizing_laws.proofs.filling.FilledTables.{Family, AllFill, fill-more, mutator_step-fill}
 use Rattle.mh_sizing_laws.proofs.sharp_pages.ClassesThatOccur.{filled-pages, open-page}
@@ -64,7 +65,7 @@ module _ (from passed entered k count base : ℕ) (class : is_class_size k ≡ t
       all : Fills (marking from passed entered k) count (base + count) (ages table) → weights (weigh k (traced from passed entered (slots_in k) (slots_in k))) (ages table) ≤ base + slots_in k * (pages_for k count + pages_for k count)
       all (inl light) = omega (arith, light, filled-pages k count class, mul-add (slots_in k) (pages_for k count) (pages_for k count))
       all (inr at) =
-          let has = slots-map birth_of table slots at.number at.page at.in_use in
+          let has = have_their_slots birth_of table slots at.number at.page at.in_use in
           omega (arith, at.weight, blocks-empties at.page.slots, has.slots, ap slots_in at.class, filled-pages k count class, open-page k count class at.some, mul-add (slots_in k) (pages_for k count) (pages_for k count))
 
   pub newborn-closed : Fills (newborn from k) count (base + count) (ages table) → weights (weigh k (young_in from)) (ages table) ≤ base + slots_in k * pages_for k count

@@ -11,7 +11,7 @@ use Rattle.mh_model.specs.Snapshot.{first_moment}
 use Rattle.mh_model.specs.Openings.{free_of}
 use Rattle.mh_model.specs.Intervals.{intervals, cycle_ends, CyclesTakeAtMost, HasRoomFor, IsNeverFull}
 use Rattle.mh_model.specs.CycleUnits.{marking_units, CyclesMarkAtMost, quanta_for}
-use Rattle.mh_model.specs.CycleUnits.{ReachesAtMost, snapshots, CyclesReachAtMost}
+use Rattle.mh_model.specs.CycleUnits.{ReachesAtMost, CyclesReachAtMost}
 use Rattle.mh_model.specs.Limits.{quantum_overhead}
 use Rattle.mh_sizing_laws.specs.PagesLeft.{NeverFills}
 use Rattle.mh_sizing_laws.proofs.openings.Intervals.{asked-append}

@@ -1,7 +1,6 @@
 -- What a sweep leaves of the blocks that were there as its cycle started: parts of what the snapshot reached, each of them at most once.
 use Rattle.std.proofs.Common.{◌≡◌, ℕ, ◌==◌, ◌<◌, ◌≤◌, nat_le, not, Bool, true, false, None, refl, arith}
 use Rattle.std.proofs.lemmas.Bool.{and_parts, and_from, leb-false, false≢true}
-use Rattle.mh_model.specs.Classes.{parts}
 use Rattle.mh_model.specs.Collector.{Collector}
 use Rattle.mh_model.specs.Mutator.{HeapState}
 use Rattle.mh_model.specs.Paths.{Reachable, Agrees}

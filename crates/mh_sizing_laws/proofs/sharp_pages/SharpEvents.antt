@@ -119,7 +119,7 @@ module _ (config : Config) (quanta opened most unit : ℕ) (unit_is : unit ≡ o
     half-grown = grown-more (length (asked_parts moment.world.config event)) moment.snapshot moment.world middle.world sharp.grown (half-grows moment event)
 
     halves : StaysInBounds config half
-    halves = half-stays config quanta opened machine event sharp.stays
+    halves = half-stays config machine event sharp.stays
 
     few : suc count ≤ quanta
     few = elim (cases_Bool (is_idle machine.heap.collector.phase)) [
@@ -186,7 +186,7 @@ module _ (config : Config) (quanta opened most unit : ℕ) (unit_is : unit ≡ o
     -- what a quantum of a cycle leaves
     pub left : has_quantum machine event ≡ true → IsInCycle half.heap → states.IsAfter config quanta opened most unit unit_is list (births later.snapshot) (suc count) next
     left runs within =
-        after config quanta opened most unit unit_is list (births later.snapshot) (suc count) next (next-stays config quanta opened machine event sharp.stays).config_is ((event-keeps machine event).whole.slots sharp.slots) ((event-keeps machine event).whole.pages ∙ whole)
+        after config quanta opened most unit unit_is list (births later.snapshot) (suc count) next (next-stays config machine event sharp.stays).config_is ((event-keeps machine event).whole.slots sharp.slots) ((event-keeps machine event).whole.pages ∙ whole)
         (counts runs) few (counted runs within)
 
     pub left-few : suc count ≤ quanta
@@ -204,7 +204,7 @@ module _ (config : Config) (quanta opened most unit : ℕ) (unit_is : unit ≡ o
         → (is_idle next.heap.collector.phase ≡ true → Rests config quanta opened most unit unit_is list next.heap.collector) → IsSharp interval later
     unfolding next_moment
     goes-on interval marks moves rests = record {
-      stays = next-stays config quanta opened machine event sharp.stays;
+      stays = next-stays config machine event sharp.stays;
       slots = (event-keeps machine event).whole.slots sharp.slots;
       grown = next-grown moment event sharp.grown;
       live = live-next (has_quantum machine event);

@@ -12,6 +12,7 @@ use Rattle.mh_model.specs.Pages.{Page, Table, page_at, block_at, block_count, li
 use Rattle.mh_model.specs.Table.{Block}
 use Rattle.mh_table_laws.proofs.placing.Places.{shaped-slots}
 use Rattle.mh_table_laws.proofs.tables.PageSlots.{slots_in-class_size}
+use Rattle.mh_table_laws.proofs.PageMapLemmas.{page_below}
 use Rattle.mh_sizing_laws.proofs.cycles.Classes.{HasClasses}
 use Rattle.mh_sizing_laws.proofs.openings.MadeParts.{IsAmong}
 use Rattle.mh_sizing_laws.proofs.openings.Rooms.{empties}
@@ -19,7 +20,7 @@ use Rattle.mh_sizing_laws.proofs.Weighing.{place-of}
 use Rattle.mh_sizing_laws.proofs.filling.Weights.{weights, weigh, weigh-own, weigh-less}
 use Rattle.mh_sizing_laws.proofs.filling.Slots.{youngs, olds, olds-youngs}
 use Rattle.mh_sizing_laws.proofs.filling.PageWeights.{traced_by, traced, roomy}
-use Rattle.mh_sizing_laws.proofs.filling.Ages.{birth_of, ages, page-map}
+use Rattle.mh_sizing_laws.proofs.filling.Ages.{birth_of, ages}
 use Rattle.mh_sizing_laws.proofs.sharp_pages.SweptWeights.{aged}
 use Rattle.mh_sizing_laws.proofs.sharp_pages.ClassSums.{sum-among, sum-once, weights-sum, weights-times, weights-same, sum-weights, pages-of_sorts, weights-sum_by}
 
@@ -94,7 +95,7 @@ module _ (sizes : List ℕ) (from passed entered : ℕ) (table : Table Block) (s
 
       each : (number : ℕ) (page : Page ℕ) → page_at (ages table) number ≡ Some page → page.class_size ≡ size → slots_in size * new_page from number page ≤ traced from passed entered 0 (slots_in size) number page
       each number page at own =
-          let (seen, there, same) = page-map birth_of table number page at in
+          let (seen, there, same) = page_below birth_of table number page at in
           let within : number < length table = below_length table number seen there in
           let blocks : 0 < block_count page.slots = subst (λ (p : Page ℕ). 0 < block_count p.slots) same (omega (arith, blocks-map seen.slots, some number seen there)) in
           by_old (nat_lt 0 (olds from page.slots)) refl (nat_lt number passed) (lt-ltb number passed (omega (arith, within, past))) (λ none. omega (arith, olds-youngs from page.slots, ltb-false 0 (olds from page.slots) none, blocks))

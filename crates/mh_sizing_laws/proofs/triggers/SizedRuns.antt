@@ -2,7 +2,7 @@
 -- Between cycles this holds for one of three reasons: the run has just begun, the last quantum found more free pages than the trigger, or it ended a cycle.
 -- So it doesn't matter who starts a cycle, the trigger or a session, nor who runs quanta, the scheduler or the control.
 use Rattle.std.specs.Prelude.{◌-◌, nat_lt}
-use Rattle.std.proofs.Common.{◌≡◌, ◌⊎◌, inl, inr, ℕ, zero, suc, ◌+◌, ◌-◌, ◌*◌, ◌/◌, ◌<◌, ◌≤◌, min, nat_le, nat_lt, not, Bool, true, false, ◌||◌, if◌then◌else◌, Option, None, List, [], ◌∷◌, ◌++◌, replicate, refl, sym, ap, ◌∙◌, subst, arith}
+use Rattle.std.proofs.Common.{◌≡◌, ◌⊎◌, inl, inr, ℕ, zero, suc, ◌+◌, ◌-◌, ◌*◌, ◌/◌, ◌<◌, ◌≤◌, min, nat_lt, not, Bool, true, false, ◌||◌, if◌then◌else◌, Option, None, List, [], ◌∷◌, ◌++◌, replicate, refl, sym, ap, ◌∙◌, subst, arith}
 use Rattle.std.specs.List.{AllByRecursion}
 use Rattle.std.proofs.Math.Nat.{suc-mul, mul-le-mul_right}
 use Rattle.std.proofs.lemmas.Bool.{cases_Bool, false≢true, lt-ltb}
@@ -66,6 +66,54 @@ ended-is old between new phase cycle idle (inr more) = rw idle (later (is_idle o
     later true less is = is
     later false less is = refl
 
+-- Intervals --------------------------------------------------------------------------------------
+
+module _ (config : Config) where
+  -- an interval with one event more
+  pub opens-event : (before : List Event) (event : Event) → pages_of (λ k. asked_of config before k + class_parts k (asked_parts config event)) class_sizes ≤ opens_at_most config (before ++ event ∷ [])
+  opens-event before event = pages_of-more (λ k. asked_of config before k + class_parts k (asked_parts config event)) (asked_of config (before ++ event ∷ [])) (λ k. omega (arith, asked-append config before (event ∷ []) k, asked-cons config event [] k))
+
+  pub opens-more : (before : List Event) (event : Event) → opens_at_most config before ≤ opens_at_most config (before ++ event ∷ [])
+  opens-more before event = pages_of-more (asked_of config before) (asked_of config (before ++ event ∷ [])) (λ k. omega (arith, asked-append config before (event ∷ []) k))
+
+  pub next-stays : (machine : Machine) (event : Event) → StaysInBounds config machine → StaysInBounds config (event_step machine event).state
+  next-stays machine event stays = event_step-keeps (StaysInBounds config) (by_command config) (by_quantum config) (by_asking config) machine event stays
+
+  pub half-stays : (machine : Machine) (event : Event) → StaysInBounds config machine → StaysInBounds config (half_step machine event)
+  half-stays machine event stays = half_step-keeps (StaysInBounds config) (by_command config) (by_quantum config) (by_asking config) machine event stays
+
+  -- an event that has no quantum run goes on with the interval
+  pub since-quiet : (before : List Event) (start : Table Block) (machine : Machine) (event : Event) → IsSince config (asked_of config before) start machine → has_quantum machine event ≡ false → IsSince config (asked_of config (before ++ event ∷ [])) start (event_step machine event).state
+  since-quiet before start machine event since quiet =
+      let half : Machine = half_step machine event in
+      let next : Machine = (event_step machine event).state in
+      let asked : ℕ → ℕ = λ k. asked_of config before k + class_parts k (asked_parts config event) in
+      since-more config asked (asked_of config (before ++ event ∷ [])) start next (λ k. omega (arith, asked-append config before (event ∷ []) k, asked-cons config event [] k))
+      (since-likewise config asked start half next (quiet-event machine event quiet) (since-half config (asked_of config before) start machine event since))
+
+  -- one that has a quantum run ends the interval, of which no more pages were opened than its parts fill
+  pub record EndsInterval (before : List Event) (start : Table Block) (machine : Machine) (event : Event) : Type 0 where
+    pub since : IsSince config (asked_of config []) (event_step machine event).state.heap.collector.table (event_step machine event).state
+    pub after : IsAfter config (half_step machine event).heap.collector (event_step machine event).state.heap.collector
+    pub room : free_pages start ≤ free_of (half_step machine event) + opens_at_most config (before ++ event ∷ [])
+
+  pub ends-interval : (before : List Event) (start : Table Block) (machine : Machine) (event : Event) → IsSince config (asked_of config before) start machine → StaysInBounds config machine → has_quantum machine event ≡ true → EndsInterval before start machine event
+  ends-interval before start machine event is stays runs =
+      let half : Machine = half_step machine event in
+      let next : Machine = (event_step machine event).state in
+      let since = since-half config (asked_of config before) start machine event is in
+      let asked : ℕ → ℕ = λ k. asked_of config before k + class_parts k (asked_parts config event) in
+      let collector : next.heap.collector ≡ (quantum config half.heap.collector).collector = ap (λ (m : Machine). m.heap.collector) (quantum-event machine event runs) ∙ run-collector half ∙ ap (λ c. (quantum c half.heap.collector).collector) since.config_is in
+      record {
+        since = record {
+          config_is = (next-stays machine event stays).config_is;
+          slots = (event-keeps machine event).whole.slots is.slots;
+          opened = opened-none class_sizes (asked_of config []) next.heap.collector.table;
+        };
+        after = subst (IsAfter config half.heap.collector) (sym collector) (quantum-after config half.heap.collector (half-stays machine event stays).bounds since.slots);
+        room = omega (arith, opened-few asked start half.heap.collector.table since.opened, opens-event before event);
+      }
+
 -- Runs -------------------------------------------------------------------------------------------
 
 module _ (config : Config) (quanta opened : ℕ) where
@@ -78,13 +126,6 @@ module _ (config : Config) (quanta opened : ℕ) where
   abbrev pub LeavesEnough : Machine → Type 0
   LeavesEnough machine = quanta * opened ≤ free_of machine
 
-  -- an interval with one event more
-  pub opens-event : (before : List Event) (event : Event) → pages_of (λ k. asked_of config before k + class_parts k (asked_parts config event)) class_sizes ≤ opens_at_most config (before ++ event ∷ [])
-  opens-event before event = pages_of-more (λ k. asked_of config before k + class_parts k (asked_parts config event)) (asked_of config (before ++ event ∷ [])) (λ k. omega (arith, asked-append config before (event ∷ []) k, asked-cons config event [] k))
-
-  opens-more : (before : List Event) (event : Event) → opens_at_most config before ≤ opens_at_most config (before ++ event ∷ [])
-  opens-more before event = pages_of-more (asked_of config before) (asked_of config (before ++ event ∷ [])) (λ k. omega (arith, asked-append config before (event ∷ []) k))
-
   -- what came before in an interval is as short as the interval
   before-short : (events before : List Event) (machine : Machine) → AllByRecursion IsShort (intervals before machine events) → IsShort before
   before-short [] before machine all = all.0
@@ -92,8 +133,8 @@ module _ (config : Config) (quanta opened : ℕ) where
     where
       go : (cut : Bool) → AllByRecursion IsShort (if cut then (before ++ event ∷ []) ∷ intervals [] (event_step machine event).state events else intervals (before ++ event ∷ []) (event_step machine event).state events)
           → (AllByRecursion IsShort (intervals (before ++ event ∷ []) (event_step machine event).state events) → IsShort (before ++ event ∷ [])) → IsShort before
-      go true h after = omega (arith, opens-more before event, h.0)
-      go false h after = omega (arith, opens-more before event, after h)
+      go true h after = omega (arith, opens-more config before event, h.0)
+      go false h after = omega (arith, opens-more config before event, after h)
 
   pub event-short : (events before : List Event) (machine : Machine) (event : Event) → AllByRecursion IsShort (intervals before machine (event ∷ events)) → IsShort (before ++ event ∷ [])
   event-short events before machine event all = go (has_quantum machine event) all
@@ -120,25 +161,13 @@ module _ (config : Config) (quanta opened : ℕ) where
       let product : suc had * opened ≤ quanta * opened = mul-le-mul_right opened (few-quanta machine ready.stays some fewer) in
       omega (arith, product, suc-mul had opened, ready.enough)
 
-  pub next-stays : (machine : Machine) (event : Event) → StaysInBounds config machine → StaysInBounds config (event_step machine event).state
-  next-stays machine event stays = event_step-keeps (StaysInBounds config) (by_command config) (by_quantum config) (by_asking config) machine event stays
-
-  pub half-stays : (machine : Machine) (event : Event) → StaysInBounds config machine → StaysInBounds config (half_step machine event)
-  half-stays machine event stays = half_step-keeps (StaysInBounds config) (by_command config) (by_quantum config) (by_asking config) machine event stays
-
   -- an event that has no quantum run goes on with the interval
   ready-quiet : (before : List Event) (start : Table Block) (machine : Machine) (event : Event) → IsReady before start machine → has_quantum machine event ≡ false → IsReady (before ++ event ∷ []) start (event_step machine event).state
-  ready-quiet before start machine event ready quiet =
-      let half : Machine = half_step machine event in
-      let next : Machine = (event_step machine event).state in
-      let same = quiet-event machine event quiet in
-      let asked : ℕ → ℕ = λ k. asked_of config before k + class_parts k (asked_parts config event) in
-      record {
-        since = since-more config asked (asked_of config (before ++ event ∷ [])) start next (λ k. omega (arith, asked-append config before (event ∷ []) k, asked-cons config event [] k))
-            (since-likewise config asked start half next same (since-half config (asked_of config before) start machine event ready.since));
-        stays = next-stays machine event ready.stays;
-        enough = omega (arith, ready.enough, ap (λ n. n * opened) (same.quanta ∙ (half-on_way machine event).quanta));
-      }
+  ready-quiet before start machine event ready quiet = record {
+    since = since-quiet config before start machine event ready.since quiet;
+    stays = next-stays config machine event ready.stays;
+    enough = omega (arith, ready.enough, ap (λ n. n * opened) ((quiet-event machine event quiet).quanta ∙ (half-on_way machine event).quanta));
+  }
 
   -- what a quantum leaves: enough pages are free as the next interval begins
   enough-after : (before : List Event) (start : Table Block) (machine half next : Machine) → quanta * opened ≤ config.trigger + 1 → IsOnWay machine.heap.collector half.heap.collector → IsAfter config half.heap.collector next.heap.collector
@@ -160,20 +189,11 @@ module _ (config : Config) (quanta opened : ℕ) where
   ready-quantum before start machine event trigger ready runs short ended =
       let half : Machine = half_step machine event in
       let next : Machine = (event_step machine event).state in
-      let since = since-half config (asked_of config before) start machine event ready.since in
-      let stays = half-stays machine event ready.stays in
-      let asked : ℕ → ℕ = λ k. asked_of config before k + class_parts k (asked_parts config event) in
-      let room : free_pages start ≤ free_of half + opened = omega (arith, opened-few asked start half.heap.collector.table since.opened, opens-event before event, short) in
-      let collector : next.heap.collector ≡ (quantum config half.heap.collector).collector = ap (λ (m : Machine). m.heap.collector) (quantum-event machine event runs) ∙ run-collector half ∙ ap (λ c. (quantum c half.heap.collector).collector) since.config_is in
-      let after : IsAfter config half.heap.collector next.heap.collector = subst (IsAfter config half.heap.collector) (sym collector) (quantum-after config half.heap.collector stays.bounds since.slots) in
+      let ends = ends-interval config before start machine event ready.since ready.stays runs in
       record {
-        since = record {
-          config_is = (next-stays machine event ready.stays).config_is;
-          slots = (event-keeps machine event).whole.slots ready.since.slots;
-          opened = opened-none class_sizes (asked_of config []) next.heap.collector.table;
-        };
-        stays = next-stays machine event ready.stays;
-        enough = enough-after before start machine half next trigger (half-on_way machine event) after room ready.enough ended;
+        since = ends.since;
+        stays = next-stays config machine event ready.stays;
+        enough = enough-after before start machine half next trigger (half-on_way machine event) ends.after (omega (arith, ends.room, short)) ready.enough ended;
       }
 
   -- so it goes on with each event
@@ -206,7 +226,7 @@ module _ (config : Config) (quanta opened : ℕ) where
   never-full [] before start machine some trigger ready short fewer left = (tt, tt)
   never-full (event ∷ events) before start machine some trigger ready short fewer left =
       let next : Machine = (event_step machine event).state in
-      let room : pages_of (λ k. asked_of config before k + class_parts k (asked_parts config event)) class_sizes ≤ free_pages start = omega (arith, opens-event before event, event-short events before machine event short, start-room before start machine ready some fewer.0) in
+      let room : pages_of (λ k. asked_of config before k + class_parts k (asked_parts config event)) class_sizes ≤ free_pages start = omega (arith, opens-event config before event, event-short events before machine event short, start-room before start machine ready some fewer.0) in
       let served = event-served config (asked_of config before) start machine event ready.since room in
       let (now, from, on, shorter) = ready-next events before start machine event trigger ready short left in
       let rest = never-full events now from next some trigger on shorter fewer.1 (ends-later LeavesEnough next (run.cycle_ends next events) (has_ended machine.heap.collector next.heap.collector) left) in
@@ -214,7 +234,7 @@ module _ (config : Config) (quanta opened : ℕ) where
 
 -- The first machine ------------------------------------------------------------------------------
 
-free-first : (count : ℕ) → free_pages (replicate {A = Option (Page Block)} count None) ≡ count
+pub free-first : (count : ℕ) → free_pages (replicate {A = Option (Page Block)} count None) ≡ count
 free-first zero = refl
 free-first (suc count) = ap suc (free-first count)
 

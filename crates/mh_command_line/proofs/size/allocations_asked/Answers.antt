@@ -17,4 +17,4 @@ returns-in-Some-get_str-clause-fault c =
     (refl, allocations-lacking (one_of (codes "allocates") (rows_of (found_of c.args.matches.now))) given.0 given.1 (λ t e. c.in_default.ensures.value t (same ∙ e)))
 
 pub returns-in-None-clause-fault : goal.returns-in-None-clause-fault
-returns-in-None-clause-fault c = (refl, ForHeap (inr (inr (inl refl))) c.requires.target c.requires.sized, not_given (found_of c.args.matches.now) (codes "allocates") (sym c.in-None.ensures))
+returns-in-None-clause-fault c = (refl, ForHeap (inr (inl refl)) c.requires.target c.requires.sized, not_given (found_of c.args.matches.now) (codes "allocates") (sym c.in-None.ensures))

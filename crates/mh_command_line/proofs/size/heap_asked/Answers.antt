@@ -1,4 +1,4 @@
-use Rattle.std.proofs.Common.{codes, inl, inr, lit≤, refl}
+use Rattle.std.proofs.Common.{codes, inl, inr, lit≤, refl, ap, ◌∙◌, ◌||◌, ℕ, Option, is_some}
 use Rattle.clap.specs.Words.{found_of, one_of, rows_of}
 use Rattle.mh_command_line.specs.Sizes.{ForHeap}
 use Rattle.mh_command_line.proofs.ReadingLemmas.{has-between, may-between, widened}
@@ -6,20 +6,14 @@ use Rattle.mh_command_line.proofs.size.heap_asked.Goals as goal
 
 pub needed-requires : goal.needed-requires
 needed-requires c = record {
-  number = widened 1 4096 (one_of (codes "pages") (rows_of (found_of c.args.matches.now))) (lit≤ tt) c.requires.asks.pages;
+  number = widened 1 1000000 (one_of (codes "every") (rows_of (found_of c.args.matches.now))) (lit≤ tt) c.requires.asks.every;
   wanted = ForHeap (inl refl) c.requires.target c.requires.sized;
 }
 
 pub needed-requires-2 : goal.needed-requires-2
 needed-requires-2 c = record {
-  number = widened 1 1000000 (one_of (codes "every") (rows_of (found_of c.args.matches.now))) (lit≤ tt) c.requires.asks.every;
-  wanted = ForHeap (inr (inl refl)) c.requires.target c.requires.sized;
-}
-
-pub needed-requires-3 : goal.needed-requires-3
-needed-requires-3 c = record {
   number = widened 0 1048576 (one_of (codes "live") (rows_of (found_of c.args.matches.now))) (lit≤ tt) c.requires.asks.live;
-  wanted = ForHeap (inr (inr (inr refl))) c.requires.target c.requires.sized;
+  wanted = ForHeap (inr (inr refl)) c.requires.target c.requires.sized;
 }
 
 pub number-references-requires : goal.number-references-requires
@@ -30,9 +24,10 @@ number-quantum-requires c = widened 209 1000000 (one_of (codes "quantum") (rows_
 
 pub invariant_of-result : goal.invariant_of-result
 invariant_of-result c = record {
-  pages_within = has-between 1 4096 c.in_ok-pages.pages (one_of (codes "pages") (rows_of (found_of c.args.matches.now))) c.requires.asks.pages c.in_ok-pages.ensures.number;
+  pages_within = may-between 1 4096 (one_of (codes "pages") (rows_of (found_of c.args.matches.now))) c.in_ok-pages.pages c.requires.asks.pages c.in_ok-pages.ensures.pages;
   every_within = has-between 1 1000000 c.in_ok-every.every (one_of (codes "every") (rows_of (found_of c.args.matches.now))) c.requires.asks.every c.in_ok-every.ensures.number;
   few_live = (has-between 0 1048576 c.in_ok-live.live (one_of (codes "live") (rows_of (found_of c.args.matches.now))) c.requires.asks.live c.in_ok-live.ensures.number).1;
   few_references = may-between 0 1048576 (one_of (codes "references") (rows_of (found_of c.args.matches.now))) c.number-references.result c.requires.asks.references c.number-references.ensures;
   quantum_within = may-between 209 1000000 (one_of (codes "quantum") (rows_of (found_of c.args.matches.now))) c.number-quantum.result c.requires.asks.quantum c.number-quantum.ensures;
+  has_either = ap (λ (quantum : Option ℕ). is_some c.in_ok-pages.pages || is_some quantum) c.number-quantum.ensures ∙ c.in_ok-pages.ensures.either;
 }

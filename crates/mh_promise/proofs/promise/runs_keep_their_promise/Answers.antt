@@ -23,10 +23,10 @@ use Rattle.mh_promise.specs.Promise.{NeverAnswersFull}
 use Rattle.mh_run_laws.specs.Replays.{machine_at, moment_at}
 use Rattle.mh_run_laws.proofs.runs.RunsByEvents.{after_more, replies-length}
 use Rattle.mh_run_laws.proofs.forwarders.RunForwarders.{event-quantum}
-use Rattle.mh_promise.proofs.AnsweredEvents.{answered-is, beside-is, session-reply, told-left, half-heap, half-machine}
+use Rattle.mh_promise.proofs.AnsweredEvents.{answered-is, beside-is, session-reply, left-is, half-heap, half-machine}
 use Rattle.mh_run_laws.proofs.worlds.FullAlone.{full-alone, new-alone}
 use Rattle.mh_promise.proofs.FullWorlds.{made_by_the_world}
-use Rattle.mh_promise.proofs.SpentUnits.{told-units}
+use Rattle.mh_promise.proofs.SpentUnits.{spent-is}
 use Rattle.mh_promise.proofs.promise.runs_keep_their_promise.Goals as goal
 
 -- a run that is never full, by its replies
@@ -71,7 +71,7 @@ returns c config events outcome is = record {
     greatest = subst (λ t. t.greatest ≤ config.quantum) (sym is.trace) (c.quanta_stay_within_their_bound.ensures.greatest config events);
     spent = λ before event units phase answered.
         let same = answered-is config events outcome.replies before event (reply.Spent units phase) is.replies answered in
-        told-units c.quantum_keeps_its_limit.ensures config (machine_at config before) (run-stays config before).config_is event units phase same;
+        spent-is c.quantum_keeps_its_limit.ensures config (machine_at config before) (run-stays config before).config_is event units phase same;
   };
   cycles = record {
     run = λ before event later split runs cycle idle.
@@ -97,12 +97,12 @@ returns c config events outcome is = record {
   left = record {
     running = λ before given answered runs. record {
       count = left_of (machine_at config before);
-      told = told-left c.quanta_left_end_the_cycle.ensures (machine_at config before) given (answered-is config events outcome.replies before (event.Control control.Left) given is.replies answered);
+      is = left-is c.quanta_left_end_the_cycle.ensures (machine_at config before) given (answered-is config events outcome.replies before (event.Control control.Left) given is.replies answered);
       some = c.quanta_left_end_the_cycle.ensures.some config before runs;
       ends = λ more later split. c.quanta_left_end_the_cycle.ensures.ends config before more runs;
     };
     idle = λ before given answered idle.
-        told-left c.quanta_left_end_the_cycle.ensures (machine_at config before) given (answered-is config events outcome.replies before (event.Control control.Left) given is.replies answered)
+        left-is c.quanta_left_end_the_cycle.ensures (machine_at config before) given (answered-is config events outcome.replies before (event.Control control.Left) given is.replies answered)
         ∙ ap reply.Left (c.quanta_left_end_the_cycle.ensures.none (machine_at config before) idle);
   };
   room = record {
@@ -114,6 +114,7 @@ returns c config events outcome is = record {
     shared = λ needs least kinds quanta need few has.
         let all = c.sharp_enough_for_needs_suffices.ensures needs least kinds config events quanta need few has in
         record { cycles = all.0; room = all.1.room; never_full = never-full config events outcome.replies is.replies c.never_full_is_the_world.ensures all.1.never_full };
+    together = λ few. never-full config events outcome.replies is.replies c.never_full_is_the_world.ensures (c.pages_for_all_suffice.ensures config events few);
   };
   share = λ often. subst (HasShare config) (sym is.trace) (c.mutator_has_its_share.ensures.after_events config events often);
 }

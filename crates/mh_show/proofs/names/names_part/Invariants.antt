@@ -1,5 +1,5 @@
 use Rattle.std.proofs.Common.{◌≡◌, ◌++◌, codes, flat_map, take}
-use Rattle.mh_telling.specs.Lines.{quoted}
+use Rattle.mh_steps.specs.Lines.{quoted}
 use Rattle.mh_text.specs.Names.{names_shown}
 use Rattle.mh_show.proofs.names.names_part.Given as goal
 

@@ -14,10 +14,10 @@ use Rattle.std_alloc.proofs.SendSync.{quiet, lies}
 use Rattle.std_heap.proofs.Global.TheSendSync as handle
 use Rattle.mh_embed.specs.contracts.embedded.Embedded as Embedded
 use Rattle.mh_embed.proofs.embedded.Embedded.TheSendSync.{the_send as embedded}
-use Rattle.metroheap_c.specs.Held.{Kept, held}
+use Rattle.metroheap_c.specs.Held.{Kept, handle_owns}
 use Rattle.metroheap_c.specs.contracts.handle.Handle.{the_row, the_type}
 
-keyless : (a : Global) (p : Ptr) (v : Option Kept) → Keyless (held a p v)
+keyless : (a : Global) (p : Ptr) (v : Option Kept) → Keyless (handle_owns a p v)
 keyless a null_ptr None = tt
 keyless a null_ptr (Some x) = tt
 keyless a (block_ptr b o) None = tt

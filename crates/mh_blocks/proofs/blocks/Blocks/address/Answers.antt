@@ -1,5 +1,6 @@
 use Rattle.std.proofs.Common.{◌∙◌, sym}
-use Rattle.mh_blocks.proofs.PageMapLemmas.{is_taken-table_map, address_in-table_map}
+use Rattle.mh_table_laws.proofs.PageMapLemmas.{is_taken-table_map}
+use Rattle.mh_blocks.proofs.AddressMap.{address_in-table_map}
 use Rattle.mh_blocks.specs.Words.{block_of}
 use Rattle.mh_blocks.proofs.blocks.Blocks.address.Goals as goal
 

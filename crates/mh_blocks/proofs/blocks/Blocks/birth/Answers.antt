@@ -1,5 +1,5 @@
 use Rattle.std.proofs.Common.{◌∙◌, sym, arith}
-use Rattle.mh_blocks.proofs.PageMapLemmas.{is_taken-table_map}
+use Rattle.mh_table_laws.proofs.PageMapLemmas.{is_taken-table_map}
 use Rattle.mh_blocks.proofs.ReadLemmas.{words_there, header_within, birth_is}
 use Rattle.mh_blocks.specs.Words.{block_of}
 use Rattle.mh_blocks.proofs.blocks.Blocks.birth.Goals as goal

@@ -1,5 +1,5 @@
 use Rattle.std.proofs.Common.{◌∙◌, sym, arith, ap}
-use Rattle.mh_blocks.proofs.PageMapLemmas.{is_taken-table_map}
+use Rattle.mh_table_laws.proofs.PageMapLemmas.{is_taken-table_map}
 use Rattle.mh_blocks.proofs.ReadLemmas.{words_there, header_within, number_count_is}
 use Rattle.mh_blocks.specs.Words.{header_in, block_of}
 use Rattle.mh_pages.specs.OfClasses.Counts.{number_count}

@@ -1,5 +1,5 @@
 use Rattle.std.proofs.Common.{◌∙◌, arith, ap}
-use Rattle.mh_blocks.proofs.PageMapLemmas.{address_in-table_map}
+use Rattle.mh_blocks.proofs.AddressMap.{address_in-table_map}
 use Rattle.mh_blocks.proofs.ReadLemmas.{has_reference, reference_within, reference_at_is}
 use Rattle.mh_blocks.specs.Words.{place_in, block_of}
 use Rattle.mh_blocks.proofs.blocks.Blocks.reference_from.Goals as goal

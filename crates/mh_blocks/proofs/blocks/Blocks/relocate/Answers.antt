@@ -1,9 +1,9 @@
 use Rattle.mh_blocks.proofs.IndexedLemmas.{moved_indexed}
 use Rattle.std.proofs.Common.{◌∙◌, refl, sym, arith, ap}
 use Rattle.mh_model.specs.Pages.{page_number, class_at}
-use Rattle.mh_blocks.specs.Words.{block_of, blocks_of}
+use Rattle.mh_blocks.specs.Words.{block_of, block_table}
 use Rattle.mh_table_laws.proofs.TableMapLemmas.{length-table_map}
-use Rattle.mh_blocks.proofs.PageMapLemmas.{is_taken-table_map, class_at-table_map}
+use Rattle.mh_table_laws.proofs.PageMapLemmas.{is_taken-table_map, class_at-table_map}
 use Rattle.mh_blocks.proofs.ReadLemmas.{page_there, class_there}
 use Rattle.mh_blocks.proofs.MovedLemmas.{moves}
 use Rattle.mh_blocks.proofs.CountedLemmas.{few_counts}
@@ -13,12 +13,12 @@ use Rattle.mh_blocks.proofs.blocks.Blocks.relocate.Goals as goal
 pub class_at-requires : goal.class_at-requires
 class_at-requires c =
     let there = rw (← c.self.view_is) at c.requires.there in
-    omega (arith, c.page.ensures, page_there (blocks_of c.self.inside.pages) _ there, length-table_map block_of c.self.inside.pages)
+    omega (arith, c.page.ensures, page_there (block_table c.self.inside.pages) _ there, length-table_map block_of c.self.inside.pages)
 
 pub unwrap-class-requires : goal.unwrap-class-requires
 unwrap-class-requires c =
     let there = rw (← c.self.view_is) at c.requires.there in
-    rw (c.class_at.ensures, c.page.ensures, ← class_at-table_map block_of c.self.inside.pages (page_number c.args.place)) (class_there (blocks_of c.self.inside.pages) _ there)
+    rw (c.class_at.ensures, c.page.ensures, ← class_at-table_map block_of c.self.inside.pages (page_number c.args.place)) (class_there (block_table c.self.inside.pages) _ there)
 
 pub take_copy-requires-clause-free : goal.take_copy-requires-clause-free
 take_copy-requires-clause-free c =

@@ -1,6 +1,6 @@
 use Rattle.mh_blocks.proofs.IndexedLemmas.{number_indexed}
 use Rattle.std.proofs.Common.{◌≡◌, ◌∙◌, arith}
-use Rattle.mh_blocks.proofs.PageMapLemmas.{address_in-table_map}
+use Rattle.mh_blocks.proofs.AddressMap.{address_in-table_map}
 use Rattle.mh_blocks.proofs.InvariantLemmas.{number_counted}
 use Rattle.mh_blocks.proofs.ReadLemmas.{has_number, number_within}
 use Rattle.mh_blocks.proofs.WriteLemmas.{with_word-number}

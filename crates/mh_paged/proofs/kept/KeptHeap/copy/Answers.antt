@@ -14,4 +14,4 @@ invariant_of-self c =
     let seat = is-open heap c.args.who c.in_ok-session.session (rw (← c.self.view_is) at c.in_ok-session.ensures.step) in
     let steps : Steps heap c.args.who (command.Copy c.args.slot c.args.source) reply.Done new =
     rw (c.write_root.ensures, c.root-reference.ensures) (copy-steps c.commands_are_answered.ensures heap c.args.who c.in_ok-session.session seat c.args.slot c.args.source c.in_ok-slot.slot c.in_ok-source.source (is-passed _ _ _ _ c.in_ok-slot.ensures.step) (is-passed _ _ _ _ c.in_ok-source.ensures.step)) in
-    kept-after c.heaps_stay_kept.ensures c.collectors_stay_in_bounds.ensures c.self.inside.cycle c.write_root.new.cycle c.self.inside.next_birth c.self.inside.next_birth c.self.inside.ended c.self.inside.ended c.self.invariant (ap (λ s. s.config) c.write_root.ensures) c.args.who (command.Copy c.args.slot c.args.source) reply.Done steps
+    kept-after c.heaps_stay_kept.ensures c.collectors_stay_in_bounds.ensures _ _ _ _ _ _ c.self.invariant (ap (λ s. s.config) c.write_root.ensures) c.args.who (command.Copy c.args.slot c.args.source) reply.Done steps

@@ -5,28 +5,26 @@ use Rattle.mh_model.specs.Mutator.{HeapState}
 use Rattle.mh_paged.specs.Kept.{Steps, heap_of}
 use Rattle.mh_table_laws.proofs.marking.BatchMarking.{leads_of}
 use Rattle.mh_paged.proofs.FieldLemmas.{field-original}
-use Rattle.mh_paged.proofs.KeptLemmas.{kept-after}
+use Rattle.mh_paged.proofs.KeptLemmas.{found-field, kept-after}
 use Rattle.mh_paged.proofs.StepLemmas.{is-open, is-passed, put-steps}
 use Rattle.mh_paged.proofs.kept.KeptHeap.put.Goals as goal
 
 pub place_of-at-requires : goal.place_of-at-requires
 place_of-at-requires c =
-    let heap : HeapState = heap_of c.self.inside.cycle c.self.inside.next_birth c.self.inside.ended in
     let found = rw (← c.self.view_is) at c.in_ok-found.ensures in
-    c.fields_are_found.ensures.findable heap.collector (c.collectors_stay_steady.ensures.of_heaps heap c.self.invariant.keeping) c.in_ok-found.found.place c.in_ok-found.found.shape found.2 c.in_ok-field.field (omega (arith, c.in_ok-field.ensures.within))
+    (found-field c.collectors_stay_steady.ensures c.fields_are_found.ensures _ _ _ c.self.invariant _ _ found.2 c.in_ok-field.field (omega (arith, c.in_ok-field.ensures.within))).findable
 
 pub write_reference-requires-clause-there : goal.write_reference-requires-clause-there
 write_reference-requires-clause-there c =
-    let heap : HeapState = heap_of c.self.inside.cycle c.self.inside.next_birth c.self.inside.ended in
     let found = rw (← c.self.view_is) at c.in_ok-found.ensures in
-    let has = c.fields_are_found.ensures.lies heap.collector (c.collectors_stay_steady.ensures.of_heaps heap c.self.invariant.keeping) c.in_ok-found.found.place c.in_ok-found.found.shape found.2 c.in_ok-field.field (omega (arith, c.in_ok-field.ensures.within)) in
+    let has = (found-field c.collectors_stay_steady.ensures c.fields_are_found.ensures _ _ _ c.self.invariant _ _ found.2 c.in_ok-field.field (omega (arith, c.in_ok-field.ensures.within))).has in
     rw c.place_of-at.ensures (has.reference c.in_ok-field.ensures.within)
 
 pub write_reference-requires-clause-original : goal.write_reference-requires-clause-original
 write_reference-requires-clause-original c =
     let heap : HeapState = heap_of c.self.inside.cycle c.self.inside.next_birth c.self.inside.ended in
     let found = rw (← c.self.view_is) at c.in_ok-found.ensures in
-    let has = c.fields_are_found.ensures.lies heap.collector (c.collectors_stay_steady.ensures.of_heaps heap c.self.invariant.keeping) c.in_ok-found.found.place c.in_ok-found.found.shape found.2 c.in_ok-field.field (omega (arith, c.in_ok-field.ensures.within)) in
+    let has = (found-field c.collectors_stay_steady.ensures c.fields_are_found.ensures _ _ _ c.self.invariant _ _ found.2 c.in_ok-field.field (omega (arith, c.in_ok-field.ensures.within))).has in
     rw c.place_of-at.ensures (field-original heap.collector c.in_ok-found.found.place c.in_ok-found.found.shape c.in_ok-field.field has)
 
 pub write_reference-requires-clause-leads : goal.write_reference-requires-clause-leads
@@ -43,7 +41,7 @@ invariant_of-self c =
     let steps : Steps heap c.args.who (command.Put c.args.slot c.args.field c.args.value) reply.Done new =
     rw (c.write_reference.ensures, c.place_of-at.ensures, c.root-reference.ensures)
     (put-steps c.commands_are_answered.ensures heap c.args.who c.in_ok-session.session seat c.args.slot c.args.field c.args.value c.in_ok-slot.slot c.in_ok-found.found.place c.in_ok-field.field c.in_ok-value.value c.in_ok-found.found.shape (is-passed _ _ _ _ c.in_ok-slot.ensures.step) (is-passed _ _ _ _ c.in_ok-value.ensures.step) found.0 found.1 (is-passed _ _ _ _ c.in_ok-field.ensures.step)) in
-    kept-after c.heaps_stay_kept.ensures c.collectors_stay_in_bounds.ensures c.self.inside.cycle c.write_reference.new.cycle c.self.inside.next_birth c.self.inside.next_birth c.self.inside.ended c.self.inside.ended c.self.invariant (ap (λ s. s.config) c.write_reference.ensures) c.args.who (command.Put c.args.slot c.args.field c.args.value) reply.Done steps
+    kept-after c.heaps_stay_kept.ensures c.collectors_stay_in_bounds.ensures _ _ _ _ _ _ c.self.invariant (ap (λ s. s.config) c.write_reference.ensures) c.args.who (command.Put c.args.slot c.args.field c.args.value) reply.Done steps
 
 pub returns : goal.returns
 returns c =

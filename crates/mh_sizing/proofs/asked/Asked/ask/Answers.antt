@@ -5,4 +5,4 @@ use Rattle.mh_sizing.proofs.asked.Asked.ask.Goals as goal
 
 pub returns-in-Some : goal.returns-in-Some
 returns-in-Some c = λ config event all running ended parts has.
-    asked-parts c.args.self.now _ config all running ended event _ (sym (ap (λ (o : Option (List Part)). unwrap_or o []) c.in-Some.is) ∙ parts) (c.ask.ensures.asked _ _ has.counted) refl refl has
+    asked-parts c.args.self.now _ config all running ended event _ (sym (ap (λ (o : Option (List Part)). unwrap_or o []) c.in-Some.is) ∙ parts) (c.ask.ensures.asked _ _ has.counted) refl refl refl has

@@ -1,0 +1,80 @@
+-- What the sizing of a script has read and written. What its sessions need is a relation, and so is the text that says it.
+use Rattle.std.specs.Prelude.{◌≡◌, Option, None, Some, Result, List, [], ◌∷◌, take, codes, IfOk, IsErrOf}
+use Rattle.std.specs.Io.KnownBytes.{Keeps}
+use Rattle.mh_model.specs.declared.command.Event.{Event}
+use Rattle.mh_model.specs.declared.config.Config.{Config}
+use Rattle.mh_model.specs.declared.config.Rules.{Rules}
+use Rattle.mh_model.specs.declared.needs.Needs.{Needs}
+use Rattle.mh_model.specs.Bytes.{Text, line_text, lines_text}
+use Rattle.mh_model.specs.Configs.{with_rules}
+use Rattle.mh_model.specs.Limits.{most_entries}
+use Rattle.mh_model.specs.Needs.{NeedNoMore}
+use Rattle.mh_model.specs.Output as model
+use Rattle.mh_model.specs.Output.{Ending, ending}
+use Rattle.mh_model.specs.Replies.{bad_line_text}
+use Rattle.mh_model.specs.Script.{BadLine, Meaning, Means, Reading, reading}
+use Rattle.mh_sizing.specs.Needed.{IsTheProfile, IsTooLarge}
+use Rattle.mh_sizing.specs.declared.profile.Profile.{Profile}
+use Rattle.mh_script.specs.declared.end.End.{End}
+use Rattle.mh_script.specs.declared.end.End.TheVariants.{Done, Refused}
+use Rattle.mh_script.specs.declared.fault.ScriptFault.{ScriptFault}
+use Rattle.mh_script.specs.declared.fault.ScriptFault.TheVariants.{Read, Write, NoMemory, HistoryFull}
+use Rattle.mh_script.specs.Run.{Device, HasReason, TakesToRun}
+use Rattle.mh_script.specs.Texts.{Blames, IsTextOf, LeavesSource, WantsMemory, Writes}
+use Rattle.mh_text.specs.Stream.{AppendsBeginning}
+use Rattle.mh_size_text.specs.Texts.{IsSized, optional_line}
+
+-- Texts ------------------------------------------------------------------------------------------
+
+-- what the sessions of these events ask of a heap, and nothing if one of the numbers does not fit 32 bits
+abbrev pub MayBeNeeded : Option Profile → Config → List Event → Type 0
+MayBeNeeded (Some profile) config events = IsTheProfile profile config events
+MayBeNeeded None config events = (needs : Needs) → NeedNoMore needs config events → IsTooLarge needs
+
+-- what is written of that, and of a configuration
+abbrev pub IsProfileText : Option Profile → Config → Text → Type 0
+IsProfileText (Some profile) config text = IsSized profile config text
+IsProfileText None config text = text ≡ lines_text (optional_line (codes "needs") None ∷ [])
+
+-- What is written of a reading under these rules: the first bad line, or what the sessions of the first 1,000,000 events ask of a heap, with the heap for it
+abbrev pub IsSizeText : Rules → Reading Meaning → Text → Type 0
+IsSizeText rules (BadLine line) text = text ≡ line_text (bad_line_text line)
+IsSizeText rules (Means script) text =
+    let config = with_rules rules script.config in
+    (profile : Option Profile) × MayBeNeeded profile config (take most_entries script.events) × IsProfileText profile config text
+
+-- a prefix of a text of this kind was written, and nothing else
+abbrev pub WritesPart : (Text → Type 0) → Option Text → Option Text → Type 0
+WritesPart Is old new = (whole : Text) × Is whole × AppendsBeginning old new whole
+
+-- Sizings ----------------------------------------------------------------------------------------
+
+-- what is to be written of the source's script was written whole, and a run of that script ends so
+pub record Sizes (rules : Rules) (known old new : Option Text) (ended : Ending) : Type 0 where
+  pub script : Text
+  pub is_script : IsTextOf known script
+  pub ends : ending script ≡ ended
+  pub wrote : Writes (IsSizeText rules (reading script)) old new
+
+-- a prefix of it was written
+pub record BeginsToSize (rules : Rules) (known old new : Option Text) : Type 0 where
+  pub script : Text
+  pub is_script : IsTextOf known script
+  pub wrote : WritesPart (IsSizeText rules (reading script)) old new
+
+-- what a sizing that ended well has read and written
+abbrev pub SizesTo : Rules → Option Text → Option Text → Option Text → End → Type 0
+SizesTo rules known old new Done = Sizes rules known old new model.Done
+SizesTo rules known old new (Refused refusal) = Sizes rules known old new (model.Refused refusal.line)
+
+-- The script of a source was sized into a sink, and how that ended
+pub record IsSizing (rules : Rules) (source source' sink sink' : Device) (ended : Result End ScriptFault) : Type 0 where
+  pub ends : IfOk ended (SizesTo rules source.bytes sink.bytes sink'.bytes)
+  pub reason : IfOk ended (HasReason source.bytes)
+  pub begun : IsErrOf ended Write → BeginsToSize rules source.bytes sink.bytes sink'.bytes
+  pub full : IsErrOf ended HistoryFull → Sizes rules source.bytes sink.bytes sink'.bytes model.HistoryFull
+  pub unread : IsErrOf ended Read → Keeps sink.bytes sink'.bytes
+  pub unwritten : IsErrOf ended NoMemory → Keeps sink.bytes sink'.bytes
+  pub memory : IsErrOf ended NoMemory → WantsMemory TakesToRun source.bytes source'.bytes
+  pub taken : LeavesSource 67108864 source.bytes source'.bytes ended
+  pub blames : Blames source.failures source'.failures sink.failures sink'.failures ended

@@ -1,0 +1,34 @@
+use Rattle.std.proofs.Common.{◌≡◌, length, take, ap, sym, subst, ◌∙◌, arith}
+use Rattle.std.proofs.Math.Seq.{take-length}
+use Rattle.std.proofs.lemmas.List.{take_more}
+use Rattle.mh_sizing.specs.Walk.{HasWalked}
+use Rattle.mh_sizing.proofs.profile.profile_of.Goals as goal
+
+pub loop-event-preserved : goal.loop-event-preserved
+loop-event-preserved c =
+    let events = c.args.events.now in
+    let index = c.loop-event.event-index in
+    let walked = c.in_ok-event.ensures.walked c.args.config (take index events) c.loop-event.invariant in
+    subst (HasWalked c.event.new.self c.args.config) (sym (take_more events index _ c.loop-event-test.true)) walked
+
+pub returns-in-Some-clause-profile : goal.returns-in-Some-clause-profile
+returns-in-Some-clause-profile c =
+    let config = c.args.config in
+    let events = c.args.events.now in
+    let last : c.loop-event.event-index ≡ length events = omega arith in
+    let walked = subst (HasWalked c.loop-event.walk config) (ap (λ n. take n events) last ∙ take-length events) c.loop-event.invariant in
+    record {
+      needs = c.in-Some.ensures.needs config events walked;
+      kinds = record {
+        count = c.kinds.ensures.kinds config events walked;
+        least = c.kinds.ensures.least config events walked;
+        asked = c.kinds.ensures.asked config events walked;
+      };
+      in_all = c.opened_in_all.ensures config events walked;
+    }
+
+pub returns-clause-none : goal.returns-clause-none
+returns-clause-none c =
+    let events = c.args.events.now in
+    let last : c.loop-event.event-index ≡ length events = omega arith in
+    c.in-None.ensures.none c.args.config events (subst (HasWalked c.loop-event.walk c.args.config) (ap (λ n. take n events) last ∙ take-length events) c.loop-event.invariant)

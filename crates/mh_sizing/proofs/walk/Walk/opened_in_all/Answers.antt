@@ -1,0 +1,15 @@
+use Rattle.std.proofs.Common.{◌≡◌, ℕ, ◌-◌, ◌^◌, ◌<◌, ◌≤◌, min, [], Option, Some, None, IfSome, MatchOption, arith, rules}
+use Rattle.mh_model.specs.Needs.{first_run, opened_in_all}
+use Rattle.mh_sizing.specs.Runs.{ended_intervals, running_interval}
+use Rattle.mh_sizing.proofs.WalkLemmas.{all-opened}
+use Rattle.mh_sizing.proofs.walk.Walk.opened_in_all.Goals as goal
+
+-- a number cut at 2^64 - 1 is the same in 32 bits
+in-bits : (found : Option ℕ) (cut whole : ℕ) → IfSome found (λ same. same < 2 ^ 32) → cut ≡ min whole (2 ^ 64 - 1) → MatchOption found (2 ^ 32 ≤ cut) (λ same. same ≡ cut) → MatchOption found (2 ^ 32 ≤ whole) (λ same. same ≡ whole)
+in-bits None cut whole few is large = omega (arith, is, large)
+in-bits (Some same) cut whole few is of_cut = omega (arith, few, is, of_cut)
+
+pub returns : goal.returns
+returns c = λ config events walked.
+    in-bits c.in_32_bits.result c.pages_in_all.result (opened_in_all config events) (search rules)
+    (omega (arith, c.pages_in_all.ensures config events (running_interval [] (first_run config) events) (ended_intervals [] (first_run config) events) walked.asks, all-opened c.args.self.now config events walked)) c.in_32_bits.ensures

@@ -1,0 +1,57 @@
+-- What is enough for what sessions ask of a heap. There are three laws: each new part may keep a page, small parts share pages, or the pages are as many as
+-- all intervals open together.
+use Rattle.std.specs.Prelude.{◌⊎◌, ℕ, ◌≤◌, min, nat_le, Bool, false, ◌&&◌, ◌||◌, nat_lt, if◌then◌else◌, Option, None, Some, IsSomeAnd}
+use Rattle.mh_model.specs.declared.config.Config.{Config}
+use Rattle.mh_model.specs.declared.needs.Needs.{Needs}
+use Rattle.mh_model.specs.Bound.{most_quanta, most_units}
+use Rattle.mh_model.specs.Needs.{HasEnoughFor, quanta_needed, units_needed}
+use Rattle.mh_model.specs.Limits.{least_quantum, quantum_overhead}
+use Rattle.mh_sizing_laws.specs.SharpNeeds.{HasSharpEnoughFor}
+use Rattle.mh_sizing.specs.Needs.{enough_pages, enough_trigger, least_quantum_of}
+use Rattle.mh_sizing.specs.Shared.{enough_shared_pages, least_quantum_shared_of}
+use Rattle.mh_sizing.specs.declared.profile.Profile.{Profile}
+
+-- Cycles -----------------------------------------------------------------------------------------
+
+-- what a cycle spends at most without the charge for slots: by the bound of any cycle, or by what is needed
+abbrev pub cycle_units : Needs → Config → ℕ
+cycle_units needs config = min (most_units config) (units_needed needs config.pages)
+
+-- and in quanta: a quantum of 352 or less may be too small for any other bound than that of any cycle
+abbrev pub cycle_quanta : Needs → Config → ℕ
+cycle_quanta needs config = if nat_lt quantum_overhead config.quantum then min (most_quanta config) (quanta_needed needs config) else most_quanta config
+
+-- Configurations ---------------------------------------------------------------------------------
+
+-- the pages that are enough for cycles of so many quanta: as many as if each new part kept a page, or as many as if small parts shared pages, if that is less
+abbrev pub pages_needed : Profile → ℕ → ℕ
+pages_needed profile quanta = min (enough_pages profile.needs quanta) (enough_shared_pages profile.needs profile.kinds quanta)
+
+-- so many pages are no fewer than all intervals open together, if that is known
+abbrev pub has_all : Option ℕ → ℕ → Bool
+has_all None pages = false
+has_all (Some opened) pages = nat_le opened pages
+
+-- the configuration's pages are enough for all intervals together, or its pages and its trigger are enough for its cycles
+abbrev pub is_enough : Profile → Config → Bool
+is_enough profile config = has_all profile.opened_in_all config.pages || (nat_le (pages_needed profile (cycle_quanta profile.needs config)) config.pages && nat_le (enough_trigger profile.needs (cycle_quanta profile.needs config)) config.trigger)
+
+-- it has enough for cycles of so many quanta, as new parts keep pages or share them
+abbrev pub HasEnoughByEither : Profile → Config → ℕ → Type 0
+HasEnoughByEither profile config quanta = HasEnoughFor profile.needs config quanta ⊎ HasSharpEnoughFor profile.needs profile.kinds.fewest_slots profile.kinds.kinds config quanta
+
+-- A configuration is enough: its pages are for all intervals together, or it has enough for cycles of some number of quanta
+abbrev pub Suffices : Profile → Config → Type 0
+Suffices profile config = IsSomeAnd profile.opened_in_all (λ opened. opened ≤ config.pages) ⊎ ((quanta : ℕ) × HasEnoughByEither profile config quanta)
+
+-- Quanta -----------------------------------------------------------------------------------------
+
+-- the lesser of two quanta, of which there may be none
+abbrev pub lesser_quantum : Option ℕ → Option ℕ → Option ℕ
+lesser_quantum None other = other
+lesser_quantum (Some quantum) None = Some quantum
+lesser_quantum (Some quantum) (Some other) = Some (min quantum other)
+
+-- the least quantum with which so many pages are enough: any, if they are for all intervals together; otherwise the least from 353 on
+abbrev pub quantum_needed : Profile → ℕ → Option ℕ
+quantum_needed profile pages = if has_all profile.opened_in_all pages then Some least_quantum else lesser_quantum (least_quantum_of profile.needs pages) (least_quantum_shared_of profile.needs profile.kinds pages)

@@ -1,0 +1,68 @@
+-- Heaps that are searched for: the fewest pages that are enough with a quantum.
+use Rattle.std.specs.Prelude.{◌≡◌, ◌⊎◌, ℕ, ◌≤◌, nat_le, if◌then◌else◌, MatchOption, Option}
+use Rattle.mh_model.specs.declared.config.Config.{Config}
+use Rattle.mh_sizing.specs.Needs.{enough_pages, enough_trigger}
+use Rattle.mh_sizing.specs.Enough.{Suffices, cycle_quanta, has_all}
+use Rattle.mh_sizing.specs.declared.found.Law.{Law}
+use Rattle.mh_sizing.specs.declared.found.Law.TheVariants.{Demand, Easy, Sharp}
+use Rattle.mh_sizing.specs.declared.found.Found.{Found}
+use Rattle.mh_sizing.specs.declared.profile.Profile.{Profile}
+
+-- Numbers ----------------------------------------------------------------------------------------
+
+-- no number is so
+abbrev pub HasNo : (ℕ → Type 0) → Type 0
+HasNo P = (number : ℕ) → P number → ⊥
+
+-- this number is so, and none that is lesser
+pub record IsLeast (P : ℕ → Type 0) (number : ℕ) : Type 0 where
+  pub has : P number
+  pub least : (other : ℕ) → P other → number ≤ other
+
+-- each number is so from one on up to another
+abbrev pub IsSoFrom : (ℕ → Type 0) → ℕ → ℕ → Type 0
+IsSoFrom P last from = (number : ℕ) → from ≤ number → number ≤ last → P number
+
+-- Pages ------------------------------------------------------------------------------------------
+
+-- so many pages are enough with such quanta, with some trigger
+abbrev pub PagesAreEnough : Profile → ℕ → ℕ → Type 0
+PagesAreEnough profile quantum pages = (config : Config) × (config.pages ≡ pages) × (config.quantum ≡ quantum) × Suffices profile config
+
+-- the law by which a configuration is enough, if it is: the first of the three
+abbrev pub law_of : Profile → Config → Law
+law_of profile config = if has_all profile.opened_in_all config.pages then Demand else (if nat_le (enough_pages profile.needs (cycle_quanta profile.needs config)) config.pages then Easy else Sharp)
+
+-- the trigger that goes with it: none is needed if pages are for all intervals together
+abbrev pub trigger_by : Law → Profile → Config → ℕ
+trigger_by Demand profile config = 0
+trigger_by Easy profile config = enough_trigger profile.needs (cycle_quanta profile.needs config)
+trigger_by Sharp profile config = enough_trigger profile.needs (cycle_quanta profile.needs config)
+
+-- A heap with the quantum of a configuration is enough, with the trigger that goes with its law. From some number of pages on each that is allowed is
+-- enough, or 4,096 are not
+pub record IsEnoughHeap (profile : Profile) (config : Config) (found : Found) : Type 0 where
+  pub quantum : found.config.quantum ≡ config.quantum
+  pub every : found.config.every ≡ config.every
+  pub rules : found.config.rules ≡ config.rules
+  pub suffices : Suffices profile found.config
+  pub law : found.law ≡ law_of profile found.config
+  pub trigger : found.config.trigger ≡ trigger_by found.law profile found.config
+  pub from : MatchOption found.from (PagesAreEnough profile config.quantum 4096 → ⊥) (IsLeast (IsSoFrom (PagesAreEnough profile config.quantum) 4096))
+
+-- one with the fewest pages: no heap with such quanta and fewer pages is enough
+pub record IsFound (profile : Profile) (config : Config) (found : Found) : Type 0 where
+  pub enough : IsEnoughHeap profile config found
+  pub least : IsLeast (PagesAreEnough profile config.quantum) found.config.pages
+
+-- a heap was searched for with a configuration's quantum: the one with the fewest pages that are enough, or none
+abbrev pub IsSearched : Profile → Config → Option Found → Type 0
+IsSearched profile config found = MatchOption found (HasNo (PagesAreEnough profile config.quantum)) (IsFound profile config)
+
+-- a heap of just a configuration's pages, if they are enough
+abbrev pub IsOfItsPages : Profile → Config → Option Found → Type 0
+IsOfItsPages profile config found = MatchOption found ⊥ (λ heap. IsEnoughHeap profile config heap × (heap.config.pages ≡ config.pages))
+
+-- the heap of a configuration's own pages if these are enough with its quantum, and otherwise the one that is searched for
+abbrev pub IsChosen : Profile → Config → Option Found → Type 0
+IsChosen profile config found = (PagesAreEnough profile config.quantum config.pages × IsOfItsPages profile config found) ⊎ ((PagesAreEnough profile config.quantum config.pages → ⊥) × IsSearched profile config found)

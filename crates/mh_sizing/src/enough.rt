@@ -1,0 +1,107 @@
+//! Whether a configuration is enough for what sessions ask of a heap, by any of three laws, and the least quantum with
+//! which so many pages are.
+//!
+//! By one law each new part may keep a page, by the next small new parts share pages. The lesser of their two numbers
+//! of pages is enough, and neither is always the lesser. By the third, pages for all that the intervals of a run open
+//! together are enough, whatever its cycles.
+//!
+//! A cycle is given two bounds on its quanta, that of any cycle and that of what it marks, and takes the lesser. The
+//! second wants quanta of more units than may go to charges and to what is left over.
+ghost use Rattle.std.specs.Prelude.{◌≡◌, ◌≤◌, ◌↔◌, ◌<◌, IfSome, IsSomeAnd, IsTrue};
+ghost use Rattle.mh_sizing.specs.Enough.{Suffices, cycle_quanta, cycle_units, has_all, is_enough, lesser_quantum, pages_needed, quantum_needed};
+ghost use Rattle.mh_model.specs.Limits.{least_quantum, quantum_overhead};
+
+use crate::cycles::{quanta_needed, units_needed};
+use crate::needs::{enough_pages, enough_trigger, least_quantum};
+use crate::profile::Profile;
+use crate::shared::{enough_shared_pages, least_quantum_shared};
+use mh_model::config::Config;
+use mh_model::limits::{LEAST_QUANTUM, QUANTUM_OVERHEAD};
+use mh_model::needs::Needs;
+
+/// What a cycle spends at most, without the charge for slots.
+pub fn cycle_units(config: &Config, needs: &Needs) -> u64
+    ensures { result ≡ cycle_units needs.now config.now }
+{
+    let units = config.most_units();
+    units.min(units_needed(config.pages, needs))
+}
+
+/// How many quanta a cycle takes at most.
+pub fn cycle_quanta(config: &Config, needs: &Needs) -> u64
+    ensures value { result ≡ cycle_quanta needs.now config.now }
+    ensures some { 1 ≤ result }
+{
+    let most = config.most_quanta();
+    if config.quantum <= QUANTUM_OVERHEAD {
+        return most;
+    }
+    most.min(quanta_needed(config, needs))
+}
+
+/// The pages that are enough for cycles of so many quanta.
+pub fn pages_needed(profile: &Profile, quanta: u64) -> u128
+    requires { 1 ≤ quanta }
+    ensures { result ≡ pages_needed profile.now quanta }
+{
+    let pages = enough_pages(&profile.needs, quanta);
+    pages.min(enough_shared_pages(&profile.needs, &profile.kinds, quanta))
+}
+
+/// Whether so many pages are as many as all intervals open together.
+pub(crate) fn has_all(profile: &Profile, pages: u32) -> bool
+    ensures value { result ≡ has_all profile.now.opened_in_all pages }
+    ensures all { IsTrue result ↔ IsSomeAnd profile.now.opened_in_all (λ opened. opened ≤ pages) }
+{
+    match profile.opened_in_all {
+        Some(opened) => opened <= pages,
+        None => false,
+    }
+}
+
+/// Whether the numbers of a configuration pass the tests of a law.
+fn passes(config: &Config, profile: &Profile) -> bool
+    ensures { result ≡ is_enough profile.now config.now }
+{
+    let quanta = cycle_quanta(config, &profile.needs);
+    let has_pages = pages_needed(profile, quanta) <= u128::from(config.pages);
+    let starts = enough_trigger(&profile.needs, quanta) <= u128::from(config.trigger);
+    has_all(profile, config.pages) || (has_pages && starts)
+}
+
+/// Whether a configuration is enough, by any of the laws.
+pub fn is_enough(config: &Config, profile: &Profile) -> bool
+    ensures value { result ≡ is_enough profile.now config.now }
+    ensures enough { IsTrue result ↔ Suffices profile.now config.now }
+{
+    passes(config, profile)
+}
+
+/// The lesser of two quanta, of which there may be none.
+fn lesser_quantum(one: Option<u32>, other: Option<u32>) -> Option<u32>
+    requires one { IfSome one (λ quantum. (quantum_overhead < quantum) × (quantum ≤ 1000000)) }
+    requires other { IfSome other (λ quantum. (quantum_overhead < quantum) × (quantum ≤ 1000000)) }
+    ensures value { result ≡ lesser_quantum one other }
+    ensures within { IfSome result (λ quantum. (quantum_overhead < quantum) × (quantum ≤ 1000000)) }
+{
+    match (one, other) {
+        (Some(one), Some(other)) => Some(one.min(other)),
+        (Some(one), None) => Some(one),
+        (None, other) => other,
+    }
+}
+
+/// The least quantum with which so many pages are enough.
+pub fn quantum_needed(pages: u32, profile: &Profile) -> Option<u32>
+    requires some { 1 ≤ pages }
+    requires few { pages ≤ 4096 }
+    ensures value { result ≡ quantum_needed profile.now pages }
+    ensures within { IfSome result (λ quantum. (least_quantum ≤ quantum) × (quantum ≤ 1000000)) }
+{
+    if has_all(profile, pages) {
+        return Some(LEAST_QUANTUM);
+    }
+    let alone = least_quantum(pages, &profile.needs);
+    let shared = least_quantum_shared(pages, &profile.needs, &profile.kinds);
+    lesser_quantum(alone, shared)
+}

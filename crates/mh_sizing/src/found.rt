@@ -1,0 +1,162 @@
+//! The search for the fewest pages that are enough with a quantum.
+//!
+//! Pages that are enough needn't stay so as they grow: one more may cost each cycle a quantum more, for which the pages
+//! are then too few. So each number is tried, from the least on. The number is found from which on all are enough.
+ghost use Rattle.std.specs.Prelude.{◌≡◌, ◌+◌, ◌≤◌, ◌<◌, ◌↔◌, IfSome, IsTrue, MatchOption};
+ghost use Rattle.mh_model.specs.Limits.{least_quantum};
+ghost use Rattle.mh_sizing.specs.Found.{HasNo, IsChosen, IsEnoughHeap, IsLeast, IsSearched, IsSoFrom, PagesAreEnough, law_of, trigger_by};
+
+use crate::enough::{cycle_quanta, has_all, is_enough};
+use crate::needs::{enough_pages, enough_trigger};
+use crate::profile::Profile;
+use mh_model::config::Config;
+use mh_model::limits::MOST_PAGES;
+
+/// The law by which a heap is enough.
+#[derive(Clone, Copy, Debug, PartialEq, Eq)]
+pub enum Law {
+    /// Its pages are as many as all intervals open together.
+    Demand,
+    /// Each new part may keep a page.
+    Easy,
+    /// Small new parts share pages.
+    Sharp,
+}
+
+/// A heap that is enough.
+#[derive(Clone, Copy, Debug, PartialEq, Eq)]
+pub struct Found {
+    pub config: Config,
+    /// From this number of pages on each is enough, up to 4,096. None if 4,096 aren't.
+    pub from: Option<u32>,
+    pub law: Law,
+}
+
+/// A configuration of so many pages, with the quantum of another.
+fn with_pages(config: &Config, pages: u32, trigger: u32) -> Config
+    requires pages { (1 ≤ pages) × (pages ≤ 4096) }
+    requires trigger { trigger ≤ pages }
+    ensures pages { result.pages ≡ pages }
+    ensures trigger { result.trigger ≡ trigger }
+    ensures quantum { result.quantum ≡ config.now.quantum }
+    ensures every { result.every ≡ config.now.every }
+    ensures rules { result.rules ≡ config.now.rules }
+{
+    Config {
+        pages,
+        quantum: config.quantum,
+        trigger,
+        every: config.every,
+        rules: config.rules,
+    }
+}
+
+/// Whether so many pages are enough with the quantum of a configuration. The greatest trigger starts a cycle soonest.
+fn pages_suffice(pages: u32, config: &Config, profile: &Profile) -> bool
+    requires { (1 ≤ pages) × (pages ≤ 4096) }
+    ensures { IsTrue result ↔ PagesAreEnough profile.now config.now.quantum pages }
+{
+    is_enough(&with_pages(config, pages, pages), profile)
+}
+
+/// The fewest pages that are enough with the quantum of a configuration.
+fn fewest_pages(config: &Config, profile: &Profile) -> Option<u32>
+    ensures least { MatchOption result (HasNo (PagesAreEnough profile.now config.now.quantum)) (IsLeast (PagesAreEnough profile.now config.now.quantum)) }
+    ensures within { IfSome result (λ pages. (1 ≤ pages) × (pages ≤ 4096)) }
+{
+    for pages in 1..MOST_PAGES + 1 {
+        if pages_suffice(pages, config, profile) {
+            return Some(pages);
+        }
+    }
+    None
+}
+
+/// The number of pages after so many, if that is allowed.
+fn next_pages(pages: u32) -> Option<u32>
+    requires { pages ≤ 4096 }
+    ensures { MatchOption result (pages ≡ 4096) (λ next. (next ≡ pages + 1) × (pages < 4096)) }
+{
+    if pages < MOST_PAGES {
+        Some(pages + 1)
+    } else {
+        None
+    }
+}
+
+/// The least number of pages from which on all that are allowed are enough.
+fn enough_from(config: &Config, profile: &Profile) -> Option<u32>
+    ensures { MatchOption result (PagesAreEnough profile.now config.now.quantum 4096 → ⊥) (IsLeast (IsSoFrom (PagesAreEnough profile.now config.now.quantum) 4096)) }
+{
+    for above in 0..MOST_PAGES {
+        let pages = MOST_PAGES - above;
+        if !pages_suffice(pages, config, profile) {
+            return next_pages(pages);
+        }
+    }
+    Some(1)
+}
+
+/// The first law by which a configuration is enough, if it is by any.
+fn law_of(config: &Config, profile: &Profile) -> Law
+    ensures { result ≡ law_of profile.now config.now }
+{
+    if has_all(profile, config.pages) {
+        return Law::Demand;
+    }
+    let quanta = cycle_quanta(config, &profile.needs);
+    if enough_pages(&profile.needs, quanta) <= u128::from(config.pages) {
+        Law::Easy
+    } else {
+        Law::Sharp
+    }
+}
+
+/// The trigger that goes with a law. It isn't greater than the pages if these are enough.
+fn trigger_by(law: Law, config: &Config, profile: &Profile) -> u32
+    ensures value { trigger_by law profile.now config.now ≤ config.now.pages → result ≡ trigger_by law profile.now config.now }
+    ensures within { result ≤ config.now.pages }
+{
+    let quanta = cycle_quanta(config, &profile.needs);
+    match law {
+        Law::Demand => 0,
+        Law::Easy | Law::Sharp => {
+            enough_trigger(&profile.needs, quanta).min(u128::from(config.pages)) as u32
+        }
+    }
+}
+
+/// The heap of a configuration's pages, if they are enough with its quantum, with the trigger that goes with its law.
+fn of_its_pages(config: &Config, profile: &Profile) -> Found
+    requires { PagesAreEnough profile.now config.now.quantum config.now.pages }
+    ensures heap { IsEnoughHeap profile.now config.now result }
+    ensures pages { result.config.pages ≡ config.now.pages }
+{
+    let law = law_of(config, profile);
+    let trigger = trigger_by(law, config, profile);
+    Found {
+        config: with_pages(config, config.pages, trigger),
+        from: enough_from(config, profile),
+        law,
+    }
+}
+
+/// The heap with the fewest pages that are enough with the quantum of a configuration. It keeps what that has besides pages
+/// and trigger. None if no number of pages is enough.
+pub fn find(config: &Config, profile: &Profile) -> Option<Found>
+    ensures { IsSearched profile.now config.now result }
+{
+    let pages = fewest_pages(config, profile)?;
+    Some(of_its_pages(&with_pages(config, pages, 0), profile))
+}
+
+/// The heap of a configuration's own pages if they are enough with its quantum, and otherwise that with the fewest pages that
+/// are.
+pub fn choose(config: &Config, profile: &Profile) -> Option<Found>
+    ensures { IsChosen profile.now config.now result }
+{
+    if pages_suffice(config.pages, config, profile) {
+        return Some(of_its_pages(config, profile));
+    }
+    find(config, profile)
+}

@@ -1,0 +1,175 @@
+-- Runs of the ever-growing world in two configurations with the same rules and scheduler: they have the same objects, slots and units, so what is needed
+-- is the same.
+use mathlib.Core.Path.{fun_ext}
+use Rattle.std.proofs.Common.{◌≡◌, ℕ, ◌+◌, ◌==◌, ◌≤◌, nat_le, nat_lt, not, Bool, true, false, ◌&&◌, if◌then◌else◌, Option, Some, None, option_map, List, [], ◌∷◌, ◌++◌, length, set, refl, sym, ap, ap₂, ◌∙◌, subst}
+use Rattle.std.specs.List.{AllByRecursion, flat_map, sum_by}
+use Rattle.mh_model.specs.declared.command.Command.{Command}
+use Rattle.mh_model.specs.declared.command.Command.TheVariants as command
+use Rattle.mh_model.specs.declared.command.Control.TheVariants as control
+use Rattle.mh_model.specs.declared.command.Event.{Event}
+use Rattle.mh_model.specs.declared.command.Event.TheVariants as event
+use Rattle.mh_model.specs.declared.config.Config.{Config}
+use Rattle.mh_model.specs.declared.shape.Shape.{Shape}
+use Rattle.mh_model.specs.declared.reply.Refusal.{Refusal}
+use Rattle.mh_model.specs.declared.reply.Reply.{Reply}
+use Rattle.mh_model.specs.declared.reply.Reply.TheVariants as reply
+use Rattle.mh_model.specs.World.{Answer, Object, World, most_fields_under, own_slot, slot_at, object_named, shape_of, number_of, reference_of, shape_reply, refusal, effect, with_change, with_number, with_reference, done, says, unless_refused, sight_of, never_full, world_step, heap_step}
+use Rattle.mh_model.specs.Paths.{IsPath, Reachable}
+use Rattle.mh_model.specs.Classes.{Part, parts}
+use Rattle.mh_model.specs.Openings.{asked_parts, asked_count, opens_at_most, pages_of_parts}
+use Rattle.mh_model.specs.CycleUnits.{ReachesAtMost, most_slots, most_moves}
+use Rattle.mh_model.specs.LiveParts.{HasAtMostLive}
+use Rattle.mh_model.specs.Machine.{command_units}
+use Rattle.mh_model.specs.Needs.{WorldRun, first_run, half_run, runs_quantum, next_run, run_worlds, run_intervals}
+use Rattle.mh_sizing_laws.specs.Needs.{HasSameScheduler, NeedsAreOfTheScheduler}
+use Rattle.mh_sizing_laws.proofs.needs.BesideRuns.{after-world, config-kept}
+
+module _ (other : Config) where
+  -- a world in the other configuration
+  abbrev in_other : World → World
+  in_other world = record { config = other; objects = world.objects; slots = world.slots; ended = world.ended }
+
+  named-same : (world : World) (name : Option ℕ) → object_named (in_other world) name ≡ object_named world name
+  named-same world None = refl
+  named-same world (Some birth) = refl
+
+  change-same : (world : World) (name : Option ℕ) (change : Object → Object) → with_change (in_other world) name change ≡ in_other (with_change world name change)
+  change-same world None change = refl
+  change-same world (Some birth) change = refl
+
+  -- Commands -------------------------------------------------------------------------------------
+
+  refusal-same : (world : World) → other.rules ≡ world.config.rules → (who : ℕ) (command : Command) → refusal (sight_of never_full (in_other world)) who command ≡ refusal (sight_of never_full world) who command
+  refusal-same world rules who command =
+      ap₂ (λ (most : ℕ) (shape_in : ℕ → Option Shape). refusal (record { most = most; is_full = never_full; shape_in = shape_in; ended = world.ended }) who command) (ap most_fields_under rules)
+      (fun_ext (λ slot. ap (option_map shape_of) (named-same world (slot_at world slot))))
+
+  effect-same : (world : World) (who : ℕ) (command : Command) → effect (in_other world) who command ≡ says (effect world who command).reply (in_other (effect world who command).state)
+  effect-same world who (command.New slot references numbers) = refl
+  effect-same world who (command.Get slot source field) =
+      ap (λ (object : Option Object). done (record { config = other; objects = world.objects; slots = set world.slots (own_slot who slot) (reference_of object field); ended = world.ended })) (named-same world (slot_at world (own_slot who source)))
+  effect-same world who (command.Put slot field value) = ap done (change-same world (slot_at world (own_slot who slot)) (with_reference field (slot_at world (own_slot who value))))
+  effect-same world who (command.Copy slot source) = refl
+  effect-same world who (command.Clear slot) = refl
+  effect-same world who (command.Read slot index) = ap (λ (object : Option Object). says (reply.Number (number_of object index)) (in_other world)) (named-same world (slot_at world (own_slot who slot)))
+  effect-same world who (command.Write slot index number) = ap done (change-same world (slot_at world (own_slot who slot)) (with_number index number))
+  effect-same world who (command.Same left right) = refl
+  effect-same world who (command.Shape slot) = ap (λ (object : Option Object). says (shape_reply (option_map shape_of object)) (in_other world)) (named-same world (slot_at world (own_slot who slot)))
+  effect-same world who (command.Post board slot) = refl
+  effect-same world who (command.Take slot board) = refl
+  effect-same world who command.End = refl
+
+  step-same : (world : World) → other.rules ≡ world.config.rules → (who : ℕ) (command : Command) → world_step (in_other world) who command ≡ says (world_step world who command).reply (in_other (world_step world who command).state)
+  unfolding heap_step
+  step-same world rules who command =
+      ap₂ (λ (refused : Option Refusal) (answer : Answer World). unless_refused refused (in_other world) answer) (refusal-same world rules who command) (effect-same world who command) ∙ go (refusal (sight_of never_full world) who command)
+    where
+      go : (refused : Option Refusal) → unless_refused refused (in_other world) (says (effect world who command).reply (in_other (effect world who command).state))
+          ≡ says (unless_refused refused world (effect world who command)).reply (in_other (unless_refused refused world (effect world who command)).state)
+      go None = refl
+      go (Some refused) = refl
+
+  -- Runs -----------------------------------------------------------------------------------------
+
+  abbrev run_in : WorldRun → WorldRun
+  run_in run = record { world = in_other run.world; units = run.units }
+
+  units-same : (config : Config) → other.rules ≡ config.rules → (command : Command) (answer : Reply) → command_units other command answer ≡ command_units config command answer
+  units-same config rules (command.New slot references numbers) answer = rw rules refl
+  units-same config rules (command.Get slot source field) answer = refl
+  units-same config rules (command.Put slot field value) answer = refl
+  units-same config rules (command.Copy slot source) answer = refl
+  units-same config rules (command.Clear slot) answer = refl
+  units-same config rules (command.Read slot index) answer = refl
+  units-same config rules (command.Write slot index number) answer = refl
+  units-same config rules (command.Same left right) answer = refl
+  units-same config rules (command.Shape slot) answer = refl
+  units-same config rules (command.Post board slot) answer = refl
+  units-same config rules (command.Take slot board) answer = refl
+  units-same config rules command.End answer = refl
+
+  half-same : (run : WorldRun) (event : Event) → other.rules ≡ run.world.config.rules → half_run (run_in run) event ≡ run_in (half_run run event)
+  half-same run (event.Session who command) rules =
+      ap (λ (answer : Answer World). record { world = answer.state; units = run.units + command_units other command answer.reply }) (step-same run.world rules who command)
+      ∙ ap (λ (units : ℕ). record { world = in_other (world_step run.world who command).state; units = run.units + units }) (units-same run.world.config rules command (world_step run.world who command).reply)
+  half-same run (event.Control control) rules = refl
+
+  quantum-same : (run : WorldRun) (event : Event) → HasSameScheduler run.world.config other → runs_quantum (run_in run) event ≡ runs_quantum run event
+  quantum-same run (event.Session who command) same =
+      ap₂ (λ (every units : ℕ). not (every == 0) && nat_le every units) same.every (ap (λ (half : WorldRun). half.units) (half-same run (event.Session who command) same.rules))
+  quantum-same run (event.Control control.Quantum) same = ap (λ (every : ℕ). every == 0) same.every
+  quantum-same run (event.Control control.Start) same = refl
+  quantum-same run (event.Control control.Stat) same = refl
+  quantum-same run (event.Control control.Dump) same = refl
+  quantum-same run (event.Control control.Left) same = refl
+  quantum-same run (event.Control (control.Report window)) same = refl
+
+  next-same : (run : WorldRun) (event : Event) → HasSameScheduler run.world.config other → next_run (run_in run) event ≡ run_in (next_run run event)
+  next-same run event same =
+      ap₂ (λ (cut : Bool) (half : WorldRun). if cut then record { world = half.world; units = 0 } else half) (quantum-same run event same) (half-same run event same.rules) ∙ go (runs_quantum run event)
+    where
+      go : (cut : Bool) → (if cut then record { world = in_other (half_run run event).world; units = 0 } else run_in (half_run run event)) ≡ run_in (if cut then record { world = (half_run run event).world; units = 0 } else half_run run event)
+      go true = refl
+      go false = refl
+
+  -- a run keeps its configuration
+  stays-same : (run : WorldRun) (event : Event) → HasSameScheduler run.world.config other → HasSameScheduler (next_run run event).world.config other
+  stays-same run event same = subst (λ (config : Config). HasSameScheduler config other) (sym (ap (λ (w : World). w.config) (after-world run event) ∙ config-kept run event)) same
+
+  -- What is needed -------------------------------------------------------------------------------
+
+  parts-same : (config : Config) → other.rules ≡ config.rules → (event : Event) → asked_parts other event ≡ asked_parts config event
+  parts-same config rules (event.Session who (command.New slot references numbers)) = ap (λ (most : ℕ). if nat_lt most (references + numbers) then [] else parts references numbers) (ap most_fields_under rules)
+  parts-same config rules (event.Session who (command.Get slot source field)) = refl
+  parts-same config rules (event.Session who (command.Put slot field value)) = refl
+  parts-same config rules (event.Session who (command.Copy slot source)) = refl
+  parts-same config rules (event.Session who (command.Clear slot)) = refl
+  parts-same config rules (event.Session who (command.Read slot index)) = refl
+  parts-same config rules (event.Session who (command.Write slot index number)) = refl
+  parts-same config rules (event.Session who (command.Same left right)) = refl
+  parts-same config rules (event.Session who (command.Shape slot)) = refl
+  parts-same config rules (event.Session who (command.Post board slot)) = refl
+  parts-same config rules (event.Session who (command.Take slot board)) = refl
+  parts-same config rules (event.Session who command.End) = refl
+  parts-same config rules (event.Control control) = refl
+
+  asked-same : (config : Config) → other.rules ≡ config.rules → (asked_parts other) ≡ (asked_parts config)
+  asked-same config rules = fun_ext (parts-same config rules)
+
+  intervals-same : (events before : List Event) (run : WorldRun) → HasSameScheduler run.world.config other → run_intervals before (run_in run) events ≡ run_intervals before run events
+  intervals-same [] before run same = refl
+  intervals-same (event ∷ events) before run same =
+      let next : WorldRun = next_run run event in
+      ap₂ (λ (cut : Bool) (after : WorldRun). if cut then (before ++ event ∷ []) ∷ run_intervals [] after events else run_intervals (before ++ event ∷ []) after events) (quantum-same run event same) (next-same run event same)
+      ∙ ap₂ (λ (first : List (List Event)) (going : List (List Event)). if runs_quantum run event then (before ++ event ∷ []) ∷ first else going) (intervals-same events [] next (stays-same run event same)) (intervals-same events (before ++ event ∷ []) next (stays-same run event same))
+
+  path-same : (world : World) (birth : ℕ) (path : List ℕ) → IsPath (in_other world) birth path → IsPath world birth path
+  path-same world birth [] is = is
+  path-same world birth (nearest ∷ path) is = (is.0, path-same world nearest path is.1)
+
+  all-reached : (world : World) (list : List ℕ) → AllByRecursion (Reachable (in_other world)) list → AllByRecursion (Reachable world) list
+  all-reached world [] all = tt
+  all-reached world (birth ∷ list) all = ((all.0.0, path-same world birth all.0.0 all.0.1), all-reached world list all.1)
+
+  -- what holds of each world of a run holds of each in the other configuration, if it is seen by what is reached
+  worlds-same : (P : World → Type 0) → ((world : World) → P world → P (in_other world)) → (events : List Event) (run : WorldRun) → HasSameScheduler run.world.config other → AllByRecursion P (run_worlds run events) → AllByRecursion P (run_worlds (run_in run) events)
+  worlds-same P sees [] run same all = (sees run.world all.0, tt)
+  worlds-same P sees (event ∷ events) run same all =
+      (sees run.world all.0, subst (λ (next : WorldRun). AllByRecursion P (run_worlds next events)) (sym (next-same run event same)) (worlds-same P sees events (next_run run event) (stays-same run event same) all.1))
+
+-- What is needed is of the scheduler
+pub of-scheduler : NeedsAreOfTheScheduler
+of-scheduler = record {
+  needs = λ needs config other events same need. record {
+    live = worlds-same other (HasAtMostLive needs.live) (λ world few list once reached. few list once (all-reached other world list reached)) events (first_run config) same need.live;
+    marked = worlds-same other (ReachesAtMost needs.marking_units) (λ world few list once reached. few list once (all-reached other world list reached)) events (first_run config) same need.marked;
+    asked = subst (λ (ask : Event → List Part). AllByRecursion (λ interval. length (flat_map ask interval) ≤ needs.asked) (run_intervals [] (first_run other) events)) (sym (asked-same other config same.rules))
+        (subst (AllByRecursion (λ interval. asked_count config interval ≤ needs.asked)) (sym (intervals-same other events [] (first_run config) same)) need.asked);
+    opened = subst (λ (ask : Event → List Part). AllByRecursion (λ interval. pages_of_parts (flat_map ask interval) ≤ needs.opened) (run_intervals [] (first_run other) events)) (sym (asked-same other config same.rules))
+        (subst (AllByRecursion (λ interval. opens_at_most config interval ≤ needs.opened)) (sym (intervals-same other events [] (first_run config) same)) need.opened);
+    page = subst (λ (ask : Event → List Part). most_slots (flat_map ask events) + most_moves (flat_map ask events) ≤ needs.page_units) (sym (asked-same other config same.rules)) need.page;
+  };
+  together = λ config other events same.
+      ap₂ (λ (ask : Event → List Part) (list : List (List Event)). sum_by (λ (interval : List Event). pages_of_parts (flat_map ask interval)) list) (asked-same other config same.rules) (intervals-same other events [] (first_run config) same);
+  parts = λ config other events same. ap (λ (ask : Event → List Part). flat_map ask events) (asked-same other config same.rules);
+}

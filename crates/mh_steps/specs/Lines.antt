@@ -1,0 +1,113 @@
+-- Fields and accounts as lines, in words or as JSON.
+use Rattle.std.specs.Prelude.{ℕ, ◌-◌, Bool, true, false, Option, Some, None, List, [], ◌∷◌, ◌++◌, flat_map, codes, decimal}
+use Rattle.mh_model.specs.declared.deed.Deed.{Deed}
+use Rattle.mh_model.specs.declared.deed.QuantumEnd.{QuantumEnd}
+use Rattle.mh_model.specs.declared.history.Entry.{Entry}
+use Rattle.mh_model.specs.Bytes.{Text, joined, line_text}
+use Rattle.mh_model.specs.Deeds.{Account, Ran, deed_units}
+use Rattle.mh_model.specs.HistoryTexts.{entry_words, event_words}
+use Rattle.mh_model.specs.Pages.{page_number, slot_number}
+use Rattle.mh_model.specs.Replies.{reply_text}
+use Rattle.mh_orders.specs.declared.steps.Form.{Form}
+use Rattle.mh_orders.specs.declared.steps.Form.TheVariants as form
+use Rattle.mh_steps.specs.Fields.{Value, Number, At, Word, Flag, Nothing, Field, deed_verb, deed_fields, cost_fields, end_fields}
+
+-- Values -----------------------------------------------------------------------------------------
+
+-- `PAGE.SLOT`
+abbrev pub place_text : ℕ → Text
+place_text place = decimal (page_number place) ++ 46 ∷ decimal (slot_number place)
+
+-- a text between quotation marks
+abbrev pub quoted : Text → Text
+quoted text = 34 ∷ (text ++ 34 ∷ [])
+
+-- a word as it stands, or as a string of JSON. No text here has a quotation mark, a backslash or a control character, which JSON would write otherwise
+abbrev pub word_text : Form → Text → Text
+word_text form.Text word = word
+word_text form.Json word = quoted word
+
+-- yes or no in words, or as JSON writes it
+abbrev pub flag_text : Form → Bool → Text
+flag_text form.Text true = codes "yes"
+flag_text form.Text false = codes "no"
+flag_text form.Json true = codes "true"
+flag_text form.Json false = codes "false"
+
+-- that there is nothing, in words or as JSON
+abbrev pub nothing_text : Form → Text
+nothing_text form.Text = codes "none"
+nothing_text form.Json = codes "null"
+
+-- a value in words or as JSON
+abbrev pub value_text : Form → Value → Text
+value_text form (Number n) = decimal n
+value_text form (At place) = word_text form (place_text place)
+value_text form (Word word) = word_text form word
+value_text form (Flag flag) = flag_text form flag
+value_text form Nothing = nothing_text form
+
+-- a key with what parts it from the value before it and from its own
+abbrev pub key_text : Form → Text → Text
+key_text form.Text key = 32 ∷ (key ++ 32 ∷ [])
+key_text form.Json key = 44 ∷ (quoted key ++ 58 ∷ [])
+
+-- a field in words or as JSON, and fields in turn
+abbrev pub field_text : Form → Field → Text
+field_text form field = key_text form field.key ++ value_text form field.value
+
+abbrev pub fields_text : Form → List Field → Text
+fields_text form fields = flat_map (field_text form) fields
+
+-- Lines ------------------------------------------------------------------------------------------
+
+-- how each object begins: with the number of its event
+abbrev pub event_key : ℕ → Text
+event_key number = codes "{\"event\":" ++ decimal number
+
+-- how the line of a deed begins
+abbrev pub deed_head : Form → Text → ℕ → Text → Text
+deed_head form.Text indent number verb = indent ++ verb
+deed_head form.Json indent number verb = event_key number ++ (key_text form.Json (codes "deed") ++ quoted verb)
+
+-- and that of a quantum
+abbrev pub quantum_head : Form → ℕ → Text
+quantum_head form.Text number = codes "  quantum"
+quantum_head form.Json number = event_key number ++ codes ",\"quantum\":\"ran\""
+
+-- how each of them ends
+abbrev pub line_end : Form → Text
+line_end form.Text = codes "\n"
+line_end form.Json = codes "}\n"
+
+-- A deed of the command of the event of this number
+abbrev pub deed_line : Form → ℕ → Deed → Text
+deed_line form number deed = deed_head form (codes "  ") number (deed_verb deed) ++ (fields_text form (deed_fields deed) ++ line_end form)
+
+-- A deed of its quantum, after which so many units are left
+abbrev pub paid_line : Form → ℕ → ℕ → Deed → Text
+paid_line form number left deed = deed_head form (codes "    ") number (deed_verb deed) ++ (fields_text form (deed_fields deed) ++ (fields_text form (cost_fields deed left) ++ line_end form))
+
+-- the deeds of a quantum in order, before the first of which so many units are left
+abbrev pub paid_lines : Form → ℕ → ℕ → List Deed → Text
+paid_lines form number left [] = []
+paid_lines form number left (deed ∷ deeds) = paid_line form number (left - deed_units deed) deed ++ paid_lines form number (left - deed_units deed) deeds
+
+-- that a quantum was run, with what it spent and the phase that it ended in
+abbrev pub quantum_line : Form → ℕ → QuantumEnd → Text
+quantum_line form number ended = quantum_head form number ++ (fields_text form (end_fields ended) ++ line_end form)
+
+-- a quantum of so many units, if one was run
+abbrev pub quantum_lines : Form → ℕ → ℕ → Option Ran → Text
+quantum_lines form number quantum None = []
+quantum_lines form number quantum (Some ran) = quantum_line form number ran.ended ++ paid_lines form number quantum ran.deeds
+
+-- The account of the event of this number, under a configuration with so many units to a quantum
+abbrev pub account_text : Form → ℕ → ℕ → Account → Text
+account_text form number quantum account = flat_map (deed_line form number) account.command ++ quantum_lines form number quantum account.quantum
+
+-- An event with its reply: its number and its entry in a history, or an object with all three
+abbrev pub entry_line : Form → ℕ → Entry → Text
+entry_line form.Text number entry = decimal number ++ 32 ∷ line_text (joined (entry_words entry))
+entry_line form.Json number entry =
+    event_key number ++ (key_text form.Json (codes "text") ++ (quoted (joined (event_words entry.event)) ++ (key_text form.Json (codes "reply") ++ (quoted (reply_text entry.reply) ++ line_end form.Json))))

@@ -1,0 +1,34 @@
+-- What a run of a script writes as its steps: each event with its reply, and below it what it did.
+use Rattle.std.specs.Prelude.{ℕ, suc, if◌then◌else◌, List, [], ◌∷◌, ◌++◌}
+use Rattle.mh_model.specs.declared.command.Event.{Event}
+use Rattle.mh_model.specs.declared.config.Config.{Config}
+use Rattle.mh_model.specs.Bytes.{Text}
+use Rattle.mh_model.specs.Deeds.{account_of}
+use Rattle.mh_model.specs.Machine.{Machine, first_machine, event_step}
+use Rattle.mh_orders.specs.declared.steps.Steps.{Steps}
+use Rattle.mh_orders.specs.Steps.{is_asked}
+use Rattle.mh_steps.specs.Lines.{account_text, entry_line}
+use Rattle.mh_steps.specs.Names.{names_text}
+use Rattle.mh_text.specs.Names.{names_in}
+
+-- the account of an event, if its deeds are asked for
+abbrev pub deeds_text : Steps → ℕ → Machine → Event → Text
+deeds_text steps number machine event = if is_asked steps number then account_text steps.form number machine.heap.config.quantum (account_of machine event) else []
+
+-- an event of the machine with its reply, and what it did
+abbrev pub event_text : Steps → ℕ → Machine → Event → Text
+event_text steps number machine event =
+    entry_line steps.form number (record { event = event; reply = (event_step machine event).reply }) ++ deeds_text steps number machine event
+
+-- The same of events in turn, of which the first has this number
+unfoldable pub events_text : Steps → ℕ → Machine → List Event → Text
+events_text steps number machine [] = []
+events_text steps number machine (event ∷ events) = event_text steps number machine event ++ events_text steps (suc number) (event_step machine event).state events
+
+-- The steps of a run of these events from the first machine on. Events are counted from 1
+abbrev pub steps_text : Steps → Config → List Event → Text
+steps_text steps config events = events_text steps 1 (first_machine config) events
+
+-- The same of a run of this script, below the names of its sessions
+abbrev pub told_text : Steps → Text → Config → List Event → Text
+told_text steps script config events = names_text steps.form 0 (names_in script) ++ steps_text steps config events

@@ -1,0 +1,148 @@
+//! Accounts as lines.
+//!
+//! Deeds of a command have no units, since what it costs the mutator doesn't depend on its barriers or on where its
+//! parts went. Those of a quantum have theirs, and what is left of it. In words a deed has no number of an event,
+//! since it stands under its entry; as JSON each object has one.
+ghost use Rattle.std.specs.Prelude.{◌≡◌, ◌++◌, ◌-◌, flat_map, OnOk};
+ghost use Rattle.std.specs.String.{string_bytes};
+ghost use Rattle.mh_deeds.specs.Accounts.{account_in};
+ghost use Rattle.mh_steps.specs.Lines.{account_text, deed_head, deed_line, event_key, line_end, paid_line, paid_lines, quantum_head, quantum_line};
+
+use crate::deed_fields::{deed_units, deed_verb, push_cost, push_deed_fields, push_end};
+use crate::fields::{push_decimal, push_key, push_quoted};
+use mh_deeds::account::Account;
+use mh_model::deed::{Deed, QuantumEnd};
+use mh_model::memory::NoMemory;
+use mh_orders::steps::Form;
+
+/// Adds how each object begins: with the number of its event.
+pub(crate) fn push_event_key(text: &mut String, number: u64) -> Result<(), NoMemory>
+    ensures { OnOk result (string_bytes text.new ≡ string_bytes text.old ++ event_key number) }
+{
+    text.push_str("{\"event\":")?;
+    push_decimal(text, u128::from(number))
+}
+
+pub(crate) fn push_line_end(text: &mut String, form: Form) -> Result<(), NoMemory>
+    ensures { OnOk result (string_bytes text.new ≡ string_bytes text.old ++ line_end form) }
+{
+    text.push_str(match form {
+        Form::Text => "\n",
+        Form::Json => "}\n",
+    })?;
+    Ok(())
+}
+
+fn push_deed_head(
+    text: &mut String,
+    form: Form,
+    indent: &str,
+    number: u64,
+    verb: &str,
+) -> Result<(), NoMemory>
+    ensures { OnOk result (string_bytes text.new ≡ string_bytes text.old ++ deed_head form indent.now number verb.now) }
+{
+    match form {
+        Form::Text => {
+            text.push_str(indent)?;
+            text.push_str(verb)?;
+            Ok(())
+        }
+        Form::Json => {
+            push_event_key(text, number)?;
+            push_key(text, form, "deed")?;
+            push_quoted(text, verb)
+        }
+    }
+}
+
+fn push_deed_line(text: &mut String, form: Form, number: u64, deed: &Deed) -> Result<(), NoMemory>
+    ensures { OnOk result (string_bytes text.new ≡ string_bytes text.old ++ deed_line form number deed.now) }
+{
+    push_deed_head(text, form, "  ", number, deed_verb(deed))?;
+    push_deed_fields(text, form, deed)?;
+    push_line_end(text, form)
+}
+
+fn push_paid_line(
+    text: &mut String,
+    form: Form,
+    number: u64,
+    left: u128,
+    deed: &Deed,
+) -> Result<(), NoMemory>
+    ensures { OnOk result (string_bytes text.new ≡ string_bytes text.old ++ paid_line form number left deed.now) }
+{
+    push_deed_head(text, form, "    ", number, deed_verb(deed))?;
+    push_deed_fields(text, form, deed)?;
+    push_cost(text, form, deed, left)?;
+    push_line_end(text, form)
+}
+
+fn push_quantum_line(
+    text: &mut String,
+    form: Form,
+    number: u64,
+    ended: QuantumEnd,
+) -> Result<(), NoMemory>
+    ensures { OnOk result (string_bytes text.new ≡ string_bytes text.old ++ quantum_line form number ended) }
+{
+    match form {
+        Form::Text => text.push_str("  quantum")?,
+        Form::Json => {
+            push_event_key(text, number)?;
+            text.push_str(",\"quantum\":\"ran\"")?;
+        }
+    }
+    push_end(text, form, ended)?;
+    push_line_end(text, form)
+}
+
+fn push_deed_lines(
+    text: &mut String,
+    form: Form,
+    number: u64,
+    deeds: &[Deed],
+) -> Result<(), NoMemory>
+    ensures { OnOk result (string_bytes text.new ≡ string_bytes text.old ++ flat_map (deed_line form number) deeds.now) }
+{
+    for deed in deeds {
+        push_deed_line(text, form, number, deed)?;
+    }
+    Ok(())
+}
+
+fn push_paid_lines(
+    text: &mut String,
+    form: Form,
+    number: u64,
+    quantum: u128,
+    deeds: &[Deed],
+) -> Result<(), NoMemory>
+    ensures { OnOk result (string_bytes text.new ≡ string_bytes text.old ++ paid_lines form number quantum deeds.now) }
+{
+    let mut left = quantum;
+    for deed in deeds {
+        left = left.saturating_sub(deed_units(deed));
+        push_paid_line(text, form, number, left, deed)?;
+    }
+    Ok(())
+}
+
+/// Adds the lines of an account of the event of this number. After an error the text may end with a part of them.
+pub(crate) fn push_account(
+    text: &mut String,
+    form: Form,
+    number: u64,
+    quantum: u32,
+    account: &Account,
+) -> Result<(), NoMemory>
+    ensures { OnOk result (string_bytes text.new ≡ string_bytes text.old ++ account_text form number quantum (account_in account.now)) }
+{
+    push_deed_lines(text, form, number, account.command.deeds())?;
+    if let Some(ended) = account.quantum {
+        push_quantum_line(text, form, number, ended)?;
+        push_paid_lines(text, form, number, u128::from(quantum), account.ran.deeds())?;
+    }
+    Ok(())
+}
