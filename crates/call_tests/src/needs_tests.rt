@@ -36,12 +36,12 @@ fn events() -> [Event; 10] {
     ]
 }
 
-/// All five parts live, 79 units to mark. The first interval ends with the second object, so it asks for four parts, on a page
-/// for two of 6 words and one each for the others. The refused object has the class of 5 words, whose page has 51 slots and 12
-/// moves of 5 at most. Blocks of 5, 6, 7, 15 and 64 words are asked for; a page has four of the last. The second interval asks for
-/// nothing, and the third for two blocks of two classes.
+/// All five parts live, 79 units to mark. The first interval ends with the second object, so it makes four parts, on a page for two
+/// of 6 words and one each for the others. The second makes nothing, and the third one block: the object of a session that has
+/// ended is refused, and counts nothing. Blocks of 6, 7, 15 and 64 words are made; a page has four of the last. One of 6 words has
+/// the most slots, 42, and the most moves, 10 of 6 words.
 #[test]
-fn sessions_need_what_they_reach_and_ask_for(rt: HostRuntime) -> Result<(), Fail> {
+fn sessions_need_what_they_reach_and_make(rt: HostRuntime) -> Result<(), Fail> {
     let config = Config::new(100, 1000, 10, 4).ok_or("a configuration")?;
     let profile = profile_of(rt.alloc(), config, &events())?.ok_or("needs of 32 bits")?;
     let expected = Needs {
@@ -49,19 +49,19 @@ fn sessions_need_what_they_reach_and_ask_for(rt: HostRuntime) -> Result<(), Fail
         marking_units: 79,
         asked: 4,
         opened: 3,
-        page_units: 162,
+        page_units: 144,
     };
     let Profile {
         needs,
         kinds,
-        opened_in_all,
+        demand,
     } = profile;
     assert_eq!(rt; needs, expected);
     let Kinds {
         kinds,
         fewest_slots,
     } = kinds;
-    assert_eq!(rt; (kinds, fewest_slots), (5, 4));
-    assert_eq!(rt; opened_in_all, Some(5));
+    assert_eq!(rt; (kinds, fewest_slots), (4, 4));
+    assert_eq!(rt; demand, Some(4));
     Ok(())
 }

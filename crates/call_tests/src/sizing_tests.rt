@@ -1,10 +1,11 @@
-ghost use Rattle.std.specs.Prelude.{◌≡◌};
+ghost use Rattle.std.specs.Prelude.{◌≡◌, ◌≤◌};
 ghost use Rattle.mh_sizing.specs.Openings.{parts_of_counts};
 
 use mh_classes::class::{Class, class_of};
 use mh_model::config::Config;
 use mh_model::needs::Needs;
 use mh_orders::target_options::Target;
+use mh_sizing::counted::{profile_of_counts, profile_of_every};
 use mh_sizing::cycles::quanta_needed;
 use mh_sizing::enough::{is_enough, quantum_needed};
 use mh_sizing::found::{Found, Law, choose, find};
@@ -13,6 +14,8 @@ use mh_sizing::needs::{enough_pages, enough_trigger, least_quantum, needs_of};
 use mh_sizing::openings::{ClassParts, pages_opened, pages_opened_at_most};
 use mh_sizing::pages::page_units;
 use mh_sizing::profile::Profile;
+use mh_sizing::rate::ClassRate;
+use mh_sizing::rates::{find_at_rates, greatest_share, profile_at_rates};
 use mh_sizing::shared::{enough_shared_pages, least_quantum_shared};
 use mh_sizing::targets::{greatest_quantum_for, least_every_for};
 use std::test::Fail;
@@ -124,19 +127,19 @@ fn a_heap_has_enough(rt: HostRuntime) -> Result<(), Fail> {
     Ok(())
 }
 
-/// Small parts share pages: one for each live part, 46 that these fill, 28 and one more for each of 88 quanta, two for the
-/// classes, and 22 fewer for the first intervals.
+/// Small parts share pages: one for each live part, 46 that these fill, 21, one of each class and one more for each of 106 quanta,
+/// two for the classes, and 17 fewer for the first intervals.
 #[test]
 fn small_parts_share_pages(rt: HostRuntime) -> Result<(), Fail> {
     let classes = two_classes().ok_or("classes")?;
     let counted = needs_of(&two_counts(classes), 1500, 3000);
     let kinds = kinds_of(&classes);
     let pages = [
-        enough_shared_pages(&counted, &kinds, 88),
-        enough_shared_pages(&counted, &kinds, 89),
+        enough_shared_pages(&counted, &kinds, 106),
+        enough_shared_pages(&counted, &kinds, 107),
     ];
     let quantum = least_quantum_shared(4096, &counted, &kinds);
-    assert_eq!(rt; (pages, quantum), ([4078, 4107], Some(6691)));
+    assert_eq!(rt; (pages, quantum), ([4075, 4099], Some(5614)));
     Ok(())
 }
 
@@ -161,7 +164,7 @@ fn targets_are_met(rt: HostRuntime) -> Result<(), Fail> {
 }
 
 /// 300 live blocks of 8 words with a reference each, and 200 more in each interval.
-fn profile(opened_in_all: Option<u32>) -> Profile {
+fn profile(demand: Option<u32>) -> Profile {
     Profile {
         needs: Needs {
             live: 300,
@@ -174,7 +177,7 @@ fn profile(opened_in_all: Option<u32>) -> Profile {
             kinds: 1,
             fewest_slots: 32,
         },
-        opened_in_all,
+        demand,
     }
 }
 
@@ -196,15 +199,119 @@ fn heaps_are_found(rt: HostRuntime) -> Result<(), Fail> {
         numbers(find(&config, &short)),
     ];
     let expected = [
-        Some((1013, 174, Some(1071), Law::Sharp)),
-        Some((1024, 174, Some(1071), Law::Sharp)),
+        Some((685, 118, Some(708), Law::Sharp)),
+        Some((1024, 174, Some(708), Law::Sharp)),
         Some((20, 0, Some(20), Law::Demand)),
     ];
     assert_eq!(rt; found, expected);
     let quanta = [quantum_needed(1024, &steady), quantum_needed(20, &short)];
     assert_eq!(rt;
         (quanta, is_enough(&config, &steady)),
-        ([Some(5631), Some(209)], true)
+        ([Some(4609), Some(209)], true)
     );
+    Ok(())
+}
+
+/// 200 blocks of a class.
+fn one_count(class: Class) -> [ClassParts; 1]
+    ensures { parts_of_counts result ≡ 200 }
+{
+    [ClassParts { class, parts: 200 }]
+}
+
+/// What such blocks ask of a heap, by their counts.
+#[test]
+fn counts_have_a_profile(rt: HostRuntime) -> Result<(), Fail> {
+    let eight = class_of(8).ok_or("a class")?;
+    let counted = profile_of_counts(&one_count(eight), 300, 300);
+    assert_eq!(rt; counted, profile(None));
+    Ok(())
+}
+
+/// The fewest pages for blocks of 8 words of which 300 live, with a reference each, where a quantum of so many units is run after
+/// so many of the mutator.
+fn pages_by_every(eight: Class, quantum: u32, every: u32) -> Option<u32>
+    requires { (1 ≤ every) × (every ≤ 1000000) }
+{
+    let config = Config::new(1, quantum, 0, every)?;
+    let Found { config, .. } = find(&config, &profile_of_every(every, &[eight], 1, 300, 300))?;
+    Some(config.pages)
+}
+
+/// Live size and units between two quanta size a heap, whatever the sessions do.
+#[test]
+fn the_scheduler_bounds_what_is_made(rt: HostRuntime) -> Result<(), Fail> {
+    let eight = class_of(8).ok_or("a class")?;
+    let pages = [
+        pages_by_every(eight, 5000, 100),
+        pages_by_every(eight, 20000, 100),
+        pages_by_every(eight, 20000, 300),
+        pages_by_every(eight, 20000, 1000),
+        pages_by_every(eight, 5000, 1000),
+    ];
+    assert_eq!(rt; pages, [Some(496), Some(342), Some(384), Some(734), None]);
+    Ok(())
+}
+
+/// Twenty blocks of 8 words to a thousand units.
+fn twenty(eight: Class) -> [ClassRate; 1] {
+    [ClassRate {
+        class: eight,
+        parts: 20,
+        units: 1000,
+    }]
+}
+
+/// A hundred of them are made in 5,000 units, and fill four pages.
+#[test]
+fn rates_are_needs(rt: HostRuntime) -> Result<(), Fail> {
+    let eight = class_of(8).ok_or("a class")?;
+    let expected = Profile {
+        needs: Needs {
+            asked: 100,
+            opened: 4,
+            ..profile(None).needs
+        },
+        ..profile(None)
+    };
+    let profile = profile_at_rates(&twenty(eight), 1, 300, 300, 5000);
+    assert_eq!(rt; profile, expected);
+    Ok(())
+}
+
+/// PAGES, QUANTUM, TRIGGER and EVERY of the heap that leaves the mutator half of each window, with so many live blocks.
+fn numbers_at_rate(eight: Class, window: u64, live: u32) -> Option<[u32; 4]>
+    requires { live ≤ 1000 }
+{
+    let half = Target {
+        percent: 50,
+        window,
+    };
+    let heap = find_at_rates(&half, &twenty(eight), 1, live, live)?;
+    Some([heap.pages, heap.quantum, heap.trigger, heap.every])
+}
+
+/// With 300 live blocks no heap has half of each window of 2,000 units.
+#[test]
+fn a_rate_and_a_share_size_a_heap(rt: HostRuntime) -> Result<(), Fail> {
+    let eight = class_of(8).ok_or("a class")?;
+    let heaps = [
+        numbers_at_rate(eight, 3000, 30),
+        numbers_at_rate(eight, 2000, 300),
+    ];
+    assert_eq!(rt; heaps, [Some([67, 1500, 7, 1500]), None]);
+    Ok(())
+}
+
+/// With 30 live blocks the mutator may have 13 % of each window of 1,000 units, and of one of 500 not one.
+#[test]
+fn a_rate_bounds_the_share(rt: HostRuntime) -> Result<(), Fail> {
+    let eight = class_of(8).ok_or("a class")?;
+    let rates = twenty(eight);
+    let shares = [
+        greatest_share(1000, &rates, 1, 30, 30),
+        greatest_share(500, &rates, 1, 30, 30),
+    ];
+    assert_eq!(rt; shares, [Some(13), None]);
     Ok(())
 }

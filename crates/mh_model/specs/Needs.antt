@@ -1,8 +1,7 @@
 -- What the sessions of a run need of a heap, by the ever-growing world alone: what can be told of a run before it is made.
 -- Quanta are run as in a machine that is never full: by the scheduler, or on request without one. So what is needed doesn't depend on pages, quantum
 -- or trigger.
-use Rattle.std.specs.Prelude.{ℕ, ◌+◌, ◌-◌, ◌*◌, ◌/◌, ◌==◌, ◌≤◌, ◌⊎◌, nat_le, Bool, false, not, ◌&&◌, if◌then◌else◌, List, [], ◌∷◌, ◌++◌, ◌<◌}
-use Rattle.std.specs.List.{AllByRecursion, flat_map, sum_by}
+use Rattle.std.specs.Prelude.{ℕ, ◌+◌, ◌-◌, ◌*◌, ◌/◌, ◌==◌, ◌≤◌, ◌⊎◌, nat_le, Bool, false, not, ◌&&◌, if◌then◌else◌, List, [], ◌∷◌, ◌<◌}
 use Rattle.mh_model.specs.declared.command.Control.TheVariants as control
 use Rattle.mh_model.specs.declared.command.Event.{Event}
 use Rattle.mh_model.specs.declared.command.Event.TheVariants as event
@@ -11,9 +10,6 @@ use Rattle.mh_model.specs.declared.needs.Needs.{Needs}
 use Rattle.mh_model.specs.World.{World, first_world, world_step}
 use Rattle.mh_model.specs.Bound.{most_quanta}
 use Rattle.mh_model.specs.Machine.{command_units}
-use Rattle.mh_model.specs.Openings.{asked_parts, asked_count, opens_at_most}
-use Rattle.mh_model.specs.CycleUnits.{ReachesAtMost, most_slots, most_moves}
-use Rattle.mh_model.specs.LiveParts.{HasAtMostLive}
 use Rattle.mh_model.specs.Limits.{quantum_overhead, root_slots}
 
 -- Runs of the ever-growing world ------------------------------------------------------------------
@@ -48,28 +44,7 @@ abbrev pub run_worlds : WorldRun → List Event → List World
 run_worlds run [] = run.world ∷ []
 run_worlds run (event ∷ events) = run.world ∷ run_worlds (next_run run event) events
 
--- events cut after each that has a quantum run: the first interval begins with those that came before, and the last has no quantum
-abbrev pub run_intervals : List Event → WorldRun → List Event → List (List Event)
-run_intervals before run [] = before ∷ []
-run_intervals before run (event ∷ events) =
-    if runs_quantum run event
-    then (before ++ event ∷ []) ∷ run_intervals [] (next_run run event) events
-    else run_intervals (before ++ event ∷ []) (next_run run event) events
-
 -- Needs -------------------------------------------------------------------------------------------
-
--- the sessions of a run need no more than this: live parts at each moment, and what marking them costs; parts of each interval, and the pages that
--- these open; and what a page costs a cycle, for the classes of the parts that are asked for
-pub record NeedNoMore (needs : Needs) (config : Config) (events : List Event) : Type 0 where
-  pub live : AllByRecursion (HasAtMostLive needs.live) (run_worlds (first_run config) events)
-  pub marked : AllByRecursion (ReachesAtMost needs.marking_units) (run_worlds (first_run config) events)
-  pub asked : AllByRecursion (λ interval. asked_count config interval ≤ needs.asked) (run_intervals [] (first_run config) events)
-  pub opened : AllByRecursion (λ interval. opens_at_most config interval ≤ needs.opened) (run_intervals [] (first_run config) events)
-  pub page : let list = flat_map (asked_parts config) events in most_slots list + most_moves list ≤ needs.page_units
-
--- the pages that the intervals of a run open at most, all together
-abbrev pub opened_in_all : Config → List Event → ℕ
-opened_in_all config events = sum_by (opens_at_most config) (run_intervals [] (first_run config) events)
 
 -- what a cycle spends at most by these needs, without the charge for slots: 2 for each root, what it marks, and the sweep and the defragmentation of each page
 abbrev pub units_needed : Needs → ℕ → ℕ

@@ -27,8 +27,7 @@ pages_for size count = div_ceil count (slots_in size)
 abbrev pub pages_of_parts : List Part → ℕ
 pages_of_parts list = sum_by (λ size. pages_for size (class_parts size list)) class_sizes
 
--- the parts of the object that an event asks for, and none if it is too large for the rules. A refused object counts too. So a large one that a bad
--- slot refuses may make what a script needs far greater than what its run takes
+-- the parts of the object that an event asks for, and none if it is too large for the rules. A refused object counts too
 abbrev pub asked_parts : Config → Event → List Part
 asked_parts config (event.Session who (command.New slot references numbers)) = if nat_lt (most_fields config) (references + numbers) then [] else parts references numbers
 asked_parts config _ = []

@@ -1,4 +1,3 @@
 pub mod AnsweredEvents
 pub mod SpentUnits
-pub mod FullWorlds
 pub mod OfLaws

@@ -1,6 +1,6 @@
 -- What a run of a list of events promises of its replies, its heap and its trace. By the laws at the end an outcome that is the machine's keeps this
 -- promise. If a clause speaks of the events before another, it holds at each moment of the run. docs/THEOREM.md has the clauses in plain words.
-use Rattle.std.specs.Prelude.{◌≡◌, ℕ, ◌-◌, ◌<◌, ◌≤◌, true, false, Some, None, List, [], ◌∷◌, ◌++◌, length}
+use Rattle.std.specs.Prelude.{◌≡◌, ℕ, ◌-◌, ◌*◌, ◌<◌, ◌≤◌, true, false, Some, None, List, [], ◌∷◌, ◌++◌, length}
 use Rattle.std.specs.List.{AllByRecursion}
 use Rattle.mh_model.specs.declared.command.Command.{Command}
 use Rattle.mh_model.specs.declared.command.Command.TheVariants as command
@@ -22,11 +22,13 @@ use Rattle.mh_model.specs.Machine.{first_machine, half_step, machine_after}
 use Rattle.mh_model.specs.Invariant.{IsFinished, IsLinked}
 use Rattle.mh_model.specs.Snapshot.{Moment, half_moment, has_quantum, is_heap_full, snapshot_at, world_beside}
 use Rattle.mh_model.specs.Trace.{least_mutator, floor}
-use Rattle.mh_model.specs.Intervals.{CyclesTakeAtMost, HasRoomFor, LeaveFlagged, AnswerAsTheWorld}
-use Rattle.mh_model.specs.Needs.{NeedNoMore, HasEnoughFor, opened_in_all}
+use Rattle.mh_model.specs.Intervals.{CyclesTakeAtMost, HasRoomFor, LeaveFlagged, AnswerAsTheWorld, cycle_ends}
+use Rattle.mh_model.specs.Needs.{HasEnoughFor}
+use Rattle.mh_model.specs.Openings.{free_of}
 use Rattle.mh_run_laws.specs.BesideTheWorld.{IsFaithful, IsInCycle}
 use Rattle.mh_laws.specs.Bounds.{HasEnded, HasRunQuanta}
-use Rattle.mh_sizing_laws.specs.SharpNeeds.{AskOfClasses, HasSharpEnoughFor}
+use Rattle.mh_sizing_laws.specs.Made.{MakeNoMore, MakeOfClasses, demand}
+use Rattle.mh_sizing_laws.specs.SharpNeeds.{HasSharpEnoughFor}
 use Rattle.mh_run_laws.specs.Forwarders.{AreOfItsCycle}
 use Rattle.mh_run_laws.specs.Replays.{machine_at, moment_at}
 use Rattle.mh_promise.specs.Runs.{Outcome, outcome_of, IsAnswered, IsTheMachines, AreAnsweredSoFar}
@@ -138,21 +140,21 @@ pub record NeverAnswersFull (config : Config) (events : List Event) (replies : L
   pub worlds : AnswerAsTheWorld (first_world config) events replies
   pub flagged : LeaveFlagged (first_machine config) events
 
--- a run has room for cycles of so many quanta, of which none takes more, and is never full
+-- a run whose cycles take no more than so many quanta, each of which leaves pages free for as many intervals, and which is never full
 pub record HasRoom (config : Config) (events : List Event) (replies : List Reply) (quanta opened : ℕ) : Type 0 where
   pub cycles : CyclesTakeAtMost quanta config events
-  pub room : HasRoomFor config events quanta opened
+  pub left : AllByRecursion (λ machine. quanta * opened ≤ free_of machine) (cycle_ends (first_machine config) events)
   pub never_full : NeverAnswersFull config events replies
 
--- A run is never full whose trigger and pages are enough: for what its cycles take and leave, or for what its sessions need, by the ever-growing
--- world alone. For these needs each new part may keep a page, or small parts share pages. Nor is it full if its pages are as many as all its intervals
--- open together. No cycle takes more quanta than its bound
+-- A run is never full whose trigger and pages are enough: for what its cycles take and leave, or for what its sessions make and hold, by the
+-- ever-growing world alone. What that refuses counts nothing. For these needs each new part may keep a page, or small parts share pages. Nor is it full
+-- if its pages are as many as all its intervals open together. No cycle takes more quanta than its bound
 pub record RoomIsEnough (config : Config) (events : List Event) (replies : List Reply) : Type 0 where
   pub bound : CyclesTakeAtMost (most_quanta config) config events
   pub room : (quanta opened : ℕ) → 1 ≤ quanta → CyclesTakeAtMost quanta config events → HasRoomFor config events quanta opened → NeverAnswersFull config events replies
-  pub needs : (needs : Needs) (quanta : ℕ) → NeedNoMore needs config events → HasEnoughFor needs config quanta → HasRoom config events replies quanta needs.opened
-  pub shared : (needs : Needs) (least kinds quanta : ℕ) → NeedNoMore needs config events → AskOfClasses least kinds config events → HasSharpEnoughFor needs least kinds config quanta → HasRoom config events replies quanta needs.opened
-  pub together : opened_in_all config events ≤ config.pages → NeverAnswersFull config events replies
+  pub needs : (needs : Needs) (quanta : ℕ) → MakeNoMore needs config events → HasEnoughFor needs config quanta → HasRoom config events replies quanta needs.opened
+  pub shared : (needs : Needs) (least kinds quanta : ℕ) → MakeNoMore needs config events → MakeOfClasses least kinds config events → HasSharpEnoughFor needs least kinds config quanta → HasRoom config events replies quanta needs.opened
+  pub demanded : demand config events ≤ config.pages → NeverAnswersFull config events replies
 
 -- The promise ------------------------------------------------------------------------------------
 

@@ -3,3 +3,4 @@ pub mod LeftPages
 pub mod ReachedUnits
 pub mod SharpNeeds
 pub mod MetPremises
+pub mod MadeParts

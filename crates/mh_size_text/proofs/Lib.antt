@@ -1,4 +1,3 @@
 pub mod WindowLemmas
 pub mod HeapLemmas
 pub mod SizingLemmas
-pub mod KindLemmas

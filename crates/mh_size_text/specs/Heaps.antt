@@ -1,16 +1,15 @@
 -- Heaps for what intervals ask for, and their texts.
-use Rattle.std.specs.Prelude.{◌≡◌, ◌⊎◌, ℕ, zero, suc, ◌-◌, ◌*◌, ◌/◌, min, max, length, Bool, if◌then◌else◌, Option, Some, None, is_some, unwrap_or, List, [], ◌∷◌, ◌++◌, map, codes}
+use Rattle.std.specs.Prelude.{◌≡◌, ◌⊎◌, ℕ, zero, suc, ◌-◌, ◌*◌, ◌/◌, min, Bool, if◌then◌else◌, Option, Some, None, is_some, unwrap_or, List, [], ◌∷◌, ◌++◌, map, codes}
 use Rattle.mh_model.specs.Bytes.{Text, lines_text}
 use Rattle.mh_model.specs.declared.config.Config.{Config}
 use Rattle.mh_model.specs.declared.needs.Needs.{Needs}
 use Rattle.mh_sizing.specs.Choices.{least_from}
-use Rattle.std.proofs.Math.Nat.{le-max_left}
 use Rattle.mh_sizing.specs.declared.kinds.Kinds.{Kinds}
-use Rattle.mh_sizing.specs.declared.openings.ClassParts.{ClassParts}
+use Rattle.mh_sizing.specs.Counted.{kinds_counted}
 use Rattle.mh_sizing.specs.Enough.{cycle_quanta, quantum_needed}
 use Rattle.mh_sizing.specs.Found.{IsChosen, IsSearched}
 use Rattle.mh_sizing.specs.Needs.{enough_trigger, needs_of_counts}
-use Rattle.mh_sizing.specs.Openings.{counted_classes, least_slots, pages_of_counts, parts_of_counts}
+use Rattle.mh_sizing.specs.Openings.{pages_of_counts, parts_of_counts}
 use Rattle.mh_sizing.specs.declared.found.Found.{Found}
 use Rattle.mh_sizing.specs.declared.profile.Profile.{Profile}
 use Rattle.mh_orders.specs.declared.heap_options.HeapOptions.{HeapOptions}
@@ -26,21 +25,13 @@ references_of options = unwrap_or options.references (options.live * (options.al
 unfoldable pub needs_asked : HeapOptions → Needs
 needs_asked options = needs_of_counts (counts_of options.allocations.parts) options.live (references_of options)
 
--- how many classes there are, and the fewest slots of a page of them: one at least
-abbrev pub kinds_of_classes : List ℕ → Kinds
-kinds_of_classes classes = record { kinds = length classes; fewest_slots = max 1 (least_slots classes); some = le-max_left 1 (least_slots classes) }
-
--- those of which there are parts
-unfoldable pub kinds_counted : List ClassParts → Kinds
-kinds_counted counts = kinds_of_classes (counted_classes counts)
-
 -- the classes of the parts that are asked for
 abbrev pub kinds_asked : HeapOptions → Kinds
 kinds_asked options = kinds_counted (counts_of options.allocations.parts)
 
 -- what sessions need, and these. How many intervals there are isn't known, nor what they open together
 abbrev pub profile_asked : HeapOptions → Profile
-profile_asked options = record { needs = needs_asked options; kinds = kinds_asked options; opened_in_all = None }
+profile_asked options = record { needs = needs_asked options; kinds = kinds_asked options; demand = None }
 
 -- the quantum that is given, or the least with which the pages are enough
 abbrev pub quantum_of : Option ℕ → Profile → ℕ → Option ℕ
@@ -74,7 +65,7 @@ needs_scaled percent options =
 
 -- and what they ask of a heap: their classes are those of all counts
 abbrev pub profile_scaled : ℕ → HeapOptions → Profile
-profile_scaled percent options = record { needs = needs_scaled percent options; kinds = kinds_asked options; opened_in_all = None }
+profile_scaled percent options = record { needs = needs_scaled percent options; kinds = kinds_asked options; demand = None }
 
 -- the greatest number below another that passes a test
 unfoldable pub greatest_below : (ℕ → Bool) → ℕ → Option ℕ

@@ -8,7 +8,7 @@ use Rattle.mh_model.specs.declared.needs.Needs.{Needs}
 use Rattle.mh_model.specs.Bytes.{Text, line_text, lines_text}
 use Rattle.mh_model.specs.Configs.{with_rules}
 use Rattle.mh_model.specs.Limits.{most_entries}
-use Rattle.mh_model.specs.Needs.{NeedNoMore}
+use Rattle.mh_sizing.specs.OfSizingLaws.Made.{MakeNoMore}
 use Rattle.mh_model.specs.Output as model
 use Rattle.mh_model.specs.Output.{Ending, ending}
 use Rattle.mh_model.specs.Replies.{bad_line_text}
@@ -29,7 +29,7 @@ use Rattle.mh_size_text.specs.Texts.{IsSized, optional_line}
 -- what the sessions of these events ask of a heap, and nothing if one of the numbers does not fit 32 bits
 abbrev pub MayBeNeeded : Option Profile → Config → List Event → Type 0
 MayBeNeeded (Some profile) config events = IsTheProfile profile config events
-MayBeNeeded None config events = (needs : Needs) → NeedNoMore needs config events → IsTooLarge needs
+MayBeNeeded None config events = (needs : Needs) → MakeNoMore needs config events → IsTooLarge needs
 
 -- what is written of that, and of a configuration
 abbrev pub IsProfileText : Option Profile → Config → Text → Type 0

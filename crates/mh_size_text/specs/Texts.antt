@@ -37,7 +37,7 @@ profile_lines profile =
 
 -- what the intervals of a run open together
 abbrev pub demand_line : Profile → Text
-demand_line profile = optional_line (codes "demand") profile.opened_in_all
+demand_line profile = optional_line (codes "demand") profile.demand
 
 -- the law by which a heap is enough
 abbrev pub law_word : Law → Text

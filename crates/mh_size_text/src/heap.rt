@@ -8,7 +8,7 @@
 //! user says 0.
 ghost use Rattle.std.specs.Prelude.{◌≡◌, ◌≤◌, ◌*◌, ◌/◌, ◌++◌, IfOk, IfSome, OnOk, None, Some, length};
 ghost use Rattle.std.specs.String.{string_bytes};
-ghost use Rattle.mh_size_text.specs.Heaps.{IsSizedHeap, IsHeapText, IsSearchedText, IsSizedText, IsSmallText, IsTextFor, searched_text, enough_text, greatest_percent, profile_asked, profile_scaled, some_quantum_fits, heap_text, kinds_asked, kinds_counted, least_pages, needs_asked, needs_scaled, quantum_of, references_of, scaled, small_text};
+ghost use Rattle.mh_size_text.specs.Heaps.{IsSizedHeap, IsHeapText, IsSearchedText, IsSizedText, IsSmallText, IsTextFor, searched_text, enough_text, greatest_percent, profile_asked, profile_scaled, some_quantum_fits, heap_text, least_pages, needs_asked, needs_scaled, quantum_of, references_of, scaled, small_text};
 ghost use Rattle.mh_model.specs.Limits.{least_quantum};
 
 use crate::blocks::counts_of;
@@ -19,12 +19,11 @@ use mh_model::limits::MOST_PAGES;
 use mh_model::memory::NoMemory;
 use mh_model::needs::Needs;
 use mh_orders::heap_options::HeapOptions;
+use mh_sizing::counted::profile_of_counts;
 use mh_sizing::enough::{cycle_quanta, quantum_needed};
 use mh_sizing::found::{Found, choose, find};
-use mh_sizing::kinds::{Kinds, kinds_of};
-use mh_sizing::mh_classes::class::Class;
-use mh_sizing::needs::{enough_trigger, needs_of, parts_counted};
-use mh_sizing::openings::{ClassParts, pages_opened};
+use mh_sizing::needs::{enough_trigger, parts_counted};
+use mh_sizing::openings::pages_opened;
 use mh_sizing::profile::Profile;
 use std::alloc::Global;
 
@@ -38,47 +37,15 @@ fn references(options: &HeapOptions) -> u32
     }
 }
 
-fn needs_asked(options: &HeapOptions) -> Needs
-    ensures { result ≡ needs_asked options.now }
+/// What sessions ask of a heap that keep to the counts.
+fn profile_asked(options: &HeapOptions) -> Profile
+    ensures { result ≡ profile_asked options.now }
 {
-    needs_of(
+    profile_of_counts(
         &counts_of(&options.allocations.parts),
         options.live,
         references(options),
     )
-}
-
-/// The classes of which there are parts.
-#[tactic(auto, unfolding(mh_model::specs::Classes::is_class_size))]
-fn kinds_counted(counts: &[ClassParts]) -> Kinds
-    requires { length counts.now ≤ 20 }
-    ensures { result ≡ kinds_counted counts.now }
-{
-    let mut classes = [Class::of_size(4); 20];
-    let mut kinds = 0;
-    for count in counts {
-        if count.parts > 0 {
-            classes[kinds] = count.class;
-            kinds += 1;
-        }
-    }
-    kinds_of(&classes[..kinds])
-}
-
-fn kinds_asked(options: &HeapOptions) -> Kinds
-    ensures { result ≡ kinds_asked options.now }
-{
-    kinds_counted(&counts_of(&options.allocations.parts))
-}
-
-fn profile_asked(options: &HeapOptions) -> Profile
-    ensures { result ≡ profile_asked options.now }
-{
-    Profile {
-        needs: needs_asked(options),
-        kinds: kinds_asked(options),
-        opened_in_all: None,
-    }
 }
 
 /// The quantum that is given, or the least that is enough for so many pages.
@@ -190,7 +157,7 @@ fn profile_scaled(options: &HeapOptions, profile: &Profile, percent: u32) -> Pro
     Profile {
         needs: needs_scaled(options, &profile.needs, percent),
         kinds: profile.kinds,
-        opened_in_all: None,
+        demand: None,
     }
 }
 

@@ -60,7 +60,7 @@ pub(crate) fn push_optional(
 pub(crate) fn push_demand(text: &mut String, profile: &Profile) -> Result<(), NoMemory>
     ensures { OnOk result (string_bytes text.new ≡ string_bytes text.old ++ lines_text (demand_line profile.now ∷ [])) }
 {
-    push_optional(text, "demand", profile.opened_in_all)
+    push_optional(text, "demand", profile.demand)
 }
 
 fn law_word(law: Law) -> &'static str

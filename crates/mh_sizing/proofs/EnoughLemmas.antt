@@ -10,7 +10,7 @@ use Rattle.mh_model.specs.Limits.{quantum_overhead}
 use Rattle.mh_sizing_laws.proofs.triggers.SizedRuns.{some-quanta}
 use Rattle.mh_sizing.specs.Needs.{enough_pages, enough_trigger}
 use Rattle.mh_sizing.specs.Shared.{enough_shared_pages}
-use Rattle.mh_sizing.specs.Enough.{HasEnoughByEither, Suffices, cycle_quanta, has_all, is_enough, pages_needed}
+use Rattle.mh_sizing.specs.Enough.{HasEnoughByEither, Suffices, cycle_quanta, meets_demand, is_enough, pages_needed}
 use Rattle.mh_sizing.specs.declared.profile.Profile.{Profile}
 
 -- Quanta -----------------------------------------------------------------------------------------
@@ -47,13 +47,13 @@ takes-some needs config = go (nat_lt quantum_overhead config.quantum) (some-quan
 
 -- Tests ------------------------------------------------------------------------------------------
 
-pub has-all : (opened : Option ℕ) (pages : ℕ) → has_all opened pages ≡ true → IsSomeAnd opened (λ opened. opened ≤ pages)
-has-all None pages is = absurd (false≢true is)
-has-all (Some opened) pages is = leb-true opened pages is
+pub meets-fits : (opened : Option ℕ) (pages : ℕ) → meets_demand opened pages ≡ true → IsSomeAnd opened (λ opened. opened ≤ pages)
+meets-fits None pages is = absurd (false≢true is)
+meets-fits (Some opened) pages is = leb-true opened pages is
 
-pub all-has : (opened : Option ℕ) (pages : ℕ) → IsSomeAnd opened (λ opened. opened ≤ pages) → has_all opened pages ≡ true
-all-has None pages few = elim few [ ]
-all-has (Some opened) pages few = le-leb opened pages few
+pub fits-meets : (opened : Option ℕ) (pages : ℕ) → IsSomeAnd opened (λ opened. opened ≤ pages) → meets_demand opened pages ≡ true
+fits-meets None pages few = elim few [ ]
+fits-meets (Some opened) pages few = le-leb opened pages few
 
 module _ (profile : Profile) (config : Config) where
   abbrev quanta : ℕ
@@ -78,15 +78,17 @@ module _ (profile : Profile) (config : Config) where
       record { pages = inl (omega (arith, asked, opened, has.pages)); trigger = omega (arith, opened, has.trigger) }
   either-are many (inr has) =
       let few = fewest profile.needs config many has.bound in
+      let classes : ℕ = min profile.needs.opened profile.kinds.kinds in
       let opened : quanta * profile.needs.opened ≤ many * profile.needs.opened = mul-le-mul_right profile.needs.opened few in
-      record { pages = inr (omega (arith, few, opened, has.pages)); trigger = omega (arith, opened, has.trigger) }
+      let apart : quanta * classes ≤ many * classes = mul-le-mul_right classes few in
+      record { pages = inr (omega (arith, few, opened, apart, has.pages)); trigger = omega (arith, opened, has.trigger) }
 
   -- The test holds of just the configurations that are enough
   pub tested-suffices : is_enough profile config ≡ true → Suffices profile config
-  tested-suffices = go (has_all profile.opened_in_all config.pages) refl
+  tested-suffices = go (meets_demand profile.demand config.pages) refl
     where
-      go : (all : Bool) → has_all profile.opened_in_all config.pages ≡ all → (all || (nat_le (pages_needed profile quanta) config.pages && nat_le (enough_trigger profile.needs quanta) config.trigger)) ≡ true → Suffices profile config
-      go true has is = inl (has-all profile.opened_in_all config.pages has)
+      go : (all : Bool) → meets_demand profile.demand config.pages ≡ all → (all || (nat_le (pages_needed profile quanta) config.pages && nat_le (enough_trigger profile.needs quanta) config.trigger)) ≡ true → Suffices profile config
+      go true has is = inl (meets-fits profile.demand config.pages has)
       go false has is =
           let both = and_parts (nat_le (pages_needed profile quanta) config.pages) _ is in
           let few = leb-true (pages_needed profile quanta) config.pages both.0 in
@@ -103,8 +105,8 @@ module _ (profile : Profile) (config : Config) where
           )
 
   pub suffices-tested : Suffices profile config → is_enough profile config ≡ true
-  suffices-tested (inl all) = ap (λ (b : Bool). b || (nat_le (pages_needed profile quanta) config.pages && nat_le (enough_trigger profile.needs quanta) config.trigger)) (all-has profile.opened_in_all config.pages all)
-  suffices-tested (inr cycles) = go (has_all profile.opened_in_all config.pages)
+  suffices-tested (inl all) = ap (λ (b : Bool). b || (nat_le (pages_needed profile quanta) config.pages && nat_le (enough_trigger profile.needs quanta) config.trigger)) (fits-meets profile.demand config.pages all)
+  suffices-tested (inr cycles) = go (meets_demand profile.demand config.pages)
     where
       are : AreEnough
       are = either-are cycles.0 cycles.1
@@ -120,7 +122,7 @@ module _ (profile : Profile) (config : Config) where
 
 -- a configuration is enough if one with as many pages, the same quantum and no greater trigger is
 pub suffices-other : (profile : Profile) (config other : Config) → other.pages ≡ config.pages → other.quantum ≡ config.quantum → config.trigger ≤ other.trigger → Suffices profile config → Suffices profile other
-suffices-other profile config other pages quantum trigger (inl all) = inl (subst (λ (n : ℕ). IsSomeAnd profile.opened_in_all (λ opened. opened ≤ n)) (sym pages) all)
+suffices-other profile config other pages quantum trigger (inl all) = inl (subst (λ (n : ℕ). IsSomeAnd profile.demand (λ opened. opened ≤ n)) (sym pages) all)
 suffices-other profile config other pages quantum trigger (inr (many, has)) = inr (
   many,
   elim has [

@@ -1,6 +1,7 @@
 -- Pages that are enough where small parts share pages, and the quanta for which they are.
 use Rattle.std.specs.Prelude.{◌-◌}
-use Rattle.std.proofs.Common.{◌≡◌, ℕ, ◌+◌, ◌-◌, ◌*◌, ◌/◌, ◌≤◌, ◌↔◌, nat_le, Option, MatchOption, true, inr, subst, arith}
+use Rattle.std.proofs.Common.{◌≡◌, ℕ, ◌+◌, ◌-◌, ◌*◌, ◌/◌, ◌≤◌, ◌↔◌, min, nat_le, Option, MatchOption, true, inr, ap, ◌∙◌, subst, arith}
+use Rattle.std.proofs.Math.Nat.{le-div_iff_mul-le, mul-add}
 use Rattle.std.proofs.lemmas.Nat.{mul-le}
 use Rattle.std.proofs.lemmas.Bool.{leb-true, le-leb}
 use Rattle.mh_model.specs.declared.config.Config.{Config}
@@ -23,10 +24,23 @@ shared-enough needs kinds config enough trigger = record {
 }
 
 -- enough pages are no fewer than the trigger
-pub shared-trigger : (fixed opened pages quanta : ℕ) → 1 ≤ quanta → fixed + 4 * (quanta * opened) + quanta - (3 * opened + 1) ≤ pages → quanta * opened - 1 ≤ pages
-shared-trigger fixed opened pages quanta some enough =
+pub shared-trigger : (fixed opened few pages quanta : ℕ) → 1 ≤ quanta → fixed + 3 * (quanta * opened) + quanta * few + quanta - (2 * opened + few + 1) ≤ pages → quanta * opened - 1 ≤ pages
+shared-trigger fixed opened few pages quanta some enough =
     let least : 1 * opened ≤ quanta * opened = mul-le 1 opened quanta opened some (omega arith) in
-    omega (arith, least, enough)
+    let fewest : 1 * few ≤ quanta * few = mul-le 1 few quanta few some (omega arith) in
+    omega (arith, least, fewest, enough)
+
+-- what so many quanta of three intervals, a page of each class and one more cost
+quanta-of : (quanta opened few : ℕ) → quanta * (3 * opened + few + 1) ≡ 3 * (quanta * opened) + quanta * few + quanta
+quanta-of quanta opened few =
+    let sum : 3 * opened + few + 1 ≡ opened + (opened + (opened + (few + 1))) = omega arith in
+    ap (λ n. quanta * n) sum ∙ omega (arith, mul-add quanta opened (opened + (opened + (few + 1))), mul-add quanta opened (opened + (few + 1)), mul-add quanta opened (few + 1), mul-add quanta few 1)
+
+-- pages are enough for so many quanta exactly if these are no more than a quotient
+pub shared-quanta : (held kinds opened few pages rest quanta : ℕ) → rest + (held + kinds) ≡ pages + (2 * opened + few + 1) → (held + 3 * (quanta * opened) + quanta * few + kinds + quanta - (2 * opened + few + 1) ≤ pages) ↔ (quanta ≤ rest / (3 * opened + few + 1))
+shared-quanta held kinds opened few pages rest quanta whole =
+    let fits = le-div_iff_mul-le {k = 3 * opened + few + 1} {x = quanta} {y = rest} (omega arith) in
+    ((λ enough. fits.1 (omega (arith, quanta-of quanta opened few, whole, enough))), (λ few_quanta. let product = fits.0 few_quanta in omega (arith, quanta-of quanta opened few, whole, product)))
 
 pub shared_by_quanta : (needs : Needs) (kinds : Kinds) (pages units most : ℕ) → units ≡ units_needed needs pages → AreMost (enough_shared_pages needs kinds) pages units most → IsByQuanta (HasEnoughShared needs kinds pages) pages units most
 shared_by_quanta needs kinds pages units most all are = record {
@@ -36,7 +50,7 @@ shared_by_quanta needs kinds pages units most all are = record {
         of_pages = same;
         quantum = fit.some;
         enough = enough;
-        trigger = shared-trigger (needs.live + needs.live / kinds.fewest_slots + kinds.kinds) needs.opened config.pages (quanta_needed needs config) (omega arith) (omega (arith, enough));
+        trigger = shared-trigger (needs.live + needs.live / kinds.fewest_slots + kinds.kinds) needs.opened (min needs.opened kinds.kinds) config.pages (quanta_needed needs config) (omega arith) (omega (arith, enough));
       };
   fits = λ config has. record { some = has.quantum; few = (within config).most; fits = (enough_fits (enough_shared_pages needs kinds) needs pages units most config all are has.of_pages).0 has.enough };
 }

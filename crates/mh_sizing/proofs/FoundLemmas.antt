@@ -1,17 +1,17 @@
 -- The fewest pages that are enough with a quantum, and what goes with them.
-use Rattle.std.proofs.Common.{◌≡◌, ◌⊎◌, inl, inr, ℕ, ◌+◌, ◌/◌, ◌≤◌, ◌<◌, nat_le, Bool, true, false, if◌then◌else◌, refl, sym, ap, ◌∙◌, subst, IsSomeAnd, arith}
+use Rattle.std.proofs.Common.{◌≡◌, ◌⊎◌, inl, inr, ℕ, ◌+◌, ◌/◌, ◌≤◌, ◌<◌, min, nat_le, Bool, true, false, if◌then◌else◌, refl, sym, ap, ◌∙◌, subst, IsSomeAnd, arith}
 use Rattle.std.proofs.lemmas.Bool.{and_parts, cases_lt, false≢true, leb-true, leb-false}
 use Rattle.mh_model.specs.declared.config.Config.{Config}
 use Rattle.mh_model.specs.declared.needs.Needs.{Needs}
 use Rattle.mh_model.specs.Limits.{least_quantum}
 use Rattle.mh_sizing.specs.Needs.{enough_pages, enough_trigger}
 use Rattle.mh_sizing.specs.Shared.{enough_shared_pages}
-use Rattle.mh_sizing.specs.Enough.{Suffices, cycle_quanta, has_all}
+use Rattle.mh_sizing.specs.Enough.{Suffices, cycle_quanta, meets_demand}
 use Rattle.mh_sizing.specs.Found.{IsLeast, IsSoFrom, PagesAreEnough, law_of, trigger_by}
 use Rattle.mh_sizing.specs.declared.found.Law.{Law}
 use Rattle.mh_sizing.specs.declared.found.Law.TheVariants.{Demand, Easy, Sharp}
 use Rattle.mh_sizing.specs.declared.profile.Profile.{Profile}
-use Rattle.mh_sizing.proofs.EnoughLemmas.{all-has, are-either, either-are, has-all, takes-some}
+use Rattle.mh_sizing.proofs.EnoughLemmas.{fits-meets, are-either, either-are, meets-fits, takes-some}
 use Rattle.mh_sizing.proofs.QuantumLemmas.{trigger_within}
 use Rattle.mh_sizing.proofs.FitLemmas.{shared-trigger}
 
@@ -65,7 +65,7 @@ module _ (profile : Profile) (config other : Config) (pages : other.pages ≡ co
   starts-other is = subst (λ n. enough_trigger profile.needs n ≤ other.trigger) (sym quanta-other) (omega (arith, is))
 
 pub by-law : (profile : Profile) (config : Config) → PagesAreEnough profile config.quantum config.pages → IsEnoughByLaw profile config (law_of profile config)
-by-law profile config has = by_all (has_all profile.opened_in_all config.pages) refl
+by-law profile config has = by_all (meets_demand profile.demand config.pages) refl
   where
     quanta : ℕ
     quanta = cycle_quanta profile.needs config
@@ -77,9 +77,9 @@ by-law profile config has = by_all (has_all profile.opened_in_all config.pages) 
     needs = profile.needs
 
     -- by either law, if it isn't by the first
-    either : (all : Bool) → has_all profile.opened_in_all config.pages ≡ all → all ≡ false → (enough_pages needs quanta ≤ config.pages) ⊎ (enough_shared_pages needs profile.kinds quanta ≤ config.pages)
+    either : (all : Bool) → meets_demand profile.demand config.pages ≡ all → all ≡ false → (enough_pages needs quanta ≤ config.pages) ⊎ (enough_shared_pages needs profile.kinds quanta ≤ config.pages)
     either all is none = elim has.3 [
-      | inl few ↦ absurd (false≢true (sym none ∙ sym is ∙ all-has profile.opened_in_all config.pages (subst (λ n. IsSomeAnd profile.opened_in_all (λ opened. opened ≤ n)) has.1 few)))
+      | inl few ↦ absurd (false≢true (sym none ∙ sym is ∙ fits-meets profile.demand config.pages (subst (λ n. IsSomeAnd profile.demand (λ demand. demand ≤ n)) has.1 few)))
       | inr cycles ↦ elim (either-are profile has.0 cycles.0 cycles.1).pages [
         | inl alone ↦ inl (alone-other profile has.0 config (sym has.1) (sym has.2) alone)
         | inr shared ↦ inr (shared-other profile has.0 config (sym has.1) (sym has.2) shared)
@@ -95,16 +95,16 @@ by-law profile config has = by_all (has_all profile.opened_in_all config.pages) 
     by_pages false is enough = let more = leb-false (enough_pages needs quanta) config.pages is in elim enough [
       | inl alone ↦ absurd (omega (arith, alone, more))
       | inr shared ↦ record {
-        within = shared-trigger (needs.live + needs.live / profile.kinds.fewest_slots + profile.kinds.kinds) needs.opened config.pages quanta some (omega (arith, shared));
+        within = shared-trigger (needs.live + needs.live / profile.kinds.fewest_slots + profile.kinds.kinds) needs.opened (min needs.opened profile.kinds.kinds) config.pages quanta some (omega (arith, shared));
         suffices = λ heap pages quantum trigger.
             inr (cycle_quanta needs heap, are-either profile heap (record { pages = inr (shared-other profile config heap pages quantum shared); trigger = starts-other profile config heap pages quantum trigger }));
       }
     ]
 
-    by_all : (all : Bool) → has_all profile.opened_in_all config.pages ≡ all → IsEnoughByLaw profile config (if all then Demand else (if nat_le (enough_pages needs quanta) config.pages then Easy else Sharp))
+    by_all : (all : Bool) → meets_demand profile.demand config.pages ≡ all → IsEnoughByLaw profile config (if all then Demand else (if nat_le (enough_pages needs quanta) config.pages then Easy else Sharp))
     by_all true is = record {
       within = omega arith;
-      suffices = λ heap pages quantum trigger. inl (has-all profile.opened_in_all heap.pages (ap (has_all profile.opened_in_all) pages ∙ is));
+      suffices = λ heap pages quantum trigger. inl (meets-fits profile.demand heap.pages (ap (meets_demand profile.demand) pages ∙ is));
     }
     by_all false is = by_pages (nat_le (enough_pages needs quanta) config.pages) refl (either false is refl)
 

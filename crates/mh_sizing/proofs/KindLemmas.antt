@@ -29,7 +29,7 @@ kept-passes test size (k ∷ sizes) among = go (test k) refl (k == size) refl am
     go true passes false is h rest = rest (ap (λ b. b || list_any (λ other. other == size) (filter test sizes)) (sym is) ∙ h)
     go false passes same is h rest = rest h
 
-occurs-some : (list : List Part) (size : ℕ) → occurs list size ≡ true → 0 < class_parts size list
+pub occurs-some : (list : List Part) (size : ℕ) → occurs list size ≡ true → 0 < class_parts size list
 occurs-some list size is = go (class_parts size list) is
   where
     go : (n : ℕ) → not (n == 0) ≡ true → 0 < n
@@ -44,10 +44,14 @@ turned : (size : ℕ) (sizes : List ℕ) → list_any (λ other. size == other) 
 turned size [] = refl
 turned size (k ∷ sizes) = ap (λ b. b || list_any (λ other. size == other) sizes) (nat_eq_equiv.symm size k) ∙ ap (λ b. (k == size) || b) (turned size sizes)
 
-pub listed-kinds : (classes : List ℕ) (list : List Part) → AreOfJust classes list → length (occurring list) ≤ length classes
-listed-kinds classes list are =
+-- those that occur are no more than a list that has each
+pub occurring-kinds : (classes : List ℕ) (list : List Part) → ((size : ℕ) → occurs list size ≡ true → IsAmong size classes) → length (occurring list) ≤ length classes
+occurring-kinds classes list each =
     length-le_from_is_member nat_eq_equiv (occurring list) classes (occurring-once list)
-    (λ size among. turned size classes ∙ (sym (are size) ∙ kept-passes (occurs list) size class_sizes (sym (turned size (occurring list)) ∙ among)))
+    (λ size among. turned size classes ∙ each size (kept-passes (occurs list) size class_sizes (sym (turned size (occurring list)) ∙ among)))
+
+pub listed-kinds : (classes : List ℕ) (list : List Part) → AreOfJust classes list → length (occurring list) ≤ length classes
+listed-kinds classes list are = occurring-kinds classes list (λ size is. sym (are size) ∙ is)
 
 -- The fewest slots -------------------------------------------------------------------------------
 
@@ -79,7 +83,7 @@ least-listed size (k ∷ classes) among = go (k == size) refl among (least-liste
     go true is h rest = omega (arith, ap slots_in (eqb-true k size is), least_first (slots_in k) (least_slots (k ∷ classes)) (least_of (map slots_in classes)) (omega arith))
     go false is h rest = omega (arith, rest h, least_rest (slots_in k) (least_slots (k ∷ classes)) (least_of (map slots_in classes)) (omega arith))
 
-least-few : (classes : List ℕ) → least_slots classes ≤ 64
+pub least-few : (classes : List ℕ) → least_slots classes ≤ 64
 least-few [] = omega arith
 least-few (k ∷ classes) = omega arith
 
@@ -91,10 +95,13 @@ least-above : (few : ℕ) (classes : List ℕ) → few ≤ 64 → ((size : ℕ) 
 least-above few [] within each = within
 least-above few (size ∷ classes) within each = least-both few (slots_in size) (least_of (map slots_in classes)) (each size (among-here size classes)) (least-above few classes within (λ other among. each other (among-later other size classes among)))
 
+-- the fewest slots of a list that has each class that occurs are no more than theirs
+pub occurring-slots : (classes : List ℕ) (list : List Part) → ((size : ℕ) → occurs list size ≡ true → IsAmong size classes) → least_slots classes ≤ fewest_slots list
+occurring-slots classes list each = fewest-above (least_slots classes) (occurring list) (least-few classes) (λ size among. least-listed size classes (each size (kept-passes (occurs list) size class_sizes among)))
+
 pub listed-slots : (classes : List ℕ) (list : List Part) → AreOfJust classes list → least_slots classes ≡ fewest_slots list
 listed-slots classes list are =
-    let below : least_slots classes ≤ fewest_of (occurring list) =
-    fewest-above (least_slots classes) (occurring list) (least-few classes) (λ size among. least-listed size classes (sym (are size) ∙ kept-passes (occurs list) size class_sizes among)) in
+    let below : least_slots classes ≤ fewest_of (occurring list) = occurring-slots classes list (λ size is. sym (are size) ∙ is) in
     let above : fewest_of (occurring list) ≤ least_slots classes =
     least-above (fewest_of (occurring list)) classes (fewest-few (occurring list)) (λ size among. fewest-least size (occurring list) (occurring-listed list size (are size ∙ among))) in
     omega (arith, below, above)

@@ -4,8 +4,10 @@ pub mod FloorLemmas
 pub mod PageLemmas
 pub mod SizedLemmas
 pub mod KindLemmas
+pub mod SameKinds
 pub mod FitLemmas
 pub mod EnoughLemmas
+pub mod LeapLemmas
 pub mod FoundLemmas
 pub mod BirthLemmas
 pub mod ClassLemmas
@@ -16,3 +18,7 @@ pub mod StepLemmas
 pub mod WalkLemmas
 pub mod WorldLemmas
 pub mod WalkedKinds
+pub mod CountedLemmas
+pub mod EveryLemmas
+pub mod RateLemmas
+pub mod RateSearch

@@ -49,7 +49,7 @@ spread s d e some =
 -- Classes that share a number of parts -----------------------------------------------------------
 
 -- the pages of so many parts of k classes with s slots each, if their first parts lie apart
-abbrev filled : ℕ → ℕ → ℕ → ℕ
+abbrev pub filled : ℕ → ℕ → ℕ → ℕ
 filled s k q = min q k + (q - min q k) / s
 
 -- rounded up, it is no more than what is divided
@@ -64,7 +64,7 @@ ceil_few n t some = elim (cases_lt n (div_ceil n t)) [
 ]
 
 -- it grows with the first parts
-firsts : (s a b q : ℕ) → 0 < s → a ≤ b → b ≤ q → a + (q - a) / s ≤ b + (q - b) / s
+pub firsts : (s a b q : ℕ) → 0 < s → a ≤ b → b ≤ q → a + (q - a) / s ≤ b + (q - b) / s
 firsts s a b q some more within =
     let one : ((b - a) + (q - b)) / s ≤ (b - a) + (q - b) / s = spread s (b - a) (q - b) some in
     let sum : (b - a) + (q - b) ≡ q - a = omega arith in

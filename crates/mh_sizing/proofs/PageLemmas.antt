@@ -1,5 +1,5 @@
 -- The greatest numbers of classes that are listed, and of those that occur.
-use Rattle.std.proofs.Common.{◌≡◌, ℕ, ◌+◌, ◌*◌, ◌/◌, ◌==◌, ◌<◌, ◌≤◌, max, Bool, true, false, not, ◌||◌, if◌then◌else◌, List, [], ◌∷◌, refl, sym, ◌∙◌, ap, arith}
+use Rattle.std.proofs.Common.{◌≡◌, ℕ, ◌+◌, ◌*◌, ◌/◌, ◌==◌, ◌<◌, ◌≤◌, max, Bool, true, false, ◌||◌, if◌then◌else◌, List, [], ◌∷◌, refl, sym, ◌∙◌, ap, arith}
 use Rattle.std.specs.List.{list_any}
 use Rattle.std.proofs.Math.Nat.{le-max_left, le-max_right, max-le, div-mul-le_self, mul-le-mul_right}
 use Rattle.std.proofs.lemmas.Bool.{eqb-true, false≢true}
@@ -9,6 +9,7 @@ use Rattle.mh_model.specs.Openings.{class_parts}
 use Rattle.mh_model.specs.CycleUnits.{occurs, greatest_of, most_slots, most_moves, slots_and_moves}
 use Rattle.mh_sizing_laws.proofs.cycles.Occurring.{parts-fit, some-slots, some-moves}
 use Rattle.mh_sizing.specs.PageUnits.{AreOfJust, greatest_in, page_units_of}
+use Rattle.mh_sizing.proofs.KindLemmas.{occurs-some}
 
 -- the greatest number, one by one
 pub greatest_with : (most n others : ℕ) → max (max most n) others ≡ max most (max n others)
@@ -20,13 +21,6 @@ moves-few slots size few words =
     let quarter : slots / 4 * 4 ≤ slots = div-mul-le_self slots 4 in
     let moved : slots / 4 * 4 * size ≤ slots * size = mul-le-mul_right size quarter in
     omega (arith, moved, few, words)
-
--- what occurs has parts
-occurs-some : (list : List Part) (size : ℕ) → occurs list size ≡ true → 0 < class_parts size list
-occurs-some list size is = go (class_parts size list) is
-  where
-    go : (n : ℕ) → not (n == 0) ≡ true → 0 < n
-    go n e = grind (arith, nat_tests)
 
 module _ (number : ℕ → ℕ) where
   -- a class that is listed is within the greatest
@@ -70,14 +64,17 @@ module _ (number : ℕ → ℕ) where
       go true is rest = max-le (each size is) rest
       go false is rest = rest
 
-  -- so both are the same
+  -- so it is within that of a list that has each
+  within-listed : (classes : List ℕ) (list : List Part) → ((size : ℕ) → occurs list size ≡ true → list_any (λ class. class == size) classes ≡ true) → greatest_of number list class_sizes ≤ greatest_in number classes
+  within-listed classes list each = occurring-few (greatest_in number classes) list class_sizes (listed-some classes) (λ size is. listed-within size classes (each size is))
+
+  -- and both are the same of a list of just these
   same-greatest : (classes : List ℕ) (list : List Part) → AreOfJust classes list → 1 ≤ greatest_of number list class_sizes → ((size : ℕ) → 0 < class_parts size list → number size ≤ greatest_of number list class_sizes)
       → greatest_in number classes ≡ greatest_of number list class_sizes
   same-greatest classes list are some fit =
       let below : greatest_in number classes ≤ greatest_of number list class_sizes =
       listed-few (greatest_of number list class_sizes) classes some (λ size among. fit size (occurs-some list size (are size ∙ among))) in
-      let above : greatest_of number list class_sizes ≤ greatest_in number classes =
-      occurring-few (greatest_in number classes) list class_sizes (listed-some classes) (λ size is. listed-within size classes (sym (are size) ∙ is)) in
+      let above : greatest_of number list class_sizes ≤ greatest_in number classes = within-listed classes list (λ size is. sym (are size) ∙ is) in
       omega (arith, below, above)
 
 -- The units of a page by the classes that are listed are those by the classes that occur
@@ -86,3 +83,7 @@ page-occurring classes list are =
     let slots : greatest_in slots_in classes ≡ most_slots list = same-greatest slots_in classes list are (some-slots list) (λ size some. (parts-fit list size some).slots) in
     let moves : greatest_in slots_and_moves classes ≡ most_moves list = same-greatest slots_and_moves classes list are (some-moves list) (λ size some. (parts-fit list size some).words) in
     omega (arith, slots, moves)
+
+-- and no more than those by a list that has each
+pub page-within : (classes : List ℕ) (list : List Part) → ((size : ℕ) → occurs list size ≡ true → list_any (λ class. class == size) classes ≡ true) → most_slots list + most_moves list ≤ page_units_of classes
+page-within classes list each = omega (arith, within-listed slots_in classes list each, within-listed slots_and_moves classes list each)

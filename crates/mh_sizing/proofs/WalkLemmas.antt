@@ -1,7 +1,7 @@
 -- Walks with one more event.
-use Rattle.std.proofs.Common.{◌≡◌, ℕ, zero, suc, ◌+◌, ◌==◌, ◌<◌, ◌≤◌, ◌&&◌, not, nat_le, Bool, true, false, if◌then◌else◌, Option, Some, None, List, [], ◌∷◌, ◌++◌, length, refl, sym, ap, ap₂, ◌∙◌, subst, arith}
-use Rattle.std.specs.List.{AllByRecursion, Any, flat_map, sum_by}
-use Rattle.std.proofs.lemmas.Bool.{eq-eqb, ne_eqb, lt-leb, le-leb}
+use Rattle.std.proofs.Common.{◌≡◌, ℕ, zero, suc, ◌+◌, ◌==◌, ◌<◌, ◌≤◌, ◌&&◌, not, nat_le, nat_lt, Bool, true, false, if◌then◌else◌, Option, Some, None, is_none, List, [], ◌∷◌, ◌++◌, length, refl, sym, ap, ap₂, ◌∙◌, subst, arith}
+use Rattle.std.specs.List.{AllByRecursion, Any, sum_by}
+use Rattle.std.proofs.lemmas.Bool.{eq-eqb, ne_eqb, lt-leb, lt-ltb, le-leb}
 use Rattle.std.proofs.lemmas.List.{append-nil, length-replicate}
 use Rattle.mh_model.specs.declared.command.Command.{Command}
 use Rattle.mh_model.specs.declared.command.Command.TheVariants as command
@@ -19,22 +19,23 @@ use Rattle.mh_model.specs.declared.needs.Needs.{Needs}
 use Rattle.mh_model.specs.CycleUnits.{object_units, most_slots, most_moves}
 use Rattle.mh_model.specs.LiveParts.{object_parts}
 use Rattle.mh_model.specs.Machine.{new_units, command_units}
-use Rattle.mh_model.specs.Needs.{WorldRun, first_run, half_run, runs_quantum, next_run, run_worlds, run_intervals, opened_in_all}
-use Rattle.mh_model.specs.Openings.{asked_parts, asked_count, opens_at_most}
-use Rattle.mh_model.specs.World.{Object, World, Answer, refusal, with_change, effect, says, unless_refused, sight_of, never_full, heap_step, slot_at, own_slot, with_reference, with_number, Performs}
+use Rattle.mh_model.specs.Needs.{WorldRun, first_run, half_run, runs_quantum, next_run, run_worlds}
+use Rattle.mh_model.specs.Openings.{asked_parts, pages_of_parts}
+use Rattle.mh_model.specs.World.{Object, World, Answer, blank, refusal, with_change, effect, says, unless_refused, sight_of, never_full, heap_step, slot_at, own_slot, with_reference, with_number, Performs}
+use Rattle.mh_table_laws.proofs.objects.Parts.{some_parts}
+use Rattle.mh_sizing_laws.specs.Made.{demand, intervals_made, made_parts, parts_made}
 use Rattle.mh_sizing.specs.declared.asked.Asked.{Asked}
 use Rattle.mh_sizing.specs.declared.world.RunWorld.{RunWorld}
 use Rattle.mh_sizing.specs.declared.walk.Walk.{Walk}
 use Rattle.mh_sizing.specs.Asked.{HasAsked}
-use Rattle.mh_sizing.specs.ClassCounts.{HasClassCounts}
 use Rattle.mh_sizing.specs.Needed.{AreTheNeeds}
 use Rattle.mh_sizing.specs.Reached.{HasAtMost, HasJust}
-use Rattle.mh_sizing.specs.Runs.{run_after, ended_intervals, running_interval, most_of}
+use Rattle.mh_sizing.specs.Runs.{run_after, ended_in, running_in, most_of}
 use Rattle.mh_sizing.specs.Steps.{made}
 use Rattle.mh_sizing.specs.Units.{units_made}
 use Rattle.mh_sizing.specs.Walk.{HasWalked}
 use Rattle.mh_sizing.specs.Worlds.{world_in, HasMost, Performed}
-use Rattle.mh_sizing.proofs.RunLemmas.{most_of-enough, most_of-few, after-push, worlds-push, intervals-cut, ended-push, running-push, flat_map-push}
+use Rattle.mh_sizing.proofs.RunLemmas.{most_of-enough, most_of-few, after-push, worlds-push, made-push, intervals-cut, ended-push, running-push}
 use Rattle.mh_sizing.proofs.WorldLemmas.{most-of-push, still-grown}
 
 -- Commands ---------------------------------------------------------------------------------------
@@ -64,16 +65,17 @@ parts-some references numbers = go (nat_le (references + numbers) 60)
     go true = refl
     go false = ne_eqb (length (spine_parts references numbers)) 0 (λ none. omega (arith, none))
 
+-- and a new one has as many as such an object
+blank-parts : (references numbers : ℕ) → object_parts (Some (blank references numbers)) ≡ length (parts references numbers)
+blank-parts references numbers = ap₂ (λ r n. length (parts r n)) (length-replicate {A = Option ℕ} references None) (length-replicate {A = ℕ} numbers 0)
+
 -- the units of a command by what it made
 units-are : (config : Config) (c : Command) (answer : Reply) → units_made config.rules (object_parts (made c answer)) ≡ command_units config c answer
 units-are config (command.New slot references numbers) answer = go config.rules answer
   where
-    blank-parts : object_parts (made (command.New slot references numbers) reply.Done) ≡ length (parts references numbers)
-    blank-parts = ap₂ (λ r n. length (parts r n)) (length-replicate {A = Option ℕ} references None) (length-replicate {A = ℕ} numbers 0)
-
     go : (rules : Rules) (a : Reply) → units_made rules (object_parts (made (command.New slot references numbers) a)) ≡ new_units rules a (length (parts references numbers))
     go First a = refl
-    go Second reply.Done = ap (λ n. if n == 0 then 1 else n) blank-parts ∙ ap {B = ℕ} (λ (b : Bool). if b then 1 else length (parts references numbers)) (parts-some references numbers)
+    go Second reply.Done = ap (λ n. if n == 0 then 1 else n) (blank-parts references numbers) ∙ ap {B = ℕ} (λ (b : Bool). if b then 1 else length (parts references numbers)) (parts-some references numbers)
     go Second _ = refl
 units-are config _ answer = none config.rules
   where
@@ -81,13 +83,44 @@ units-are config _ answer = none config.rules
     none First = refl
     none Second = refl
 
+-- What is made ------------------------------------------------------------------------------------
+
+refused-makes : (c : Command) (refused : Refusal) → object_parts (made c (reply.Refused refused)) ≡ 0
+refused-makes (command.New slot references numbers) refused = refl
+refused-makes _ refused = refl
+
+unrefused-makes : (config : Config) (world : World) (who : ℕ) (c : Command) (count : ℕ) (list : List Part) → count ≡ object_parts (made c (effect world who c).reply) → list ≡ asked_parts config (event.Session who c)
+    → (if nat_lt 0 count then list else []) ≡ asked_parts config (event.Session who c)
+unrefused-makes config world who (command.New slot references numbers) count list counted is =
+    let some : 0 < count = omega (arith, counted, blank-parts references numbers, some_parts references numbers) in
+    ap (λ (b : Bool). if b then list else []) (lt-ltb 0 count some) ∙ is
+unrefused-makes config world who _ count list counted is = go (nat_lt 0 count)
+  where
+    go : (b : Bool) → (if b then list else []) ≡ []
+    go true = is
+    go false = refl
+
+-- A command that has made so many parts has made those that it asks for, and otherwise none
+made-are : (run : WorldRun) (config : Config) (who : ℕ) (c : Command) (new : World) (count : ℕ) (list : List Part) → run.world.config ≡ config → Performed run.world new who c count → list ≡ asked_parts config (event.Session who c)
+    → (if nat_lt 0 count then list else []) ≡ made_parts run (event.Session who c)
+unfolding heap_step
+made-are run config who c new count list at_config did is = go (refusal (sight_of never_full run.world) who c) did.performs
+  where
+    go : (refused : Option Refusal) → unless_refused refused run.world (effect run.world who c) ≡ says did.answer new
+        → (if nat_lt 0 count then list else []) ≡ (if is_none refused then asked_parts run.world.config (event.Session who c) else [])
+    go None performs =
+        unrefused-makes config run.world who c count list (did.count ∙ ap (λ (a : Answer World). object_parts (made c a.reply)) (sym performs)) is
+        ∙ ap (λ (k : Config). asked_parts k (event.Session who c)) (sym at_config)
+    go (Some refused) performs =
+        ap (λ (n : ℕ). if nat_lt 0 n then list else []) (did.count ∙ ap (λ (a : Answer World). object_parts (made c a.reply)) (sym performs) ∙ refused-makes c refused)
+
 -- Half steps -------------------------------------------------------------------------------------
 
-module _ (run : WorldRun) (config : Config) (who : ℕ) (c : Command) (new : World) (parts_made : ℕ) (at_config : run.world.config ≡ config) (performed : Performed run.world new who c parts_made) where
+module _ (run : WorldRun) (config : Config) (who : ℕ) (c : Command) (new : World) (count : ℕ) (at_config : run.world.config ≡ config) (performed : Performed run.world new who c count) where
   pub half-world : (half_run run (event.Session who c)).world ≡ new
   half-world = ap (λ (a : Answer World). a.state) performed.performs
 
-  pub half-units : (half_run run (event.Session who c)).units ≡ run.units + units_made config.rules parts_made
+  pub half-units : (half_run run (event.Session who c)).units ≡ run.units + units_made config.rules count
   half-units =
       ap (λ (a : Answer World). run.units + command_units run.world.config c a.reply) performed.performs
       ∙ ap (λ n. run.units + n) (sym (units-are run.world.config c performed.answer) ∙ ap₂ (λ (k : Config) n. units_made k.rules n) at_config (sym performed.count))
@@ -95,14 +128,14 @@ module _ (run : WorldRun) (config : Config) (who : ℕ) (c : Command) (new : Wor
   pub half-config : new.config ≡ config
   half-config = step-config run.world who c performed.answer new performed.performs ∙ at_config
 
-  quantum-by : runs_quantum run (event.Session who c) ≡ (not (config.every == 0) && nat_le config.every (run.units + units_made config.rules parts_made))
+  quantum-by : runs_quantum run (event.Session who c) ≡ (not (config.every == 0) && nat_le config.every (run.units + units_made config.rules count))
   quantum-by = ap₂ (λ (k : Config) n. not (k.every == 0) && nat_le k.every n) at_config half-units
 
   -- the scheduler runs no quantum
   pub quantum-never : config.every ≡ 0 → runs_quantum run (event.Session who c) ≡ false
-  quantum-never none = quantum-by ∙ ap (λ (b : Bool). not b && nat_le config.every (run.units + units_made config.rules parts_made)) (eq-eqb config.every 0 none)
+  quantum-never none = quantum-by ∙ ap (λ (b : Bool). not b && nat_le config.every (run.units + units_made config.rules count)) (eq-eqb config.every 0 none)
 
-  pub quantum-is : (due : Bool) → (config.every ≡ 0 → ⊥) → nat_le config.every (run.units + units_made config.rules parts_made) ≡ due → runs_quantum run (event.Session who c) ≡ due
+  pub quantum-is : (due : Bool) → (config.every ≡ 0 → ⊥) → nat_le config.every (run.units + units_made config.rules count) ≡ due → runs_quantum run (event.Session who c) ≡ due
   quantum-is due some is = quantum-by ∙ ap₂ (λ a b. not a && b) (ne_eqb config.every 0 some) is
 
 -- Steps ------------------------------------------------------------------------------------------
@@ -123,16 +156,19 @@ module _ (new : Walk) (config : Config) (events : List Event) (event : Event) (q
   abbrev pub run : WorldRun
   run = run_after (first_run config) events
 
-  abbrev pub running_now : List Event
-  running_now = running_interval [] (first_run config) events
+  abbrev pub now : List Part
+  now = made_parts (run_after (first_run config) events) event
 
-  abbrev pub ended_before : List (List Event)
-  ended_before = ended_intervals [] (first_run config) events
+  abbrev pub running_now : List Part
+  running_now = running_in [] (first_run config) events
+
+  abbrev pub ended_before : List (List Part)
+  ended_before = ended_in [] (first_run config) events
 
   pub walked-on : new.config ≡ config → (world_in new.world).config ≡ config → runs_quantum run event ≡ quantum → world_in new.world ≡ (half_run run event).world
       → ((config.every ≡ 0 → ⊥) → new.units ≡ (if quantum then 0 else (half_run run event).units))
       → HasMost new.world (run_worlds (first_run config) events ++ world_in new.world ∷ [])
-      → HasAsked new.asked config (events ++ event ∷ []) (if quantum then [] else running_now ++ event ∷ []) (if quantum then ended_before ++ (running_now ++ event ∷ []) ∷ [] else ended_before)
+      → HasAsked new.asked (parts_made config events ++ now) (if quantum then [] else running_now ++ now) (if quantum then ended_before ++ (running_now ++ now) ∷ [] else ended_before)
       → HasWalked new config (events ++ event ∷ [])
   walked-on configured at_config is world units most asks = record {
     configured = configured;
@@ -140,8 +176,9 @@ module _ (new : Walk) (config : Config) (events : List Event) (event : Event) (q
     at_world = world ∙ sym next;
     at_units = λ some. units some ∙ sym (ap (λ (r : WorldRun). r.units) after ∙ next-units run event quantum);
     most = subst (HasMost new.world) (ap (λ (w : World). run_worlds (first_run config) events ++ w ∷ []) (world ∙ sym last) ∙ sym (worlds-push (first_run config) events event)) most;
-    asks = subst (λ (list : List Event). HasAsked new.asked config (events ++ event ∷ []) list (ended_intervals [] (first_run config) (events ++ event ∷ []))) (sym (running-push quantum [] (first_run config) events event is))
-        (subst (HasAsked new.asked config (events ++ event ∷ []) (if quantum then [] else running_now ++ event ∷ [])) (sym (ended-push quantum [] (first_run config) events event is)) asks);
+    asks = subst (λ (all : List Part). HasAsked new.asked all (running_in [] (first_run config) (events ++ event ∷ [])) (ended_in [] (first_run config) (events ++ event ∷ []))) (sym (made-push (first_run config) events event))
+        (subst (λ (list : List Part). HasAsked new.asked (parts_made config events ++ now) list (ended_in [] (first_run config) (events ++ event ∷ []))) (sym (running-push quantum [] (first_run config) events event is))
+        (subst (HasAsked new.asked (parts_made config events ++ now) (if quantum then [] else running_now ++ now)) (sym (ended-push quantum [] (first_run config) events event is)) asks));
   }
     where
       after : run_after (first_run config) (events ++ event ∷ []) ≡ (if quantum then record { world = (half_run run event).world; units = 0 } else half_run run event)
@@ -160,75 +197,60 @@ same-most world worlds most = record {
   units = most-of-push object_units world.reach.units world.reach.units (world_in world) worlds (still-grown object_units world.reach.units (world_in world) world.bounded.units_within world.bounded.units) most.units;
 }
 
--- an event that asks for nothing
-pub asked-nothing : (asked : Asked) (config : Config) (all running : List Event) (ended : List (List Event)) (event : Event) → asked_parts config event ≡ [] → HasAsked asked config all running ended → HasAsked asked config (all ++ event ∷ []) (running ++ event ∷ []) ended
-asked-nothing asked config all running ended event none has = record {
-  counted = subst (λ (list : List Part). HasClassCounts asked.running list (flat_map (asked_parts config) (running ++ event ∷ []))) (sym (same all))
-      (subst (λ (list : List Part). HasClassCounts asked.running (flat_map (asked_parts config) all) list) (sym (same running)) has.counted);
-  parts = has.parts;
-  pages = has.pages;
-  in_all = has.in_all;
-}
-  where
-    same : (list : List Event) → flat_map (asked_parts config) (list ++ event ∷ []) ≡ flat_map (asked_parts config) list
-    same list = flat_map-push (asked_parts config) list event ∙ ap (λ (parts : List Part). flat_map (asked_parts config) list ++ parts) none ∙ append-nil (flat_map (asked_parts config) list)
-
--- and one that asks for these parts
-pub asked-parts : (old new : Asked) (config : Config) (all running : List Event) (ended : List (List Event)) (event : Event) (list : List Part) → list ≡ asked_parts config event
-    → HasClassCounts new.running (flat_map (asked_parts config) all ++ list) (flat_map (asked_parts config) running ++ list) → new.parts ≡ old.parts → new.pages ≡ old.pages → new.in_all ≡ old.in_all
-    → HasAsked old config all running ended → HasAsked new config (all ++ event ∷ []) (running ++ event ∷ []) ended
-asked-parts old new config all running ended event list is counted parts_same pages_same all_same has = record {
-  counted = subst (λ (l : List Part). HasClassCounts new.running l (flat_map (asked_parts config) (running ++ event ∷ []))) (sym (same all))
-      (subst (λ (l : List Part). HasClassCounts new.running (flat_map (asked_parts config) all ++ list) l) (sym (same running)) counted);
-  parts = parts_same ∙ has.parts;
-  pages = pages_same ∙ has.pages;
-  in_all = all_same ∙ has.in_all;
-}
-  where
-    same : (events : List Event) → flat_map (asked_parts config) (events ++ event ∷ []) ≡ flat_map (asked_parts config) events ++ list
-    same events = flat_map-push (asked_parts config) events event ∙ ap (λ (l : List Part). flat_map (asked_parts config) events ++ l) (sym is)
+-- an event that makes nothing
+pub made-nothing : (asked : Asked) (all running : List Part) (ended : List (List Part)) → HasAsked asked all running ended → HasAsked asked (all ++ []) (running ++ []) ended
+made-nothing asked all running ended has = subst (λ (list : List Part). HasAsked asked list (running ++ []) ended) (sym (append-nil all)) (subst (λ (list : List Part). HasAsked asked all list ended) (sym (append-nil running)) has)
 
 -- Sessions ---------------------------------------------------------------------------------------
 
-module _ (old new : Walk) (config : Config) (before : List Event) (walked : HasWalked old config before) (who : ℕ) (c : Command) (parts_made : ℕ) (configured : new.config ≡ old.config)
-    (performed : Performed (world_in old.world) (world_in new.world) who c parts_made) (most : HasMost new.world (run_worlds (first_run config) before ++ world_in new.world ∷ [])) where
+-- what a command has made of the parts that it asks for
+pub made-list : (old : Walk) (config : Config) (before : List Event) → HasWalked old config before → (who : ℕ) (c : Command) (count : ℕ) (new : World) → Performed (world_in old.world) new who c count → (list : List Part) → list ≡ asked_parts config (event.Session who c)
+    → (if nat_lt 0 count then list else []) ≡ made_parts (run_after (first_run config) before) (event.Session who c)
+made-list old config before walked who c count new performed list is =
+    made-are (run_after (first_run config) before) config who c new count list (ap (λ (w : World). w.config) (sym walked.at_world) ∙ walked.at_config) (subst (λ (w : World). Performed w new who c count) walked.at_world performed) is
+
+module _ (old new : Walk) (config : Config) (before : List Event) (walked : HasWalked old config before) (who : ℕ) (c : Command) (count : ℕ) (configured : new.config ≡ old.config)
+    (performed : Performed (world_in old.world) (world_in new.world) who c count) (most : HasMost new.world (run_worlds (first_run config) before ++ world_in new.world ∷ [])) where
   abbrev at : WorldRun
   at = run_after (first_run config) before
 
   at-config : at.world.config ≡ config
   at-config = ap (λ (w : World). w.config) (sym walked.at_world) ∙ walked.at_config
 
-  did : Performed at.world (world_in new.world) who c parts_made
-  did = subst (λ (w : World). Performed w (world_in new.world) who c parts_made) walked.at_world performed
+  did : Performed at.world (world_in new.world) who c count
+  did = subst (λ (w : World). Performed w (world_in new.world) who c count) walked.at_world performed
+
+  abbrev pub made_now : List Part
+  made_now = made_parts (run_after (first_run config) before) (event.Session who c)
 
   every-same : old.config.every ≡ config.every
   every-same = ap (λ (k : Config). k.every) walked.configured
 
-  pub unscheduled : old.config.every ≡ 0 → HasAsked new.asked config (before ++ event.Session who c ∷ []) (running_interval [] (first_run config) before ++ event.Session who c ∷ []) (ended_intervals [] (first_run config) before)
+  pub unscheduled : old.config.every ≡ 0 → HasAsked new.asked (parts_made config before ++ made_now) (running_in [] (first_run config) before ++ made_now) (ended_in [] (first_run config) before)
       → HasWalked new config (before ++ event.Session who c ∷ [])
   unscheduled none asks =
       let never : config.every ≡ 0 = sym every-same ∙ none in
-      walked-on new config before (event.Session who c) false (configured ∙ walked.configured) (half-config at config who c (world_in new.world) parts_made at-config did) (quantum-never at config who c (world_in new.world) parts_made at-config did never)
-      (sym (half-world at config who c (world_in new.world) parts_made at-config did)) (λ some. absurd (some never)) most asks
+      walked-on new config before (event.Session who c) false (configured ∙ walked.configured) (half-config at config who c (world_in new.world) count at-config did) (quantum-never at config who c (world_in new.world) count at-config did never)
+      (sym (half-world at config who c (world_in new.world) count at-config did)) (λ some. absurd (some never)) most asks
 
-  module _ (some : old.config.every ≡ 0 → ⊥) (units : ℕ) (units_is : units ≡ units_made old.config.rules parts_made) where
-    sum-is : old.units + units ≡ at.units + units_made config.rules parts_made
-    sum-is = ap₂ (λ a b. a + b) (walked.at_units (λ none. some (every-same ∙ none))) (units_is ∙ ap (λ (k : Config). units_made k.rules parts_made) walked.configured)
+  module _ (some : old.config.every ≡ 0 → ⊥) (units : ℕ) (units_is : units ≡ units_made old.config.rules count) where
+    sum-is : old.units + units ≡ at.units + units_made config.rules count
+    sum-is = ap₂ (λ a b. a + b) (walked.at_units (λ none. some (every-same ∙ none))) (units_is ∙ ap (λ (k : Config). units_made k.rules count) walked.configured)
 
-    pub scheduled-on : new.units ≡ old.units + units → new.units < old.config.every → HasAsked new.asked config (before ++ event.Session who c ∷ []) (running_interval [] (first_run config) before ++ event.Session who c ∷ []) (ended_intervals [] (first_run config) before)
+    pub scheduled-on : new.units ≡ old.units + units → new.units < old.config.every → HasAsked new.asked (parts_made config before ++ made_now) (running_in [] (first_run config) before ++ made_now) (ended_in [] (first_run config) before)
         → HasWalked new config (before ++ event.Session who c ∷ [])
     scheduled-on sum few asks =
-        walked-on new config before (event.Session who c) false (configured ∙ walked.configured) (half-config at config who c (world_in new.world) parts_made at-config did)
-        (quantum-is at config who c (world_in new.world) parts_made at-config did false (λ none. some (every-same ∙ none)) (lt-leb config.every (at.units + units_made config.rules parts_made) (omega (arith, few, sum, sum-is, every-same))))
-        (sym (half-world at config who c (world_in new.world) parts_made at-config did)) (λ _. sum ∙ sum-is ∙ sym (half-units at config who c (world_in new.world) parts_made at-config did)) most asks
+        walked-on new config before (event.Session who c) false (configured ∙ walked.configured) (half-config at config who c (world_in new.world) count at-config did)
+        (quantum-is at config who c (world_in new.world) count at-config did false (λ none. some (every-same ∙ none)) (lt-leb config.every (at.units + units_made config.rules count) (omega (arith, few, sum, sum-is, every-same))))
+        (sym (half-world at config who c (world_in new.world) count at-config did)) (λ _. sum ∙ sum-is ∙ sym (half-units at config who c (world_in new.world) count at-config did)) most asks
 
     pub scheduled-due : new.units ≡ 0 → old.config.every ≤ old.units + units
-        → HasAsked new.asked config (before ++ event.Session who c ∷ []) [] (ended_intervals [] (first_run config) before ++ (running_interval [] (first_run config) before ++ event.Session who c ∷ []) ∷ [])
+        → HasAsked new.asked (parts_made config before ++ made_now) [] (ended_in [] (first_run config) before ++ (running_in [] (first_run config) before ++ made_now) ∷ [])
         → HasWalked new config (before ++ event.Session who c ∷ [])
     scheduled-due none due asks =
-        walked-on new config before (event.Session who c) true (configured ∙ walked.configured) (half-config at config who c (world_in new.world) parts_made at-config did)
-        (quantum-is at config who c (world_in new.world) parts_made at-config did true (λ never. some (every-same ∙ never)) (le-leb config.every (at.units + units_made config.rules parts_made) (omega (arith, due, sum-is, every-same))))
-        (sym (half-world at config who c (world_in new.world) parts_made at-config did)) (λ _. none) most asks
+        walked-on new config before (event.Session who c) true (configured ∙ walked.configured) (half-config at config who c (world_in new.world) count at-config did)
+        (quantum-is at config who c (world_in new.world) count at-config did true (λ never. some (every-same ∙ never)) (le-leb config.every (at.units + units_made config.rules count) (omega (arith, due, sum-is, every-same))))
+        (sym (half-world at config who c (world_in new.world) count at-config did)) (λ _. none) most asks
 
 -- Controls ---------------------------------------------------------------------------------------
 
@@ -240,7 +262,7 @@ module _ (old new : Walk) (config : Config) (before : List Event) (walked : HasW
   most-on = subst (λ (w : RunWorld). HasMost w (run_worlds (first_run config) before ++ world_in w ∷ [])) (sym same) (same-most old.world (run_worlds (first_run config) before) walked.most)
 
   pub control-on : (quantum : Bool) → runs_quantum (run_after (first_run config) before) (event.Control control) ≡ quantum → new.units ≡ (if quantum then 0 else old.units)
-      → HasAsked new.asked config (before ++ event.Control control ∷ []) (if quantum then [] else running_interval [] (first_run config) before ++ event.Control control ∷ []) (if quantum then ended_intervals [] (first_run config) before ++ (running_interval [] (first_run config) before ++ event.Control control ∷ []) ∷ [] else ended_intervals [] (first_run config) before)
+      → HasAsked new.asked (parts_made config before ++ []) (if quantum then [] else running_in [] (first_run config) before ++ []) (if quantum then ended_in [] (first_run config) before ++ (running_in [] (first_run config) before ++ []) ∷ [] else ended_in [] (first_run config) before)
       → HasWalked new config (before ++ event.Control control ∷ [])
   control-on quantum is units asks =
       walked-on new config before (event.Control control) quantum (configured ∙ walked.configured) (ap (λ (w : RunWorld). (world_in w).config) same ∙ walked.at_config) is (ap world_in same ∙ walked.at_world) (λ some. units ∙ ap (λ n. if quantum then 0 else n) (walked.at_units some)) most-on asks
@@ -260,40 +282,40 @@ attained-few number few most (first ∷ worlds) all (zero, world, inside, at, ju
 attained-few number few most (first ∷ worlds) all (suc index, world, inside, at, just) = attained-few number few most worlds all.1 (index, world, omega (arith, inside), at, just)
 
 module _ (walk : Walk) (config : Config) (events : List Event) (walked : HasWalked walk config events) where
-  cut : run_intervals [] (first_run config) events ≡ ended_intervals [] (first_run config) events ++ running_interval [] (first_run config) events ∷ []
+  cut : intervals_made config events ≡ ended_in [] (first_run config) events ++ running_in [] (first_run config) events ∷ []
   cut = intervals-cut [] (first_run config) events
 
   -- what all intervals have at most is no less than the greatest
-  pub interval-few : (number : List Event → ℕ) (count most : ℕ) → count ≡ most_of number (ended_intervals [] (first_run config) events ++ running_interval [] (first_run config) events ∷ [])
-      → AllByRecursion (λ interval. number interval ≤ most) (run_intervals [] (first_run config) events) → count ≤ most
-  interval-few number count most is all = omega (arith, is, most_of-few number (ended_intervals [] (first_run config) events ++ running_interval [] (first_run config) events ∷ []) most (subst (AllByRecursion (λ interval. number interval ≤ most)) cut all))
+  pub interval-few : (number : List Part → ℕ) (count most : ℕ) → count ≡ most_of number (ended_in [] (first_run config) events ++ running_in [] (first_run config) events ∷ [])
+      → AllByRecursion (λ interval. number interval ≤ most) (intervals_made config events) → count ≤ most
+  interval-few number count most is all = omega (arith, is, most_of-few number (ended_in [] (first_run config) events ++ running_in [] (first_run config) events ∷ []) most (subst (AllByRecursion (λ interval. number interval ≤ most)) cut all))
 
   -- all intervals open together what those open that have ended and the running one
-  pub all-opened : opened_in_all config events ≡ sum_by (opens_at_most config) (ended_intervals [] (first_run config) events ++ running_interval [] (first_run config) events ∷ [])
-  all-opened = ap (sum_by (opens_at_most config)) cut
+  pub all-opened : demand config events ≡ sum_by pages_of_parts (ended_in [] (first_run config) events ++ running_in [] (first_run config) events ∷ [])
+  all-opened = ap (sum_by pages_of_parts) cut
 
   -- the numbers that were found are the needs
   pub needs-are : (needs : Needs) → needs.live ≡ walk.world.reach.parts.most → needs.marking_units ≡ walk.world.reach.units.most
-      → needs.asked ≡ most_of (asked_count config) (ended_intervals [] (first_run config) events ++ running_interval [] (first_run config) events ∷ [])
-      → needs.opened ≡ most_of (opens_at_most config) (ended_intervals [] (first_run config) events ++ running_interval [] (first_run config) events ∷ [])
-      → needs.page_units ≡ most_slots (flat_map (asked_parts config) events) + most_moves (flat_map (asked_parts config) events) → AreTheNeeds needs config events
+      → needs.asked ≡ most_of length (ended_in [] (first_run config) events ++ running_in [] (first_run config) events ∷ [])
+      → needs.opened ≡ most_of pages_of_parts (ended_in [] (first_run config) events ++ running_in [] (first_run config) events ∷ [])
+      → needs.page_units ≡ most_slots (parts_made config events) + most_moves (parts_made config events) → AreTheNeeds needs config events
   needs-are needs live marked asked opened page = record {
     enough = record {
       live = subst (λ (n : ℕ). AllByRecursion (HasAtMost object_parts n) (run_worlds (first_run config) events)) (sym live) walked.most.parts.enough;
       marked = subst (λ (n : ℕ). AllByRecursion (HasAtMost object_units n) (run_worlds (first_run config) events)) (sym marked) walked.most.units.enough;
-      asked = most_of-enough (asked_count config) (run_intervals [] (first_run config) events) needs.asked (omega (arith, all-asked));
-      opened = most_of-enough (opens_at_most config) (run_intervals [] (first_run config) events) needs.opened (omega (arith, all-opened));
+      asked = most_of-enough length (intervals_made config events) needs.asked (omega (arith, all-asked));
+      opened = most_of-enough pages_of_parts (intervals_made config events) needs.opened (omega (arith, all-pages));
       page = omega (arith, page);
     };
     live = subst (λ (n : ℕ). Any (HasJust object_parts n) (run_worlds (first_run config) events)) (sym live) walked.most.parts.just;
     marked = subst (λ (n : ℕ). Any (HasJust object_units n) (run_worlds (first_run config) events)) (sym marked) walked.most.units.just;
     asked = all-asked;
-    opened = all-opened;
+    opened = all-pages;
     page = page;
   }
     where
-      all-asked : needs.asked ≡ most_of (asked_count config) (run_intervals [] (first_run config) events)
-      all-asked = asked ∙ ap (most_of (asked_count config)) (sym cut)
+      all-asked : needs.asked ≡ most_of length (intervals_made config events)
+      all-asked = asked ∙ ap (most_of length) (sym cut)
 
-      all-opened : needs.opened ≡ most_of (opens_at_most config) (run_intervals [] (first_run config) events)
-      all-opened = opened ∙ ap (most_of (opens_at_most config)) (sym cut)
+      all-pages : needs.opened ≡ most_of pages_of_parts (intervals_made config events)
+      all-pages = opened ∙ ap (most_of pages_of_parts) (sym cut)

@@ -28,13 +28,13 @@ abbrev pub pages_needed : Profile → ℕ → ℕ
 pages_needed profile quanta = min (enough_pages profile.needs quanta) (enough_shared_pages profile.needs profile.kinds quanta)
 
 -- so many pages are no fewer than all intervals open together, if that is known
-abbrev pub has_all : Option ℕ → ℕ → Bool
-has_all None pages = false
-has_all (Some opened) pages = nat_le opened pages
+abbrev pub meets_demand : Option ℕ → ℕ → Bool
+meets_demand None pages = false
+meets_demand (Some demand) pages = nat_le demand pages
 
 -- the configuration's pages are enough for all intervals together, or its pages and its trigger are enough for its cycles
 abbrev pub is_enough : Profile → Config → Bool
-is_enough profile config = has_all profile.opened_in_all config.pages || (nat_le (pages_needed profile (cycle_quanta profile.needs config)) config.pages && nat_le (enough_trigger profile.needs (cycle_quanta profile.needs config)) config.trigger)
+is_enough profile config = meets_demand profile.demand config.pages || (nat_le (pages_needed profile (cycle_quanta profile.needs config)) config.pages && nat_le (enough_trigger profile.needs (cycle_quanta profile.needs config)) config.trigger)
 
 -- it has enough for cycles of so many quanta, as new parts keep pages or share them
 abbrev pub HasEnoughByEither : Profile → Config → ℕ → Type 0
@@ -42,7 +42,7 @@ HasEnoughByEither profile config quanta = HasEnoughFor profile.needs config quan
 
 -- A configuration is enough: its pages are for all intervals together, or it has enough for cycles of some number of quanta
 abbrev pub Suffices : Profile → Config → Type 0
-Suffices profile config = IsSomeAnd profile.opened_in_all (λ opened. opened ≤ config.pages) ⊎ ((quanta : ℕ) × HasEnoughByEither profile config quanta)
+Suffices profile config = IsSomeAnd profile.demand (λ demand. demand ≤ config.pages) ⊎ ((quanta : ℕ) × HasEnoughByEither profile config quanta)
 
 -- Quanta -----------------------------------------------------------------------------------------
 
@@ -54,4 +54,4 @@ lesser_quantum (Some quantum) (Some other) = Some (min quantum other)
 
 -- the least quantum with which so many pages are enough: any, if they are for all intervals together; otherwise the least from 353 on
 abbrev pub quantum_needed : Profile → ℕ → Option ℕ
-quantum_needed profile pages = if has_all profile.opened_in_all pages then Some least_quantum else lesser_quantum (least_quantum_of profile.needs pages) (least_quantum_shared_of profile.needs profile.kinds pages)
+quantum_needed profile pages = if meets_demand profile.demand pages then Some least_quantum else lesser_quantum (least_quantum_of profile.needs pages) (least_quantum_shared_of profile.needs profile.kinds pages)

@@ -2,7 +2,7 @@
 use Rattle.std.specs.Prelude.{◌≡◌, ◌⊎◌, ℕ, ◌≤◌, nat_le, if◌then◌else◌, MatchOption, Option}
 use Rattle.mh_model.specs.declared.config.Config.{Config}
 use Rattle.mh_sizing.specs.Needs.{enough_pages, enough_trigger}
-use Rattle.mh_sizing.specs.Enough.{Suffices, cycle_quanta, has_all}
+use Rattle.mh_sizing.specs.Enough.{Suffices, cycle_quanta, meets_demand}
 use Rattle.mh_sizing.specs.declared.found.Law.{Law}
 use Rattle.mh_sizing.specs.declared.found.Law.TheVariants.{Demand, Easy, Sharp}
 use Rattle.mh_sizing.specs.declared.found.Found.{Found}
@@ -31,7 +31,7 @@ PagesAreEnough profile quantum pages = (config : Config) × (config.pages ≡ pa
 
 -- the law by which a configuration is enough, if it is: the first of the three
 abbrev pub law_of : Profile → Config → Law
-law_of profile config = if has_all profile.opened_in_all config.pages then Demand else (if nat_le (enough_pages profile.needs (cycle_quanta profile.needs config)) config.pages then Easy else Sharp)
+law_of profile config = if meets_demand profile.demand config.pages then Demand else (if nat_le (enough_pages profile.needs (cycle_quanta profile.needs config)) config.pages then Easy else Sharp)
 
 -- the trigger that goes with it: none is needed if pages are for all intervals together
 abbrev pub trigger_by : Law → Profile → Config → ℕ

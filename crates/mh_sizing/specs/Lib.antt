@@ -2,10 +2,12 @@ pub mod Choices
 pub mod Openings
 pub mod PageUnits
 pub mod Needs
+pub mod Counted
 pub mod Shared
 pub mod Targets
 pub mod Enough
 pub mod Found
+pub mod Rates
 pub mod Sized
 pub mod Asked
 pub mod Births

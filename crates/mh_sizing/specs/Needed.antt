@@ -1,43 +1,43 @@
--- What the sessions of a run need, and no less, with the classes of their parts.
-use Rattle.std.specs.Prelude.{◌≡◌, ◌⊎◌, ◌+◌, ◌≤◌, ◌^◌, List, [], length, MatchOption}
-use Rattle.std.specs.List.{Any, flat_map}
+-- What the sessions of a run make and hold, and no less, with the classes of their parts.
+use Rattle.std.specs.Prelude.{◌≡◌, ◌⊎◌, ◌+◌, ◌≤◌, ◌^◌, List, length, MatchOption}
+use Rattle.std.specs.List.{Any}
 use Rattle.mh_model.specs.declared.command.Event.{Event}
 use Rattle.mh_model.specs.declared.command.Event.TheVariants as event
 use Rattle.mh_model.specs.declared.config.Config.{Config}
 use Rattle.mh_model.specs.declared.needs.Needs.{Needs}
 use Rattle.mh_model.specs.CycleUnits.{object_units, most_slots, most_moves}
 use Rattle.mh_model.specs.LiveParts.{object_parts}
-use Rattle.mh_model.specs.Needs.{first_run, run_worlds, run_intervals, NeedNoMore, opened_in_all}
-use Rattle.mh_model.specs.Openings.{asked_count, asked_parts, opens_at_most}
+use Rattle.mh_model.specs.Needs.{first_run, run_worlds}
+use Rattle.mh_model.specs.Openings.{pages_of_parts}
 use Rattle.mh_model.specs.World.{IsNew}
-use Rattle.mh_sizing_laws.specs.SharpNeeds.{AskOfClasses}
-use Rattle.mh_sizing_laws.specs.SharpPages.{all_asked, fewest_slots, occurring}
+use Rattle.mh_sizing_laws.specs.Made.{MakeNoMore, MakeOfClasses, demand, intervals_made, parts_made}
+use Rattle.mh_sizing_laws.specs.SharpPages.{fewest_slots, occurring}
 use Rattle.mh_sizing.specs.declared.profile.Profile.{Profile}
 use Rattle.mh_sizing.specs.declared.kinds.Kinds.{Kinds}
 use Rattle.mh_sizing.specs.Reached.{HasJust}
 use Rattle.mh_sizing.specs.Runs.{most_of}
 
--- The sessions of a run need no more than this, and no number is too large: some world has just so many live parts, and some costs just so much to mark;
--- some interval asks for so many parts and some opens so many pages, or there is nothing to ask for
+-- The sessions of a run make and hold no more than this, and no number is too large: some world has just so many live parts, and some costs just so much
+-- to mark; some interval makes so many parts and some opens so many pages, or nothing is made
 pub record AreTheNeeds (needs : Needs) (config : Config) (events : List Event) : Type 0 where
-  pub enough : NeedNoMore needs config events
+  pub enough : MakeNoMore needs config events
   pub live : Any (HasJust object_parts needs.live) (run_worlds (first_run config) events)
   pub marked : Any (HasJust object_units needs.marking_units) (run_worlds (first_run config) events)
-  pub asked : needs.asked ≡ most_of (asked_count config) (run_intervals [] (first_run config) events)
-  pub opened : needs.opened ≡ most_of (opens_at_most config) (run_intervals [] (first_run config) events)
-  pub page : let list = flat_map (asked_parts config) events in needs.page_units ≡ most_slots list + most_moves list
+  pub asked : needs.asked ≡ most_of length (intervals_made config events)
+  pub opened : needs.opened ≡ most_of pages_of_parts (intervals_made config events)
+  pub page : let list = parts_made config events in needs.page_units ≡ most_slots list + most_moves list
 
--- The classes of the parts that these events ask for: just so many, whose pages have so many slots at least
+-- The classes of the parts that these events make: just so many, whose pages have so many slots at least
 pub record AreTheKinds (kinds : Kinds) (config : Config) (events : List Event) : Type 0 where
-  pub count : kinds.kinds ≡ length (occurring (all_asked config events))
-  pub least : kinds.fewest_slots ≡ fewest_slots (all_asked config events)
-  pub asked : AskOfClasses kinds.fewest_slots kinds.kinds config events
+  pub count : kinds.kinds ≡ length (occurring (parts_made config events))
+  pub least : kinds.fewest_slots ≡ fewest_slots (parts_made config events)
+  pub made : MakeOfClasses kinds.fewest_slots kinds.kinds config events
 
--- What the sessions of these events need, the classes of their parts, and what their intervals open together
+-- What the sessions of these events make and hold, the classes of their parts, and what their intervals open together
 pub record IsTheProfile (profile : Profile) (config : Config) (events : List Event) : Type 0 where
   pub needs : AreTheNeeds profile.needs config events
   pub kinds : AreTheKinds profile.kinds config events
-  pub in_all : MatchOption profile.opened_in_all (2 ^ 32 ≤ opened_in_all config events) (λ pages. pages ≡ opened_in_all config events)
+  pub demanded : MatchOption profile.demand (2 ^ 32 ≤ demand config events) (λ pages. pages ≡ demand config events)
 
 -- an event asks for a new object
 abbrev pub AsksForObject : Event → Type 0

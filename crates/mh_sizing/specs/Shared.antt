@@ -1,5 +1,5 @@
 -- The pages that are enough for what sessions need, where small new parts share pages.
-use Rattle.std.specs.Prelude.{◌≡◌, ℕ, ◌+◌, ◌-◌, ◌*◌, ◌/◌, ◌≤◌, ◌<◌, suc, nat_le, Bool, Option}
+use Rattle.std.specs.Prelude.{◌≡◌, ℕ, ◌+◌, ◌-◌, ◌*◌, ◌/◌, ◌≤◌, ◌<◌, min, suc, nat_le, Bool, Option}
 use Rattle.mh_model.specs.declared.config.Config.{Config}
 use Rattle.mh_model.specs.declared.needs.Needs.{Needs}
 use Rattle.mh_model.specs.Needs.{quanta_needed, units_needed}
@@ -8,10 +8,12 @@ use Rattle.mh_sizing.specs.declared.kinds.Kinds.{Kinds}
 use Rattle.mh_sizing.specs.Choices.{least_from}
 use Rattle.mh_sizing.specs.Needs.{enough_trigger}
 
--- the pages that are enough: one for each live part, and as many as these would fill; four times what each quantum's interval opens but for three
--- intervals; and one more for each class and for each quantum but one
+-- the pages that are enough: one for each live part, and as many as these would fill; three times what each quantum's interval opens but for two
+-- intervals; one of each class that it makes for each interval but one; and one more for each class and for each quantum but one
 abbrev pub enough_shared_pages : Needs → Kinds → ℕ → ℕ
-enough_shared_pages needs kinds quanta = needs.live + needs.live / kinds.fewest_slots + 4 * (quanta * needs.opened) + kinds.kinds + quanta - (3 * needs.opened + 1)
+enough_shared_pages needs kinds quanta =
+    let few = min needs.opened kinds.kinds in
+    needs.live + needs.live / kinds.fewest_slots + 3 * (quanta * needs.opened) + quanta * few + kinds.kinds + quanta - (2 * needs.opened + few + 1)
 
 -- so many pages are enough with such a quantum
 abbrev pub is_enough_shared_with : Needs → Kinds → ℕ → ℕ → Bool

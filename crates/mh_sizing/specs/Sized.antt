@@ -4,8 +4,8 @@ use Rattle.mh_model.specs.declared.command.Event.{Event}
 use Rattle.mh_model.specs.declared.config.Config.{Config}
 use Rattle.mh_model.specs.declared.needs.Needs.{Needs}
 use Rattle.mh_model.specs.Intervals.{IsNeverFull}
-use Rattle.mh_model.specs.Needs.{quanta_needed, NeedNoMore, HasEnoughFor, opened_in_all}
-use Rattle.mh_sizing_laws.specs.SharpNeeds.{AskOfClasses}
+use Rattle.mh_model.specs.Needs.{quanta_needed, HasEnoughFor}
+use Rattle.mh_sizing_laws.specs.Made.{MakeNoMore, MakeOfClasses, demand}
 use Rattle.mh_sizing.specs.declared.kinds.Kinds.{Kinds}
 use Rattle.mh_sizing.specs.Needs.{enough_trigger, HasEnough}
 use Rattle.mh_sizing.specs.Shared.{HasEnoughShared}
@@ -19,24 +19,24 @@ abbrev pub SizedHeapsHaveEnough : Type 0
 SizedHeapsHaveEnough = (needs : Needs) (config : Config) → HasEnough needs config.pages config → enough_trigger needs (quanta_needed needs config) ≤ config.trigger
     → HasEnoughFor needs config (quanta_needed needs config)
 
--- So a run in it is never full whose sessions need no more
+-- So a run in it is never full whose sessions make and hold no more
 abbrev pub SizedRunsAreNeverFull : Type 0
-SizedRunsAreNeverFull = (needs : Needs) (config : Config) (events : List Event) → NeedNoMore needs config events → HasEnough needs config.pages config → enough_trigger needs (quanta_needed needs config) ≤ config.trigger
+SizedRunsAreNeverFull = (needs : Needs) (config : Config) (events : List Event) → MakeNoMore needs config events → HasEnough needs config.pages config → enough_trigger needs (quanta_needed needs config) ≤ config.trigger
     → IsNeverFull config events
 
 -- And so it is never full where small new parts share pages, if the pages are then enough for the classes of its parts
 abbrev pub SharedRunsAreNeverFull : Type 0
-SharedRunsAreNeverFull = (needs : Needs) (kinds : Kinds) (config : Config) (events : List Event) → NeedNoMore needs config events → AskOfClasses kinds.fewest_slots kinds.kinds config events → HasEnoughShared needs kinds config.pages config → enough_trigger needs (quanta_needed needs config) ≤ config.trigger
+SharedRunsAreNeverFull = (needs : Needs) (kinds : Kinds) (config : Config) (events : List Event) → MakeNoMore needs config events → MakeOfClasses kinds.fewest_slots kinds.kinds config events → HasEnoughShared needs kinds config.pages config → enough_trigger needs (quanta_needed needs config) ≤ config.trigger
     → IsNeverFull config events
 
--- The sessions of a run ask for no more than a profile says
-pub record AskNoMore (profile : Profile) (config : Config) (events : List Event) : Type 0 where
-  pub needs : NeedNoMore profile.needs config events
-  pub kinds : AskOfClasses profile.kinds.fewest_slots profile.kinds.kinds config events
-  pub in_all : IfSome profile.opened_in_all (λ pages. opened_in_all config events ≤ pages)
+-- The sessions of a run make and hold no more than a profile says
+pub record KeepToProfile (profile : Profile) (config : Config) (events : List Event) : Type 0 where
+  pub needs : MakeNoMore profile.needs config events
+  pub kinds : MakeOfClasses profile.kinds.fewest_slots profile.kinds.kinds config events
+  pub demanded : IfSome profile.demand (λ pages. demand config events ≤ pages)
 
 -- Such a run is never full in a configuration that is enough for the profile, by whichever law. Nor is it in a heap that was found for the quantum of
 -- its own configuration
 pub record SufficientHeapsAreNeverFull : Type 0 where
-  pub enough : (profile : Profile) (config : Config) (events : List Event) → AskNoMore profile config events → Suffices profile config → IsNeverFull config events
-  pub found : (profile : Profile) (config : Config) (found : Found) (events : List Event) → AskNoMore profile config events → IsEnoughHeap profile config found → IsNeverFull found.config events
+  pub enough : (profile : Profile) (config : Config) (events : List Event) → KeepToProfile profile config events → Suffices profile config → IsNeverFull config events
+  pub found : (profile : Profile) (config : Config) (found : Found) (events : List Event) → KeepToProfile profile config events → IsEnoughHeap profile config found → IsNeverFull found.config events

@@ -1,14 +1,13 @@
-//! What the events of a run ask for between quanta. It is apart from the world, since an object counts as asked for
-//! also if its command is refused.
-ghost use Rattle.std.specs.Prelude.{◌≡◌, ◌+◌, ◌-◌, ◌<◌, ◌^◌, min, [], ◌∷◌, ◌++◌, false, ℕ, unwrap_or, IsSome, IsTrue, List, length};
-ghost use Rattle.mh_model.specs.declared.command.Event.{Event};
+//! The parts of the objects that a run makes between quanta. Which objects are made, the world says.
+ghost use Rattle.std.specs.Prelude.{◌≡◌, ◌+◌, ◌-◌, ◌<◌, ◌^◌, if◌then◌else◌, min, [], ◌∷◌, ◌++◌, false, ℕ, unwrap_or, IsSome, IsTrue, List, length};
 ghost use Rattle.mh_model.specs.declared.command.Event.TheVariants as events;
 ghost use Rattle.mh_model.specs.declared.config.Config.{Config};
 ghost use Rattle.mh_model.specs.CycleUnits.{most_slots, most_moves};
-ghost use Rattle.mh_model.specs.Openings.{asked_count, asked_parts, opens_at_most};
+ghost use Rattle.mh_model.specs.Classes.{Part};
+ghost use Rattle.mh_model.specs.Openings.{asked_parts, pages_of_parts};
 ghost use Rattle.mh_model.specs.World.{IsNew};
-ghost use Rattle.std.specs.List.{flat_map, sum_by};
-ghost use Rattle.mh_sizing_laws.specs.SharpPages.{all_asked, fewest_slots, occurring};
+ghost use Rattle.std.specs.List.{sum_by};
+ghost use Rattle.mh_sizing_laws.specs.SharpPages.{fewest_slots, occurring};
 ghost use Rattle.mh_sizing.specs.Runs.{most_of};
 
 use crate::classes::ClassCounts;
@@ -34,30 +33,30 @@ pub(crate) fn parts_asked(rules: Rules, command: &Command) -> Option<Parts>
     parts(rules, references, numbers)
 }
 
-/// What a run asks for: in the running interval by class, the most of those that have ended, and what these open together.
+/// What a run has made: in the running interval by class, the most of those that have ended, and what these open together.
 #[derive(Drop)]
 pub(crate) struct Asked {
     running: ClassCounts,
     parts: u64,
     pages: u64,
-    in_all: u64,
+    demand: u64,
 }
 
 impl Asked {
     ghost use Rattle.mh_sizing.specs.Asked.{HasAsked};
 
     pub(crate) fn new() -> Asked
-        ensures { (config : Config) → HasAsked result config [] [] [] }
+        ensures { HasAsked result [] [] [] }
     {
         Asked {
             running: ClassCounts::new(),
             parts: 0,
             pages: 0,
-            in_all: 0,
+            demand: 0,
         }
     }
 
-    /// Whether there is room to count what is asked for. There is none once an interval has asked for 2^62 parts.
+    /// Whether there is room to count such parts. There is none once an interval has made 2^62.
     pub(crate) fn has_room(&self, parts: &Option<Parts>) -> bool
         ensures room { IsTrue result → IsSome parts.now → self.now.running.total < 2 ^ 62 }
         ensures none { result ≡ false → IsSome parts.now }
@@ -65,59 +64,60 @@ impl Asked {
         parts.is_none() || self.running.total() < LIFE
     }
 
-    /// Counts what an event asks for.
-    pub(crate) fn ask(&mut self, parts: &Option<Parts>)
+    /// Counts the parts that a command asks for, if it has made its object.
+    pub(crate) fn ask(&mut self, parts: &Option<Parts>, is_made: bool)
         requires { IsSome parts.now → self.old.running.total < 2 ^ 62 }
-        ensures { (config : Config) (event : Event) (all running : List Event) (ended : List (List Event)) → unwrap_or parts.now [] ≡ asked_parts config event → HasAsked self.old config all running ended → HasAsked self.new config (all ++ event ∷ []) (running ++ event ∷ []) ended }
+        ensures { (all running : List Part) (ended : List (List Part)) → HasAsked self.old all running ended → let list = if is_made then unwrap_or parts.now [] else [] in HasAsked self.new (all ++ list) (running ++ list) ended }
     {
-        if let Some(parts) = parts {
-            self.running.ask(parts);
+        match parts {
+            Some(parts) if is_made => self.running.ask(parts),
+            _ => {}
         }
     }
 
     /// Ends the running interval, and begins the next.
     pub(crate) fn end_interval(&mut self)
-        ensures { (config : Config) (all running : List Event) (ended : List (List Event)) → HasAsked self.old config all running ended → HasAsked self.new config all [] (ended ++ running ∷ []) }
+        ensures { (all running : List Part) (ended : List (List Part)) → HasAsked self.old all running ended → HasAsked self.new all [] (ended ++ running ∷ []) }
     {
         let pages = self.running.pages();
         self.parts = self.parts.max(self.running.total());
         self.pages = self.pages.max(pages);
-        self.in_all = self.in_all.saturating_add(pages);
+        self.demand = self.demand.saturating_add(pages);
         self.running.clear();
     }
 
-    /// The most parts that an interval has asked for.
+    /// The most parts that an interval has made.
     pub(crate) fn parts(&self) -> u64
-        ensures { (config : Config) (all running : List Event) (ended : List (List Event)) → HasAsked self.now config all running ended → result ≡ most_of (asked_count config) (ended ++ running ∷ []) }
+        ensures { (all running : List Part) (ended : List (List Part)) → HasAsked self.now all running ended → result ≡ most_of length (ended ++ running ∷ []) }
     {
         self.parts.max(self.running.total())
     }
 
     /// The most pages that an interval opens.
     pub(crate) fn pages(&self) -> u64
-        ensures { (config : Config) (all running : List Event) (ended : List (List Event)) → HasAsked self.now config all running ended → result ≡ most_of (opens_at_most config) (ended ++ running ∷ []) }
+        ensures { (all running : List Part) (ended : List (List Part)) → HasAsked self.now all running ended → result ≡ most_of pages_of_parts (ended ++ running ∷ []) }
     {
         self.pages.max(self.running.pages())
     }
 
     /// The pages that all intervals open together, and 2^64 - 1 if they are more.
-    pub(crate) fn pages_in_all(&self) -> u64
-        ensures { (config : Config) (all running : List Event) (ended : List (List Event)) → HasAsked self.now config all running ended → result ≡ min (sum_by (opens_at_most config) (ended ++ running ∷ [])) (2 ^ 64 - 1) }
+    pub(crate) fn demand(&self) -> u64
+        ensures { (all running : List Part) (ended : List (List Part)) → HasAsked self.now all running ended → result ≡ min (sum_by pages_of_parts (ended ++ running ∷ [])) (2 ^ 64 - 1) }
     {
-        self.in_all.saturating_add(self.running.pages())
+        self.demand.saturating_add(self.running.pages())
     }
 
     /// The most units that a cycle spends on a page after marking.
     pub(crate) fn page_units(&self) -> u32
-        ensures { (config : Config) (all running : List Event) (ended : List (List Event)) → HasAsked self.now config all running ended → let list = flat_map (asked_parts config) all in result ≡ most_slots list + most_moves list }
+        ensures { (all running : List Part) (ended : List (List Part)) → HasAsked self.now all running ended → result ≡ most_slots all + most_moves all }
     {
         self.running.page_units()
     }
 
-    /// The classes of all parts that were asked for.
+    /// The classes of all parts that were made.
     pub(crate) fn kinds(&self) -> Kinds
-        ensures kinds { (config : Config) (all running : List Event) (ended : List (List Event)) → HasAsked self.now config all running ended → result.kinds ≡ length (occurring (all_asked config all)) }
-        ensures least { (config : Config) (all running : List Event) (ended : List (List Event)) → HasAsked self.now config all running ended → result.fewest_slots ≡ fewest_slots (all_asked config all) }
+        ensures kinds { (all running : List Part) (ended : List (List Part)) → HasAsked self.now all running ended → result.kinds ≡ length (occurring all) }
+        ensures least { (all running : List Part) (ended : List (List Part)) → HasAsked self.now all running ended → result.fewest_slots ≡ fewest_slots all }
     {
         self.running.kinds()
     }

@@ -8,7 +8,7 @@
 //! A cycle is given two bounds on its quanta, that of any cycle and that of what it marks, and takes the lesser. The
 //! second wants quanta of more units than may go to charges and to what is left over.
 ghost use Rattle.std.specs.Prelude.{◌≡◌, ◌≤◌, ◌↔◌, ◌<◌, IfSome, IsSomeAnd, IsTrue};
-ghost use Rattle.mh_sizing.specs.Enough.{Suffices, cycle_quanta, cycle_units, has_all, is_enough, lesser_quantum, pages_needed, quantum_needed};
+ghost use Rattle.mh_sizing.specs.Enough.{Suffices, cycle_quanta, cycle_units, meets_demand, is_enough, lesser_quantum, pages_needed, quantum_needed};
 ghost use Rattle.mh_model.specs.Limits.{least_quantum, quantum_overhead};
 
 use crate::cycles::{quanta_needed, units_needed};
@@ -49,12 +49,12 @@ pub fn pages_needed(profile: &Profile, quanta: u64) -> u128
 }
 
 /// Whether so many pages are as many as all intervals open together.
-pub(crate) fn has_all(profile: &Profile, pages: u32) -> bool
-    ensures value { result ≡ has_all profile.now.opened_in_all pages }
-    ensures all { IsTrue result ↔ IsSomeAnd profile.now.opened_in_all (λ opened. opened ≤ pages) }
+pub(crate) fn meets_demand(profile: &Profile, pages: u32) -> bool
+    ensures value { result ≡ meets_demand profile.now.demand pages }
+    ensures met { IsTrue result ↔ IsSomeAnd profile.now.demand (λ demand. demand ≤ pages) }
 {
-    match profile.opened_in_all {
-        Some(opened) => opened <= pages,
+    match profile.demand {
+        Some(demand) => demand <= pages,
         None => false,
     }
 }
@@ -66,7 +66,7 @@ fn passes(config: &Config, profile: &Profile) -> bool
     let quanta = cycle_quanta(config, &profile.needs);
     let has_pages = pages_needed(profile, quanta) <= u128::from(config.pages);
     let starts = enough_trigger(&profile.needs, quanta) <= u128::from(config.trigger);
-    has_all(profile, config.pages) || (has_pages && starts)
+    meets_demand(profile, config.pages) || (has_pages && starts)
 }
 
 /// Whether a configuration is enough, by any of the laws.
@@ -98,7 +98,7 @@ pub fn quantum_needed(pages: u32, profile: &Profile) -> Option<u32>
     ensures value { result ≡ quantum_needed profile.now pages }
     ensures within { IfSome result (λ quantum. (least_quantum ≤ quantum) × (quantum ≤ 1000000)) }
 {
-    if has_all(profile, pages) {
+    if meets_demand(profile, pages) {
         return Some(LEAST_QUANTUM);
     }
     let alone = least_quantum(pages, &profile.needs);

@@ -1,12 +1,13 @@
 //! The search for the fewest pages that are enough with a quantum.
 //!
 //! Pages that are enough needn't stay so as they grow: one more may cost each cycle a quantum more, for which the pages
-//! are then too few. So each number is tried, from the least on. The number is found from which on all are enough.
-ghost use Rattle.std.specs.Prelude.{◌≡◌, ◌+◌, ◌≤◌, ◌<◌, ◌↔◌, IfSome, IsTrue, MatchOption};
+//! are then too few. So numbers are tried from the least on, but for those that are fewer than the cycles of a lesser one
+//! need. The number is found from which on all are enough.
+ghost use Rattle.std.specs.Prelude.{◌≡◌, ◌+◌, ◌^◌, ◌≤◌, ◌<◌, ◌↔◌, ℕ, IfSome, IsTrue, MatchOption};
 ghost use Rattle.mh_model.specs.Limits.{least_quantum};
 ghost use Rattle.mh_sizing.specs.Found.{HasNo, IsChosen, IsEnoughHeap, IsLeast, IsSearched, IsSoFrom, PagesAreEnough, law_of, trigger_by};
 
-use crate::enough::{cycle_quanta, has_all, is_enough};
+use crate::enough::{cycle_quanta, is_enough, meets_demand, pages_needed};
 use crate::needs::{enough_pages, enough_trigger};
 use crate::profile::Profile;
 use mh_model::config::Config;
@@ -59,15 +60,34 @@ fn pages_suffice(pages: u32, config: &Config, profile: &Profile) -> bool
     is_enough(&with_pages(config, pages, pages), profile)
 }
 
+/// The next number of pages to try after one: what cycles in a heap of that need, if it is more. Those between are fewer than
+/// their own cycles need, which take no fewer quanta.
+fn pages_to_try(pages: u32, config: &Config, profile: &Profile) -> u32
+    requires { (1 ≤ pages) × (pages ≤ 4096) }
+    ensures later { pages < result }
+    ensures between { (number : ℕ) → pages < number → number < result → PagesAreEnough profile.now config.now.quantum number → ⊥ }
+    ensures few { result < 2 ^ 32 }
+{
+    let quanta = cycle_quanta(&with_pages(config, pages, pages), &profile.needs);
+    let needed = pages_needed(profile, quanta).min(u128::from(MOST_PAGES) + 1) as u32;
+    let least = match profile.demand {
+        Some(demand) => demand.min(needed),
+        None => needed,
+    };
+    least.max(pages + 1)
+}
+
 /// The fewest pages that are enough with the quantum of a configuration.
 fn fewest_pages(config: &Config, profile: &Profile) -> Option<u32>
     ensures least { MatchOption result (HasNo (PagesAreEnough profile.now config.now.quantum)) (IsLeast (PagesAreEnough profile.now config.now.quantum)) }
     ensures within { IfSome result (λ pages. (1 ≤ pages) × (pages ≤ 4096)) }
 {
-    for pages in 1..MOST_PAGES + 1 {
+    let mut pages = 1;
+    while pages <= MOST_PAGES {
         if pages_suffice(pages, config, profile) {
             return Some(pages);
         }
+        pages = pages_to_try(pages, config, profile);
     }
     None
 }
@@ -101,7 +121,7 @@ fn enough_from(config: &Config, profile: &Profile) -> Option<u32>
 fn law_of(config: &Config, profile: &Profile) -> Law
     ensures { result ≡ law_of profile.now config.now }
 {
-    if has_all(profile, config.pages) {
+    if meets_demand(profile, config.pages) {
         return Law::Demand;
     }
     let quanta = cycle_quanta(config, &profile.needs);

@@ -4,8 +4,8 @@ ghost use Rattle.std.specs.Prelude.{◌≡◌, ◌≤◌, List, length};
 ghost use Rattle.mh_model.specs.declared.command.Event.{Event};
 ghost use Rattle.mh_model.specs.declared.config.Config.{Config};
 ghost use Rattle.mh_model.specs.Classes.{Part};
-ghost use Rattle.mh_sizing_laws.specs.SharpNeeds.{AskOfClasses};
-ghost use Rattle.mh_sizing_laws.specs.SharpPages.{all_asked, fewest_slots, occurring};
+ghost use Rattle.mh_sizing_laws.specs.Made.{MakeOfClasses, parts_made};
+ghost use Rattle.mh_sizing_laws.specs.SharpPages.{fewest_slots, occurring};
 ghost use Rattle.mh_sizing.specs.Openings.{least_slots};
 ghost use Rattle.mh_sizing.specs.PageUnits.{AreOfJust};
 
@@ -28,7 +28,7 @@ pub fn kinds_of(classes: &[Class]) -> Kinds
     ensures kinds { result.kinds ≡ length classes.now }
     ensures least { result.fewest_slots ≡ least_slots classes.now }
     ensures parts { (list : List Part) → AreOfJust classes.now list → (length (occurring list) ≤ result.kinds) × (result.fewest_slots ≡ fewest_slots list) }
-    ensures asked { (config : Config) (events : List Event) → AreOfJust classes.now (all_asked config events) → AskOfClasses result.fewest_slots result.kinds config events }
+    ensures made { (config : Config) (events : List Event) → AreOfJust classes.now (parts_made config events) → MakeOfClasses result.fewest_slots result.kinds config events }
 {
     Kinds {
         kinds: classes.len() as u32,

@@ -1,12 +1,12 @@
 //! The laws by which sized heaps are never full.
 //!
 //! No reply of a run is `heap full` if pages and trigger are enough for what its sessions need: live parts, what
-//! marking them costs, and what each interval asks for and opens. All of these are as the ever-growing world has them.
+//! marking them costs, and what each interval makes and opens. All of these are as the ever-growing world has them.
 //! So it is where small new parts share pages, with as few pages as the sharp law asks for.
 ghost use Rattle.mh_sizing.specs.Sized.{SizedHeapsHaveEnough, SizedRunsAreNeverFull, SharedRunsAreNeverFull, SufficientHeapsAreNeverFull};
 
 use mh_sizing_laws::needs::{
-    enough_for_needs_suffices, needs_are_of_the_scheduler, pages_for_all_suffice,
+    enough_for_needs_suffices, needs_are_of_the_scheduler, pages_for_demand_suffice,
 };
 use mh_sizing_laws::sharp_needs::sharp_enough_for_needs_suffices;
 
@@ -15,14 +15,14 @@ pub fn sized_heaps_have_enough()
     ensures { SizedHeapsHaveEnough }
 {}
 
-/// No reply of a run in it is a full heap, if its sessions need no more.
+/// No reply of a run in it is a full heap, if its sessions make and hold no more.
 pub fn sized_runs_are_never_full()
     ensures { SizedRunsAreNeverFull }
 {
     enough_for_needs_suffices();
 }
 
-/// Nor is one where small parts share pages, if its events ask for parts of no other classes.
+/// Nor is one where small parts share pages, if its events make parts of no other classes.
 pub fn shared_runs_are_never_full()
     ensures { SharedRunsAreNeverFull }
 {
@@ -35,6 +35,6 @@ pub fn sufficient_heaps_are_never_full()
 {
     enough_for_needs_suffices();
     sharp_enough_for_needs_suffices();
-    pages_for_all_suffice();
+    pages_for_demand_suffice();
     needs_are_of_the_scheduler();
 }

@@ -2,7 +2,7 @@
 //! parts share pages asks for these too. So does what their intervals open together, for the law that asks for no more.
 ghost use Rattle.std.specs.Prelude.{IfOk, IfSome, IsNone};
 ghost use Rattle.mh_model.specs.declared.needs.Needs.{Needs};
-ghost use Rattle.mh_model.specs.Needs.{NeedNoMore};
+ghost use Rattle.mh_sizing_laws.specs.Made.{MakeNoMore};
 ghost use Rattle.mh_sizing.specs.Needed.{IsTheProfile, IsTooLarge};
 
 use crate::kinds::Kinds;
@@ -20,7 +20,7 @@ pub struct Profile {
     /// The classes of their parts.
     pub kinds: Kinds,
     /// The most pages that their intervals open, all together. None if no number of 32 bits is known.
-    pub opened_in_all: Option<u32>,
+    pub demand: Option<u32>,
 }
 
 /// What the sessions of a run ask of a heap. There is none if a number that they need has more than 32 bits.
@@ -30,7 +30,7 @@ pub fn profile_of(
     events: &[Event],
 ) -> Result<Option<Profile>, NoMemory>
     ensures profile { IfOk result (λ profile. IfSome profile (λ profile. IsTheProfile profile config events.now)) }
-    ensures none { IfOk result (λ profile. IsNone profile → (needs : Needs) → NeedNoMore needs config events.now → IsTooLarge needs) }
+    ensures none { IfOk result (λ profile. IsNone profile → (needs : Needs) → MakeNoMore needs config events.now → IsTooLarge needs) }
 {
     let mut walk = Walk::open(alloc, config);
     for event in events {
@@ -40,7 +40,7 @@ pub fn profile_of(
         Some(needs) => Ok(Some(Profile {
             needs,
             kinds: walk.kinds(),
-            opened_in_all: walk.opened_in_all(),
+            demand: walk.demand(),
         })),
         None => Ok(None),
     }

@@ -17,9 +17,11 @@ pub fn enough_shared_pages(needs: &Needs, kinds: &Kinds, quanta: u64) -> u128
     ensures { result ≡ enough_shared_pages needs.now kinds.now quanta }
 {
     let opened = u128::from(needs.opened);
+    let few = opened.min(u128::from(kinds.kinds));
     let live = u128::from(needs.live) + u128::from(needs.live / kinds.fewest_slots);
     let quanta = u128::from(quanta);
-    live + 4 * (quanta * opened) + u128::from(kinds.kinds) + quanta - (3 * opened + 1)
+    let intervals = 3 * (quanta * opened) + quanta * few;
+    live + intervals + u128::from(kinds.kinds) + quanta - (2 * opened + few + 1)
 }
 
 /// How many quanta a cycle may take at most if so many pages are enough for it, and 0 if they are for none.
@@ -27,10 +29,11 @@ fn quanta_in_shared(pages: u32, needs: &Needs, kinds: &Kinds) -> u64
     ensures { (quanta : ℕ) → 1 ≤ quanta → (enough_shared_pages needs.now kinds.now quanta ≤ pages) ↔ (quanta ≤ result) }
 {
     let opened = u64::from(needs.opened);
+    let few = opened.min(u64::from(kinds.kinds));
     let live = u64::from(needs.live) + u64::from(needs.live / kinds.fewest_slots);
-    let room = u64::from(pages) + 3 * opened + 1;
+    let room = u64::from(pages) + 2 * opened + few + 1;
     match room.checked_sub(live + u64::from(kinds.kinds)) {
-        Some(rest) => rest / (4 * opened + 1),
+        Some(rest) => rest / (3 * opened + few + 1),
         None => 0,
     }
 }

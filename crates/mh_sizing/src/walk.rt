@@ -2,23 +2,22 @@
 //! it.
 //!
 //! It finds the most live parts at a time, and the most that marking them costs. Of an interval it finds the most parts
-//! that it asks for, and the most pages that these open. By the classes that occur it finds what a page costs a cycle.
+//! that it makes, and the most pages that these open. By the classes that occur it finds what a page costs a cycle.
 //! None are given exactly if a number has more than 32 bits: no heap of 4,096 pages is enough for such needs.
-//! `Walk::kinds` says how many classes occur, and the fewest slots of their pages, and `Walk::opened_in_all` how many
-//! pages all intervals open together.
+//! `Walk::kinds` says how many classes occur, and the fewest slots of their pages, and `Walk::demand` how many pages
+//! all intervals open together.
 //!
-//! A walk that is refused memory is as it was, and only an event that asks for an object may be. A refused object
-//! counts as asked for, unless it is too large for the rules. So one `new` of a large object that a bad slot refuses
-//! may make the needs far greater than what the run takes.
+//! A command that the world refuses makes nothing, and counts nothing. A walk that is refused memory is as it was, and
+//! only an event that asks for an object may be.
 ghost use Rattle.std.specs.Prelude.{◌≡◌, ◌+◌, ◌≤◌, ℕ, [], ◌∷◌, ◌++◌, not, ◌&&◌, ◌==◌, List, ◌^◌, IfOk, IfSome, IsNone, MatchOption, OnErr, OnOk, length};
 ghost use Rattle.mh_model.specs.declared.command.Event.{Event};
 ghost use Rattle.mh_model.specs.declared.command.Event.TheVariants as events;
 ghost use Rattle.mh_model.specs.declared.config.Config.{Config};
 ghost use Rattle.mh_model.specs.declared.needs.Needs.{Needs};
-ghost use Rattle.mh_model.specs.Needs.{WorldRun, NeedNoMore, opened_in_all, runs_quantum};
+ghost use Rattle.mh_model.specs.Needs.{WorldRun, runs_quantum};
 ghost use Rattle.mh_model.specs.World.{IsNew};
-ghost use Rattle.mh_sizing_laws.specs.SharpNeeds.{AskOfClasses};
-ghost use Rattle.mh_sizing_laws.specs.SharpPages.{all_asked, fewest_slots, occurring};
+ghost use Rattle.mh_sizing_laws.specs.Made.{MakeNoMore, MakeOfClasses, demand, parts_made};
+ghost use Rattle.mh_sizing_laws.specs.SharpPages.{fewest_slots, occurring};
 ghost use Rattle.mh_sizing.specs.Needed.{AreTheNeeds, AsksForObject, IsTooLarge};
 ghost use Rattle.mh_sizing.specs.Units.{units_made};
 
@@ -94,7 +93,7 @@ impl Walk {
             return Err(NoMemory);
         }
         let made = self.world.perform(who, command)?;
-        self.asked.ask(&parts);
+        self.asked.ask(&parts, made > 0);
         if self.config.every == 0 {
             return Ok(());
         }
@@ -138,7 +137,7 @@ impl Walk {
     /// What the sessions of the events so far need. None if a number has more than 32 bits.
     pub fn needs(&self) -> Option<Needs>
         ensures needs { (config : Config) (events : List Event) → HasWalked self.now config events → IfSome result (λ needs. AreTheNeeds needs config events) }
-        ensures none { (config : Config) (events : List Event) → HasWalked self.now config events → IsNone result → (needs : Needs) → NeedNoMore needs config events → IsTooLarge needs }
+        ensures none { (config : Config) (events : List Event) → HasWalked self.now config events → IsNone result → (needs : Needs) → MakeNoMore needs config events → IsTooLarge needs }
     {
         let live = in_32_bits(self.world.live())?;
         let marked = in_32_bits(self.world.marked())?;
@@ -154,17 +153,17 @@ impl Walk {
     }
 
     /// The most pages that the intervals of the events so far open, all together. None if they are 2^32 or more.
-    pub fn opened_in_all(&self) -> Option<u32>
-        ensures { (config : Config) (events : List Event) → HasWalked self.now config events → MatchOption result (2 ^ 32 ≤ opened_in_all config events) (λ pages. pages ≡ opened_in_all config events) }
+    pub fn demand(&self) -> Option<u32>
+        ensures { (config : Config) (events : List Event) → HasWalked self.now config events → MatchOption result (2 ^ 32 ≤ demand config events) (λ pages. pages ≡ demand config events) }
     {
-        in_32_bits(self.asked.pages_in_all())
+        in_32_bits(self.asked.demand())
     }
 
-    /// The classes of all parts that the events so far ask for.
+    /// The classes of all parts that the events so far make.
     pub fn kinds(&self) -> Kinds
-        ensures kinds { (config : Config) (events : List Event) → HasWalked self.now config events → result.kinds ≡ length (occurring (all_asked config events)) }
-        ensures least { (config : Config) (events : List Event) → HasWalked self.now config events → result.fewest_slots ≡ fewest_slots (all_asked config events) }
-        ensures asked { (config : Config) (events : List Event) → HasWalked self.now config events → AskOfClasses result.fewest_slots result.kinds config events }
+        ensures kinds { (config : Config) (events : List Event) → HasWalked self.now config events → result.kinds ≡ length (occurring (parts_made config events)) }
+        ensures least { (config : Config) (events : List Event) → HasWalked self.now config events → result.fewest_slots ≡ fewest_slots (parts_made config events) }
+        ensures made { (config : Config) (events : List Event) → HasWalked self.now config events → MakeOfClasses result.fewest_slots result.kinds config events }
     {
         self.asked.kinds()
     }

@@ -1,5 +1,12 @@
+pub mod AskedNeeds
 pub mod BesideRuns
 pub mod NeededParts
 pub mod NeededRuns
 pub mod OpenedInAll
 pub mod OtherConfigs
+pub mod FullWorlds
+pub mod Accepted
+pub mod AcceptedRuns
+pub mod MadeRuns
+pub mod ShortIntervals
+pub mod Windows

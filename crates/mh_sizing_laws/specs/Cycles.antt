@@ -1,5 +1,5 @@
 -- Laws of cycles whose heap has few blocks to mark, or blocks of few classes.
-use Rattle.std.specs.Prelude.{ℕ, ◌*◌, ◌≤◌, ◌<◌, List}
+use Rattle.std.specs.Prelude.{ℕ, ◌*◌, ◌<◌, List}
 use Rattle.std.specs.List.{flat_map}
 use Rattle.mh_model.specs.declared.command.Event.{Event}
 use Rattle.mh_model.specs.declared.config.Config.{Config}

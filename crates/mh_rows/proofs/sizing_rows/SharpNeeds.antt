@@ -1,5 +1,5 @@
 -- The pages that runs of small parts need, with pages of their own and with shared ones.
-use Rattle.std.proofs.Common.{◌≡◌, ℕ, zero, suc, ◌+◌, ◌-◌, ◌*◌, ◌/◌, Bool, false, Option, Some, None, List, [], ◌∷◌, length, map, refl}
+use Rattle.std.proofs.Common.{◌≡◌, ℕ, zero, suc, ◌+◌, ◌-◌, ◌*◌, ◌/◌, min, Bool, false, Option, Some, None, List, [], ◌∷◌, length, map, refl}
 use Rattle.mh_model.specs.declared.command.Command.TheVariants.{New}
 use Rattle.mh_model.specs.declared.command.Event.{Event}
 use Rattle.mh_model.specs.declared.command.Event.TheVariants as event
@@ -40,7 +40,9 @@ needed (Some config) quanta most events =
     let opened = opens_at_most config events in
     let asked = asked_count config events in
     let list = all_asked config events in
-    ((most + (quanta * asked + quanta * opened)) - asked) ∷ ((most + most / fewest_slots list + 4 * (quanta * opened) + length (occurring list) + quanta) - (3 * opened + 1)) ∷ []
+    let kinds = length (occurring list) in
+    let few = min opened kinds in
+    ((most + (quanta * asked + quanta * opened)) - asked) ∷ ((most + most / fewest_slots list + 3 * (quanta * opened) + quanta * few + kinds + quanta) - (2 * opened + few + 1)) ∷ []
 
 -- what the intervals of a run open, and the free pages that its cycles leave
 abbrev opened_and_left : Option Config → List Event → List (List ℕ)
@@ -78,6 +80,11 @@ a_page_of_parts = refl
 -- 640 live parts fill ten pages more than the one that each may keep
 pub many_live : needed (configured 13 1000 2 8) 3 640 (tiny 64) ≡ 771 ∷ 662 ∷ []
 many_live = refl
+
+-- 200 open four pages, and leave one of them with room, since they are of one class
+-- refuses: an interval leaves as many pages with room as it opens
+pub four_pages : needed (configured 13 1000 2 8) 3 1 (tiny 200) ≡ 413 ∷ 34 ∷ []
+four_pages = refl
 
 -- a cycle within one quantum needs pages for live parts, for what one interval opens, and for each class
 pub one_quantum : needed (configured 4 1000 1 8) 1 1 (wide 8) ≡ 3 ∷ 4 ∷ []

@@ -16,10 +16,11 @@ use Rattle.mh_model.specs.Snapshot.{Moment, first_moment, is_heap_full, world_be
 use Rattle.mh_model.specs.Intervals.{intervals}
 use Rattle.mh_model.specs.CycleUnits.{snapshots}
 use Rattle.mh_model.specs.LiveParts.{worlds}
-use Rattle.mh_model.specs.Needs.{WorldRun, first_run, half_run, runs_quantum, next_run, run_worlds, run_intervals}
+use Rattle.mh_model.specs.Needs.{WorldRun, first_run, half_run, runs_quantum, next_run, run_worlds}
 use Rattle.mh_laws.proofs.bounds.CyclesInTime.{StaysInBounds, run-stays}
 use Rattle.mh_run_laws.proofs.following.AllCommands.{commands-follow}
 use Rattle.mh_run_laws.proofs.runs.FaithfulMoments.{replies-worlds}
+use Rattle.mh_sizing_laws.proofs.needs.AskedNeeds.{run_intervals}
 use Rattle.mh_sizing_laws.proofs.triggers.SizedRuns.{next-stays, half-stays}
 use Rattle.mh_sizing_laws.proofs.pages_left.GrownWorlds.{event-grows}
 
@@ -47,7 +48,7 @@ after-units machine (event.Control control.Dump) = refl
 after-units machine (event.Control control.Left) = refl
 after-units machine (event.Control (control.Report window)) = refl
 
-after-run : (run : WorldRun) (event : Event) → (next_run run event).units ≡ (if runs_quantum run event then 0 else (half_run run event).units)
+pub after-run : (run : WorldRun) (event : Event) → (next_run run event).units ≡ (if runs_quantum run event then 0 else (half_run run event).units)
 after-run run event = go (runs_quantum run event)
   where
     go : (cut : Bool) → (if cut then record { world = (half_run run event).world; units = 0 } else half_run run event).units ≡ (if cut then 0 else (half_run run event).units)

@@ -18,8 +18,9 @@ use Rattle.mh_model.specs.Openings.{asked_parts, opens_at_most}
 use Rattle.mh_model.specs.Intervals.{moments, intervals, CyclesTakeAtMost}
 use Rattle.mh_model.specs.CycleUnits.{ReachesAtMost, CyclesReachAtMost, most_slots, most_moves, units_for, quanta_for}
 use Rattle.mh_model.specs.LiveParts.{worlds}
-use Rattle.mh_model.specs.Needs.{first_run, run_worlds, run_intervals, AreEnoughQuanta, NeedNoMore, units_needed, quanta_needed}
+use Rattle.mh_model.specs.Needs.{first_run, run_worlds, AreEnoughQuanta, units_needed, quanta_needed}
 use Rattle.mh_model.specs.Limits.{quantum_overhead}
+use Rattle.mh_sizing_laws.proofs.needs.AskedNeeds.{AskNoMore, run_intervals}
 use Rattle.mh_sizing_laws.specs.PagesLeft.{NeverFills}
 use Rattle.mh_sizing_laws.proofs.openings.Intervals.{asked_of, asked-append}
 use Rattle.mh_sizing_laws.proofs.openings.MadeParts.{pages_of-more}
@@ -42,7 +43,7 @@ pub record IsStart (config : Config) (events done more : List Event) : Type 0 wh
   pub split : done ++ more ≡ events
   pub none : NoneIsFull (machine_replies (first_machine config) done)
 
-module _ (needs : Needs) (config : Config) (events : List Event) (need : NeedNoMore needs config events) where
+module _ (needs : Needs) (config : Config) (events : List Event) (need : AskNoMore needs config events) where
   -- a start asks for no more parts of a class than the whole
   pub asked-fewer : (done more : List Event) → IsStart config events done more → (size : ℕ) → asked_of config (done ++ first_of more) size ≤ asked_of config events size
   asked-fewer done more start size = omega (arith, asked-append config done (first_of more) size, asked-append config done more size, asked-first config more size, ap (λ list. asked_of config list size) start.split)

@@ -7,9 +7,11 @@ use Rattle.mh_model.specs.declared.command.Event.{Event}
 use Rattle.mh_model.specs.declared.config.Config.{Config}
 use Rattle.mh_model.specs.declared.needs.Needs.{Needs}
 use Rattle.mh_model.specs.Openings.{asked_parts, asked_count}
+use Rattle.mh_model.specs.Intervals.{CyclesTakeAtMost}
 use Rattle.mh_model.specs.LiveParts.{HasAtMostLive, HasPagesFor}
-use Rattle.mh_model.specs.Needs.{NeedNoMore, HasEnoughFor}
-use Rattle.mh_sizing_laws.specs.Needs.{EnoughForNeedsSuffices}
+use Rattle.mh_model.specs.Needs.{HasEnoughFor}
+use Rattle.mh_sizing_laws.proofs.needs.AskedNeeds.{AskNoMore}
+use Rattle.mh_sizing_laws.specs.PagesLeft.{NeverFills}
 use Rattle.mh_sizing_laws.proofs.pages_left.SizedPages.{pages-suffice}
 use Rattle.mh_sizing_laws.proofs.pages_left.MarkedPages.{reached-pages-suffice}
 use Rattle.mh_sizing_laws.proofs.needs.BesideRuns.{first_of}
@@ -18,7 +20,7 @@ use Rattle.mh_sizing_laws.proofs.needs.NeededParts.{IsStart, start-worlds, start
 asked-start : (config : Config) (asked : ℕ) (before later : List Event) → asked_count config (before ++ later) ≤ asked → asked_count config before ≤ asked
 asked-start config asked before later few = omega (arith, few, ap (λ list. length list) (flat_map-append (asked_parts config) before later), length-append (flat_map (asked_parts config) before) (flat_map (asked_parts config) later))
 
-module _ (needs : Needs) (config : Config) (events : List Event) (need : NeedNoMore needs config events) (quanta : ℕ) (has : HasEnoughFor needs config quanta) where
+module _ (needs : Needs) (config : Config) (events : List Event) (need : AskNoMore needs config events) (quanta : ℕ) (has : HasEnoughFor needs config quanta) where
   -- a start of the run has pages for its cycles, up to the next event
   start-pages : (done more : List Event) → IsStart config events done more → (less : ℕ) → less ≤ quanta → HasPagesFor config (done ++ first_of more) less needs.opened needs.asked needs.live
   start-pages done more start less few =
@@ -32,9 +34,9 @@ module _ (needs : Needs) (config : Config) (events : List Event) (need : NeedNoM
         live = start-worlds needs config events need (HasAtMostLive needs.live) done more start need.live;
       }
 
--- Enough for needs suffices
-pub enough-suffices : EnoughForNeedsSuffices
-enough-suffices needs config events quanta need has =
+-- Enough for what sessions ask for suffices
+pub enough-asked : (needs : Needs) (config : Config) (events : List Event) (quanta : ℕ) → AskNoMore needs config events → HasEnoughFor needs config quanta → CyclesTakeAtMost quanta config events × NeverFills config events quanta needs.opened
+enough-asked needs config events quanta need has =
     run-never-fills needs config events need (λ part less. HasPagesFor config part less needs.opened needs.asked needs.live) quanta (record {
       bound = has.bound;
       has = start-pages needs config events need quanta has;

@@ -12,9 +12,9 @@ use Rattle.mh_model.specs.Table.{Block}
 use Rattle.mh_model.specs.Machine.{Machine, event_step, machine_replies}
 use Rattle.mh_model.specs.Snapshot.{Moment, first_moment, is_heap_full, half_moment, next_moment, has_quantum}
 use Rattle.mh_model.specs.Openings.{class_parts, asked_parts, opens_at_most}
-use Rattle.mh_model.specs.Intervals.{LeaveFlagged}
-use Rattle.mh_model.specs.Needs.{WorldRun, first_run, runs_quantum, next_run, run_intervals}
-use Rattle.mh_sizing_laws.specs.Needs.{PagesForAllSuffice}
+use Rattle.mh_model.specs.Intervals.{LeaveFlagged, IsNeverFull}
+use Rattle.mh_model.specs.Needs.{WorldRun, first_run, runs_quantum, next_run}
+use Rattle.mh_sizing_laws.proofs.needs.AskedNeeds.{opened_in_all, run_intervals}
 use Rattle.mh_sizing_laws.proofs.openings.MadeParts.{pages_of}
 use Rattle.mh_sizing_laws.proofs.openings.Intervals.{asked_of, IsSince}
 use Rattle.mh_sizing_laws.proofs.triggers.Commands.{event-served}
@@ -101,7 +101,7 @@ module _ (config : Config) where
       ((served.reply, rest.0), (served.flagged.flagged, rest.1))
 
 -- Pages for all intervals together suffice
-pub all-suffice : PagesForAllSuffice
+pub all-suffice : (config : Config) (events : List Event) → opened_in_all config events ≤ config.pages → IsNeverFull config events
 all-suffice config events few =
     let first : Moment = first_moment config in
     let ready = ready-first config 0 0 (omega arith) in

@@ -1,8 +1,8 @@
 -- Runs of the ever-growing world in two configurations with the same rules and scheduler: they have the same objects, slots and units, so what is needed
 -- is the same.
 use mathlib.Core.Path.{fun_ext}
-use Rattle.std.proofs.Common.{◌≡◌, ℕ, ◌+◌, ◌==◌, ◌≤◌, nat_le, nat_lt, not, Bool, true, false, ◌&&◌, if◌then◌else◌, Option, Some, None, option_map, List, [], ◌∷◌, ◌++◌, length, set, refl, sym, ap, ap₂, ◌∙◌, subst}
-use Rattle.std.specs.List.{AllByRecursion, flat_map, sum_by}
+use Rattle.std.proofs.Common.{◌≡◌, ℕ, ◌+◌, ◌==◌, ◌≤◌, nat_le, nat_lt, not, Bool, true, false, ◌&&◌, if◌then◌else◌, Option, Some, None, is_none, option_map, List, [], ◌∷◌, ◌++◌, length, set, refl, sym, ap, ap₂, ◌∙◌, subst}
+use Rattle.std.specs.List.{AllByRecursion, sum_by}
 use Rattle.mh_model.specs.declared.command.Command.{Command}
 use Rattle.mh_model.specs.declared.command.Command.TheVariants as command
 use Rattle.mh_model.specs.declared.command.Control.TheVariants as control
@@ -16,11 +16,12 @@ use Rattle.mh_model.specs.declared.reply.Reply.TheVariants as reply
 use Rattle.mh_model.specs.World.{Answer, Object, World, most_fields_under, own_slot, slot_at, object_named, shape_of, number_of, reference_of, shape_reply, refusal, effect, with_change, with_number, with_reference, done, says, unless_refused, sight_of, never_full, world_step, heap_step}
 use Rattle.mh_model.specs.Paths.{IsPath, Reachable}
 use Rattle.mh_model.specs.Classes.{Part, parts}
-use Rattle.mh_model.specs.Openings.{asked_parts, asked_count, opens_at_most, pages_of_parts}
+use Rattle.mh_model.specs.Openings.{asked_parts, pages_of_parts}
 use Rattle.mh_model.specs.CycleUnits.{ReachesAtMost, most_slots, most_moves}
 use Rattle.mh_model.specs.LiveParts.{HasAtMostLive}
 use Rattle.mh_model.specs.Machine.{command_units}
-use Rattle.mh_model.specs.Needs.{WorldRun, first_run, half_run, runs_quantum, next_run, run_worlds, run_intervals}
+use Rattle.mh_model.specs.Needs.{WorldRun, first_run, half_run, runs_quantum, next_run, run_worlds}
+use Rattle.mh_sizing_laws.specs.Made.{made_parts, parts_made_in, intervals_made_in}
 use Rattle.mh_sizing_laws.specs.Needs.{HasSameScheduler, NeedsAreOfTheScheduler}
 use Rattle.mh_sizing_laws.proofs.needs.BesideRuns.{after-world, config-kept}
 
@@ -116,7 +117,7 @@ module _ (other : Config) where
   stays-same : (run : WorldRun) (event : Event) → HasSameScheduler run.world.config other → HasSameScheduler (next_run run event).world.config other
   stays-same run event same = subst (λ (config : Config). HasSameScheduler config other) (sym (ap (λ (w : World). w.config) (after-world run event) ∙ config-kept run event)) same
 
-  -- What is needed -------------------------------------------------------------------------------
+  -- What is made ---------------------------------------------------------------------------------
 
   parts-same : (config : Config) → other.rules ≡ config.rules → (event : Event) → asked_parts other event ≡ asked_parts config event
   parts-same config rules (event.Session who (command.New slot references numbers)) = ap (λ (most : ℕ). if nat_lt most (references + numbers) then [] else parts references numbers) (ap most_fields_under rules)
@@ -133,15 +134,25 @@ module _ (other : Config) where
   parts-same config rules (event.Session who command.End) = refl
   parts-same config rules (event.Control control) = refl
 
-  asked-same : (config : Config) → other.rules ≡ config.rules → (asked_parts other) ≡ (asked_parts config)
-  asked-same config rules = fun_ext (parts-same config rules)
+  made-same : (run : WorldRun) (event : Event) → other.rules ≡ run.world.config.rules → made_parts (run_in run) event ≡ made_parts run event
+  made-same run (event.Session who command) rules =
+      ap₂ (λ (refused : Option Refusal) (list : List Part). if is_none refused then list else []) (refusal-same run.world rules who command) (parts-same run.world.config rules (event.Session who command))
+  made-same run (event.Control control) rules = refl
 
-  intervals-same : (events before : List Event) (run : WorldRun) → HasSameScheduler run.world.config other → run_intervals before (run_in run) events ≡ run_intervals before run events
+  all-same : (events : List Event) (run : WorldRun) → HasSameScheduler run.world.config other → parts_made_in (run_in run) events ≡ parts_made_in run events
+  all-same [] run same = refl
+  all-same (event ∷ events) run same =
+      ap₂ (λ (list : List Part) (after : WorldRun). list ++ parts_made_in after events) (made-same run event same.rules) (next-same run event same)
+      ∙ ap (λ (list : List Part). made_parts run event ++ list) (all-same events (next_run run event) (stays-same run event same))
+
+  intervals-same : (events : List Event) (before : List Part) (run : WorldRun) → HasSameScheduler run.world.config other → intervals_made_in before (run_in run) events ≡ intervals_made_in before run events
   intervals-same [] before run same = refl
   intervals-same (event ∷ events) before run same =
       let next : WorldRun = next_run run event in
-      ap₂ (λ (cut : Bool) (after : WorldRun). if cut then (before ++ event ∷ []) ∷ run_intervals [] after events else run_intervals (before ++ event ∷ []) after events) (quantum-same run event same) (next-same run event same)
-      ∙ ap₂ (λ (first : List (List Event)) (going : List (List Event)). if runs_quantum run event then (before ++ event ∷ []) ∷ first else going) (intervals-same events [] next (stays-same run event same)) (intervals-same events (before ++ event ∷ []) next (stays-same run event same))
+      let now : List Part = before ++ made_parts run event in
+      ap₂ (λ (cut : Bool) (after : WorldRun). if cut then (before ++ made_parts (run_in run) event) ∷ intervals_made_in [] after events else intervals_made_in (before ++ made_parts (run_in run) event) after events) (quantum-same run event same) (next-same run event same)
+      ∙ ap (λ (list : List Part). if runs_quantum run event then (before ++ list) ∷ intervals_made_in [] (run_in next) events else intervals_made_in (before ++ list) (run_in next) events) (made-same run event same.rules)
+      ∙ ap₂ (λ (first : List (List Part)) (going : List (List Part)). if runs_quantum run event then now ∷ first else going) (intervals-same events [] next (stays-same run event same)) (intervals-same events now next (stays-same run event same))
 
   path-same : (world : World) (birth : ℕ) (path : List ℕ) → IsPath (in_other world) birth path → IsPath world birth path
   path-same world birth [] is = is
@@ -160,16 +171,13 @@ module _ (other : Config) where
 -- What is needed is of the scheduler
 pub of-scheduler : NeedsAreOfTheScheduler
 of-scheduler = record {
-  needs = λ needs config other events same need. record {
-    live = worlds-same other (HasAtMostLive needs.live) (λ world few list once reached. few list once (all-reached other world list reached)) events (first_run config) same need.live;
-    marked = worlds-same other (ReachesAtMost needs.marking_units) (λ world few list once reached. few list once (all-reached other world list reached)) events (first_run config) same need.marked;
-    asked = subst (λ (ask : Event → List Part). AllByRecursion (λ interval. length (flat_map ask interval) ≤ needs.asked) (run_intervals [] (first_run other) events)) (sym (asked-same other config same.rules))
-        (subst (AllByRecursion (λ interval. asked_count config interval ≤ needs.asked)) (sym (intervals-same other events [] (first_run config) same)) need.asked);
-    opened = subst (λ (ask : Event → List Part). AllByRecursion (λ interval. pages_of_parts (flat_map ask interval) ≤ needs.opened) (run_intervals [] (first_run other) events)) (sym (asked-same other config same.rules))
-        (subst (AllByRecursion (λ interval. opens_at_most config interval ≤ needs.opened)) (sym (intervals-same other events [] (first_run config) same)) need.opened);
-    page = subst (λ (ask : Event → List Part). most_slots (flat_map ask events) + most_moves (flat_map ask events) ≤ needs.page_units) (sym (asked-same other config same.rules)) need.page;
+  needs = λ needs config other events same make. record {
+    live = worlds-same other (HasAtMostLive needs.live) (λ world few list once reached. few list once (all-reached other world list reached)) events (first_run config) same make.live;
+    marked = worlds-same other (ReachesAtMost needs.marking_units) (λ world few list once reached. few list once (all-reached other world list reached)) events (first_run config) same make.marked;
+    asked = subst (AllByRecursion (λ interval. length interval ≤ needs.asked)) (sym (intervals-same other events [] (first_run config) same)) make.asked;
+    opened = subst (AllByRecursion (λ interval. pages_of_parts interval ≤ needs.opened)) (sym (intervals-same other events [] (first_run config) same)) make.opened;
+    page = subst (λ (list : List Part). most_slots list + most_moves list ≤ needs.page_units) (sym (all-same other events (first_run config) same)) make.page;
   };
-  together = λ config other events same.
-      ap₂ (λ (ask : Event → List Part) (list : List (List Event)). sum_by (λ (interval : List Event). pages_of_parts (flat_map ask interval)) list) (asked-same other config same.rules) (intervals-same other events [] (first_run config) same);
-  parts = λ config other events same. ap (λ (ask : Event → List Part). flat_map ask events) (asked-same other config same.rules);
+  demanded = λ config other events same. ap (sum_by pages_of_parts) (intervals-same other events [] (first_run config) same);
+  parts = λ config other events same. all-same other events (first_run config) same;
 }

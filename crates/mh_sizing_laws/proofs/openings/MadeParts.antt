@@ -209,7 +209,7 @@ pub among-classes : (size : ℕ) → is_class_size size ≡ true → IsAmong siz
 unfolding is_class_size
 among-classes size member = member
 
-among-is_class : (size : ℕ) → IsAmong size class_sizes → is_class_size size ≡ true
+pub among-is_class : (size : ℕ) → IsAmong size class_sizes → is_class_size size ≡ true
 unfolding is_class_size
 among-is_class size member = member
 
@@ -246,7 +246,7 @@ least-pages slots pages count some room = elim (cases_lt (div_ceil count slots) 
 ]
 
 -- more blocks are in more pages
-more-pages : (slots count more : ℕ) → 0 < slots → count ≤ more → div_ceil count slots ≤ div_ceil more slots
+pub more-pages : (slots count more : ℕ) → 0 < slots → count ≤ more → div_ceil count slots ≤ div_ceil more slots
 more-pages slots count more some larger =
     let pages : ℕ = div_ceil count slots in
     least-pages slots pages more some (omega (arith, larger, mul_comm slots pages, (div_ceil_times count slots some).1))

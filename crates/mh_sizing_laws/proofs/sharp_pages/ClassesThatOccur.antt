@@ -63,7 +63,7 @@ module _ (test : ℕ → Bool) where
 
 -- Classes that occur -----------------------------------------------------------------------------
 
-classes-once : NoneTwice class_sizes
+pub classes-once : NoneTwice class_sizes
 unfolding IsDistinct
 classes-once = search rules depth 200
 
@@ -153,12 +153,23 @@ pub filled-pages : (size count : ℕ) → is_class_size size ≡ true → count 
 filled-pages size count class = omega (arith, (div_ceil_times count (slots_in size) (slots_in-class_size size class).0).0, mul_comm (slots_in size) (pages_for size count))
 
 -- with one page more that isn't filled
-pub open-page : (size count : ℕ) → is_class_size size ≡ true → 1 ≤ count → slots_in size ≤ slots_in size * pages_for size count
+pub open-page : (size count : ℕ) → is_class_size size ≡ true → 1 ≤ count → slots_in size ≤ slots_in size * min 1 (pages_for size count)
 open-page size count class some = go (pages_for size count) (filled-pages size count class)
   where
-    go : (pages : ℕ) → count ≤ slots_in size * pages → slots_in size ≤ slots_in size * pages
+    go : (pages : ℕ) → count ≤ slots_in size * pages → slots_in size ≤ slots_in size * min 1 pages
     go zero few = absurd (omega (arith, few, some))
-    go (suc pages) few = let product : slots_in size * 1 ≤ slots_in size * suc pages = mul-le-mul_left (slots_in size) (omega arith) in omega (arith, product)
+    go (suc pages) few = let one : min 1 (suc pages) ≡ 1 = omega arith in omega (arith, ap (λ n. slots_in size * n) one)
+
+-- the classes of which an interval makes parts: no more than it opens pages, nor than occur
+abbrev pub few_of : ℕ → List Part → ℕ
+few_of opened list = min opened (length (occurring list))
+
+pub few-classes : (pages : ℕ → ℕ) (opened : ℕ) (list : List Part) → sum_by pages (occurring list) ≤ opened → sum_by (λ k. min 1 (pages k)) (occurring list) ≤ few_of opened list
+few-classes pages opened list opens =
+    let sizes : List ℕ = occurring list in
+    let fewer : sum_by (λ k. min 1 (pages k)) sizes ≤ sum_by pages sizes = sum-below (λ k. min 1 (pages k)) pages sizes (λ k among. omega arith) in
+    let ones : sum_by (λ k. min 1 (pages k)) sizes ≤ sum_by (λ (k : ℕ). 1) sizes = sum-below (λ k. min 1 (pages k)) (λ k. 1) sizes (λ k among. omega arith) in
+    omega (arith, fewer, ones, opens, sum-ones sizes)
 
 -- Fewer parts ------------------------------------------------------------------------------------
 

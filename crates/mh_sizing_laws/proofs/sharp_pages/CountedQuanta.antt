@@ -22,7 +22,7 @@ use Rattle.mh_sizing_laws.proofs.filling.Ages.{ages}
 use Rattle.mh_sizing_laws.proofs.filling.Fillings.{fills-more}
 use Rattle.mh_sizing_laws.proofs.filling.PageWeights.{resting}
 use Rattle.mh_sizing_laws.proofs.sharp_pages.ClassSums.{sum-below}
-use Rattle.mh_sizing_laws.proofs.sharp_pages.ClassesThatOccur.{occurring-once, occurring-classes, sum-both, sum-ones, sum-none}
+use Rattle.mh_sizing_laws.proofs.sharp_pages.ClassesThatOccur.{few_of, occurring-once, occurring-classes, sum-both, sum-ones, sum-none}
 use Rattle.mh_sizing_laws.proofs.sharp_pages.CycleQuanta.{quantum-goes, quantum-starts}
 use Rattle.mh_sizing_laws.proofs.sharp_pages.CycleSteps.{Goes}
 use Rattle.mh_sizing_laws.proofs.sharp_pages.SharpStates.{Rests, IsCounted, begun, filled}
@@ -40,9 +40,9 @@ goes-more sizes from most bound larger base more fresh later c above beyond larg
   };
 }
 
-module _ (config : Config) (quanta opened most unit : ℕ) (unit_is : unit ≡ opened + opened + 1) (list : List Part) where
+module _ (config : Config) (quanta opened most unit : ℕ) (list : List Part) (unit_is : unit ≡ opened + few_of opened list + 1) where
   abbrev Counted : ℕ → ℕ → Collector → Type 0
-  Counted = IsCounted config quanta opened most unit unit_is list
+  Counted = IsCounted config quanta opened most unit list unit_is
 
   -- a heap whose cycle a quantum goes on with
   pub record IsAtWork (snapshot world : World) (heap : HeapState) : Type 0 where
@@ -69,7 +69,7 @@ module _ (config : Config) (quanta opened most unit : ℕ) (unit_is : unit ≡ o
   }
 
   -- A quantum that starts one
-  pub counted-start : (count : ℕ) (snapshot world : World) (heap : HeapState) → IsAtWork snapshot world heap → HasAtMostLive most world → is_start_due heap.config heap.collector ≡ true → heap.collector.phase ≡ Idle → Rests config quanta opened most unit unit_is list heap.collector
+  pub counted-start : (count : ℕ) (snapshot world : World) (heap : HeapState) → IsAtWork snapshot world heap → HasAtMostLive most world → is_start_due heap.config heap.collector ≡ true → heap.collector.phase ≡ Idle → Rests config quanta opened most unit list unit_is heap.collector
       → Counted (births world) (suc count) (quantum heap.config heap.collector).collector
   counted-start count snapshot world heap work live due idle rests =
       let sizes : List ℕ = occurring list in
@@ -79,7 +79,7 @@ module _ (config : Config) (quanta opened most unit : ℕ) (unit_is : unit ≡ o
       let same : (k : ℕ) → base k + slots_in k ≡ rests.old k + slots_in k * touched k = λ k. omega (arith, mul-add (slots_in k) (rests.born k) 1) in
       let quotients = sum-below (λ k. (base k + slots_in k) / slots_in k) (λ k. (rests.old k + slots_in k * touched k) / slots_in k) sizes (λ k among. omega (arith, ap (λ n. n / slots_in k) (same k))) in
       let goes = quantum-starts sizes most (occurring-once list) (occurring-classes list) bound base heap snapshot world work.keeps work.agrees work.slots work.classes work.blocks live due idle rests.fill (omega (arith, quotients)) in
-      let pages : sum_by touched sizes + (unit + opened) ≤ begun config quanta opened most unit unit_is list + suc count * unit = omega (arith, sum-both rests.born (λ k. 1) sizes, sum-ones sizes, rests.births, suc-mul count unit) in
+      let pages : sum_by touched sizes + (unit + opened) ≤ begun config quanta opened most unit list unit_is + suc count * unit = omega (arith, sum-both rests.born (λ k. 1) sizes, sum-ones sizes, rests.births, suc-mul count unit) in
       record {
         old = rests.old;
         touched = touched;
@@ -88,7 +88,7 @@ module _ (config : Config) (quanta opened most unit : ℕ) (unit_is : unit ≡ o
         few = rests.few;
         pages = pages;
         births = omega (arith, sum-none sizes, suc-mul count opened);
-        limit = filled config quanta opened most unit unit_is list rests.old touched (suc count) rests.few pages;
+        limit = filled config quanta opened most unit list unit_is rests.old touched (suc count) rests.few pages;
         goes = goes-more sizes (births world) most bound bound (λ k. base k + slots_in k) (λ k. rests.old k + slots_in k * touched k) (λ k. 0) (λ k. slots_in k * 0) (quantum heap.config heap.collector).collector
             (λ k. omega (arith, same k)) (λ k. omega arith) (omega arith) (omega arith) goes;
       }

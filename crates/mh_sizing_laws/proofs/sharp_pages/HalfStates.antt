@@ -19,6 +19,7 @@ use Rattle.mh_sizing_laws.proofs.pages_left.FedCommands.{mutator_step-feeds}
 use Rattle.mh_sizing_laws.proofs.pages_left.SweptPages.{HasItsBlocks, fed-blocks}
 use Rattle.mh_sizing_laws.proofs.filling.FilledTables.{AllFill}
 use Rattle.mh_sizing_laws.proofs.filling.PageWeights.{resting-allows, newborn-allows, marking-allows}
+use Rattle.mh_sizing_laws.proofs.sharp_pages.ClassesThatOccur.{few_of}
 use Rattle.mh_sizing_laws.proofs.sharp_pages.CycleSteps.{passed_by, entered_by}
 use Rattle.mh_sizing_laws.proofs.sharp_pages.Intervals.{marking_family, newborn_family, half-fill, interval-fill}
 use Rattle.mh_sizing_laws.proofs.sharp_pages.Moves.{resting_family, fill-rested}
@@ -47,15 +48,15 @@ unfolding command_step
 half-classes Fits config machine (event.Session who command) same fit has = command-classes Fits machine.heap who command (subst (λ c. PartsFit Fits (asked_parts c (event.Session who command))) (sym same) fit) has
 half-classes Fits config machine (event.Control control) same fit has = has
 
-module _ (config : Config) (quanta opened most unit : ℕ) (unit_is : unit ≡ opened + opened + 1) (list : List Part) where
+module _ (config : Config) (quanta opened most unit : ℕ) (list : List Part) (unit_is : unit ≡ opened + few_of opened list + 1) where
   abbrev MarksOf : ℕ → List Event → Collector → Type 0
-  MarksOf = Marks config quanta opened most unit unit_is list
+  MarksOf = Marks config quanta opened most unit list unit_is
 
   abbrev MovesOf : List Event → Machine → Type 0
-  MovesOf = Moves config quanta opened most unit unit_is list
+  MovesOf = Moves config quanta opened most unit list unit_is
 
   abbrev RestsOf : Collector → Type 0
-  RestsOf = Rests config quanta opened most unit unit_is list
+  RestsOf = Rests config quanta opened most unit list unit_is
 
   module _ (before : List Event) (machine : Machine) (event : Event) (stays : StaysInBounds config machine) (slots : HaveTheirSlots machine.heap.collector.table) where
     abbrev half : Machine

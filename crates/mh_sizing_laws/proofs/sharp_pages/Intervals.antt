@@ -1,5 +1,5 @@
 -- What blocks that are made in an interval add to the weights of pages, and what stands as it ends.
-use Rattle.std.proofs.Common.{◌≡◌, inl, inr, ℕ, zero, suc, ◌+◌, ◌*◌, ◌≤◌, ◌==◌, nat_lt, Bool, true, false, if◌then◌else◌, Option, Some, None, List, [], ◌∷◌, ◌++◌, refl, ap, subst, arith}
+use Rattle.std.proofs.Common.{◌≡◌, inl, inr, ℕ, zero, suc, ◌+◌, ◌*◌, ◌≤◌, ◌==◌, min, nat_lt, Bool, true, false, if◌then◌else◌, Option, Some, None, List, [], ◌∷◌, ◌++◌, refl, ap, subst, arith}
 use Rattle.std.proofs.Math.Nat.{mul-add}
 use Rattle.std.proofs.lemmas.Bool.{cases_lt, lt-ltb, ltb-true}
 use Rattle.mh_model.specs.declared.command.Event.{Event}
@@ -54,19 +54,19 @@ module _ (from passed entered k count base : ℕ) (class : is_class_size k ≡ t
   more-idle false old false false true all blocks = omega arith
   more-idle false old false false false all blocks = omega arith
 
-  -- As an interval ends each class has filled its pages but one
-  pub marking-closed : Fills (marking from passed entered k) count (base + count) (ages table) → weights (weigh k (traced from passed entered 0 (slots_in k))) (ages table) ≤ base + slots_in k * (pages_for k count + pages_for k count)
+  -- As an interval ends each class that it made has filled its pages but one
+  pub marking-closed : Fills (marking from passed entered k) count (base + count) (ages table) → weights (weigh k (traced from passed entered 0 (slots_in k))) (ages table) ≤ base + slots_in k * (pages_for k count + min 1 (pages_for k count))
   marking-closed fills = omega (arith, less, all fills)
     where
       less : weights (weigh k (traced from passed entered 0 (slots_in k))) (ages table) ≤ weights (weigh k (traced from passed entered (slots_in k) (slots_in k))) (ages table)
       less = weigh-less k (traced from passed entered 0 (slots_in k)) (traced from passed entered (slots_in k) (slots_in k)) (ages table)
           (λ number page at own. more-idle (nat_lt 0 (youngs from page.slots)) (nat_lt 0 (olds from page.slots)) (nat_lt number passed) (nat_lt number entered) (nat_lt 0 (empties page.slots)) (slots_in k) (block_count page.slots))
 
-      all : Fills (marking from passed entered k) count (base + count) (ages table) → weights (weigh k (traced from passed entered (slots_in k) (slots_in k))) (ages table) ≤ base + slots_in k * (pages_for k count + pages_for k count)
-      all (inl light) = omega (arith, light, filled-pages k count class, mul-add (slots_in k) (pages_for k count) (pages_for k count))
+      all : Fills (marking from passed entered k) count (base + count) (ages table) → weights (weigh k (traced from passed entered (slots_in k) (slots_in k))) (ages table) ≤ base + slots_in k * (pages_for k count + min 1 (pages_for k count))
+      all (inl light) = omega (arith, light, filled-pages k count class, mul-add (slots_in k) (pages_for k count) (min 1 (pages_for k count)))
       all (inr at) =
           let has = have_their_slots birth_of table slots at.number at.page at.in_use in
-          omega (arith, at.weight, blocks-empties at.page.slots, has.slots, ap slots_in at.class, filled-pages k count class, open-page k count class at.some, mul-add (slots_in k) (pages_for k count) (pages_for k count))
+          omega (arith, at.weight, blocks-empties at.page.slots, has.slots, ap slots_in at.class, filled-pages k count class, open-page k count class at.some, mul-add (slots_in k) (pages_for k count) (min 1 (pages_for k count)))
 
   pub newborn-closed : Fills (newborn from k) count (base + count) (ages table) → weights (weigh k (young_in from)) (ages table) ≤ base + slots_in k * pages_for k count
   newborn-closed (inl light) = omega (arith, light, filled-pages k count class)

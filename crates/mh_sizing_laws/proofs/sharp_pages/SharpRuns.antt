@@ -35,7 +35,7 @@ use Rattle.mh_sizing_laws.proofs.filling.PageWeights.{roomy}
 use Rattle.mh_sizing_laws.proofs.filling.Weights.{weights, weigh}
 use Rattle.mh_sizing_laws.proofs.cycles.Occurring.{parts-class}
 use Rattle.mh_sizing_laws.proofs.pages_left.SizedPages.{moment-push, head-world, ends-push, moments-at}
-use Rattle.mh_sizing_laws.proofs.sharp_pages.ClassesThatOccur.{occurring-parts, sum-none}
+use Rattle.mh_sizing_laws.proofs.sharp_pages.ClassesThatOccur.{few_of, occurring-parts, sum-none}
 use Rattle.mh_sizing_laws.proofs.sharp_pages.SharpEvents.{IsSharp, left, left-few, sharp-quiet, sharp-quantum}
 
 -- The first table --------------------------------------------------------------------------------
@@ -47,7 +47,7 @@ zeros k (suc pages) = omega (arith, zeros k pages)
 
 -- Runs -------------------------------------------------------------------------------------------
 
-module _ (config : Config) (quanta opened most unit : ℕ) (unit_is : unit ≡ opened + opened + 1) (list : List Part) where
+module _ (config : Config) (quanta opened most unit : ℕ) (list : List Part) (unit_is : unit ≡ opened + few_of opened list + 1) where
   abbrev Leaving : Machine → Type 0
   Leaving = LeavesEnough config quanta opened
 
@@ -63,8 +63,8 @@ module _ (config : Config) (quanta opened most unit : ℕ) (unit_is : unit ≡ o
   AskAmong events = PartsFit (λ size. IsAmong size (occurring list)) (flat_map (asked_parts config) events)
 
   -- Each cycle of a run leaves enough pages free, if no cycle has had all its quanta while those before it did
-  ends-enough : (all events done before : List Event) (moment : Moment) → 1 ≤ quanta → most + most / fewest_of (occurring list) + 4 * (quanta * opened) + length (occurring list) + quanta ≤ config.pages + (3 * opened + 1) → FewerSoFar all → done ++ events ≡ all → moment ≡ moment_after (first_moment config) done
-      → IsSharp config quanta opened most unit unit_is list before moment → AskAmong events → AllByRecursion Short (intervals before moment.machine events) → AllByRecursion (HasAtMostLive most) (worlds moment events) → AllByRecursion Leaving (run.cycle_ends (first_machine config) done)
+  ends-enough : (all events done before : List Event) (moment : Moment) → 1 ≤ quanta → most + most / fewest_of (occurring list) + 3 * (quanta * opened) + quanta * few_of opened list + length (occurring list) + quanta ≤ config.pages + (2 * opened + few_of opened list + 1) → FewerSoFar all → done ++ events ≡ all → moment ≡ moment_after (first_moment config) done
+      → IsSharp config quanta opened most unit list unit_is before moment → AskAmong events → AllByRecursion Short (intervals before moment.machine events) → AllByRecursion (HasAtMostLive most) (worlds moment events) → AllByRecursion Leaving (run.cycle_ends (first_machine config) done)
       → AllByRecursion Leaving (run.cycle_ends (first_machine config) all)
   unfolding next_moment
   ends-enough all [] done before moment some pages so_far split is sharp fit short live lefts = subst (λ l. AllByRecursion Leaving (run.cycle_ends (first_machine config) l)) (sym (append-nil done) ∙ split) lefts
@@ -98,10 +98,10 @@ module _ (config : Config) (quanta opened most unit : ℕ) (unit_is : unit ≡ o
       here ended =
           let has = ended-run moment.machine event ended in
           let idle : is_idle (event_step moment.machine event).state.heap.collector.phase ≡ true = (and_parts (is_idle (event_step moment.machine event).state.heap.collector.phase) _ ended).0 in
-          let after = left config quanta opened most unit unit_is list done before moment event is sharp event-fit live-now some fewer now-short has.runs has.within in
-          let count = left-few config quanta opened most unit unit_is list done before moment event is sharp event-fit live-now some fewer now-short in
+          let after = left config quanta opened most unit list unit_is done before moment event is sharp event-fit live-now some fewer now-short has.runs has.within in
+          let count = left-few config quanta opened most unit list unit_is done before moment event is sharp event-fit live-now some fewer now-short in
           let product = mul-le-mul_right unit count in
-          let whole : quanta * unit ≡ quanta * opened + quanta * opened + quanta * 1 = ap (λ n. quanta * n) unit_is ∙ mul-add quanta (opened + opened) 1 ∙ ap (λ n. n + quanta * 1) (mul-add quanta opened opened) in
+          let whole : quanta * unit ≡ quanta * opened + quanta * few_of opened list + quanta * 1 = ap (λ n. quanta * n) unit_is ∙ mul-add quanta (opened + few_of opened list) 1 ∙ ap (λ n. n + quanta * 1) (mul-add quanta opened (few_of opened list)) in
           omega (arith, after.ends idle, product, whole, pages, unit_is)
 
       left-here : has_ended (machine_after (first_machine config) done).heap.collector (event_step (machine_after (first_machine config) done) event).state.heap.collector ≡ true → Leaving (event_step (machine_after (first_machine config) done) event).state
@@ -109,13 +109,13 @@ module _ (config : Config) (quanta opened most unit : ℕ) (unit_is : unit ≡ o
 
       by_quantum-run : (cut : Bool) → has_quantum moment.machine event ≡ cut
           → AllByRecursion Short (if cut then (before ++ event ∷ []) ∷ intervals [] (event_step moment.machine event).state events else intervals (before ++ event ∷ []) (event_step moment.machine event).state events)
-          → ((now : List Event) → IsSharp config quanta opened most unit unit_is list now next' → AllByRecursion Short (intervals now (event_step moment.machine event).state events) → AllByRecursion Leaving (run.cycle_ends (first_machine config) all))
+          → ((now : List Event) → IsSharp config quanta opened most unit list unit_is now next' → AllByRecursion Short (intervals now (event_step moment.machine event).state events) → AllByRecursion Leaving (run.cycle_ends (first_machine config) all))
           → AllByRecursion Leaving (run.cycle_ends (first_machine config) all)
-      by_quantum-run true runs cuts more = more [] (sharp-quantum config quanta opened most unit unit_is list done before moment event is sharp event-fit live-now some fewer now-short runs) cuts.1
-      by_quantum-run false quiet cuts more = more (before ++ event ∷ []) (sharp-quiet config quanta opened most unit unit_is list done before moment event is sharp event-fit live-now some fewer now-short quiet) cuts
+      by_quantum-run true runs cuts more = more [] (sharp-quantum config quanta opened most unit list unit_is done before moment event is sharp event-fit live-now some fewer now-short runs) cuts.1
+      by_quantum-run false quiet cuts more = more (before ++ event ∷ []) (sharp-quiet config quanta opened most unit list unit_is done before moment event is sharp event-fit live-now some fewer now-short quiet) cuts
 
   -- the first moment: nothing is there
-  first-sharp : 1 ≤ quanta → HasAtMostLive most (first_moment config).world → IsSharp config quanta opened most unit unit_is list [] (first_moment config)
+  first-sharp : 1 ≤ quanta → HasAtMostLive most (first_moment config).world → IsSharp config quanta opened most unit list unit_is [] (first_moment config)
   unfolding machine_after
   first-sharp some live = record {
     stays = run-stays config [];
@@ -138,19 +138,19 @@ module _ (config : Config) (quanta opened most unit : ℕ) (unit_is : unit ≡ o
       nothing k pages = omega (arith, ap (weights (weigh k roomy)) (free-table_map birth_of pages), zeros k pages)
 
 -- Runs with pages enough have room, if no cycle has had all its quanta while those before it left enough
-pub sharp-room : (config : Config) (events : List Event) (quanta opened most : ℕ) → 1 ≤ quanta → FewerSoFar config quanta opened most (opened + opened + 1) refl (all_asked config events) events → HasSharpPagesFor config events quanta opened most → HasRoomFor config events quanta opened
+pub sharp-room : (config : Config) (events : List Event) (quanta opened most : ℕ) → 1 ≤ quanta → FewerSoFar config quanta opened most (opened + few_of opened (all_asked config events) + 1) (all_asked config events) refl events → HasSharpPagesFor config events quanta opened most → HasRoomFor config events quanta opened
 unfolding moment_after
 sharp-room config events quanta opened most some so_far has =
     let list : List Part = all_asked config events in
-    let unit : ℕ = opened + opened + 1 in
+    let unit : ℕ = opened + few_of opened list + 1 in
     let first : Moment = first_moment config in
     let product = mul-le-mul_right opened some in
     record {
       pages = omega (arith, has.pages, product, some);
       trigger = has.trigger;
       intervals = has.intervals;
-      left = ends-enough config quanta opened most unit refl list events events [] [] first some (omega (arith, has.pages)) so_far refl refl
-          (first-sharp config quanta opened most unit refl list some (head-world (HasAtMostLive most) events first has.live)) (λ size one. occurring-parts list size (parts-class size list one) one) has.intervals has.live tt;
+      left = ends-enough config quanta opened most unit list refl events events [] [] first some (omega (arith, has.pages)) so_far refl refl
+          (first-sharp config quanta opened most unit list refl some (head-world (HasAtMostLive most) events first has.live)) (λ size one. occurring-parts list size (parts-class size list one) one) has.intervals has.live tt;
     }
 
 -- Pages suffice where small parts share them

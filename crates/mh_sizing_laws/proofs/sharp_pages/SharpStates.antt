@@ -1,5 +1,5 @@
 -- What stands within an interval, while a cycle marks and sweeps, while it moves blocks, and while none runs; and what its quanta make of it.
-use Rattle.std.proofs.Common.{◌≡◌, ◌⊎◌, inl, inr, ℕ, suc, ◌+◌, ◌*◌, ◌/◌, ◌≤◌, Bool, true, false, if◌then◌else◌, Option, Some, None, List, [], length, refl, sym, ap, ap₂, ◌∙◌, arith}
+use Rattle.std.proofs.Common.{◌≡◌, ◌⊎◌, inl, inr, ℕ, suc, ◌+◌, ◌*◌, ◌/◌, ◌≤◌, min, Bool, true, false, if◌then◌else◌, Option, Some, None, List, [], length, refl, sym, ap, ap₂, ◌∙◌, arith}
 use Rattle.std.specs.List.{sum_by}
 use Rattle.std.proofs.Math.Nat.{mul-add, suc-mul, mul-le-mul_left, mul-le-mul_right}
 use Rattle.std.proofs.lemmas.Bool.{cases_Bool, false≢true, true≢false}
@@ -23,7 +23,7 @@ use Rattle.mh_sizing_laws.proofs.filling.Weights.{weigh}
 use Rattle.mh_sizing_laws.proofs.filling.Ages.{ages}
 use Rattle.mh_sizing_laws.proofs.filling.FilledTables.{AllFill}
 use Rattle.mh_sizing_laws.proofs.sharp_pages.ClassSums.{sum-once}
-use Rattle.mh_sizing_laws.proofs.sharp_pages.ClassesThatOccur.{fewest-some, occurring-once, occurring-classes, occurring-sum, sum-both, sum-none, sum-slots, sum-pages}
+use Rattle.mh_sizing_laws.proofs.sharp_pages.ClassesThatOccur.{few-classes, few_of, fewest-some, occurring-once, occurring-classes, occurring-sum, sum-both, sum-none, sum-slots, sum-pages}
 use Rattle.mh_sizing_laws.proofs.sharp_pages.CycleSteps.{passed_by, entered_by, Traces, Leaves, Goes}
 use Rattle.mh_sizing_laws.proofs.sharp_pages.Intervals.{marking_family, newborn_family, marking-closed, newborn-closed, of_class_at, marking-opened}
 use Rattle.mh_sizing_laws.proofs.sharp_pages.Moves.{resting_family}
@@ -74,7 +74,7 @@ begun-few phase cursor = go (in_sweep phase)
     go true = omega arith
     go false = omega arith
 
-module _ (config : Config) (quanta opened most unit : ℕ) (unit_is : unit ≡ opened + opened + 1) (list : List Part) where
+module _ (config : Config) (quanta opened most unit : ℕ) (list : List Part) (unit_is : unit ≡ opened + few_of opened list + 1) where
   abbrev pub sizes : List ℕ
   sizes = occurring list
 
@@ -145,12 +145,13 @@ module _ (config : Config) (quanta opened most unit : ℕ) (unit_is : unit ≡ o
   marks-counted from now c traces slots short marks =
       let asked : ℕ → ℕ = asked_of config now in
       let pages : ℕ → ℕ = λ k. pages_for k (asked k) in
-      let touched : ℕ → ℕ = λ k. marks.touched k + marks.swept k + (pages k + pages k) in
+      let ones : ℕ → ℕ = λ k. min 1 (pages k) in
+      let touched : ℕ → ℕ = λ k. marks.touched k + marks.swept k + (pages k + ones k) in
       let born : ℕ → ℕ = λ k. marks.born k + pages k in
       let opens : sum_by pages sizes ≤ opened = omega (arith, occurring-sum pages list, short) in
-      let more : sum_by touched sizes ≡ sum_by marks.touched sizes + sum_by marks.swept sizes + (sum_by pages sizes + sum_by pages sizes) =
-      sum-both (λ k. marks.touched k + marks.swept k) (λ k. pages k + pages k) sizes ∙ ap₂ (λ a b. a + b) (sum-both marks.touched marks.swept sizes) (sum-both pages pages sizes) in
-      let counted : sum_by touched sizes + (unit + opened) ≤ begun + suc c.quanta * unit = omega (arith, more, opens, marks.pages, marks.one, suc-mul c.quanta unit, unit_is) in
+      let more : sum_by touched sizes ≡ sum_by marks.touched sizes + sum_by marks.swept sizes + (sum_by pages sizes + sum_by ones sizes) =
+      sum-both (λ k. marks.touched k + marks.swept k) (λ k. pages k + ones k) sizes ∙ ap₂ (λ a b. a + b) (sum-both marks.touched marks.swept sizes) (sum-both pages ones sizes) in
+      let counted : sum_by touched sizes + (unit + opened) ≤ begun + suc c.quanta * unit = omega (arith, more, opens, few-classes pages opened list opens, marks.pages, marks.one, suc-mul c.quanta unit, unit_is) in
       let births : sum_by born sizes + opened ≤ suc c.quanta * opened = omega (arith, sum-both marks.born pages sizes, opens, marks.births, suc-mul c.quanta opened) in
       record {
         old = marks.old;
@@ -166,7 +167,7 @@ module _ (config : Config) (quanta opened most unit : ℕ) (unit_is : unit ≡ o
             weight = λ k class. omega (
               arith,
               marking-closed from (passed_by c.phase c.cursor) (entered_by c.phase c.cursor) k (asked k) (marks.old k + slots_in k * (marks.touched k + marks.swept k)) class c.table slots (marks.fill k class),
-              mul-add (slots_in k) (marks.touched k + marks.swept k) (pages k + pages k),
+              mul-add (slots_in k) (marks.touched k + marks.swept k) (pages k + ones k),
             );
             young = λ k class. omega (arith, newborn-closed from (passed_by c.phase c.cursor) (entered_by c.phase c.cursor) k (asked k) (slots_in k * marks.born k) class c.table slots (marks.young k class), mul-add (slots_in k) (marks.born k) (pages k));
             enough = omega arith;

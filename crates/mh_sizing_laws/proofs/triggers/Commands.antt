@@ -33,7 +33,7 @@ use Rattle.mh_sizing_laws.proofs.triggers.FoundPlaces.{IsFoundWhole, group-found
 
 -- Replies ----------------------------------------------------------------------------------------
 
-full_is : (answer : Reply) → is_heap_full answer ≡ true → answer ≡ reply.Refused HeapFull
+pub full_is : (answer : Reply) → is_heap_full answer ≡ true → answer ≡ reply.Refused HeapFull
 full_is (reply.Refused HeapFull) full = refl
 full_is _ full = absurd (false≢true full)
 

@@ -25,7 +25,7 @@ use Rattle.mh_run_laws.proofs.runs.RunsByEvents.{after_more, replies-length}
 use Rattle.mh_run_laws.proofs.forwarders.RunForwarders.{event-quantum}
 use Rattle.mh_promise.proofs.AnsweredEvents.{answered-is, beside-is, session-reply, left-is, half-heap, half-machine}
 use Rattle.mh_run_laws.proofs.worlds.FullAlone.{full-alone, new-alone}
-use Rattle.mh_promise.proofs.FullWorlds.{made_by_the_world}
+use Rattle.mh_sizing_laws.proofs.needs.FullWorlds.{made_by_the_world}
 use Rattle.mh_promise.proofs.SpentUnits.{spent-is}
 use Rattle.mh_promise.proofs.promise.runs_keep_their_promise.Goals as goal
 
@@ -108,13 +108,13 @@ returns c config events outcome is = record {
   room = record {
     bound = c.cycles_take_the_bound.ensures config events;
     room = λ quanta opened some takes has. never-full config events outcome.replies is.replies c.never_full_is_the_world.ensures (c.room_suffices.ensures config events quanta opened some takes has);
-    needs = λ needs quanta need has.
-        let all = c.enough_for_needs_suffices.ensures needs config events quanta need has in
-        record { cycles = all.0; room = all.1.room; never_full = never-full config events outcome.replies is.replies c.never_full_is_the_world.ensures all.1.never_full };
-    shared = λ needs least kinds quanta need few has.
-        let all = c.sharp_enough_for_needs_suffices.ensures needs least kinds config events quanta need few has in
-        record { cycles = all.0; room = all.1.room; never_full = never-full config events outcome.replies is.replies c.never_full_is_the_world.ensures all.1.never_full };
-    together = λ few. never-full config events outcome.replies is.replies c.never_full_is_the_world.ensures (c.pages_for_all_suffice.ensures config events few);
+    needs = λ needs quanta make has.
+        let stays = c.enough_for_needs_suffices.ensures needs config events quanta make has in
+        record { cycles = stays.cycles; left = stays.left; never_full = never-full config events outcome.replies is.replies c.never_full_is_the_world.ensures stays.never_full };
+    shared = λ needs least kinds quanta make few has.
+        let stays = c.sharp_enough_for_needs_suffices.ensures needs least kinds config events quanta make few has in
+        record { cycles = stays.cycles; left = stays.left; never_full = never-full config events outcome.replies is.replies c.never_full_is_the_world.ensures stays.never_full };
+    demanded = λ few. never-full config events outcome.replies is.replies c.never_full_is_the_world.ensures (c.pages_for_demand_suffice.ensures config events few);
   };
   share = λ often. subst (HasShare config) (sym is.trace) (c.mutator_has_its_share.ensures.after_events config events often);
 }

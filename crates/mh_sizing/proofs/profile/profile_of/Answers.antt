@@ -22,9 +22,9 @@ returns-in-Some-clause-profile c =
       kinds = record {
         count = c.kinds.ensures.kinds config events walked;
         least = c.kinds.ensures.least config events walked;
-        asked = c.kinds.ensures.asked config events walked;
+        made = c.kinds.ensures.made config events walked;
       };
-      in_all = c.opened_in_all.ensures config events walked;
+      demanded = c.demand.ensures config events walked;
     }
 
 pub returns-clause-none : goal.returns-clause-none

@@ -9,5 +9,5 @@ returns c = record {
   at_world = c.open.ensures.world;
   at_units = λ some. refl;
   most = c.open.ensures.most;
-  asks = c.new.ensures c.args.config;
+  asks = c.new.ensures;
 }

@@ -1,6 +1,6 @@
 use Rattle.std.proofs.Common.{◌≡◌, ◌≤◌, take, length}
 use Rattle.mh_sizing.specs.Openings.{counted_classes}
-use Rattle.mh_size_text.proofs.heap.kinds_counted.Given as goal
+use Rattle.mh_sizing.proofs.counted.kinds_counted.Given as goal
 
 abbrev pub invariant-loop-count : goal.invariant-loop-count
 invariant-loop-count l = record {

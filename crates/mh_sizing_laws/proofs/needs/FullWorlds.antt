@@ -24,9 +24,15 @@ made-unrefused : (world : World) (who slot references numbers : ℕ) → refusal
 unfolding heap_step
 made-unrefused world who slot references numbers none = ap (λ refused. (unless_refused refused world (effect world who (command.New slot references numbers))).reply) none
 
-pub made_by_the_world : (heap : HeapState) (world : World) → Agrees (heap_view heap) world → (who slot references numbers : ℕ) → refusal (record (heap_sight heap) { is_full = never_full }) who (command.New slot references numbers) ≡ None
-    → (world_step world who (command.New slot references numbers)).reply ≡ reply.Done
-made_by_the_world heap world agrees who slot references numbers none =
+-- a new object that no test of the heap refuses but that of its fullness, the world doesn't refuse
+pub unrefused_by_the_world : (heap : HeapState) (world : World) → Agrees (heap_view heap) world → (who slot references numbers : ℕ) → refusal (record (heap_sight heap) { is_full = never_full }) who (command.New slot references numbers) ≡ None
+    → refusal (sight_of never_full world) who (command.New slot references numbers) ≡ None
+unrefused_by_the_world heap world agrees who slot references numbers none =
     let same = refused-alike (sight_of never_full world) (record (heap_sight heap) { is_full = never_full }) who slot references numbers
     (sym (most-shown heap ∙ ap most_fields agrees.config)) refl (sym (ended-shown heap ∙ agrees.ended)) in
-    made-unrefused world who slot references numbers (same ∙ none)
+    same ∙ none
+
+-- so the world makes it
+pub made_by_the_world : (heap : HeapState) (world : World) → Agrees (heap_view heap) world → (who slot references numbers : ℕ) → refusal (record (heap_sight heap) { is_full = never_full }) who (command.New slot references numbers) ≡ None
+    → (world_step world who (command.New slot references numbers)).reply ≡ reply.Done
+made_by_the_world heap world agrees who slot references numbers none = made-unrefused world who slot references numbers (unrefused_by_the_world heap world agrees who slot references numbers none)

@@ -1,9 +1,9 @@
 use Rattle.std.proofs.Common.{◌≡◌, ◌∙◌, length, take, ap, arith}
 use Rattle.std.proofs.Math.Seq.{take-length}
 use Rattle.mh_sizing.specs.Openings.{counted_classes, least_slots}
-use Rattle.mh_size_text.specs.Heaps.{kinds_counted}
-use Rattle.mh_size_text.proofs.KindLemmas.{kinds_are}
-use Rattle.mh_size_text.proofs.heap.kinds_counted.Goals as goal
+use Rattle.mh_sizing.specs.Counted.{kinds_counted}
+use Rattle.mh_sizing.proofs.SameKinds.{kinds_are}
+use Rattle.mh_sizing.proofs.counted.kinds_counted.Goals as goal
 
 pub returns : goal.returns
 unfolding kinds_counted

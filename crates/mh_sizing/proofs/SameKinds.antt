@@ -4,7 +4,7 @@ use Rattle.std.proofs.Math.Bridge.{le_prop}
 use Rattle.std.proofs.Math.Nat.{le-max_left, max-eq_right}
 use Rattle.mh_sizing.specs.declared.kinds.Kinds.{Kinds}
 use Rattle.mh_sizing.specs.Openings.{least_slots}
-use Rattle.mh_size_text.specs.Heaps.{kinds_of_classes}
+use Rattle.mh_sizing.specs.Counted.{kinds_of_classes}
 
 abbrev make : ℕ → (least : ℕ) → 1 ≤ least → Kinds
 make kinds least some = record { kinds = kinds; fewest_slots = least; some = some }

@@ -1,8 +1,9 @@
 use Rattle.std.proofs.Common.{◌≡◌, ℕ, ◌-◌, ◌^◌, ◌<◌, ◌≤◌, min, [], Option, Some, None, IfSome, MatchOption, arith, rules}
-use Rattle.mh_model.specs.Needs.{first_run, opened_in_all}
-use Rattle.mh_sizing.specs.Runs.{ended_intervals, running_interval}
+use Rattle.mh_model.specs.Needs.{first_run}
+use Rattle.mh_sizing_laws.specs.Made.{demand, parts_made}
+use Rattle.mh_sizing.specs.Runs.{ended_in, running_in}
 use Rattle.mh_sizing.proofs.WalkLemmas.{all-opened}
-use Rattle.mh_sizing.proofs.walk.Walk.opened_in_all.Goals as goal
+use Rattle.mh_sizing.proofs.walk.Walk.demand.Goals as goal
 
 -- a number cut at 2^64 - 1 is the same in 32 bits
 in-bits : (found : Option ℕ) (cut whole : ℕ) → IfSome found (λ same. same < 2 ^ 32) → cut ≡ min whole (2 ^ 64 - 1) → MatchOption found (2 ^ 32 ≤ cut) (λ same. same ≡ cut) → MatchOption found (2 ^ 32 ≤ whole) (λ same. same ≡ whole)
@@ -11,5 +12,5 @@ in-bits (Some same) cut whole few is of_cut = omega (arith, few, is, of_cut)
 
 pub returns : goal.returns
 returns c = λ config events walked.
-    in-bits c.in_32_bits.result c.pages_in_all.result (opened_in_all config events) (search rules)
-    (omega (arith, c.pages_in_all.ensures config events (running_interval [] (first_run config) events) (ended_intervals [] (first_run config) events) walked.asks, all-opened c.args.self.now config events walked)) c.in_32_bits.ensures
+    in-bits c.in_32_bits.result c.demand.result (demand config events) (search rules)
+    (omega (arith, c.demand.ensures (parts_made config events) (running_in [] (first_run config) events) (ended_in [] (first_run config) events) walked.asks, all-opened c.args.self.now config events walked)) c.in_32_bits.ensures

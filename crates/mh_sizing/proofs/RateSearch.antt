@@ -1,0 +1,188 @@
+-- Heaps that keep a target at rates: a greater quantum asks for no more pages. So those with the greatest quantum for each EVERY are enough to look at.
+use Rattle.std.proofs.Common.{◌≡◌, ◌⊎◌, inl, inr, ℕ, ◌+◌, ◌-◌, ◌*◌, ◌/◌, ◌<◌, ◌≤◌, min, max, nat_lt, Bool, true, false, if◌then◌else◌, Option, Some, None, List, IsSomeAnd, MatchOption, refl, sym, ap, ◌∙◌, subst, arith}
+use Rattle.std.proofs.lemmas.Bool.{cases_lt, ltb-true, ltb-false}
+use Rattle.std.proofs.lemmas.Bool.Decides.{nat_tests}
+use Rattle.mh_model.specs.declared.config.Config.{Config}
+use Rattle.mh_model.specs.declared.needs.Needs.{Needs}
+use Rattle.mh_model.specs.Bound.{most_quanta, most_steps, most_units}
+use Rattle.mh_model.specs.Limits.{is_configuration, least_quantum, quantum_overhead}
+use Rattle.mh_model.specs.Needs.{AreEnoughQuanta, units_needed}
+use Rattle.mh_orders.specs.declared.target_options.Target.{Target}
+use Rattle.mh_sizing_laws.proofs.sharp_needs.SharpNeededRuns.{div-larger}
+use Rattle.mh_sizing.specs.declared.found.Found.{Found}
+use Rattle.mh_sizing.specs.declared.profile.Profile.{Profile}
+use Rattle.mh_sizing.specs.declared.rate.ClassRate.{ClassRate}
+use Rattle.mh_sizing.specs.Choices.{HasNone, IsGreatestQuantum}
+use Rattle.mh_sizing.specs.Enough.{Suffices}
+use Rattle.mh_sizing.specs.Found.{HasNo, IsFound, PagesAreEnough}
+use Rattle.mh_sizing.specs.Rates.{HasFewestPages, IsBestBefore, KeepsTarget, KeepsTargetAfter, profile_at_rates}
+use Rattle.mh_sizing.specs.Targets.{IsMetBy, MeetsAfter}
+use Rattle.mh_sizing.proofs.FoundLemmas.{its-pages}
+use Rattle.mh_sizing.proofs.QuantumLemmas.{within}
+
+-- Greater quanta ---------------------------------------------------------------------------------
+
+-- a cycle takes no more quanta if they are greater
+most-fewer : (config other : Config) → other.pages ≡ config.pages → config.quantum ≤ other.quantum → most_quanta other ≤ most_quanta config
+most-fewer config other pages more =
+    go (nat_lt quantum_overhead config.quantum) (nat_lt quantum_overhead other.quantum) refl refl
+  where
+    steps : most_steps other ≡ most_steps config
+    steps = ap (λ n. 144 + 192 * n) pages
+
+    units : most_units other ≡ most_units config
+    units = ap (λ n. 288 + 640 * n) pages
+
+    go : (large larger : Bool) → nat_lt quantum_overhead config.quantum ≡ large → nat_lt quantum_overhead other.quantum ≡ larger
+        → (if larger then min (most_steps other) (most_units other / (other.quantum - quantum_overhead) + 1) else most_steps other)
+        ≤ (if large then min (most_steps config) (most_units config / (config.quantum - quantum_overhead) + 1) else most_steps config)
+    go true true a b =
+        let some : quantum_overhead < config.quantum = ltb-true quantum_overhead config.quantum a in
+        let fewer : most_units config / (other.quantum - quantum_overhead) ≤ most_units config / (config.quantum - quantum_overhead) =
+        div-larger (most_units config) (other.quantum - quantum_overhead) (config.quantum - quantum_overhead) (omega (arith, some)) (omega (arith, more)) in
+        omega (arith, steps, ap (λ n. n / (other.quantum - quantum_overhead)) units, fewer)
+    go true false a b = absurd (omega (arith, ltb-true quantum_overhead config.quantum a, ltb-false quantum_overhead other.quantum b, more))
+    go false true a b = omega (arith, steps)
+    go false false a b = omega (arith, steps)
+
+quanta-greater : (needs : Needs) (config other : Config) (quanta : ℕ) → other.pages ≡ config.pages → config.quantum ≤ other.quantum → AreEnoughQuanta needs config quanta → AreEnoughQuanta needs other quanta
+quanta-greater needs config other quanta pages more (inl bound) = inl (omega (arith, bound, most-fewer config other pages more))
+quanta-greater needs config other quanta pages more (inr (large, few)) =
+    let units : units_needed needs other.pages ≡ units_needed needs config.pages = ap (units_needed needs) pages in
+    let fewer : units_needed needs config.pages / (other.quantum - quantum_overhead) ≤ units_needed needs config.pages / (config.quantum - quantum_overhead) =
+    div-larger (units_needed needs config.pages) (other.quantum - quantum_overhead) (config.quantum - quantum_overhead) (omega (arith, large)) (omega (arith, more)) in
+    inr (omega (arith, large, more), omega (arith, few, fewer, ap (λ n. n / (other.quantum - quantum_overhead)) units))
+
+-- what is enough is so with a greater quantum
+suffices-greater : (profile : Profile) (config other : Config) → other.pages ≡ config.pages → config.quantum ≤ other.quantum → other.trigger ≡ config.trigger → Suffices profile config → Suffices profile other
+suffices-greater profile config other pages more trigger (inl all) = inl (subst (λ n. IsSomeAnd profile.demand (λ demand. demand ≤ n)) (sym pages) all)
+suffices-greater profile config other pages more trigger (inr (quanta, inl has)) =
+    inr (quanta, inl (record { bound = quanta-greater profile.needs config other quanta pages more has.bound; pages = omega (arith, has.pages, pages); trigger = omega (arith, has.trigger, trigger) }))
+suffices-greater profile config other pages more trigger (inr (quanta, inr has)) =
+    inr (quanta, inr (record { bound = quanta-greater profile.needs config other quanta pages more has.bound; pages = omega (arith, has.pages, pages); trigger = omega (arith, has.trigger, trigger) }))
+
+-- a configuration with other numbers within the limits
+limits : (pages quantum trigger every : ℕ) → 1 ≤ pages → pages ≤ 4096 → least_quantum ≤ quantum → quantum ≤ 1000000 → trigger ≤ pages → every ≤ 1000000 → is_configuration pages quantum trigger every ≡ true
+limits pages quantum trigger every a b c d e f = grind (arith, nat_tests)
+
+enough-greater : (target : Target) (profile : Profile) (every quantum : ℕ) (config : Config) → IsGreatestQuantum (MeetsAfter target every) quantum → MeetsAfter target every config → Suffices profile config → PagesAreEnough profile quantum config.pages
+enough-greater target profile every quantum config greatest meets enough =
+    let (of, same, has) = greatest.has in
+    let its = its-pages config in
+    let limit = within config in
+    let other : Config = record {
+      pages = config.pages;
+      quantum = quantum;
+      trigger = config.trigger;
+      every = config.every;
+      rules = config.rules;
+      in_limits = limits config.pages quantum config.trigger config.every its.some its.few (omega (arith, same, (within of).least)) (omega (arith, same, (within of).most)) its.trigger limit.every;
+    } in
+    (other, refl, refl, suffices-greater profile config other refl (greatest.greatest config meets) refl enough)
+
+-- Searches ---------------------------------------------------------------------------------------
+
+module _ (target : Target) (rates : List ClassRate) (most live references : ℕ) where
+  abbrev pub profile : ℕ → Profile
+  profile every = profile_at_rates rates most live references every
+
+  abbrev pub Keeps : Config → Type 0
+  Keeps = KeepsTarget target rates most live references
+
+  abbrev pub KeepsAfter : ℕ → Config → Type 0
+  KeepsAfter every = KeepsTargetAfter target rates most live references every
+
+  after-meets : (every : ℕ) (config : Config) → KeepsAfter every config → MeetsAfter target every config
+  after-meets every config keep = record { of_every = keep.of_every; scheduled = keep.keeps.meets.scheduled; share = keep.keeps.meets.share }
+
+  -- no quantum keeps the share
+  pub no-share : (every : ℕ) → HasNone (MeetsAfter target every) → HasNone (KeepsAfter every)
+  no-share every none config keep = none config (after-meets every config keep)
+
+  module _ (every quantum : ℕ) (greatest : IsGreatestQuantum (MeetsAfter target every) quantum) where
+    enough-pages : (config : Config) → KeepsAfter every config → PagesAreEnough (profile every) quantum config.pages
+    enough-pages config keep =
+        enough-greater target (profile every) every quantum config greatest (after-meets every config keep)
+        (subst (λ (n : ℕ). Suffices (profile n) config) keep.of_every keep.keeps.suffices)
+
+    pub no-pages : HasNo (PagesAreEnough (profile every) quantum) → HasNone (KeepsAfter every)
+    no-pages none config keep = none config.pages (enough-pages config keep)
+
+    pub heap-found : (asked : Profile) (config : Config) (found : Found) → IsFound asked config found → asked ≡ profile every → config.every ≡ every → config.quantum ≡ quantum → 1 ≤ every → every ≤ max 1 target.window → HasFewestPages (KeepsAfter every) found.config
+    heap-found asked config found was same_profile of_every of_quantum some often =
+        let is = subst (λ (p : Profile). IsFound p config found) same_profile was in
+        let (met, same, has) = greatest.has in
+        let heap = is.enough in
+        let its_every : found.config.every ≡ every = heap.every ∙ of_every in
+        let its_quantum : found.config.quantum ≡ quantum = heap.quantum ∙ of_quantum in
+        let share : IsMetBy target every quantum = subst (λ (n : ℕ). IsMetBy target n quantum) has.of_every (subst (λ (n : ℕ). IsMetBy target met.every n) same has.share) in
+        record {
+          has = record {
+            of_every = its_every;
+            keeps = record {
+              meets = record {
+                scheduled = omega (arith, its_every, some);
+                share = subst (λ (n : ℕ). IsMetBy target n found.config.quantum) (sym its_every) (subst (λ (n : ℕ). IsMetBy target every n) (sym its_quantum) share);
+              };
+              often = omega (arith, its_every, often);
+              suffices = subst (λ (n : ℕ). Suffices (profile n) found.config) (sym its_every) heap.suffices;
+            };
+          };
+          least = λ other keep. is.least.least other.pages (subst (λ (n : ℕ). PagesAreEnough (profile every) n other.pages) (sym of_quantum) (enough-pages other keep));
+        }
+
+  -- none is run more rarely
+  inside : (last : ℕ) → (max 1 target.window ≤ last) ⊎ (1000000 ≤ last) → (config : Config) → Keeps config → config.every < last + 1
+  inside last (inl long) config keep = omega (arith, long, keep.often)
+  inside last (inr long) config keep = omega (arith, long, (within config).every)
+
+  -- one EVERY more
+  best-next : (every : ℕ) (best here : Option Config) → IsBestBefore Keeps every best → MatchOption here (HasNone (KeepsAfter every)) (HasFewestPages (KeepsAfter every)) → (config : Config) → Keeps config → config.every < every + 1 → (config.every < every) ⊎ KeepsAfter every config
+  best-next every best here before now config keep less = elim (cases_lt config.every every) [
+    | inl earlier ↦ inl earlier
+    | inr later ↦ inr (record { of_every = omega (arith, later, less); keeps = keep })
+  ]
+
+  pub kept-best : (every : ℕ) (found : Config) (here : Option Config) → IsBestBefore Keeps every (Some found) → MatchOption here (HasNone (KeepsAfter every)) (HasFewestPages (KeepsAfter every))
+      → MatchOption here (Unit {0}) (λ other. found.pages ≤ other.pages) → IsBestBefore Keeps (every + 1) (Some found)
+  kept-best every found None before now no_less = (
+    before.0,
+    λ config keep less. elim (best-next every (Some found) None before now config keep less) [
+      | inl earlier ↦ before.1 config keep earlier
+      | inr same ↦ absurd (now config same)
+    ],
+  )
+  kept-best every found (Some other) before now no_less = (
+    before.0,
+    λ config keep less. elim (best-next every (Some found) (Some other) before now config keep less) [
+      | inl earlier ↦ before.1 config keep earlier
+      | inr same ↦ omega (arith, no_less, now.least config same)
+    ],
+  )
+
+  pub none-best : (every : ℕ) → IsBestBefore Keeps every None → HasNone (KeepsAfter every) → IsBestBefore Keeps (every + 1) None
+  none-best every before none = λ config keep less. elim (best-next every None None before none config keep less) [
+    | inl earlier ↦ before config keep earlier
+    | inr same ↦ none config same
+  ]
+
+  pub new-best : (every : ℕ) (best : Option Config) (other : Config) → IsBestBefore Keeps every best → HasFewestPages (KeepsAfter every) other → MatchOption best (Unit {0}) (λ found. other.pages ≤ found.pages) → IsBestBefore Keeps (every + 1) (Some other)
+  new-best every None other before now less = (
+    now.has.keeps,
+    λ config keep few. elim (best-next every None (Some other) before now config keep few) [
+      | inl earlier ↦ absurd (before config keep earlier)
+      | inr same ↦ now.least config same
+    ],
+  )
+  new-best every (Some found) other before now less = (
+    now.has.keeps,
+    λ config keep few. elim (best-next every (Some found) (Some other) before now config keep few) [
+      | inl earlier ↦ omega (arith, less, before.1 config keep earlier)
+      | inr same ↦ now.least config same
+    ],
+  )
+
+  -- all were looked at
+  pub best-of-all : (last : ℕ) (best : Option Config) → (max 1 target.window ≤ last) ⊎ (1000000 ≤ last) → IsBestBefore Keeps (last + 1) best → MatchOption best (HasNone Keeps) (HasFewestPages Keeps)
+  best-of-all last None all before = λ config keep. before config keep (inside last all config keep)
+  best-of-all last (Some found) all before = record { has = before.0; least = λ config keep. before.1 config keep (inside last all config keep) }

@@ -1,0 +1,30 @@
+-- What the sessions of a run ask for, by the ever-growing world alone: objects that are refused count too.
+use Rattle.std.proofs.Common.{ℕ, ◌+◌, ◌≤◌, if◌then◌else◌, List, [], ◌∷◌, ◌++◌, flat_map}
+use Rattle.std.specs.List.{AllByRecursion, sum_by}
+use Rattle.mh_model.specs.declared.command.Event.{Event}
+use Rattle.mh_model.specs.declared.config.Config.{Config}
+use Rattle.mh_model.specs.declared.needs.Needs.{Needs}
+use Rattle.mh_model.specs.CycleUnits.{ReachesAtMost, most_slots, most_moves}
+use Rattle.mh_model.specs.LiveParts.{HasAtMostLive}
+use Rattle.mh_model.specs.Needs.{WorldRun, first_run, next_run, run_worlds, runs_quantum}
+use Rattle.mh_model.specs.Openings.{asked_parts, asked_count, opens_at_most}
+
+-- events cut after each that has a quantum run: the first interval begins with those that came before, and the last has no quantum
+abbrev pub run_intervals : List Event → WorldRun → List Event → List (List Event)
+run_intervals before run [] = before ∷ []
+run_intervals before run (event ∷ events) =
+    if runs_quantum run event
+    then (before ++ event ∷ []) ∷ run_intervals [] (next_run run event) events
+    else run_intervals (before ++ event ∷ []) (next_run run event) events
+
+-- they hold and ask for no more than this
+pub record AskNoMore (needs : Needs) (config : Config) (events : List Event) : Type 0 where
+  pub live : AllByRecursion (HasAtMostLive needs.live) (run_worlds (first_run config) events)
+  pub marked : AllByRecursion (ReachesAtMost needs.marking_units) (run_worlds (first_run config) events)
+  pub asked : AllByRecursion (λ interval. asked_count config interval ≤ needs.asked) (run_intervals [] (first_run config) events)
+  pub opened : AllByRecursion (λ interval. opens_at_most config interval ≤ needs.opened) (run_intervals [] (first_run config) events)
+  pub page : let list = flat_map (asked_parts config) events in most_slots list + most_moves list ≤ needs.page_units
+
+-- the pages that the intervals open at most, all together
+abbrev pub opened_in_all : Config → List Event → ℕ
+opened_in_all config events = sum_by (opens_at_most config) (run_intervals [] (first_run config) events)
