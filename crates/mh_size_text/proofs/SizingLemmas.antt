@@ -1,8 +1,8 @@
 -- What was read of a source settles how its script is sized.
-use Rattle.std.proofs.Common.{◌≡◌, ℕ, ◌<◌, ◌≤◌, ◌∙◌, true, false, if◌then◌else◌, nat_lt, List, length, take, Option, None, Some, Result, Ok, Err, ap, subst, sym, refl, arith}
+use Rattle.std.proofs.Common.{◌≡◌, ℕ, ◌<◌, ◌≤◌, ◌^◌, ◌∙◌, true, false, if◌then◌else◌, nat_lt, List, length, take, Option, None, Some, Result, Ok, Err, ap, subst, sym, refl, arith}
 use Rattle.std.proofs.lemmas.Bool.Decides.{nat_tests}
 use Rattle.std.specs.Io.KnownBytes.{Appends}
-use Rattle.std.specs.Prelude.{IfOk, IfSome, IsNone}
+use Rattle.std.specs.Prelude.{IfOk, IfSome, IsNone, MatchOption}
 use Rattle.mh_model.specs.declared.command.Event.{Event}
 use Rattle.mh_model.specs.declared.config.Config.{Config}
 use Rattle.mh_model.specs.declared.config.Rules.{Rules}
@@ -12,12 +12,18 @@ use Rattle.mh_model.specs.Limits.{most_entries}
 use Rattle.mh_model.specs.Output.{Done, Ending, HistoryFull, Refused, ending, ending_of}
 use Rattle.mh_model.specs.Replies.{bad_line_text}
 use Rattle.mh_model.specs.Script.{BadLine, Meaning, Means, Reading, reading}
+use Rattle.mh_model.specs.Intervals.{IsNeverFull}
+use Rattle.mh_sizing.proofs.EnoughLemmas.{tested-suffices}
+use Rattle.mh_sizing.specs.declared.found.Found.{Found}
 use Rattle.mh_sizing.specs.declared.profile.Profile.{Profile}
+use Rattle.mh_sizing.specs.Found.{IsSearched}
 use Rattle.mh_sizing.specs.Needed.{IsTheProfile}
+use Rattle.mh_sizing.specs.Sized.{KeepToProfile, SufficientHeapsAreNeverFull}
+use Rattle.mh_sizing.specs.OfSizingLaws.Made.{demand}
 use Rattle.mh_script.proofs.SourceLemmas.{Reads}
 use Rattle.mh_script.specs.Texts.{Writes}
 use Rattle.mh_text.specs.Stream.{AppendsBeginning}
-use Rattle.mh_size_text.specs.Scripts.{BeginsToSize, IsProfileText, IsSizeText, MayBeNeeded, Sizes, WritesPart}
+use Rattle.mh_size_text.specs.Scripts.{BeginsToSize, IsProfileText, IsRunText, IsSizeText, MayBeNeeded, Sizes, WritesPart}
 
 ending_many : (meaning : Meaning) → most_entries < length meaning.events → ending_of (Means meaning) ≡ HistoryFull
 ending_many meaning many =
@@ -63,12 +69,42 @@ pub may_be_needed : (profile : Option Profile) (config : Config) (events : List 
 may_be_needed None config events some none = none refl
 may_be_needed (Some profile) config events some none = some
 
--- and the text of that
-pub sized_text : {X E : Type 0} (bytes : X → Text) (rules : Rules) (script : Meaning) (config : Config) (profile : Option Profile) (events : List Event) (r : Result X E) → config ≡ with_rules rules script.config → events ≡ take most_entries script.events
-    → MayBeNeeded profile config events → IfOk r (λ text. IsProfileText profile config (bytes text)) → IfOk r (λ text. IsSizeText rules (Means script) (bytes text))
-sized_text bytes rules script config profile events (Err error) configured shown found is = tt
-sized_text bytes rules script config profile events (Ok text) configured shown found is =
+-- sessions of events whose profile it is keep to it
+keeps : (profile : Profile) (config : Config) (events : List Event) → IsTheProfile profile config events → KeepToProfile profile config events
+keeps profile config events is = record {
+  needs = is.needs.enough;
+  kinds = is.kinds.made;
+  demanded = go profile.demand is.demanded;
+}
+  where
+    go : (demanded : Option ℕ) → MatchOption demanded (2 ^ 32 ≤ demand config events) (λ pages. pages ≡ demand config events) → IfSome demanded (λ pages. demand config events ≤ pages)
+    go None is = tt
+    go (Some pages) is = grind (arith)
+
+-- what is written of a run whose profile is known or not
+run_text : SufficientHeapsAreNeverFull → (profile : Option Profile) (config : Config) (events : List Event) (text : Text) → MayBeNeeded profile config events → IsProfileText profile config text → IsRunText profile config events text
+run_text law None config events text needed is = is
+run_text law (Some profile) config events text needed (found, searched, is) = record {
+  found = found;
+  searched = searched;
+  is = is;
+  never_full = in-found found searched;
+  own = λ passes. law.enough profile config events keeping (tested-suffices profile config passes);
+}
+  where
+    keeping : KeepToProfile profile config events
+    keeping = keeps profile config events needed
+
+    in-found : (found : Option Found) → IsSearched profile config found → IfSome found (λ heap. IsNeverFull heap.config events)
+    in-found None none = tt
+    in-found (Some heap) is = law.found profile config heap events keeping is.enough
+
+-- and the text of a script
+pub sized_text : {X E : Type 0} (bytes : X → Text) (rules : Rules) (script : Meaning) (config : Config) (profile : Option Profile) (events : List Event) (r : Result X E) → SufficientHeapsAreNeverFull → config ≡ with_rules rules script.config
+    → events ≡ take most_entries script.events → MayBeNeeded profile config events → IfOk r (λ text. IsProfileText profile config (bytes text)) → IfOk r (λ text. IsSizeText rules (Means script) (bytes text))
+sized_text bytes rules script config profile events (Err error) law configured shown found is = tt
+sized_text bytes rules script config profile events (Ok text) law configured shown found is =
     let P : Config → Type 0 = λ config. MayBeNeeded profile config (take most_entries script.events) × IsProfileText profile config (bytes text) in
     let Q : List Event → Type 0 = λ events. MayBeNeeded profile config events in
     let both = subst P configured (subst Q shown found, is) in
-    (profile, both.0, both.1)
+    (profile, both.0, run_text law profile _ _ _ both.0 both.1)

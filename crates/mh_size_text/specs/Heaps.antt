@@ -1,12 +1,14 @@
 -- Heaps for what intervals ask for, and their texts.
-use Rattle.std.specs.Prelude.{◌≡◌, ◌⊎◌, ℕ, zero, suc, ◌-◌, ◌*◌, ◌/◌, min, Bool, if◌then◌else◌, Option, Some, None, is_some, unwrap_or, List, [], ◌∷◌, ◌++◌, map, codes}
+use Rattle.std.specs.Prelude.{◌≡◌, ◌⊎◌, ℕ, zero, suc, ◌-◌, ◌*◌, ◌/◌, ◌≤◌, min, Bool, true, IfSome, if◌then◌else◌, Option, Some, None, is_some, unwrap_or, List, [], ◌∷◌, ◌++◌, map, codes}
 use Rattle.mh_model.specs.Bytes.{Text, lines_text}
+use Rattle.mh_model.specs.declared.command.Event.{Event}
 use Rattle.mh_model.specs.declared.config.Config.{Config}
 use Rattle.mh_model.specs.declared.needs.Needs.{Needs}
+use Rattle.mh_model.specs.Intervals.{IsNeverFull}
 use Rattle.mh_sizing.specs.Choices.{least_from}
 use Rattle.mh_sizing.specs.declared.kinds.Kinds.{Kinds}
-use Rattle.mh_sizing.specs.Counted.{kinds_counted}
-use Rattle.mh_sizing.specs.Enough.{cycle_quanta, quantum_needed}
+use Rattle.mh_sizing.specs.Counted.{KeepToCounts, kinds_counted}
+use Rattle.mh_sizing.specs.Enough.{cycle_quanta, is_enough, quantum_needed}
 use Rattle.mh_sizing.specs.Found.{IsChosen, IsSearched}
 use Rattle.mh_sizing.specs.Needs.{enough_trigger, needs_of_counts}
 use Rattle.mh_sizing.specs.Openings.{pages_of_counts, parts_of_counts}
@@ -81,9 +83,21 @@ greatest_percent options pages = greatest_below (λ percent. some_quantum_fits (
 abbrev pub heap_text : Profile → Config → Option Found → Text
 heap_text profile config found = lines_text (profile_lines profile) ++ (search_text profile config found ++ (lines_text (enough_line profile config ∷ []) ++ floors_text config.every config.quantum))
 
--- what is written of a heap of so many pages, if a quantum is given or is enough
-abbrev pub IsSizedText : HeapOptions → ℕ → Text → Type 0
-IsSizedText options pages text = (config : Config) × (found : Option Found) × IsSizedHeap options pages config × IsChosen (profile_asked options) config found × (text ≡ heap_text (profile_asked options) config found)
+-- No run whose sessions keep to the counts is full in a heap of so many pages with that quantum, nor with a greater trigger
+abbrev pub IsEnoughFor : HeapOptions → Config → Type 0
+IsEnoughFor options heap = (config : Config) (events : List Event) → config.pages ≡ heap.pages → config.quantum ≡ heap.quantum → heap.trigger ≤ config.trigger
+    → KeepToCounts (counts_of options.allocations.parts) options.live (references_of options) config events → IsNeverFull config events
+
+-- What is written of a heap of so many pages, if a quantum is given or is enough. The heap that is found is enough for all that keep to the counts, and
+-- so is the one that is asked for if it is said to be
+pub record IsSizedText (options : HeapOptions) (pages : ℕ) (text : Text) : Type 0 where
+  pub config : Config
+  pub found : Option Found
+  pub sized : IsSizedHeap options pages config
+  pub chosen : IsChosen (profile_asked options) config found
+  pub is : text ≡ heap_text (profile_asked options) config found
+  pub enough : IfSome found (λ heap. IsEnoughFor options heap.config)
+  pub own : is_enough (profile_asked options) config ≡ true → IsEnoughFor options config
 
 -- If no quantum is enough, what would be: so many pages, or so many per cent of the counts
 abbrev pub enough_text : Option ℕ → Option ℕ → Text
@@ -101,7 +115,7 @@ IsSmallText options pages text = (quantum_of options.quantum (profile_asked opti
 abbrev pub searched_text : Profile → Config → Option Found → Text
 searched_text profile config found = lines_text (profile_lines profile) ++ (search_text profile config found ++ floors_text config.every config.quantum)
 
--- the same of the options
+-- the same of the options: what is found is enough for all that keep to the counts
 pub record IsSearchedText (options : HeapOptions) (text : Text) : Type 0 where
   pub config : Config
   pub found : Option Found
@@ -109,6 +123,7 @@ pub record IsSearchedText (options : HeapOptions) (text : Text) : Type 0 where
   pub every : config.every ≡ options.every
   pub searched : IsSearched (profile_asked options) config found
   pub is : text ≡ searched_text (profile_asked options) config found
+  pub enough : IfSome found (λ heap. IsEnoughFor options heap.config)
 
 -- What is written of these pages, or of none
 abbrev pub IsTextFor : HeapOptions → Option ℕ → Text → Type 0

@@ -1,5 +1,5 @@
 -- What the sizing of a script has read and written. What its sessions need is a relation, and so is the text that says it.
-use Rattle.std.specs.Prelude.{◌≡◌, Option, None, Some, Result, List, [], ◌∷◌, take, codes, IfOk, IsErrOf}
+use Rattle.std.specs.Prelude.{◌≡◌, true, Option, None, Some, Result, List, [], ◌∷◌, take, codes, IfOk, IfSome, IsErrOf}
 use Rattle.std.specs.Io.KnownBytes.{Keeps}
 use Rattle.mh_model.specs.declared.command.Event.{Event}
 use Rattle.mh_model.specs.declared.config.Config.{Config}
@@ -7,13 +7,17 @@ use Rattle.mh_model.specs.declared.config.Rules.{Rules}
 use Rattle.mh_model.specs.declared.needs.Needs.{Needs}
 use Rattle.mh_model.specs.Bytes.{Text, line_text, lines_text}
 use Rattle.mh_model.specs.Configs.{with_rules}
+use Rattle.mh_model.specs.Intervals.{IsNeverFull}
 use Rattle.mh_model.specs.Limits.{most_entries}
 use Rattle.mh_sizing.specs.OfSizingLaws.Made.{MakeNoMore}
 use Rattle.mh_model.specs.Output as model
 use Rattle.mh_model.specs.Output.{Ending, ending}
 use Rattle.mh_model.specs.Replies.{bad_line_text}
 use Rattle.mh_model.specs.Script.{BadLine, Meaning, Means, Reading, reading}
+use Rattle.mh_sizing.specs.Enough.{is_enough}
+use Rattle.mh_sizing.specs.Found.{IsSearched}
 use Rattle.mh_sizing.specs.Needed.{IsTheProfile, IsTooLarge}
+use Rattle.mh_sizing.specs.declared.found.Found.{Found}
 use Rattle.mh_sizing.specs.declared.profile.Profile.{Profile}
 use Rattle.mh_script.specs.declared.end.End.{End}
 use Rattle.mh_script.specs.declared.end.End.TheVariants.{Done, Refused}
@@ -22,7 +26,7 @@ use Rattle.mh_script.specs.declared.fault.ScriptFault.TheVariants.{Read, Write, 
 use Rattle.mh_script.specs.Run.{Device, HasReason, TakesToRun}
 use Rattle.mh_script.specs.Texts.{Blames, IsTextOf, LeavesSource, WantsMemory, Writes}
 use Rattle.mh_text.specs.Stream.{AppendsBeginning}
-use Rattle.mh_size_text.specs.Texts.{IsSized, optional_line}
+use Rattle.mh_size_text.specs.Texts.{IsSized, optional_line, size_text}
 
 -- Texts ------------------------------------------------------------------------------------------
 
@@ -36,12 +40,27 @@ abbrev pub IsProfileText : Option Profile → Config → Text → Type 0
 IsProfileText (Some profile) config text = IsSized profile config text
 IsProfileText None config text = text ≡ lines_text (optional_line (codes "needs") None ∷ [])
 
+-- What is written of a run: what its sessions ask of a heap, with the heap that is found for it. A run of these events is never full in that heap, nor
+-- in its own configuration if that is enough
+pub record IsSizedRun (profile : Profile) (config : Config) (events : List Event) (text : Text) : Type 0 where
+  pub found : Option Found
+  pub searched : IsSearched profile config found
+  pub is : text ≡ size_text profile config found
+  pub never_full : IfSome found (λ heap. IsNeverFull heap.config events)
+  pub own : is_enough profile config ≡ true → IsNeverFull config events
+
+-- the same of what may be needed
+abbrev pub IsRunText : Option Profile → Config → List Event → Text → Type 0
+IsRunText (Some profile) config events text = IsSizedRun profile config events text
+IsRunText None config events text = IsProfileText None config text
+
 -- What is written of a reading under these rules: the first bad line, or what the sessions of the first 1,000,000 events ask of a heap, with the heap for it
 abbrev pub IsSizeText : Rules → Reading Meaning → Text → Type 0
 IsSizeText rules (BadLine line) text = text ≡ line_text (bad_line_text line)
 IsSizeText rules (Means script) text =
     let config = with_rules rules script.config in
-    (profile : Option Profile) × MayBeNeeded profile config (take most_entries script.events) × IsProfileText profile config text
+    let events = take most_entries script.events in
+    (profile : Option Profile) × MayBeNeeded profile config events × IsRunText profile config events text
 
 -- a prefix of a text of this kind was written, and nothing else
 abbrev pub WritesPart : (Text → Type 0) → Option Text → Option Text → Type 0

@@ -1,4 +1,5 @@
-//! The heap for what intervals ask for, written exactly.
+//! The heap for what intervals make, written exactly. Sessions that keep to the counts are never answered `heap full` in
+//! one with the numbers that are written.
 //!
 //! It has the quantum that is given, or the least that is enough for its pages. If none is enough, the text has the
 //! least number of pages for which some quantum is. It also has the greatest share of what is asked for with which one
@@ -22,6 +23,7 @@ use mh_orders::heap_options::HeapOptions;
 use mh_sizing::counted::profile_of_counts;
 use mh_sizing::enough::{cycle_quanta, quantum_needed};
 use mh_sizing::found::{Found, choose, find};
+use mh_sizing::laws::sufficient_heaps_are_never_full;
 use mh_sizing::needs::{enough_trigger, parts_counted};
 use mh_sizing::openings::pages_opened;
 use mh_sizing::profile::Profile;
@@ -251,6 +253,7 @@ fn sized_text(
 {
     let config = heap(options, profile, pages, quantum);
     let found = choose(&config, profile);
+    sufficient_heaps_are_never_full();
     config_text(alloc, profile, &config, &found)
 }
 
@@ -300,6 +303,7 @@ fn quantum_text(
 {
     let config = configuration(1, quantum, 0, options.every);
     let found = find(&config, profile);
+    sufficient_heaps_are_never_full();
     found_text(alloc, profile, &config, &found)
 }
 

@@ -1,5 +1,7 @@
 //! Scripts that are read from a source, and what is written of their size.
 //!
+//! The events of a script are never answered `heap full` in the heap that is written, nor in its own if that is enough.
+//!
 //! A script is refused as by a run, with its reason. One of more than 1,000,000 events ends as a full history, after
 //! the size of the first 1,000,000 was written. Nothing is written if memory is refused or the source fails, and a
 //! prefix if the sink fails. A device failed exactly when it is blamed. A need of more than 32 bits is answered
@@ -26,6 +28,7 @@ use mh_model::memory::NoMemory;
 use mh_script::end::{End, LineRefusal};
 use mh_script::fault::{ScriptFault, WriteError};
 use mh_script::texts::{flush, read_whole, write_verdict};
+use mh_sizing::laws::sufficient_heaps_are_never_full;
 use mh_sizing::profile::{Profile, profile_of};
 use mh_text::device::DeviceFailed;
 use mh_text::script::{SCRIPT_BYTES, Script, parse};
@@ -73,6 +76,7 @@ fn script_text(alloc: Global, script: &Script, rules: Rules) -> Result<String, N
 {
     let config = script.config().with_rules(rules);
     let profile = profile_of(alloc, config, answered(script.events()))?;
+    sufficient_heaps_are_never_full();
     profile_text(alloc, &config, profile)
 }
 
@@ -96,9 +100,9 @@ fn write_size<W: Sink>(
     Ok(())
 }
 
-/// Reads a whole script, and then writes what its sessions need under these rules, the fewest pages that are enough for that with
-/// its quantum, and whether its own configuration is. Of a script that is outside the grammar it writes the one line that names the first bad line. The whole text is
-/// made before its first byte is written.
+/// Reads a whole script, and then writes what its sessions need under these rules, the fewest pages that are enough for
+/// that with its quantum, and whether its own configuration is. Of a script that is outside the grammar it writes the
+/// one line that names the first bad line. The whole text is made before its first byte is written.
 pub fn size_script<S: Source, W: Sink>(
     alloc: Global,
     source: &mut S,

@@ -1,10 +1,10 @@
-use Rattle.std.proofs.Common.{◌≡◌, ◌++◌, ◌∷◌, [], List, ℕ, ap, codes, ◌∙◌}
+use Rattle.std.proofs.Common.{◌≡◌, ◌++◌, ◌∷◌, [], ap, codes, ◌∙◌}
 use Rattle.std.proofs.lemmas.List.{append_assoc}
 use Rattle.std.specs.Prelude.{OnOk, Result, Ok, Err}
 use Rattle.std.specs.String.{string_bytes}
 use Rattle.mh_model.specs.Bytes.{Text, lines_text}
 use Rattle.mh_sizing.specs.Enough.{quantum_needed}
-use Rattle.mh_size_text.specs.Texts.{no_numbers, none_text, number_line, optional_line}
+use Rattle.mh_size_text.specs.Texts.{no_numbers, number_line, optional_line}
 use Rattle.mh_size_text.proofs.lines.push_none.Goals as goal
 
 -- three texts that were added one after another

@@ -8,5 +8,5 @@ use Rattle.mh_size_text.proofs.script.script_text.Goals as goal
 
 pub returns : goal.returns
 returns c =
-    sized_text string_bytes c.args.rules c.args.script.now _ _ _ _ (c.with_rules-config.ensures ∙ ap (with_rules c.args.rules) c.config.ensures) (c.answered.ensures ∙ ap (take most_entries) c.events.ensures)
+    sized_text string_bytes c.args.rules c.args.script.now _ _ _ _ c.sufficient_heaps_are_never_full.ensures (c.with_rules-config.ensures ∙ ap (with_rules c.args.rules) c.config.ensures) (c.answered.ensures ∙ ap (take most_entries) c.events.ensures)
     (may_be_needed _ _ _ c.in_ok-profile.ensures.profile c.in_ok-profile.ensures.none) c.profile_text.ensures
