@@ -9,7 +9,7 @@ use Rattle.mh_command_line.specs.declared.options.OptionFault.TheVariants.{NoNum
 pub number_fault : (name : Text) (rows : List Row) (fault : OptionFault) → WantsConfig name rows → IsNumberFault rows fault → HasOptionFault name rows fault
 number_fault name rows (NoNumber option text) wants is = (wants, is)
 number_fault name rows (NoProfile text) wants is = absurd is
-number_fault name rows (NoBlocks text) wants is = absurd is
+number_fault name rows (NoBlocks option text) wants is = absurd is
 number_fault name rows (Missing option) wants is = (wants, is)
 number_fault name rows (Lacking option) wants is = absurd is
 number_fault name rows (Unwanted option) wants is = absurd is

@@ -1,5 +1,5 @@
 -- What the options of the matches are read as.
-use Rattle.std.proofs.Common.{◌≡◌, ◌∙◌, ◌⊎◌, ◌<◌, ◌≤◌, ◌^◌, ℕ, Bool, true, false, Option, Some, None, option_map, refl, sym, ap, inl, inr, arith, codes}
+use Rattle.std.proofs.Common.{◌≡◌, ◌∙◌, ◌⊎◌, ◌<◌, ◌≤◌, ◌^◌, ◌&&◌, ◌||◌, not, ℕ, Bool, true, false, Option, Some, None, option_map, refl, sym, ap, inl, inr, arith, codes}
 use Rattle.std.specs.Prelude.{◌≢◌, IfSome, is_some, IsSome, IsSomeAnd, MatchOption, Result, Ok, Err, find, option_and_then, slice_get, unwrap_or}
 use Rattle.std.specs.Str.{bytes_eq}
 use Rattle.clap.proofs.WalkLemmas.{first_value-rows}
@@ -15,10 +15,9 @@ use Rattle.mh_orders.specs.declared.profile.Profile.{Profile}
 use Rattle.mh_orders.specs.declared.profile.Profile.TheVariants.{Mixed}
 use Rattle.mh_command_line.specs.Line.{IsNumber, number_in_digits, rules_numbered}
 use Rattle.std.specs.Option.{option_map_or}
+use Rattle.std.proofs.lemmas.Bool.{false≢true, true≢false}
 use Rattle.std.proofs.lemmas.Bool.Decides.{nat_tests}
-use Rattle.mh_command_line.specs.Blocks.{ReadsAllocations, allocations_in, counted_of}
 use Rattle.mh_orders.specs.Given.{is_between, may_be}
-use Rattle.mh_command_line.specs.declared.blocks.AskedAllocations.{AskedAllocations}
 
 -- a number that fits is read
 module _ {E : Type 0} (k : ℕ) (gives : Text → Result ℕ E → Type 0) (parses : (text : Text) (r : Result ℕ E) → gives text r → ParsesUnsigned k 10 text r) where
@@ -154,10 +153,33 @@ pub may-between : (least most : ℕ) (found : Option Text) (number : Option ℕ)
 may-between least most None number within is = ap (may_be least most) is
 may-between least most (Some text) number within is = ap (may_be least most) is ∙ between least most (number_in_digits text) within.2 within.3
 
-pub allocations-read : (found : Option Text) (asked : AskedAllocations) → (found ≡ None → Some asked ≡ None) → ((t : Text) → found ≡ Some t → ReadsOne ReadsAllocations t (Some asked)) → IsSomeAnd found (λ text. allocations_in text ≡ Some (counted_of asked.allocations))
-allocations-read None asked none reads = absurd (some-none (none refl))
-allocations-read (Some text) asked none reads = reads text refl
+-- what the text of an option is read as, and that it can't be read
+module _ {A E : Type 0} (reads : Text → Result A E → Type 0) where
+  pub text-read : (P : Text → A → Type 0) (found : Option Text) (asked : A) → ((t : Text) → reads t (Ok asked) → P t asked) → (found ≡ None → Some asked ≡ None) → ((t : Text) → found ≡ Some t → ReadsOne reads t (Some asked)) → IsSomeAnd found (λ text. P text asked)
+  text-read P None asked is none read = absurd (some-none (none refl))
+  text-read P (Some text) asked is none read = is text (read text refl)
 
-pub allocations-lacking : (found : Option Text) (text : Text) → found ≡ Some text → ((t : Text) → found ≡ Some t → ReadsOne ReadsAllocations t None) → IsSomeAnd found (λ text. allocations_in text ≡ None)
-allocations-lacking None text there reads = absurd (some-none (sym there))
-allocations-lacking (Some other) text there reads = (reads other refl).1
+  pub text-lacking : (P : Text → Type 0) (found : Option Text) (text : Text) → ((t : Text) (e : E) → reads t (Err e) → P t) → found ≡ Some text → ((t : Text) → found ≡ Some t → ReadsOne reads t None) → IsSomeAnd found P
+  text-lacking P None text is there read = absurd (some-none (sym there))
+  text-lacking P (Some other) text is there read = let r = read other refl in is other r.0 r.1
+
+-- an option that may be left out
+pub match-given : (N : Type 0) (P : Text → Type 0) (found : Option Text) → IsSomeAnd found P → MatchOption found N P
+match-given N P None is = absurd is
+match-given N P (Some text) is = is
+
+pub match-none : (N : Type 0) (P : Text → Type 0) (found : Option Text) → found ≡ None → N → MatchOption found N P
+match-none N P None none is = is
+match-none N P (Some text) none is = absurd (some-none none)
+
+-- what is given is not left out
+pub given-there : (found : Option Text) → IsSome found → found ≡ None → ⊥
+given-there None is none = false≢true is
+given-there (Some text) is none = some-none none
+
+-- what is of no heap describes no blocks
+pub no-blocks : (sized target blocks : Bool) → sized ≡ true → (sized && (not target || blocks)) ≡ false → blocks ≡ false
+no-blocks true target false sized none = refl
+no-blocks true true true sized none = absurd (true≢false none)
+no-blocks true false true sized none = absurd (true≢false none)
+no-blocks false target blocks sized none = absurd (false≢true sized)

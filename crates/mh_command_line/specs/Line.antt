@@ -60,6 +60,10 @@ percents = Unsigned 1 100
 abbrev pub window_numbers : ValueParser
 window_numbers = Unsigned 1 18446744073709551615
 
+-- the numbers of parts of an object
+abbrev pub part_numbers : ValueParser
+part_numbers = Unsigned 1 3661
+
 -- any text
 abbrev pub any_text : ValueParser
 any_text = String
@@ -138,15 +142,18 @@ generate_app =
 abbrev pub curve_app : App
 curve_app = with_rule (with_rule (with_rule (new_app (codes "curve")) rules_rule) (flag_rule (codes "history"))) (flag_rule (codes "svg"))
 
--- `size`, with the numbers of a configuration, and with what sessions ask for, or with a share of the mutator; or of a script with rules
+-- `size`, with the numbers of a configuration, with how mutators make objects, and with a share of the mutator; or of a script with rules
 abbrev pub sized_app : App
 sized_app = with_rule (with_rule (with_rule (new_app (codes "size")) (parsed_rule (codes "pages") page_numbers)) (parsed_rule (codes "every") scheduled_numbers)) (parsed_rule (codes "quantum") quantum_numbers)
 
 abbrev pub blocks_app : App
 blocks_app = with_rule (with_rule (with_rule sized_app (parsed_rule (codes "allocates") any_text)) (parsed_rule (codes "live") block_numbers)) (parsed_rule (codes "references") block_numbers)
 
+abbrev pub rates_app : App
+rates_app = with_rule (with_rule (with_rule blocks_app (parsed_rule (codes "rate") any_text)) (parsed_rule (codes "classes") any_text)) (parsed_rule (codes "parts") part_numbers)
+
 abbrev pub share_app : App
-share_app = with_rule (with_rule blocks_app (parsed_rule (codes "target") percents)) (parsed_rule (codes "window") window_numbers)
+share_app = with_rule (with_rule rates_app (parsed_rule (codes "target") percents)) (parsed_rule (codes "window") window_numbers)
 
 abbrev pub size_app : App
 size_app = with_rule share_app rules_rule
@@ -287,6 +294,7 @@ pub record AsksToSize (rows : List Row) : Type 0 where
   pub quantum : IfSome (one_of (codes "quantum") rows) (IsUnsignedIn 209 1000000)
   pub live : IfSome (one_of (codes "live") rows) (IsUnsignedIn 0 1048576)
   pub references : IfSome (one_of (codes "references") rows) (IsUnsignedIn 0 1048576)
+  pub parts : IfSome (one_of (codes "parts") rows) (IsUnsignedIn 1 3661)
   pub target : IfSome (one_of (codes "target") rows) (IsUnsignedIn 1 100)
   pub window : IfSome (one_of (codes "window") rows) (IsUnsignedIn 1 18446744073709551615)
   pub rules : AsksForRules rows

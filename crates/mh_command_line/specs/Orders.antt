@@ -17,7 +17,7 @@ use Rattle.mh_model.specs.Limits.{least_quantum}
 use Rattle.mh_command_line.specs.declared.fault.LineFault.{LineFault}
 use Rattle.mh_command_line.specs.declared.fault.LineFault.TheVariants.{Words, NotText, Configuration, NoMemory}
 use Rattle.mh_orders.specs.declared.order.Order.{Order}
-use Rattle.mh_orders.specs.declared.order.Order.TheVariants.{Run, Steps, Show, Live, Race, Check, CheckSessions, Audit, Migrate, Generate, Version, Curve, CurveHistory, Size, SizeTarget, SizeScript}
+use Rattle.mh_orders.specs.declared.order.Order.TheVariants.{Run, Steps, Show, Live, Race, Check, CheckSessions, Audit, Migrate, Generate, Version, Curve, CurveHistory, Size, SizeRate, SizeTarget, SizeScript}
 use Rattle.mh_orders.specs.declared.curve.CurveOptions.{CurveOptions}
 use Rattle.mh_orders.specs.declared.order.Form.{Form}
 use Rattle.mh_orders.specs.declared.order.Form.TheVariants.{Replies, History}
@@ -29,7 +29,7 @@ use Rattle.mh_orders.specs.declared.order.ConfigOption.{ConfigOption}
 use Rattle.mh_orders.specs.declared.order.ConfigOption.TheVariants.{Pages, Quantum, Trigger, Every}
 use Rattle.mh_command_line.specs.declared.options.OptionFault.{OptionFault}
 use Rattle.mh_command_line.specs.declared.options.OptionFault.TheVariants.{NoNumber, NoProfile, NoBlocks, Missing, Lacking, Unwanted, Beside, Outside}
-use Rattle.mh_command_line.specs.Sizes.{AreHeapOptions, AreTargetOptions, IsAlone, IsWanted, LacksAllocations, has_size}
+use Rattle.mh_command_line.specs.Sizes.{AreHeapOptions, AreRateOptions, AreTargetOptions, IsAlone, IsWanted, LacksBlocks, has_size}
 use Rattle.mh_command_line.specs.Line.{HasNumber, IsConfigOption, LacksNumber, WantsConfig, is_flagged, metroheap, number_or, rules_given, rules_chosen, workers_of}
 
 -- Orders -----------------------------------------------------------------------------------------
@@ -126,6 +126,7 @@ IsOrder name rows (Curve options) = (name ≡ codes "curve") × (is_flagged (cod
 IsOrder name rows (CurveHistory form) = (name ≡ codes "curve") × (is_flagged (codes "history") rows ≡ true) × (form ≡ curve_form_of rows)
 IsOrder name rows (Generate options) = (name ≡ codes "generate") × AreGenerateOptions rows options
 IsOrder name rows (Size options) = (name ≡ codes "size") × AreHeapOptions rows options
+IsOrder name rows (SizeRate options) = (name ≡ codes "size") × AreRateOptions rows options
 IsOrder name rows (SizeTarget options) = (name ≡ codes "size") × AreTargetOptions rows options
 IsOrder name rows (SizeScript rules) = (name ≡ codes "size") × (has_size rows ≡ false) × (rules ≡ rules_chosen Second rows)
 IsOrder name rows Version = ⊥
@@ -175,7 +176,7 @@ LacksProfile rows = IsSomeAnd (one_of (codes "profile") rows) (λ text. (profile
 abbrev pub IsNumberFault : List Row → OptionFault → Type 0
 IsNumberFault rows (NoNumber name text) = IsConfigOption name.now × LacksNumber rows name.now
 IsNumberFault rows (NoProfile text) = ⊥
-IsNumberFault rows (NoBlocks text) = ⊥
+IsNumberFault rows (NoBlocks name text) = ⊥
 IsNumberFault rows (Missing name) = IsConfigOption name.now × (one_of name.now rows ≡ None)
 IsNumberFault rows (Lacking name) = ⊥
 IsNumberFault rows (Unwanted name) = ⊥
@@ -186,7 +187,7 @@ IsNumberFault rows (Outside option) = AreOutside rows option
 abbrev pub HasOptionFault : Text → List Row → OptionFault → Type 0
 HasOptionFault subcommand rows (Unwanted name) = (subcommand ≡ codes "check") × IsConfigOption name.now × (is_flagged (codes "sessions") rows ≡ true) × IsSome (one_of name.now rows)
 HasOptionFault subcommand rows (NoProfile text) = (subcommand ≡ codes "generate") × LacksProfile rows
-HasOptionFault subcommand rows (NoBlocks text) = (subcommand ≡ codes "size") × LacksAllocations rows
+HasOptionFault subcommand rows (NoBlocks name text) = (subcommand ≡ codes "size") × LacksBlocks rows name.now
 HasOptionFault subcommand rows (Lacking name) = (subcommand ≡ codes "size") × IsWanted rows name.now × (one_of name.now rows ≡ None)
 HasOptionFault subcommand rows (Beside name other) = (subcommand ≡ codes "size") × IsAlone rows name.now other.now × IsSome (one_of name.now rows) × IsSome (one_of other.now rows)
 HasOptionFault subcommand rows fault = WantsConfig subcommand rows × IsNumberFault rows fault
@@ -196,7 +197,7 @@ pub data AreAmiss (name : Text) (rows : List Row) : ErrorKind → Type 0 where
   IsNoNumber : WantsConfig name rows → (option : Text) → IsConfigOption option → LacksNumber rows option → AreAmiss name rows ValueValidation
   IsMissing : WantsConfig name rows → (option : Text) → IsConfigOption option → one_of option rows ≡ None → AreAmiss name rows MissingRequiredArgument
   IsNoProfile : name ≡ codes "generate" → LacksProfile rows → AreAmiss name rows ValueValidation
-  AreNoBlocks : name ≡ codes "size" → LacksAllocations rows → AreAmiss name rows ValueValidation
+  AreNoBlocks : name ≡ codes "size" → (option : Text) → LacksBlocks rows option → AreAmiss name rows ValueValidation
   IsLacking : name ≡ codes "size" → (option : Text) → IsWanted rows option → one_of option rows ≡ None → AreAmiss name rows MissingRequiredArgument
   IsBeside : name ≡ codes "size" → (option other : Text) → IsAlone rows option other → IsSome (one_of option rows) → IsSome (one_of other rows) → AreAmiss name rows ArgumentConflict
   IsUnwanted : name ≡ codes "check" → (option : Text) → IsConfigOption option → is_flagged (codes "sessions") rows ≡ true → IsSome (one_of option rows) → AreAmiss name rows ArgumentConflict
@@ -255,7 +256,7 @@ OrdersBy words (Err fault) = IsFault words fault
 abbrev pub kind_of_fault : OptionFault → Option ErrorKind
 kind_of_fault (NoNumber name text) = Some ValueValidation
 kind_of_fault (NoProfile text) = Some ValueValidation
-kind_of_fault (NoBlocks text) = Some ValueValidation
+kind_of_fault (NoBlocks name text) = Some ValueValidation
 kind_of_fault (Missing name) = Some MissingRequiredArgument
 kind_of_fault (Lacking name) = Some MissingRequiredArgument
 kind_of_fault (Unwanted name) = Some ArgumentConflict

@@ -1,13 +1,44 @@
--- The options of `size`: of a heap for what intervals ask for, or of a share of the mutator. Without them it sizes a script.
-use Rattle.std.specs.Prelude.{◌≡◌, ◌⊎◌, ◌||◌, Bool, true, List, Some, None, codes, is_some, IsSome, IsSomeAnd}
+-- The options of `size`: of a heap for how mutators make objects, of one that keeps a share at rates, or of a share alone. Without them it sizes a script.
+use Rattle.std.specs.Prelude.{◌≡◌, ◌⊎◌, ◌||◌, ◌&&◌, not, Bool, true, false, List, Some, None, codes, is_some, IsSome, IsSomeAnd, MatchOption}
 use Rattle.clap.specs.Words.{Row, Text, one_of}
-use Rattle.mh_command_line.specs.Blocks.{allocations_in, counted_of}
+use Rattle.mh_command_line.specs.Blocks.{all_listed, allocations_in, classes_in, counted_of, listed_of, rated_of, rates_in}
+use Rattle.mh_orders.specs.declared.allocation.Allocation.{Allocation}
+use Rattle.mh_orders.specs.declared.allocation.Allocation.TheVariants as known
 use Rattle.mh_orders.specs.declared.allocations.Allocations.{Allocations}
+use Rattle.mh_orders.specs.declared.classes.Classes.{Classes}
 use Rattle.mh_orders.specs.declared.heap_options.HeapOptions.{HeapOptions}
+use Rattle.mh_orders.specs.declared.heap_options.HeapQuantum.{HeapQuantum}
+use Rattle.mh_orders.specs.declared.heap_options.HeapQuantum.TheVariants as chosen
+use Rattle.mh_orders.specs.declared.rate_options.RateOptions.{RateOptions}
+use Rattle.mh_orders.specs.declared.rates.Rates.{Rates}
 use Rattle.mh_orders.specs.declared.target_options.Given.{Given}
 use Rattle.mh_orders.specs.declared.target_options.Given.TheVariants.{Every, Nothing, Quantum}
+use Rattle.mh_orders.specs.declared.target_options.Target.{Target}
 use Rattle.mh_orders.specs.declared.target_options.TargetOptions.{TargetOptions}
-use Rattle.mh_command_line.specs.Line.{HasNumber, optional_number}
+use Rattle.mh_command_line.specs.Line.{HasNumber, number_or, optional_number}
+
+-- Forms ------------------------------------------------------------------------------------------
+
+-- an option is given
+abbrev pub is_given : List Row → Text → Bool
+is_given rows name = is_some (one_of name rows)
+
+-- one of those is given that describe how mutators make objects, and what they hold
+abbrev pub has_blocks : List Row → Bool
+has_blocks rows = is_given rows (codes "allocates") || (is_given rows (codes "rate") || (is_given rows (codes "classes") || (is_given rows (codes "parts") || (is_given rows (codes "live") || is_given rows (codes "references")))))
+
+-- one of the options of a heap or of a share is given
+abbrev pub has_size : List Row → Bool
+has_size rows =
+    is_given rows (codes "pages") || (is_given rows (codes "every") || (is_given rows (codes "quantum") || (is_given rows (codes "target") || (is_given rows (codes "window") || has_blocks rows))))
+
+-- a heap is asked for, and no share alone
+abbrev pub is_of_heap : List Row → Bool
+is_of_heap rows = has_size rows && (not (is_given rows (codes "target")) || has_blocks rows)
+
+-- any heap is asked for that keeps a share at rates
+abbrev pub is_of_any : List Row → Bool
+is_of_any rows = is_given rows (codes "target") && (is_given rows (codes "rate") && (not (is_given rows (codes "every")) && not (is_given rows (codes "pages"))))
 
 -- Orders -----------------------------------------------------------------------------------------
 
@@ -15,16 +46,52 @@ use Rattle.mh_command_line.specs.Line.{HasNumber, optional_number}
 abbrev pub AsksAllocations : List Row → Allocations → Type 0
 AsksAllocations rows allocations = IsSomeAnd (one_of (codes "allocates") rows) (λ text. allocations_in text ≡ Some (counted_of allocations))
 
+-- so are rates
+abbrev pub AsksRates : List Row → Rates → Type 0
+AsksRates rows rates = IsSomeAnd (one_of (codes "rate") rows) (λ text. rates_in text ≡ Some (rated_of rates))
+
+-- and classes, which are all if they aren't given
+abbrev pub AsksClasses : List Row → Classes → Type 0
+AsksClasses rows classes = MatchOption (one_of (codes "classes") rows) (listed_of classes ≡ all_listed) (λ text. classes_in text ≡ Some (listed_of classes))
+
+-- how mutators make objects: by counts, by rates, or by classes alone
+abbrev pub AsksAllocation : List Row → Allocation → Type 0
+AsksAllocation rows (known.Counts counts) = AsksAllocations rows counts × (one_of (codes "rate") rows ≡ None) × (one_of (codes "classes") rows ≡ None) × (one_of (codes "parts") rows ≡ None)
+AsksAllocation rows (known.Rates rates) = AsksRates rows rates × (one_of (codes "allocates") rows ≡ None) × (one_of (codes "classes") rows ≡ None)
+AsksAllocation rows (known.Classes classes) = AsksClasses rows classes × (one_of (codes "allocates") rows ≡ None) × (one_of (codes "rate") rows ≡ None)
+
+-- a share of each window is given
+pub record AsksShare (rows : List Row) (target : Target) : Type 0 where
+  pub percent : HasNumber rows (codes "target") target.percent
+  pub window : HasNumber rows (codes "window") target.window
+
+-- the quantum of a heap: one that is given, or the greatest that keeps a share, or the least that is enough
+abbrev pub AsksQuantum : List Row → HeapQuantum → Type 0
+AsksQuantum rows chosen.Least = (one_of (codes "target") rows ≡ None) × (one_of (codes "window") rows ≡ None) × (one_of (codes "quantum") rows ≡ None)
+AsksQuantum rows (chosen.Given quantum) = (one_of (codes "target") rows ≡ None) × (one_of (codes "window") rows ≡ None) × HasNumber rows (codes "quantum") quantum
+AsksQuantum rows (chosen.Share target) = AsksShare rows target × (one_of (codes "quantum") rows ≡ None)
+
 -- the options of a heap for that
 pub record AreHeapOptions (rows : List Row) (options : HeapOptions) : Type 0 where
-  pub target : one_of (codes "target") rows ≡ None
-  pub window : one_of (codes "window") rows ≡ None
   pub pages : options.pages ≡ optional_number (codes "pages") rows
   pub every : HasNumber rows (codes "every") options.every
-  pub allocations : AsksAllocations rows options.allocations
+  pub allocation : AsksAllocation rows options.allocation
+  pub most_parts : options.most_parts ≡ number_or 1 (codes "parts") rows
   pub live : HasNumber rows (codes "live") options.live
   pub references : options.references ≡ optional_number (codes "references") rows
-  pub quantum : options.quantum ≡ optional_number (codes "quantum") rows
+  pub quantum : AsksQuantum rows options.quantum
+
+-- the options of any heap that keeps a share at rates
+pub record AreRateOptions (rows : List Row) (options : RateOptions) : Type 0 where
+  pub share : AsksShare rows options.target
+  pub rates : AsksRates rows options.rates
+  pub most_parts : options.most_parts ≡ number_or 1 (codes "parts") rows
+  pub live : HasNumber rows (codes "live") options.live
+  pub references : options.references ≡ optional_number (codes "references") rows
+  pub of_any : is_of_any rows ≡ true
+  pub quantum : one_of (codes "quantum") rows ≡ None
+  pub allocates : one_of (codes "allocates") rows ≡ None
+  pub classes : one_of (codes "classes") rows ≡ None
 
 -- what is given beside a target: one number or none
 abbrev pub IsGivenBesideTarget : List Row → Given → Type 0
@@ -32,37 +99,33 @@ IsGivenBesideTarget rows Nothing = (one_of (codes "every") rows ≡ None) × (on
 IsGivenBesideTarget rows (Every every) = HasNumber rows (codes "every") every × (one_of (codes "quantum") rows ≡ None)
 IsGivenBesideTarget rows (Quantum quantum) = (one_of (codes "every") rows ≡ None) × HasNumber rows (codes "quantum") quantum
 
--- the options of a share of the mutator
+-- the options of a share of the mutator alone
 pub record AreTargetOptions (rows : List Row) (options : TargetOptions) : Type 0 where
-  pub percent : HasNumber rows (codes "target") options.target.percent
-  pub window : HasNumber rows (codes "window") options.target.window
+  pub share : AsksShare rows options.target
   pub given : IsGivenBesideTarget rows options.given
   pub pages : options.pages ≡ optional_number (codes "pages") rows
-  pub allocates : one_of (codes "allocates") rows ≡ None
-  pub live : one_of (codes "live") rows ≡ None
-  pub references : one_of (codes "references") rows ≡ None
-
--- one of the options of a heap or of a share is given
-abbrev pub has_size : List Row → Bool
-has_size rows =
-    is_some (one_of (codes "pages") rows) || (is_some (one_of (codes "every") rows) || (is_some (one_of (codes "allocates") rows) || (is_some (one_of (codes "live") rows)
-    || (is_some (one_of (codes "references") rows) || (is_some (one_of (codes "quantum") rows) || (is_some (one_of (codes "target") rows) || is_some (one_of (codes "window") rows)))))))
+  pub blocks : has_blocks rows ≡ false
 
 -- Faults -----------------------------------------------------------------------------------------
 
--- an option that the others want: a window with a target, a target with a window, and otherwise what describes a heap, once a part of that is given: its
--- pages only without a quantum
+-- an option that the others want: a window with a target, a target with a window; and of a heap what is live, after how many units a quantum is run, and
+-- its pages if nothing settles its quantum
 pub data IsWanted (rows : List Row) (name : Text) : Type 0 where
   ForTarget : name ≡ codes "window" → IsSome (one_of (codes "target") rows) → IsWanted rows name
   ForWindow : name ≡ codes "target" → IsSome (one_of (codes "window") rows) → IsWanted rows name
-  ForHeap : (name ≡ codes "every") ⊎ (name ≡ codes "allocates") ⊎ (name ≡ codes "live") → one_of (codes "target") rows ≡ None → has_size rows ≡ true → IsWanted rows name
+  ForHeap : name ≡ codes "live" → is_of_heap rows ≡ true → IsWanted rows name
+  ForScheduler : name ≡ codes "every" → is_of_heap rows ≡ true → is_of_any rows ≡ false → IsWanted rows name
   ForPages : name ≡ codes "pages" → one_of (codes "quantum") rows ≡ None → one_of (codes "target") rows ≡ None → has_size rows ≡ true → IsWanted rows name
 
--- an option that is not to stand beside another: none of a heap's blocks beside a target, and then no two numbers of a configuration
+-- an option that is not to stand beside another: nothing that settles a quantum beside another such, and of what is known of how objects are made one kind
 pub data IsAlone (rows : List Row) (name other : Text) : Type 0 where
-  FromTarget : (name ≡ codes "allocates") ⊎ (name ≡ codes "live") ⊎ (name ≡ codes "references") → other ≡ codes "target" → IsAlone rows name other
+  FromTarget : name ≡ codes "quantum" → other ≡ codes "target" → is_of_heap rows ≡ true → IsAlone rows name other
   FromQuantum : name ≡ codes "every" → other ≡ codes "quantum" → IsSome (one_of (codes "target") rows) → IsAlone rows name other
+  FromRate : (name ≡ codes "allocates") ⊎ (name ≡ codes "classes") → other ≡ codes "rate" → IsAlone rows name other
+  FromCounts : (name ≡ codes "classes") ⊎ (name ≡ codes "parts") → other ≡ codes "allocates" → IsAlone rows name other
 
--- the text of what an interval asks for has no blocks
-abbrev pub LacksAllocations : List Row → Type 0
-LacksAllocations rows = IsSomeAnd (one_of (codes "allocates") rows) (λ text. allocations_in text ≡ None)
+-- the text of an option has no blocks
+pub data LacksBlocks (rows : List Row) (name : Text) : Type 0 where
+  NoCounts : name ≡ codes "allocates" → IsSomeAnd (one_of (codes "allocates") rows) (λ text. allocations_in text ≡ None) → LacksBlocks rows name
+  NoRates : name ≡ codes "rate" → IsSomeAnd (one_of (codes "rate") rows) (λ text. rates_in text ≡ None) → LacksBlocks rows name
+  NoClasses : name ≡ codes "classes" → IsSomeAnd (one_of (codes "classes") rows) (λ text. classes_in text ≡ None) → LacksBlocks rows name

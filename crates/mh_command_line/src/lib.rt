@@ -12,5 +12,6 @@ mod options;
 pub mod order;
 pub mod quoted;
 mod size;
+mod size_options;
 pub mod version;
 pub mod words;

@@ -40,8 +40,8 @@ pub(crate) enum OptionFault<'a> {
     NoNumber(&'static str, &'a str),
     /// The profile that is asked for is none.
     NoProfile(&'a str),
-    /// What an interval is to ask for has no blocks.
-    NoBlocks(&'a str),
+    /// The option with this name has a text without blocks.
+    NoBlocks(&'static str, &'a str),
     /// The option with this name is not given.
     Missing(&'static str),
     /// The option of `size` with this name is not given, which the others want.

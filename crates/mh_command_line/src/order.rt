@@ -28,7 +28,7 @@ use crate::options::{
     workers_asked,
 };
 use crate::quoted::{are_plain, quoted, quoted_words};
-use crate::size::size_asked;
+use crate::size_options::size_asked;
 use clap::ArgMatches;
 use clap::error::ErrorKind;
 use mh_model::config::Rules;
@@ -125,14 +125,29 @@ fn no_profile(
     )
 }
 
+/// The form of the blocks of an option.
+fn form_of(name: &str) -> &'static str {
+    match name {
+        "rate" => {
+            "WORDS:PARTS/UNITS with 4 to 64 words, 1 to 1000000 parts and units, and each class once"
+        }
+        "classes" => "WORDS from 4 to 64",
+        _ => "WORDS:COUNT with 4 to 64 words and 1 to 1048576 blocks of a class",
+    }
+}
+
 /// `clap`'s refusal of blocks that are none.
-fn no_blocks(alloc: Global, subcommand: Option<&str>, text: &str) -> Result<clap::Error, AllocError>
+fn no_blocks(
+    alloc: Global,
+    subcommand: Option<&str>,
+    name: &str,
+    text: &str,
+) -> Result<clap::Error, AllocError>
     ensures { IfOk result (λ error. kind_of error ≡ ValueValidation) }
 {
     let text = quoted(alloc, text)?;
-    let message = format!(in alloc;
-        "invalid value '{text}' for '--allocates': not WORDS:COUNT with 4 to 64 words and 1 to 1048576 blocks of a class"
-    )?;
+    let form = form_of(name);
+    let message = format!(in alloc; "invalid value '{text}' for '--{name}': not {form}")?;
     refused(
         alloc,
         subcommand,
@@ -179,7 +194,7 @@ fn refused_options(alloc: Global, subcommand: Option<&str>, fault: OptionFault<'
         OptionFault::Outside(option) => return LineFault::Configuration(option),
         OptionFault::NoNumber(name, text) => no_number(alloc, subcommand, name, text),
         OptionFault::NoProfile(text) => no_profile(alloc, subcommand, text),
-        OptionFault::NoBlocks(text) => no_blocks(alloc, subcommand, text),
+        OptionFault::NoBlocks(name, text) => no_blocks(alloc, subcommand, name, text),
         OptionFault::Missing(name) | OptionFault::Lacking(name) => missing(alloc, subcommand, name),
         OptionFault::Unwanted(name) => beside(alloc, subcommand, name, "sessions"),
         OptionFault::Beside(name, other) => beside(alloc, subcommand, name, other),

@@ -1,3 +1,4 @@
+pub mod Allocation
 pub mod Given
 pub mod Profiles
 pub mod Steps

@@ -4,6 +4,7 @@
 use crate::curve::{CurveForm, CurveOptions};
 use crate::generate_options::Options;
 use crate::heap_options::HeapOptions;
+use crate::rate_options::RateOptions;
 use crate::steps::Steps;
 use crate::target_options::TargetOptions;
 use mh_model::config::{Config, Rules};
@@ -62,8 +63,10 @@ pub enum Order {
     CurveHistory(CurveForm),
     /// Write the random script that is asked for.
     Generate(Options),
-    /// Write how large a heap has to be for what its intervals ask for.
+    /// Write how large a heap has to be for how mutators make objects.
     Size(HeapOptions),
+    /// Write the heap with the fewest pages that keeps a share of the mutator at rates.
+    SizeRate(RateOptions),
     /// Write which quantum keeps a share of the mutator.
     SizeTarget(TargetOptions),
     /// Write what the sessions of the script on standard input need under these rules.

@@ -1,13 +1,13 @@
 -- Bounds of counts, and what a greatest number below another is.
-use Rattle.std.proofs.Common.{◌≡◌, ◌∙◌, ℕ, suc, ◌+◌, ◌-◌, ◌*◌, ◌/◌, ◌<◌, ◌≤◌, Bool, true, false, if◌then◌else◌, Option, Some, None, List, length, get_or, refl, sym, ap, inl, inr, arith}
+use Rattle.std.proofs.Common.{◌≡◌, ◌∙◌, ℕ, suc, ◌+◌, ◌-◌, ◌*◌, ◌/◌, ◌<◌, ◌≤◌, Bool, true, false, cond, append-nil, if◌then◌else◌, Option, Some, None, List, [], ◌∷◌, ◌++◌, length, filter, get_or, set, take, refl, sym, ap, ap₂, inl, inr, arith}
 use Rattle.std.specs.Prelude.{IfOk, Result, Ok, Err}
 use Rattle.std.specs.List.{All}
 use Rattle.std.proofs.Math.Nat.{div-mul-le_self}
 use Rattle.std.proofs.lemmas.Nat.{mul-le}
 use Rattle.std.proofs.lemmas.Bool.{cases_lt}
-use Rattle.std.proofs.lemmas.List.{get_or_past}
+use Rattle.std.proofs.lemmas.List.{get_or_past, take_more_set}
 use Rattle.std.proofs.lemmas.List.Sums.{sum_by-le}
-use Rattle.std.proofs.lemmas.List.Elements.{All-get_or, All-map, All-from_get_or, All-weaker}
+use Rattle.std.proofs.lemmas.List.Elements.{filter_more, All-get_or, All-map, All-from_get_or, All-weaker}
 use Rattle.mh_model.specs.Classes.{class_sizes}
 use Rattle.mh_sizing.specs.OfClasses.Numbers.{class_number}
 use Rattle.mh_sizing.specs.declared.openings.ClassParts.{ClassParts}
@@ -15,7 +15,12 @@ use Rattle.mh_sizing.specs.Openings.{parts_of_counts}
 use Rattle.mh_sizing.specs.Choices.{least_from}
 use Rattle.mh_sizing.proofs.QuantumLemmas.{least_from-here, least_from-next, least_from-none}
 use Rattle.mh_size_text.specs.Blocks.{count_of, counts_of}
-use Rattle.mh_size_text.specs.Heaps.{greatest_below, scaled}
+use Rattle.mh_orders.specs.declared.heap_options.HeapOptions.{HeapOptions}
+use Rattle.mh_orders.specs.declared.heap_options.HeapQuantum.{HeapQuantum}
+use Rattle.mh_orders.specs.declared.heap_options.HeapQuantum.TheVariants as chosen
+use Rattle.mh_sizing.specs.Enough.{quantum_needed}
+use Rattle.mh_sizing.specs.declared.profile.Profile.{Profile}
+use Rattle.mh_size_text.specs.Heaps.{IsQuantumOf, greatest_below, scaled}
 
 -- no class has more blocks than a heap has words
 abbrev pub IsFew : ℕ → Type 0
@@ -87,3 +92,31 @@ falling_none test n value end is = sym (ap (greatest_below test) end ∙ greates
 pub if_ok : {T E : Type 0} (result : Result T E) (P Q : T → Type 0) → ((value : T) → P value → Q value) → IfOk result P → IfOk result Q
 if_ok (Ok value) P Q more is = more value is
 if_ok (Err error) P Q more is = tt
+
+-- a list of those that pass a test, as one more is looked at
+pub kept-more : {X : Type 0} (test : X → Bool) (all kept : List X) (count number : ℕ) (x d : X) → number < length all → count < length kept → x ≡ get_or all number d → test x ≡ true → take count kept ≡ filter test (take number all) → take (count + 1) (set kept count x) ≡ filter test (take (number + 1) all)
+kept-more test all kept count number x d within room is passed before =
+    let at : test (get_or all number d) ≡ true = ap test (sym is) ∙ passed in
+    take_more_set kept count x room
+        ∙ (ap₂ (λ (list : List _) y. list ++ y ∷ []) before is
+        ∙ (sym (ap (λ b. filter test (take number all) ++ cond b (get_or all number d ∷ []) []) at)
+        ∙ sym (filter_more test all number d within)))
+
+pub left-more : {X : Type 0} (test : X → Bool) (all kept : List X) (count number : ℕ) (d : X) → number < length all → test (get_or all number d) ≡ false → take count kept ≡ filter test (take number all) → take count kept ≡ filter test (take (number + 1) all)
+left-more test all kept count number d within missed before =
+    before
+        ∙ (sym (append-nil (filter test (take number all)))
+        ∙ (sym (ap (λ b. filter test (take number all) ++ cond b (get_or all number d ∷ []) []) missed)
+        ∙ sym (filter_more test all number d within)))
+
+-- the quantum of a heap that is to have the least
+pub least-needed : (options : HeapOptions) (profile : Profile) (pages : ℕ) (which : HeapQuantum) (quantum : Option ℕ) → which ≡ chosen.Least → IsQuantumOf options profile pages which quantum → quantum ≡ quantum_needed profile pages
+least-needed options profile pages chosen.Least quantum is value = value
+least-needed options profile pages (chosen.Given given) quantum is value = absurd (not-least is)
+  where
+    not-least : chosen.Given given ≡ chosen.Least → ⊥
+    not-least e = cc
+least-needed options profile pages (chosen.Share target) quantum is value = absurd (not-least is)
+  where
+    not-least : chosen.Share target ≡ chosen.Least → ⊥
+    not-least e = cc

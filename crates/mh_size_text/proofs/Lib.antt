@@ -1,4 +1,4 @@
 pub mod WindowLemmas
 pub mod HeapLemmas
 pub mod SizingLemmas
-pub mod EnoughForCounts
+pub mod EnoughHeaps

@@ -1,17 +1,20 @@
-//! The heap for what intervals make, written exactly. Sessions that keep to the counts are never answered `heap full` in
-//! one with the numbers that are written.
+//! The heap for how mutators make objects, written exactly. Sessions that keep to what is known of them are never
+//! answered `heap full` in one with the numbers that are written.
 //!
-//! It has the quantum that is given, or the least that is enough for its pages. If none is enough, the text has the
-//! least number of pages for which some quantum is. It also has the greatest share of what is asked for with which one
-//! is. If no pages are given, the text has the fewest that are enough with the quantum.
-//!
-//! References are as many as blocks have room for, if they aren't given. That is safe, and for blocks of numbers a
-//! user says 0.
+//! It has the quantum that is given, or the greatest that keeps a share, or the least that is enough for its pages. If
+//! none is enough, the text has the least number of pages for which some quantum is. By counts it also has the
+//! greatest share of these with which one is. If no pages are given, the text has the fewest that are enough with the
+//! quantum.
 ghost use Rattle.std.specs.Prelude.{◌≡◌, ◌≤◌, ◌*◌, ◌/◌, ◌++◌, IfOk, IfSome, OnOk, None, Some, length};
+ghost use Rattle.std.specs.List.{All};
 ghost use Rattle.std.specs.String.{string_bytes};
-ghost use Rattle.mh_size_text.specs.Heaps.{IsSizedHeap, IsHeapText, IsSearchedText, IsSizedText, IsSmallText, IsTextFor, searched_text, enough_text, greatest_percent, profile_asked, profile_scaled, some_quantum_fits, heap_text, least_pages, needs_asked, needs_scaled, quantum_of, references_of, scaled, small_text};
+ghost use Rattle.mh_model.specs.Bytes.{lines_text};
 ghost use Rattle.mh_model.specs.Limits.{least_quantum};
+ghost use Rattle.mh_orders.specs.declared.heap_options.HeapQuantum.TheVariants as chosen;
+ghost use Rattle.mh_size_text.specs.Allocation.{AskNoMore, profile_asked};
+ghost use Rattle.mh_size_text.specs.Heaps.{HasQuantum, IsHeapText, IsLostText, IsQuantumOf, IsSearchedText, IsSizedHeap, IsSizedText, IsSmallText, IsTextFor, greatest_percent, heap_text, least_pages, lost_text, profile_scaled, scaled, searched_text, shares_enough, small_text, some_quantum_fits};
 
+use crate::allocation::profile_asked;
 use crate::blocks::counts_of;
 use crate::floors::push_floors;
 use crate::lines::{push_enough_line, push_optional, push_profile, push_search};
@@ -19,46 +22,27 @@ use mh_model::config::{Config, Rules};
 use mh_model::limits::MOST_PAGES;
 use mh_model::memory::NoMemory;
 use mh_model::needs::Needs;
-use mh_orders::heap_options::HeapOptions;
-use mh_sizing::counted::profile_of_counts;
+use mh_orders::allocation::Allocation;
+use mh_orders::heap_options::{HeapOptions, HeapQuantum};
 use mh_sizing::enough::{cycle_quanta, quantum_needed};
 use mh_sizing::found::{Found, choose, find};
 use mh_sizing::laws::sufficient_heaps_are_never_full;
 use mh_sizing::needs::{enough_trigger, parts_counted};
 use mh_sizing::openings::pages_opened;
 use mh_sizing::profile::Profile;
+use mh_sizing::targets::greatest_quantum_for;
 use std::alloc::Global;
 
-fn references(options: &HeapOptions) -> u32
-    ensures value { result ≡ references_of options.now }
-    ensures few { result ≤ 62914560 }
-{
-    match options.references {
-        Some(references) => references,
-        None => options.live * (options.allocations.most_words - 4),
-    }
-}
-
-/// What sessions ask of a heap that keep to the counts.
-fn profile_asked(options: &HeapOptions) -> Profile
-    ensures { result ≡ profile_asked options.now }
-{
-    profile_of_counts(
-        &counts_of(&options.allocations.parts),
-        options.live,
-        references(options),
-    )
-}
-
-/// The quantum that is given, or the least that is enough for so many pages.
+/// The quantum of a heap of so many pages.
 fn quantum_of(options: &HeapOptions, profile: &Profile, pages: u32) -> Option<u32>
     requires { (1 ≤ pages) × (pages ≤ 4096) }
-    ensures value { result ≡ quantum_of options.now.quantum profile.now pages }
+    ensures value { IsQuantumOf options.now profile.now pages options.now.quantum result }
     ensures within { IfSome result (λ quantum. (least_quantum ≤ quantum) × (quantum ≤ 1000000)) }
 {
     match options.quantum {
-        Some(quantum) => Some(quantum),
-        None => quantum_needed(pages, profile),
+        HeapQuantum::Least => quantum_needed(pages, profile),
+        HeapQuantum::Given(quantum) => Some(quantum),
+        HeapQuantum::Share(target) => greatest_quantum_for(&target, options.every),
     }
 }
 
@@ -86,7 +70,7 @@ fn configuration(pages: u32, quantum: u32, trigger: u32, every: u32) -> Config
 fn heap(options: &HeapOptions, profile: &Profile, pages: u32, quantum: u32) -> Config
     requires profile { profile.now ≡ profile_asked options.now }
     requires pages { (1 ≤ pages) × (pages ≤ 4096) }
-    requires quantum { quantum_of options.now.quantum profile.now pages ≡ Some quantum }
+    requires quantum { HasQuantum options.now pages (Some quantum) }
     requires within { (least_quantum ≤ quantum) × (quantum ≤ 1000000) }
     ensures { IsSizedHeap options.now pages result }
 {
@@ -136,88 +120,82 @@ fn scaled(parts: [u32; 20], percent: u32) -> [u32; 20]
     scaled
 }
 
-/// What sessions need that ask for so many per cent of the counts.
-fn needs_scaled(options: &HeapOptions, needs: &Needs, percent: u32) -> Needs
-    requires needs { needs.now ≡ needs_asked options.now }
+/// What sessions ask of a heap whose intervals ask for so many per cent of the counts. Their classes are those of all counts.
+fn profile_scaled(parts: [u32; 20], profile: &Profile, percent: u32) -> Profile
+    requires parts { All (λ parts. parts ≤ 1048576) parts }
     requires few { percent ≤ 100 }
-    ensures { result ≡ needs_scaled percent options.now }
+    ensures { result ≡ profile_scaled percent parts profile.now }
 {
-    let counts = counts_of(&scaled(options.allocations.parts, percent));
-    Needs {
+    let counts = counts_of(&scaled(parts, percent));
+    let needs = Needs {
         asked: parts_counted(&counts) as u32,
         opened: pages_opened(&counts) as u32,
-        ..*needs
-    }
-}
-
-/// What sessions ask of a heap whose intervals ask for so many per cent of the counts. Their classes are those of all counts.
-fn profile_scaled(options: &HeapOptions, profile: &Profile, percent: u32) -> Profile
-    requires profile { profile.now ≡ profile_asked options.now }
-    requires few { percent ≤ 100 }
-    ensures { result ≡ profile_scaled percent options.now }
-{
-    Profile {
-        needs: needs_scaled(options, &profile.needs, percent),
-        kinds: profile.kinds,
-        demand: None,
-    }
+        ..profile.needs
+    };
+    Profile { needs, ..*profile }
 }
 
 /// The greatest share of the counts in per cent with which some quantum is enough for so many pages.
-fn greatest_percent(options: &HeapOptions, profile: &Profile, pages: u32) -> Option<u32>
-    requires profile { profile.now ≡ profile_asked options.now }
+fn greatest_percent(parts: [u32; 20], profile: &Profile, pages: u32) -> Option<u32>
+    requires parts { All (λ parts. parts ≤ 1048576) parts }
     requires pages { (1 ≤ pages) × (pages ≤ 4096) }
-    ensures { result ≡ greatest_percent options.now pages }
+    ensures { result ≡ greatest_percent parts profile.now pages }
 {
     let mut percent = 100;
     while percent > 0 {
         percent -= 1;
-        if has_quantum(pages, &profile_scaled(options, profile, percent)) {
+        if has_quantum(pages, &profile_scaled(parts, profile, percent)) {
             return Some(percent);
         }
     }
     None
 }
 
-/// Adds what would be enough, if no quantum is.
-fn push_enough(text: &mut String, pages: Option<u32>, percent: Option<u32>) -> Result<(), NoMemory>
-    ensures { OnOk result (string_bytes text.new ≡ string_bytes text.old ++ enough_text pages percent) }
-{
-    push_optional(text, "quantum", None)?;
-    push_optional(text, "pages_enough", pages)?;
-    push_optional(text, "allocations_enough", percent)
-}
-
-/// What is written if so many pages would be enough, or so many per cent of the counts.
-fn enough_text(
-    alloc: Global,
+/// Adds which share of the counts would be enough, if counts are known.
+fn push_share(
+    text: &mut String,
+    allocation: &Allocation,
     profile: &Profile,
-    pages: Option<u32>,
-    percent: Option<u32>,
-) -> Result<String, NoMemory>
-    ensures { IfOk result (λ text. string_bytes text ≡ small_text profile.now pages percent) }
+    pages: u32,
+) -> Result<(), NoMemory>
+    requires { (1 ≤ pages) × (pages ≤ 4096) }
+    ensures { OnOk result (string_bytes text.new ≡ string_bytes text.old ++ lines_text (shares_enough allocation.now profile.now pages)) }
 {
-    let mut text = String::new(alloc);
-    push_profile(&mut text, profile)?;
-    push_enough(&mut text, pages, percent)?;
-    Ok(text)
+    match allocation {
+        Allocation::Counts(counts) => {
+            let percent = greatest_percent(counts.parts, profile, pages);
+            push_optional(text, "allocations_enough", percent)
+        }
+        Allocation::Rates(_) | Allocation::Classes(_) => Ok(()),
+    }
 }
 
 /// What is written if no quantum is enough for so many pages.
 fn small_text(
     alloc: Global,
-    options: &HeapOptions,
+    allocation: &Allocation,
     profile: &Profile,
     pages: u32,
 ) -> Result<String, NoMemory>
-    requires profile { profile.now ≡ profile_asked options.now }
-    requires pages { (1 ≤ pages) × (pages ≤ 4096) }
-    requires none { quantum_of options.now.quantum profile.now pages ≡ None }
-    ensures { IfOk result (λ text. IsSmallText options.now pages (string_bytes text)) }
+    requires { (1 ≤ pages) × (pages ≤ 4096) }
+    ensures { IfOk result (λ text. string_bytes text ≡ small_text profile.now (least_pages profile.now) (shares_enough allocation.now profile.now pages)) }
 {
-    let least = least_pages(profile);
-    let percent = greatest_percent(options, profile, pages);
-    enough_text(alloc, profile, least, percent)
+    let mut text = String::new(alloc);
+    push_profile(&mut text, profile)?;
+    push_optional(&mut text, "quantum", None)?;
+    push_optional(&mut text, "pages_enough", least_pages(profile))?;
+    push_share(&mut text, allocation, profile, pages)?;
+    Ok(text)
+}
+
+/// What is written if no quantum keeps the share.
+fn lost_text(alloc: Global, profile: &Profile) -> Result<String, NoMemory>
+    ensures { IfOk result (λ text. string_bytes text ≡ lost_text profile.now) }
+{
+    let mut text = String::new(alloc);
+    push_profile(&mut text, profile)?;
+    push_optional(&mut text, "quantum", None)?;
+    Ok(text)
 }
 
 /// What is written of a heap, and of the one that was found for its quantum.
@@ -246,8 +224,9 @@ fn sized_text(
     quantum: u32,
 ) -> Result<String, NoMemory>
     requires profile { profile.now ≡ profile_asked options.now }
+    requires kept { AskNoMore options.now profile.now }
     requires pages { (1 ≤ pages) × (pages ≤ 4096) }
-    requires quantum { quantum_of options.now.quantum profile.now pages ≡ Some quantum }
+    requires quantum { HasQuantum options.now pages (Some quantum) }
     requires within { (least_quantum ≤ quantum) × (quantum ≤ 1000000) }
     ensures { IfOk result (λ text. IsSizedText options.now pages (string_bytes text)) }
 {
@@ -265,12 +244,15 @@ fn pages_text(
     pages: u32,
 ) -> Result<String, NoMemory>
     requires profile { profile.now ≡ profile_asked options.now }
+    requires kept { AskNoMore options.now profile.now }
     requires pages { (1 ≤ pages) × (pages ≤ 4096) }
     ensures { IfOk result (λ text. IsTextFor options.now (Some pages) (string_bytes text)) }
 {
-    match quantum_of(options, profile, pages) {
-        None => small_text(alloc, options, profile, pages),
-        Some(quantum) => sized_text(alloc, options, profile, pages, quantum),
+    match (quantum_of(options, profile, pages), options.quantum) {
+        (Some(quantum), _) => sized_text(alloc, options, profile, pages, quantum),
+        (None, HeapQuantum::Least) => small_text(alloc, &options.allocation, profile, pages),
+        (None, HeapQuantum::Share(_)) => lost_text(alloc, profile),
+        (None, HeapQuantum::Given(_)) => unreachable!(),
     }
 }
 
@@ -298,7 +280,9 @@ fn quantum_text(
     quantum: u32,
 ) -> Result<String, NoMemory>
     requires profile { profile.now ≡ profile_asked options.now }
-    requires quantum { options.now.quantum ≡ Some quantum }
+    requires kept { AskNoMore options.now profile.now }
+    requires quantum { HasQuantum options.now 1 (Some quantum) }
+    requires within { (least_quantum ≤ quantum) × (quantum ≤ 1000000) }
     ensures { IfOk result (λ text. IsSearchedText options.now (string_bytes text)) }
 {
     let config = configuration(1, quantum, 0, options.every);
@@ -307,14 +291,30 @@ fn quantum_text(
     found_text(alloc, profile, &config, &found)
 }
 
+/// What is written if no pages are given.
+fn fewest_text(
+    alloc: Global,
+    options: &HeapOptions,
+    profile: &Profile,
+) -> Result<String, NoMemory>
+    requires profile { profile.now ≡ profile_asked options.now }
+    requires kept { AskNoMore options.now profile.now }
+    requires pages { options.now.pages ≡ None }
+    ensures { IfOk result (λ text. IsTextFor options.now None (string_bytes text)) }
+{
+    match quantum_of(options, profile, 1) {
+        Some(quantum) => quantum_text(alloc, options, profile, quantum),
+        None => lost_text(alloc, profile),
+    }
+}
+
 /// What is written of a heap that is asked for.
 pub fn heap_text(alloc: Global, options: &HeapOptions) -> Result<String, NoMemory>
     ensures { IfOk result (λ text. IsHeapText options.now (string_bytes text)) }
 {
     let profile = profile_asked(options);
-    match (options.pages, options.quantum) {
-        (Some(pages), _) => pages_text(alloc, options, &profile, pages),
-        (None, Some(quantum)) => quantum_text(alloc, options, &profile, quantum),
-        (None, None) => unreachable!(),
+    match options.pages {
+        Some(pages) => pages_text(alloc, options, &profile, pages),
+        None => fewest_text(alloc, options, &profile),
     }
 }

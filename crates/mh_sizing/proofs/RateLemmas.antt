@@ -20,7 +20,7 @@ use Rattle.mh_sizing.proofs.CountedLemmas.{count_in, counts-keep, in-cons}
 more-parts : (rate : ClassRate) (units more : ℕ) → units ≤ more → parts_at rate units ≤ parts_at rate more
 more-parts rate units more larger =
     let product : units * rate.parts ≤ more * rate.parts = mul-le-mul_right rate.parts larger in
-    omega (arith, larger, more-pages rate.units (units * rate.parts) (more * rate.parts) (omega (arith, rate.some_units)) product)
+    omega (arith, larger, more-pages (max 1 rate.units) (units * rate.parts) (more * rate.parts) (omega arith) product)
 
 more-counted : (size : ℕ) (rate : ClassRate) (units more : ℕ) → units ≤ more → count_in size (count_at units rate) ≤ count_in size (count_at more rate)
 more-counted size rate units more larger = go (rate.class == size)

@@ -9,12 +9,11 @@ use Rattle.mh_model.specs.Limits.{is_configuration, least_quantum, quantum_overh
 use Rattle.mh_model.specs.Needs.{AreEnoughQuanta, units_needed}
 use Rattle.mh_orders.specs.declared.target_options.Target.{Target}
 use Rattle.mh_sizing_laws.proofs.sharp_needs.SharpNeededRuns.{div-larger}
-use Rattle.mh_sizing.specs.declared.found.Found.{Found}
 use Rattle.mh_sizing.specs.declared.profile.Profile.{Profile}
 use Rattle.mh_sizing.specs.declared.rate.ClassRate.{ClassRate}
 use Rattle.mh_sizing.specs.Choices.{HasNone, IsGreatestQuantum}
 use Rattle.mh_sizing.specs.Enough.{Suffices}
-use Rattle.mh_sizing.specs.Found.{HasNo, IsFound, PagesAreEnough}
+use Rattle.mh_sizing.specs.Found.{HasNo, IsFewest, PagesAreEnough}
 use Rattle.mh_sizing.specs.Rates.{HasFewestPages, IsBestBefore, KeepsTarget, KeepsTargetAfter, profile_at_rates}
 use Rattle.mh_sizing.specs.Targets.{IsMetBy, MeetsAfter}
 use Rattle.mh_sizing.proofs.FoundLemmas.{its-pages}
@@ -105,16 +104,15 @@ module _ (target : Target) (rates : List ClassRate) (most live references : ℕ)
         enough-greater target (profile every) every quantum config greatest (after-meets every config keep)
         (subst (λ (n : ℕ). Suffices (profile n) config) keep.of_every keep.keeps.suffices)
 
-    pub no-pages : HasNo (PagesAreEnough (profile every) quantum) → HasNone (KeepsAfter every)
+    no-pages : HasNo (PagesAreEnough (profile every) quantum) → HasNone (KeepsAfter every)
     no-pages none config keep = none config.pages (enough-pages config keep)
 
-    pub heap-found : (asked : Profile) (config : Config) (found : Found) → IsFound asked config found → asked ≡ profile every → config.every ≡ every → config.quantum ≡ quantum → 1 ≤ every → every ≤ max 1 target.window → HasFewestPages (KeepsAfter every) found.config
-    heap-found asked config found was same_profile of_every of_quantum some often =
-        let is = subst (λ (p : Profile). IsFound p config found) same_profile was in
+    heap-found : (asked : Profile) (config heap : Config) → IsFewest asked config heap → asked ≡ profile every → config.every ≡ every → config.quantum ≡ quantum → 1 ≤ every → every ≤ max 1 target.window → HasFewestPages (KeepsAfter every) heap
+    heap-found asked config heap was same_profile of_every of_quantum some often =
+        let is = subst (λ (p : Profile). IsFewest p config heap) same_profile was in
         let (met, same, has) = greatest.has in
-        let heap = is.enough in
-        let its_every : found.config.every ≡ every = heap.every ∙ of_every in
-        let its_quantum : found.config.quantum ≡ quantum = heap.quantum ∙ of_quantum in
+        let its_every : heap.every ≡ every = is.every ∙ of_every in
+        let its_quantum : heap.quantum ≡ quantum = is.quantum ∙ of_quantum in
         let share : IsMetBy target every quantum = subst (λ (n : ℕ). IsMetBy target n quantum) has.of_every (subst (λ (n : ℕ). IsMetBy target met.every n) same has.share) in
         record {
           has = record {
@@ -122,14 +120,20 @@ module _ (target : Target) (rates : List ClassRate) (most live references : ℕ)
             keeps = record {
               meets = record {
                 scheduled = omega (arith, its_every, some);
-                share = subst (λ (n : ℕ). IsMetBy target n found.config.quantum) (sym its_every) (subst (λ (n : ℕ). IsMetBy target every n) (sym its_quantum) share);
+                share = subst (λ (n : ℕ). IsMetBy target n heap.quantum) (sym its_every) (subst (λ (n : ℕ). IsMetBy target every n) (sym its_quantum) share);
               };
               often = omega (arith, its_every, often);
-              suffices = subst (λ (n : ℕ). Suffices (profile n) found.config) (sym its_every) heap.suffices;
+              suffices = subst (λ (n : ℕ). Suffices (profile n) heap) (sym its_every) is.suffices;
             };
           };
           least = λ other keep. is.least.least other.pages (subst (λ (n : ℕ). PagesAreEnough (profile every) n other.pages) (sym of_quantum) (enough-pages other keep));
         }
+
+    pub fewest-after : (asked : Profile) (config : Config) (heap : Option Config) → MatchOption heap (HasNo (PagesAreEnough asked config.quantum)) (IsFewest asked config) → asked ≡ profile every → config.every ≡ every → config.quantum ≡ quantum → 1 ≤ every → every ≤ max 1 target.window
+        → MatchOption heap (HasNone (KeepsAfter every)) (HasFewestPages (KeepsAfter every))
+    fewest-after asked config None none same_profile of_every of_quantum some often =
+        no-pages (subst (λ (p : Profile). HasNo (PagesAreEnough p quantum)) same_profile (subst (λ (n : ℕ). HasNo (PagesAreEnough asked n)) of_quantum none))
+    fewest-after asked config (Some heap) is same_profile of_every of_quantum some often = heap-found asked config heap is same_profile of_every of_quantum some often
 
   -- none is run more rarely
   inside : (last : ℕ) → (max 1 target.window ≤ last) ⊎ (1000000 ≤ last) → (config : Config) → Keeps config → config.every < last + 1

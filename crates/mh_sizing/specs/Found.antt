@@ -39,6 +39,15 @@ trigger_by Demand profile config = 0
 trigger_by Easy profile config = enough_trigger profile.needs (cycle_quanta profile.needs config)
 trigger_by Sharp profile config = enough_trigger profile.needs (cycle_quanta profile.needs config)
 
+-- a heap that has all of a configuration but its trigger is enough, with the trigger that goes with its law
+pub record IsTriggered (profile : Profile) (config heap : Config) : Type 0 where
+  pub pages : heap.pages ≡ config.pages
+  pub quantum : heap.quantum ≡ config.quantum
+  pub every : heap.every ≡ config.every
+  pub rules : heap.rules ≡ config.rules
+  pub trigger : heap.trigger ≡ trigger_by (law_of profile heap) profile heap
+  pub suffices : Suffices profile heap
+
 -- A heap with the quantum of a configuration is enough, with the trigger that goes with its law. From some number of pages on each that is allowed is
 -- enough, or 4,096 are not
 pub record IsEnoughHeap (profile : Profile) (config : Config) (found : Found) : Type 0 where
@@ -49,6 +58,15 @@ pub record IsEnoughHeap (profile : Profile) (config : Config) (found : Found) : 
   pub law : found.law ≡ law_of profile found.config
   pub trigger : found.config.trigger ≡ trigger_by found.law profile found.config
   pub from : MatchOption found.from (PagesAreEnough profile config.quantum 4096 → ⊥) (IsLeast (IsSoFrom (PagesAreEnough profile config.quantum) 4096))
+
+-- a heap with the quantum of a configuration is enough, and none with such quanta and fewer pages is
+pub record IsFewest (profile : Profile) (config heap : Config) : Type 0 where
+  pub quantum : heap.quantum ≡ config.quantum
+  pub every : heap.every ≡ config.every
+  pub rules : heap.rules ≡ config.rules
+  pub suffices : Suffices profile heap
+  pub trigger : heap.trigger ≡ trigger_by (law_of profile heap) profile heap
+  pub least : IsLeast (PagesAreEnough profile config.quantum) heap.pages
 
 -- one with the fewest pages: no heap with such quanta and fewer pages is enough
 pub record IsFound (profile : Profile) (config : Config) (found : Found) : Type 0 where

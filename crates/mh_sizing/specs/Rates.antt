@@ -18,9 +18,9 @@ use Rattle.mh_sizing.specs.Counted.{parts_in, profile_of_counts}
 use Rattle.mh_sizing.specs.Enough.{Suffices}
 use Rattle.mh_sizing.specs.Targets.{Meets}
 
--- how many parts so many units make at most at a rate: no more than there are units
+-- how many parts so many units make at most at a rate: no more than there are units. A rate to 0 units is one to 1
 abbrev pub parts_at : ClassRate → ℕ → ℕ
-parts_at rate units = min units (div_ceil (units * rate.parts) rate.units)
+parts_at rate units = min units (div_ceil (units * rate.parts) (max 1 rate.units))
 
 abbrev pub count_at : ℕ → ClassRate → ClassParts
 count_at units rate = record { class = rate.class; parts = parts_at rate units }

@@ -5,7 +5,7 @@
 //! need. The number is found from which on all are enough.
 ghost use Rattle.std.specs.Prelude.{◌≡◌, ◌+◌, ◌^◌, ◌≤◌, ◌<◌, ◌↔◌, ℕ, IfSome, IsTrue, MatchOption};
 ghost use Rattle.mh_model.specs.Limits.{least_quantum};
-ghost use Rattle.mh_sizing.specs.Found.{HasNo, IsChosen, IsEnoughHeap, IsLeast, IsSearched, IsSoFrom, PagesAreEnough, law_of, trigger_by};
+ghost use Rattle.mh_sizing.specs.Found.{HasNo, IsChosen, IsEnoughHeap, IsFewest, IsLeast, IsSearched, IsSoFrom, IsTriggered, PagesAreEnough, law_of, trigger_by};
 
 use crate::enough::{cycle_quanta, is_enough, meets_demand, pages_needed};
 use crate::needs::{enough_pages, enough_trigger};
@@ -146,23 +146,38 @@ fn trigger_by(law: Law, config: &Config, profile: &Profile) -> u32
     }
 }
 
-/// The heap of a configuration's pages, if they are enough with its quantum, with the trigger that goes with its law.
+/// The configuration with the trigger that goes with its law, if its pages are enough.
+fn triggered(config: &Config, profile: &Profile) -> Config
+    requires { PagesAreEnough profile.now config.now.quantum config.now.pages }
+    ensures { IsTriggered profile.now config.now result }
+{
+    let law = law_of(config, profile);
+    with_pages(config, config.pages, trigger_by(law, config, profile))
+}
+
+/// The heap of a configuration's pages, if they are enough with its quantum.
 fn of_its_pages(config: &Config, profile: &Profile) -> Found
     requires { PagesAreEnough profile.now config.now.quantum config.now.pages }
     ensures heap { IsEnoughHeap profile.now config.now result }
     ensures pages { result.config.pages ≡ config.now.pages }
 {
-    let law = law_of(config, profile);
-    let trigger = trigger_by(law, config, profile);
     Found {
-        config: with_pages(config, config.pages, trigger),
+        config: triggered(config, profile),
         from: enough_from(config, profile),
-        law,
+        law: law_of(config, profile),
     }
 }
 
 /// The heap with the fewest pages that are enough with the quantum of a configuration. It keeps what that has besides pages
 /// and trigger. None if no number of pages is enough.
+pub fn fewest(config: &Config, profile: &Profile) -> Option<Config>
+    ensures { MatchOption result (HasNo (PagesAreEnough profile.now config.now.quantum)) (IsFewest profile.now config.now) }
+{
+    let pages = fewest_pages(config, profile)?;
+    Some(triggered(&with_pages(config, pages, 0), profile))
+}
+
+/// The same heap, with the law by which it is enough, and from how many pages on each number is.
 pub fn find(config: &Config, profile: &Profile) -> Option<Found>
     ensures { IsSearched profile.now config.now result }
 {

@@ -14,7 +14,7 @@ ghost use Rattle.mh_sizing.specs.declared.rate.ClassRate.{ClassRate};
 ghost use Rattle.mh_sizing.specs.Sized.{KeepToProfile};
 
 use crate::counted::profile_of_counts;
-use crate::found::find;
+use crate::found::fewest;
 use crate::openings::ClassParts;
 use crate::profile::Profile;
 use crate::rate::ClassRate;
@@ -29,7 +29,7 @@ fn parts_at(rate: &ClassRate, units: u32) -> u32
     ensures value { result ≡ parts_at rate.now units }
     ensures few { result ≤ units }
 {
-    let parts = (u64::from(units) * u64::from(rate.parts)).div_ceil(u64::from(rate.units));
+    let parts = (u64::from(units) * u64::from(rate.parts)).div_ceil(u64::from(rate.units.max(1)));
     parts.min(u64::from(units)) as u32
 }
 
@@ -96,9 +96,10 @@ fn find_after(
         every,
         rules: Rules::Second,
     };
-    let profile = profile_at_rates(rates, most, live, references, every);
-    let found = find(&config, &profile)?;
-    Some(found.config)
+    fewest(
+        &config,
+        &profile_at_rates(rates, most, live, references, every),
+    )
 }
 
 /// The one of two heaps with fewer pages, and the first if both have as many.
