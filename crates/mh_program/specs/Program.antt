@@ -5,7 +5,7 @@ use Rattle.mh_model.specs.Bytes.{Text, line_text}
 use Rattle.mh_live.specs.OfScript.ScriptFault.{ScriptFault}
 use Rattle.mh_command_line.specs.declared.fault.LineFault.{LineFault}
 use Rattle.mh_orders.specs.declared.order.Order.{Order}
-use Rattle.mh_orders.specs.declared.order.Order.TheVariants.{Run, Steps, Show, Live, Race, Check, CheckSessions, Audit, Migrate, Generate, Version, Curve, CurveHistory, Size, SizeTarget, SizeScript}
+use Rattle.mh_orders.specs.declared.order.Order.TheVariants.{Run, Steps, Show, Live, Race, Check, CheckSessions, Audit, Migrate, Generate, Version, Curve, CurveHistory, Size, SizeRate, SizeTarget, SizeScript}
 use Rattle.mh_orders.specs.declared.order.Form.{Form}
 use Rattle.mh_orders.specs.declared.order.Form.TheVariants.{Replies, History}
 use Rattle.mh_live.specs.OfScript.ScriptFault.TheVariants.{Write, NoMemory}
@@ -25,6 +25,7 @@ use Rattle.mh_sessions.specs.Texts.{IsSessionsJudging}
 use Rattle.mh_live.specs.OfScript.Run.{Device, IsRun, transcript}
 use Rattle.mh_show.specs.Page.{page_text}
 use Rattle.mh_size_text.specs.Heaps.{IsHeapText}
+use Rattle.mh_size_text.specs.Rates.{IsRateText}
 use Rattle.mh_size_text.specs.Scripts.{IsSizing}
 use Rattle.mh_size_text.specs.Targets.{IsTargetText}
 use Rattle.mh_show.specs.OfTelling.Steps.{told_text}
@@ -97,6 +98,7 @@ Serves (Ok (Curve options)) source source' sink sink' errors errors' status = Ob
 Serves (Ok (CurveHistory form)) source source' sink sink' errors errors' status = Obeys (IsDrawing form source source' sink sink') (SaysRun SaysCurve) curve_status_of errors errors' status
 Serves (Ok (Generate options)) source source' sink sink' errors errors' status = (source' ≡ source) × Obeys (WritesScript options sink sink') SaysFault status_of errors errors' status
 Serves (Ok (Size options)) source source' sink sink' errors errors' status = (source' ≡ source) × Obeys (WritesSize (IsHeapText options) sink sink') SaysFault status_of errors errors' status
+Serves (Ok (SizeRate options)) source source' sink sink' errors errors' status = (source' ≡ source) × Obeys (WritesSize (IsRateText options) sink sink') SaysFault status_of errors errors' status
 Serves (Ok (SizeTarget options)) source source' sink sink' errors errors' status = (source' ≡ source) × Obeys (WritesSize (IsTargetText options) sink sink') SaysFault status_of errors errors' status
 Serves (Ok (SizeScript rules)) source source' sink sink' errors errors' status = Obeys (IsSizing rules source source' sink sink') (SaysRun SaysEnd) status_of errors errors' status
 Serves (Ok Version) source source' sink sink' errors errors' status = (source' ≡ source) × Obeys (WritesVersion sink sink') SaysFault status_of errors errors' status

@@ -23,7 +23,7 @@ ghost use Rattle.mh_show.specs.OfTelling.Steps.{told_text};
 
 use crate::errors::Errors;
 use crate::run_curve::{draw_history, draw_script};
-use crate::run_size::{size_heap, size_needs, size_target};
+use crate::run_size::{size_heap, size_needs, size_rate, size_target};
 use crate::status::{judgement_status, line_status, live_status, status};
 use mh_command_line::fault::LineFault;
 use mh_command_line::order::line_order;
@@ -368,6 +368,7 @@ pub fn serve<R: Threads + Wait + Sync, S: Source, W: Sink, E: Sink, G: CrewGate 
         Ok(Order::CurveHistory(form)) => draw_history(alloc, form, source, sink, errors),
         Ok(Order::Generate(options)) => write_script(alloc, options, sink, errors),
         Ok(Order::Size(options)) => size_heap(alloc, options, sink, errors),
+        Ok(Order::SizeRate(options)) => size_rate(alloc, options, sink, errors),
         Ok(Order::SizeTarget(options)) => size_target(alloc, options, sink, errors),
         Ok(Order::SizeScript(rules)) => size_needs(alloc, rules, source, sink, errors),
         Ok(Order::Version) => version(sink, errors),

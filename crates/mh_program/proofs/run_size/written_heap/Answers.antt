@@ -1,5 +1,5 @@
-use Rattle.std.specs.String.{string_bytes}
+use Rattle.mh_size_text.specs.Heaps.{IsHeapText}
 use Rattle.mh_program.proofs.run_size.written_heap.Goals as goal
 
-pub returns-in-Ok-write_text : goal.returns-in-Ok-write_text
-returns-in-Ok-write_text g c = ((string_bytes c.in-Ok.text, c.in-Ok.ensures, rw c.as_bytes.ensures.value at c.in-Ok-write_text.ensures.done), c.in-Ok-write_text.ensures.no_failure)
+pub returns : goal.returns
+returns g c = c.written.ensures (IsHeapText c.args.options.now) c.heap_text.ensures
