@@ -1,0 +1,4 @@
+pub mod NameLemmas
+pub mod OutlineLemmas
+pub mod RangeLemmas
+pub mod SoundLemmas

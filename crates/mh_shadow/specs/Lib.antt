@@ -1,0 +1,3 @@
+pub mod Outline
+pub mod OutlineSteps
+pub mod ShadowHeap

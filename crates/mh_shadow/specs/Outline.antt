@@ -1,0 +1,64 @@
+-- The outline of a world: what of it bears on which objects are reached, and on their shapes. It has no numbers, and of the references those that
+-- are set.
+use Rattle.std.specs.Prelude.{◌≡◌, ℕ, ◌+◌, ◌*◌, ◌<◌, ◌≤◌, nat_lt, Bool, if◌then◌else◌, Option, Some, None, option_map, List, length, get_or}
+use Rattle.std.specs.List.{slice_get}
+use Rattle.mh_model.specs.declared.config.Config.{Config}
+use Rattle.mh_model.specs.declared.shape.Shape.{Shape}
+use Rattle.mh_model.specs.World.{World, Sight, births, object_at, shape_of, reference_of, most_fields, never_full}
+
+-- the configuration; the shapes of the objects by birth; what each slot names; which sessions have ended; and what the reference at a place names
+pub record Outline : Type 0 where
+  pub config : Config
+  pub shapes : List Shape
+  pub slots : List (Option ℕ)
+  pub ended : List Bool
+  pub names : ℕ → Option ℕ
+
+abbrev pub outline_from : Config → List Shape → List (Option ℕ) → List Bool → (ℕ → Option ℕ) → Outline
+outline_from config shapes slots ended names = record { config = config; shapes = shapes; slots = slots; ended = ended; names = names }
+
+-- the place of a reference among those of all objects: each object has 2 ^ 18 places, more than it has fields
+abbrev pub place_of : ℕ → ℕ → ℕ
+place_of birth field = birth * 262144 + field
+
+-- what a slot names, if it isn't empty
+abbrev pub slot_in : Outline → ℕ → Option ℕ
+slot_in outline slot = get_or outline.slots slot None
+
+-- the shape of the object of a birth, if there is one, and of the object that is named
+abbrev pub shape_at : Outline → ℕ → Option Shape
+shape_at outline birth = slice_get outline.shapes birth
+
+abbrev pub shape_named : Outline → Option ℕ → Option Shape
+shape_named outline None = None
+shape_named outline (Some birth) = shape_at outline birth
+
+-- what a reference of an object names, if it is set, and one of the object that is named
+abbrev pub reference_in : Outline → ℕ → ℕ → Option ℕ
+reference_in outline birth field = if nat_lt field 262144 then outline.names (place_of birth field) else None
+
+abbrev pub reference_named : Outline → Option ℕ → ℕ → Option ℕ
+reference_named outline None field = None
+reference_named outline (Some birth) field = reference_in outline birth field
+
+-- the outline is that of a world: the numbers of its objects may be any
+pub record Outlines (outline : Outline) (world : World) : Type 0 where
+  pub config : world.config ≡ outline.config
+  pub births : births world ≡ length outline.shapes
+  pub slots : world.slots ≡ outline.slots
+  pub ended : world.ended ≡ outline.ended
+  pub shapes : (birth : ℕ) → option_map shape_of (object_at world birth) ≡ shape_at outline birth
+  pub references : (birth field : ℕ) → reference_of (object_at world birth) field ≡ reference_in outline birth field
+
+-- slots and references name objects that are there. No object has too many fields, and there are fewer than 2 ^ 44
+pub record IsSound (outline : Outline) : Type 0 where
+  pub births : length outline.shapes ≤ 17592186044416
+  pub shapes : (birth : ℕ) (shape : Shape) → shape_at outline birth ≡ Some shape → shape.references + shape.numbers ≤ 216000
+  pub slots : (slot birth : ℕ) → slot_in outline slot ≡ Some birth → birth < length outline.shapes
+  pub names : (place birth : ℕ) → outline.names place ≡ Some birth → birth < length outline.shapes
+
+-- the next reference of an object, from a field on, that is set, and what it names; none if there is no such
+abbrev pub IsNext : Outline → ℕ → ℕ → Option (ℕ × ℕ) → Type 0
+IsNext outline birth field None = (other : ℕ) → field ≤ other → reference_in outline birth other ≡ None
+IsNext outline birth field (Some next) = (field ≤ next.0) × (reference_in outline birth next.0 ≡ Some next.1) × (next.1 < length outline.shapes)
+    × ((other : ℕ) → field ≤ other → other < next.0 → reference_in outline birth other ≡ None)

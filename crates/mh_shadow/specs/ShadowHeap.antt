@@ -1,0 +1,9 @@
+-- The outline that a heap keeps.
+use Rattle.std.specs.BTreeMap.{get}
+use Rattle.std.specs.Ordering.{nat_cmp}
+use Rattle.mh_shadow.specs.Outline.{Outline, outline_from}
+use Rattle.mh_shadow.specs.declared.shadow.ShadowHeap.{ShadowHeap}
+
+-- the outline that a heap keeps
+abbrev pub outline_of : ShadowHeap → Outline
+outline_of heap = outline_from heap.config heap.shapes.items heap.slots heap.ended (get nat_cmp heap.references)
