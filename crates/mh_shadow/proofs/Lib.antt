@@ -2,3 +2,4 @@ pub mod NameLemmas
 pub mod OutlineLemmas
 pub mod RangeLemmas
 pub mod SoundLemmas
+pub mod WorldLemmas

@@ -1,14 +1,14 @@
 -- What the names of an outline are after one is written: places of different references differ.
-use Rattle.std.proofs.Common.{◌≡◌, ℕ, ◌+◌, ◌*◌, ◌<◌, ◌==◌, nat_lt, if◌then◌else◌, Bool, true, false, Option, None, refl, arith}
+use Rattle.std.proofs.Common.{◌≡◌, ℕ, ◌<◌, ◌==◌, nat_lt, if◌then◌else◌, Bool, true, false, Option, None, refl, arith}
 use Rattle.std.proofs.lemmas.Bool.{eq-eqb, ne_eqb}
 use Rattle.std.proofs.lemmas.Bool.Decides.{nat_tests}
-use Rattle.mh_shadow.specs.Outline.{Outline, place_of, reference_in}
+use Rattle.mh_shadow.specs.Outline.{object_places, Outline, place_of, reference_in}
 
 -- two places differ, if births or fields do
 place_of-field : (birth field other : ℕ) → (other ≡ field → ⊥) → place_of birth other ≡ place_of birth field → ⊥
 place_of-field birth field other apart same = apart (omega (arith, same))
 
-place_of-birth : (birth at field other : ℕ) → field < 262144 → other < 262144 → (at ≡ birth → ⊥) → place_of at other ≡ place_of birth field → ⊥
+place_of-birth : (birth at field other : ℕ) → field < object_places → other < object_places → (at ≡ birth → ⊥) → place_of at other ≡ place_of birth field → ⊥
 place_of-birth birth at field other in_places other_in_places apart same = apart (omega (arith, same))
 
 -- a choice by a test whose outcome is known
@@ -32,18 +32,18 @@ module _ (names : ℕ → Option ℕ) (birth field : ℕ) (name : Option ℕ) wh
   written-field other apart =
       not_chosen (place_of birth other == place_of birth field) name (names (place_of birth other)) (ne_eqb (place_of birth other) (place_of birth field) (place_of-field birth field other apart))
 
-  pub written-birth : (at other : ℕ) → field < 262144 → other < 262144 → (at ≡ birth → ⊥) → written (place_of at other) ≡ names (place_of at other)
+  pub written-birth : (at other : ℕ) → field < object_places → other < object_places → (at ≡ birth → ⊥) → written (place_of at other) ≡ names (place_of at other)
   written-birth at other in_places other_in_places apart =
       not_chosen (place_of at other == place_of birth field) name (names (place_of at other)) (ne_eqb (place_of at other) (place_of birth field) (place_of-birth birth at field other in_places other_in_places apart))
 
 -- what a reference names is what its place does
-pub in_places : (names : ℕ → Option ℕ) (birth field : ℕ) → field < 262144 → (if nat_lt field 262144 then names (place_of birth field) else None) ≡ names (place_of birth field)
-in_places names birth field below = chosen (nat_lt field 262144) (names (place_of birth field)) _ (grind (arith, nat_tests))
+pub in_places : (names : ℕ → Option ℕ) (birth field : ℕ) → field < object_places → (if nat_lt field object_places then names (place_of birth field) else None) ≡ names (place_of birth field)
+in_places names birth field below = chosen (nat_lt field object_places) (names (place_of birth field)) _ (grind (arith, nat_tests))
 
 -- a reference is null if its place names nothing, and if it has no place
-pub reference-null : (outline : Outline) (birth field : ℕ) → (field < 262144 → outline.names (place_of birth field) ≡ None) → reference_in outline birth field ≡ None
-reference-null outline birth field null = go (nat_lt field 262144) refl
+pub reference-null : (outline : Outline) (birth field : ℕ) → (field < object_places → outline.names (place_of birth field) ≡ None) → reference_in outline birth field ≡ None
+reference-null outline birth field null = go (nat_lt field object_places) refl
   where
-    go : (test : Bool) → nat_lt field 262144 ≡ test → (if test then outline.names (place_of birth field) else None) ≡ None
+    go : (test : Bool) → nat_lt field object_places ≡ test → (if test then outline.names (place_of birth field) else None) ≡ None
     go true is = null (grind (arith, nat_tests))
     go false is = refl

@@ -1,23 +1,21 @@
 -- A command on an outline does what it does to each world of the outline.
 use mathlib.Core.Path.{fun_ext}
-use Rattle.std.proofs.Common.{◌≡◌, ℕ, zero, suc, ◌+◌, ◌<◌, ◌==◌, nat_lt, nat_le, Bool, true, false, if◌then◌else◌, List, [], ◌∷◌, ◌++◌, length, get_or, set, replicate, Option, Some, None, option_map, Result, Ok, Err, IfOk, OnOk, ◌⊎◌, inl, inr, refl, sym, ap, ap₂, ◌∙◌, arith}
+use Rattle.std.proofs.Common.{◌≡◌, ℕ, zero, suc, ◌+◌, ◌<◌, ◌==◌, nat_lt, nat_le, Bool, true, false, if◌then◌else◌, List, [], ◌∷◌, ◌++◌, length, get_or, set, Option, Some, None, option_map, Result, Ok, Err, IfOk, OnOk, inl, inr, refl, sym, ap, ap₂, ◌∙◌, arith}
 use Rattle.std.specs.List.{slice_get}
 use Rattle.std.proofs.lemmas.Bool.{cases_eq, false≢true}
 use Rattle.std.proofs.lemmas.Bool.Decides.{nat_tests}
 use Rattle.std.proofs.lemmas.List.{get_or-set_same, get_or-set_other, length-set, length_push, length-replicate}
 use Rattle.mh_model.specs.declared.command.Command.{Command}
 use Rattle.mh_model.specs.declared.command.Command.TheVariants as command
-use Rattle.mh_model.specs.declared.config.Config.{Config}
 use Rattle.mh_model.specs.declared.reply.Refusal.{Refusal}
 use Rattle.mh_model.specs.declared.reply.Refusal.TheVariants.{BadSlot, Null, NoField, Ended, TooManySessions}
 use Rattle.mh_model.specs.declared.reply.Reply.TheVariants as reply
 use Rattle.mh_model.specs.declared.shape.Shape.{Shape}
 use Rattle.mh_model.specs.World as model
 use Rattle.mh_model.specs.World.{Object, World, Sight, first_world, births, object_at, object_named, object_in, slot_at, shape_of, reference_of, most_fields, own_slot, board_slot, is_bad, is_null, lacks_reference, first_refusal, refusal, blank, with_reference, with_number, with_change, with_object, cleared, effect, sight_of, never_full, heap_step, world_step}
-use Rattle.mh_model.specs.Limits.{root_slots}
 use Rattle.mh_table_laws.proofs.Lists.{none_at}
-use Rattle.mh_shadow.specs.Outline.{Outline, Outlines, IsSound, outline_from, place_of, slot_in, shape_at, shape_named, reference_in, reference_named}
-use Rattle.mh_shadow.specs.OutlineSteps.{Follows, outline_sight, refused, with_slot, with_name, with_shape, with_end, outline_effect, unless_refused, outline_step, made_shape, shape_unless, shape_made}
+use Rattle.mh_shadow.specs.Outline.{object_places, Outline, Outlines, IsSound, place_of, slot_in, shape_at, shape_named, reference_in, reference_named}
+use Rattle.mh_shadow.specs.OutlineSteps.{Follows, refused, with_slot, with_name, with_shape, with_end, outline_effect, unless_refused, outline_step, made_shape, shape_unless, shape_made}
 use Rattle.mh_shadow.proofs.NameLemmas.{written-here, written-field, written-birth, in_places}
 
 -- Objects that are changed -----------------------------------------------------------------------
@@ -88,23 +86,6 @@ nothing_past [] at same = refl
 nothing_past (x ∷ xs) zero same = absurd (omega (arith, same))
 nothing_past (x ∷ xs) (suc at) same = nothing_past xs at (omega (arith, same))
 
--- Opening ----------------------------------------------------------------------------------------
-
-same_choice : (test : Bool) (name : Option ℕ) → (if test then name else name) ≡ name
-same_choice true name = refl
-same_choice false name = refl
-
-pub first-outlined : (config : Config) (shapes : List Shape) (names : ℕ → Option ℕ) → shapes ≡ [] → ((place : ℕ) → names place ≡ None)
-    → Outlines (outline_from config shapes (replicate root_slots None) (replicate 8 false) names) (first_world config)
-first-outlined config shapes names no_shape no_name = rw no_shape (record {
-  config = refl;
-  births = refl;
-  slots = refl;
-  ended = refl;
-  shapes = λ birth. refl;
-  references = λ birth field. sym (ap (λ name. if nat_lt field 262144 then name else None) (no_name (place_of birth field)) ∙ same_choice (nat_lt field 262144) None);
-})
-
 -- What a world of the outline has ---------------------------------------------------------------
 
 module _ (outline : Outline) (world : World) (outlines : Outlines outline world) where
@@ -162,31 +143,31 @@ module _ (outline : Outline) (world : World) (outlines : Outlines outline world)
   }
 
   -- an object that is there has fewer references than places
-  few_references : IsSound outline → (birth field : ℕ) (shape : Option Shape) → shape_at outline birth ≡ shape → is_null shape ≡ false → lacks_reference shape field ≡ false → field < 262144
+  few_references : IsSound outline → (birth field : ℕ) (shape : Option Shape) → shape_at outline birth ≡ shape → is_null shape ≡ false → lacks_reference shape field ≡ false → field < object_places
   few_references sound birth field None is there has = absurd (false≢true (sym there))
   few_references sound birth field (Some shape) is there has =
       let below : field < shape.references = grind (arith, nat_tests) in
       omega (arith, sound.shapes birth shape is)
 
   -- an object whose reference is changed
-  module _ (birth field : ℕ) (name : Option ℕ) (there : is_null (shape_at outline birth) ≡ false) (has : lacks_reference (shape_at outline birth) field ≡ false) (within : field < 262144) where
+  module _ (birth field : ℕ) (name : Option ℕ) (there : is_null (shape_at outline birth) ≡ false) (has : lacks_reference (shape_at outline birth) field ≡ false) (within : field < object_places) where
     abbrev changed : List (Option Object)
     changed = set world.objects birth (option_map (with_reference field name) (object_at world birth))
 
     referred-here : (other : ℕ) → reference_of (get_or changed birth None) other ≡ reference_in (with_name outline (Some birth) field name) birth other
     referred-here other = ap (λ object. reference_of object other) (changed_at world.objects birth birth (with_reference field name) refl) ∙ elim (cases_eq other field) [
       | inl same ↦ rw same (referring-here field name (object_at world birth) (ap (λ shape. lacks_reference shape field) (outlines.shapes birth) ∙ has) (ap is_null (outlines.shapes birth) ∙ there)
-        ∙ sym (in_places (λ place. if place == place_of birth field then name else outline.names place) birth field within ∙ written-here outline.names birth field name))
+          ∙ sym (in_places (λ place. if place == place_of birth field then name else outline.names place) birth field within ∙ written-here outline.names birth field name))
       | inr apart ↦ referring-other field other name (object_at world birth) apart ∙ outlines.references birth other
-        ∙ ap (λ n. if nat_lt other 262144 then n else None) (sym (written-field outline.names birth field name other apart))
+          ∙ ap (λ n. if nat_lt other object_places then n else None) (sym (written-field outline.names birth field name other apart))
     ]
 
     referred-elsewhere : (at other : ℕ) → (at ≡ birth → ⊥) → reference_in outline at other ≡ reference_in (with_name outline (Some birth) field name) at other
-    referred-elsewhere at other apart = go (nat_lt other 262144) refl
+    referred-elsewhere at other apart = go (nat_lt other object_places) refl
       where
-        go : (test : Bool) → nat_lt other 262144 ≡ test
+        go : (test : Bool) → nat_lt other object_places ≡ test
             → (if test then outline.names (place_of at other) else None) ≡ (if test then (if place_of at other == place_of birth field then name else outline.names (place_of at other)) else None)
-        go true is = let below : other < 262144 = grind (arith, nat_tests) in sym (written-birth outline.names birth field name at other within below apart)
+        go true is = let below : other < object_places = grind (arith, nat_tests) in sym (written-birth outline.names birth field name at other within below apart)
         go false is = refl
 
     referred-outlined : Outlines (with_name outline (Some birth) field name) (with_change world (Some birth) (with_reference field name))
@@ -229,7 +210,7 @@ module _ (outline : Outline) (world : World) (outlines : Outlines outline world)
         ];
         references = λ at field. elim (cases_eq at (length world.objects)) [
           | inl same ↦ ap (λ object. reference_of object field) (pushed-new world.objects (blank references numbers) at same) ∙ none_at references field
-            ∙ sym (ap (λ object. reference_of object field) (nothing_past world.objects at same)) ∙ outlines.references at field
+              ∙ sym (ap (λ object. reference_of object field) (nothing_past world.objects at same)) ∙ outlines.references at field
           | inr apart ↦ ap (λ object. reference_of object field) (pushed-old world.objects (blank references numbers) at apart) ∙ outlines.references at field
         ];
       }

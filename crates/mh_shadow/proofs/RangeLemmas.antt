@@ -1,14 +1,13 @@
 -- What a range of an ordered map says of the references that are set.
-use Rattle.std.proofs.Common.{◌≡◌, ℕ, ◌+◌, ◌*◌, ◌-◌, ◌<◌, ◌≤◌, nat_lt, if◌then◌else◌, Bool, true, false, Option, Some, None, List, [], ◌∷◌, length, refl, sym, ap, ◌∙◌, arith}
+use Rattle.std.proofs.Common.{◌≡◌, ℕ, ◌-◌, ◌<◌, ◌≤◌, false, Option, Some, None, List, ◌∷◌, refl, ap, ◌∙◌, arith}
 use Rattle.std.specs.BTreeMap.{BTreeMap, IsEmpty, get}
 use Rattle.std.specs.BTreeMap.Range.{IsRangeOf}
 use Rattle.std.specs.declared.cmp.Ordering.TheVariants.{Less}
 use Rattle.std.specs.declared.ops.Bound.TheVariants.{Included, Excluded}
 use Rattle.std.specs.Ordering.{is_gt, nat_cmp}
-use Rattle.std.specs.Option.{IsSome}
 use Rattle.std.proofs.lemmas.Bool.Decides.{nat_tests}
 use Rattle.mh_table_laws.proofs.Lists.{to_some}
-use Rattle.mh_shadow.specs.Outline.{Outline, IsSound, IsNext, place_of, reference_in}
+use Rattle.mh_shadow.specs.Outline.{object_places, Outline, IsSound, IsNext, place_of}
 use Rattle.mh_shadow.proofs.NameLemmas.{in_places, reference-null}
 
 -- a map of nothing names nothing
@@ -28,13 +27,8 @@ is_less one other below = grind (arith, nat_tests)
 less : (one other : ℕ) → nat_cmp one other ≡ Less → one < other
 less one other is = grind (arith, nat_tests)
 
-module _ (outline : Outline) (map : BTreeMap ℕ ℕ) (same : (place : ℕ) → outline.names place ≡ get nat_cmp map place) (birth field from to : ℕ) (begins : from ≡ place_of birth field) (ends : to ≡ place_of birth 262144)
+module _ (outline : Outline) (map : BTreeMap ℕ ℕ) (same : (place : ℕ) → outline.names place ≡ get nat_cmp map place) (birth field from to : ℕ) (begins : from ≡ place_of birth field) (ends : to ≡ place_of birth object_places)
     (found : List (ℕ × ℕ)) (is : IsRangeOf nat_cmp (Included from) (Excluded to) map found) where
-  -- a range with nothing
-  pub none-next : found ≡ [] → IsNext outline birth field None
-  none-next none other after = reference-null outline birth other (λ within. same (place_of birth other)
-      ∙ is.5 none (place_of birth other) (is_at_most from (place_of birth other) (omega arith), is_less (place_of birth other) to (omega arith)))
-
   -- the first of a range
   module _ (rest : List (ℕ × ℕ)) (place name : ℕ) (first : found ≡ (place, name) ∷ rest) where
     first-from : from ≤ place
@@ -59,12 +53,12 @@ module _ (outline : Outline) (map : BTreeMap ℕ ℕ) (same : (place : ℕ) → 
 
     pub first-next : IsSound outline → (start : ℕ) → start ≡ place_of birth 0 → IsNext outline birth field (Some (place - start, name))
     first-next sound start starts =
-        let after : field ≤ place - start = omega (arith, first-from) in
-        let within : place - start < 262144 = omega (arith, first-to) in
+        let within : place - start < object_places = omega (arith, first-to) in
         let here : place_of birth (place - start) ≡ place = omega (arith, first-from) in
-        (
-          after,
-          in_places outline.names birth (place - start) within ∙ ap outline.names here ∙ first-names,
-          sound.names place name first-names,
-          λ other later before. reference-null outline birth other (λ has. first-before other later (omega arith))
-        )
+        record {
+          after = omega (arith, first-from);
+          within = within;
+          set = in_places outline.names birth (place - start) within ∙ ap outline.names here ∙ first-names;
+          there = sound.names place name first-names;
+          before = λ other later before. reference-null outline birth other (λ has. first-before other later (omega arith));
+        }

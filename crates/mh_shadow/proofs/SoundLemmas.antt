@@ -1,42 +1,34 @@
 -- What keeps an outline sound.
-use Rattle.std.proofs.Common.{◌≡◌, ℕ, zero, suc, ◌+◌, ◌<◌, ◌≤◌, Bool, true, false, if◌then◌else◌, List, [], ◌∷◌, ◌++◌, length, get_or, set, replicate, Option, Some, None, ◌⊎◌, inl, inr, refl, sym, ap, ◌∙◌, arith}
+use Rattle.std.proofs.Common.{◌≡◌, ℕ, ◌+◌, ◌<◌, ◌≤◌, Bool, true, false, if◌then◌else◌, List, [], ◌∷◌, ◌++◌, length, replicate, Option, Some, None, inl, inr, refl, sym, ◌∙◌, arith}
 use Rattle.std.specs.Option.{IfSome}
 use Rattle.std.proofs.lemmas.Bool.{cases_eq}
 use Rattle.std.proofs.lemmas.List.{length_push}
-use Rattle.std.proofs.lemmas.Option.{none-some, same_Some, slice_get_within}
+use Rattle.std.proofs.lemmas.Option.{none-some, same_Some}
 use Rattle.mh_model.specs.declared.config.Config.{Config}
 use Rattle.mh_model.specs.declared.shape.Shape.{Shape}
 use Rattle.mh_model.specs.Limits.{root_slots}
-use Rattle.mh_table_laws.proofs.Lists.{none_at, get_or-set_either}
-use Rattle.mh_shadow.specs.Outline.{Outline, IsSound, outline_from, slot_in, shape_at}
-use Rattle.mh_shadow.specs.OutlineSteps.{with_slot, with_shape}
+use Rattle.mh_table_laws.proofs.Lists.{none_at}
+use Rattle.mh_shadow.specs.Outline.{most_births, Outline, IsSound, outline_from, slot_in}
 use Rattle.mh_shadow.proofs.OutlineLemmas.{shape-old, shape-new}
 
 -- an outline of no objects
 pub sound-first : (config : Config) (shapes : List Shape) (names : ℕ → Option ℕ) (ended : _) → shapes ≡ [] → ((place : ℕ) → names place ≡ None) → IsSound (outline_from config shapes (replicate root_slots None) ended names)
 sound-first config shapes names ended no_shape no_name = rw no_shape (record {
+  count = refl;
   births = omega arith;
   shapes = λ birth shape is. absurd (none-some shape is);
   slots = λ slot birth is. absurd (none-some birth (sym (none_at root_slots slot) ∙ is));
   names = λ place birth is. absurd (none-some birth (sym (no_name place) ∙ is));
 })
 
--- a slot that names what is there
-pub sound-slot : (outline : Outline) (slot : ℕ) (name : Option ℕ) → IsSound outline → ((birth : ℕ) → name ≡ Some birth → birth < length outline.shapes) → IsSound (with_slot outline slot name)
-sound-slot outline slot name sound there = record {
-  births = sound.births;
-  shapes = sound.shapes;
-  slots = λ at birth is. elim (get_or-set_either outline.slots slot at name None (Some birth) is) [ inl new ↦ there birth new | inr old ↦ sound.slots at birth old ];
-  names = sound.names;
-}
-
 -- one more object, which isn't too large, if there is a place for it
 pub sound-pushed : (outline : Outline) (shapes : List Shape) (shape : Shape) (pushed : Bool) → IsSound outline → shapes ≡ (if pushed then outline.shapes ++ shape ∷ [] else outline.shapes)
-    → length outline.shapes < 17592186044416 → shape.references + shape.numbers ≤ 216000 → IsSound (record outline { shapes = shapes })
+    → length outline.shapes < most_births → shape.references + shape.numbers ≤ 216000 → IsSound (record outline { shapes = shapes })
 sound-pushed outline shapes shape false sound is few small = rw is sound
 sound-pushed outline shapes shape true sound is few small = rw is (
     let more : length (outline.shapes ++ shape ∷ []) ≡ length outline.shapes + 1 = length_push outline.shapes shape in
     record {
+      count = sound.count;
       births = omega arith;
       shapes = λ birth other there. elim (cases_eq birth (length outline.shapes)) [
         | inl same ↦ let e : shape ≡ other = same_Some _ _ (sym (shape-new outline.shapes shape birth same) ∙ there) in rw (← e) small

@@ -1,3 +1,4 @@
 pub mod Outline
+pub mod OutlinePaths
 pub mod OutlineSteps
 pub mod ShadowHeap

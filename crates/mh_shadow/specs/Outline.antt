@@ -4,7 +4,8 @@ use Rattle.std.specs.Prelude.{◌≡◌, ℕ, ◌+◌, ◌*◌, ◌<◌, ◌≤�
 use Rattle.std.specs.List.{slice_get}
 use Rattle.mh_model.specs.declared.config.Config.{Config}
 use Rattle.mh_model.specs.declared.shape.Shape.{Shape}
-use Rattle.mh_model.specs.World.{World, Sight, births, object_at, shape_of, reference_of, most_fields, never_full}
+use Rattle.mh_model.specs.World.{World, births, object_at, shape_of, reference_of}
+use Rattle.mh_model.specs.Limits.{root_slots}
 
 -- the configuration; the shapes of the objects by birth; what each slot names; which sessions have ended; and what the reference at a place names
 pub record Outline : Type 0 where
@@ -17,9 +18,16 @@ pub record Outline : Type 0 where
 abbrev pub outline_from : Config → List Shape → List (Option ℕ) → List Bool → (ℕ → Option ℕ) → Outline
 outline_from config shapes slots ended names = record { config = config; shapes = shapes; slots = slots; ended = ended; names = names }
 
--- the place of a reference among those of all objects: each object has 2 ^ 18 places, more than it has fields
+-- how many places each object has for its references, more than it has fields; and the most objects: 2 ^ 18 and 2 ^ 44
+abbrev pub object_places : ℕ
+object_places = 262144
+
+abbrev pub most_births : ℕ
+most_births = 17592186044416
+
+-- the place of a reference among those of all objects
 abbrev pub place_of : ℕ → ℕ → ℕ
-place_of birth field = birth * 262144 + field
+place_of birth field = birth * object_places + field
 
 -- what a slot names, if it isn't empty
 abbrev pub slot_in : Outline → ℕ → Option ℕ
@@ -35,7 +43,7 @@ shape_named outline (Some birth) = shape_at outline birth
 
 -- what a reference of an object names, if it is set, and one of the object that is named
 abbrev pub reference_in : Outline → ℕ → ℕ → Option ℕ
-reference_in outline birth field = if nat_lt field 262144 then outline.names (place_of birth field) else None
+reference_in outline birth field = if nat_lt field object_places then outline.names (place_of birth field) else None
 
 abbrev pub reference_named : Outline → Option ℕ → ℕ → Option ℕ
 reference_named outline None field = None
@@ -50,15 +58,23 @@ pub record Outlines (outline : Outline) (world : World) : Type 0 where
   pub shapes : (birth : ℕ) → option_map shape_of (object_at world birth) ≡ shape_at outline birth
   pub references : (birth field : ℕ) → reference_of (object_at world birth) field ≡ reference_in outline birth field
 
--- slots and references name objects that are there. No object has too many fields, and there are fewer than 2 ^ 44
+-- the slots are 144, and they and the references name objects that are there. No object has more fields than the rules allow, and there are not
+-- too many objects
 pub record IsSound (outline : Outline) : Type 0 where
-  pub births : length outline.shapes ≤ 17592186044416
+  pub count : length outline.slots ≡ root_slots
+  pub births : length outline.shapes ≤ most_births
   pub shapes : (birth : ℕ) (shape : Shape) → shape_at outline birth ≡ Some shape → shape.references + shape.numbers ≤ 216000
   pub slots : (slot birth : ℕ) → slot_in outline slot ≡ Some birth → birth < length outline.shapes
   pub names : (place birth : ℕ) → outline.names place ≡ Some birth → birth < length outline.shapes
 
--- the next reference of an object, from a field on, that is set, and what it names; none if there is no such
+-- The first reference of an object, from a field on, that is set: its field, and what it names. None if there is no such
+pub record IsFirst (outline : Outline) (birth from : ℕ) (field name : ℕ) : Type 0 where
+  pub after : from ≤ field
+  pub within : field < object_places
+  pub set : reference_in outline birth field ≡ Some name
+  pub there : name < length outline.shapes
+  pub before : (other : ℕ) → from ≤ other → other < field → reference_in outline birth other ≡ None
+
 abbrev pub IsNext : Outline → ℕ → ℕ → Option (ℕ × ℕ) → Type 0
-IsNext outline birth field None = (other : ℕ) → field ≤ other → reference_in outline birth other ≡ None
-IsNext outline birth field (Some next) = (field ≤ next.0) × (reference_in outline birth next.0 ≡ Some next.1) × (next.1 < length outline.shapes)
-    × ((other : ℕ) → field ≤ other → other < next.0 → reference_in outline birth other ≡ None)
+IsNext outline birth from None = (other : ℕ) → from ≤ other → reference_in outline birth other ≡ None
+IsNext outline birth from (Some next) = IsFirst outline birth from next.0 next.1

@@ -1,5 +1,5 @@
 -- What a command does to an outline: what it does to each world that has this outline.
-use Rattle.std.specs.Prelude.{◌≡◌, ℕ, ◌==◌, if◌then◌else◌, true, Option, Some, None, option_map, [], ◌∷◌, ◌++◌, length, set}
+use Rattle.std.specs.Prelude.{◌≡◌, ℕ, ◌==◌, if◌then◌else◌, true, Option, Some, None, [], ◌∷◌, ◌++◌, length, set}
 use Rattle.mh_model.specs.declared.command.Command.{Command}
 use Rattle.mh_model.specs.declared.command.Command.TheVariants as command
 use Rattle.mh_model.specs.declared.reply.Refusal.{Refusal}
@@ -7,7 +7,7 @@ use Rattle.mh_model.specs.declared.reply.Reply.{Reply}
 use Rattle.mh_model.specs.declared.reply.Reply.TheVariants as reply
 use Rattle.mh_model.specs.declared.shape.Shape.{Shape}
 use Rattle.mh_model.specs.World.{World, Sight, most_fields, never_full, own_slot, board_slot, slot_at, object_in, reference_of, cleared, refusal, world_step}
-use Rattle.mh_shadow.specs.Outline.{Outline, Outlines, place_of, slot_in, shape_at, shape_named, reference_named}
+use Rattle.mh_shadow.specs.Outline.{Outline, Outlines, place_of, slot_in, shape_named, reference_named}
 
 -- what the tests of a command see of an outline
 abbrev pub outline_sight : Outline → Sight

@@ -10,7 +10,7 @@ ghost use Rattle.mh_model.specs.declared.reply.Refusal.TheVariants.{Null, NoFiel
 ghost use Rattle.mh_model.specs.declared.command.Command.TheVariants as command;
 ghost use Rattle.mh_model.specs.Limits.{root_slots};
 ghost use Rattle.mh_heap.specs.Checks.{unless, tested};
-ghost use Rattle.mh_shadow.specs.Outline.{Outlines, IsSound, IsNext, outline_from, place_of, slot_in, shape_at, shape_named, reference_in};
+ghost use Rattle.mh_shadow.specs.Outline.{Outlines, IsSound, IsNext, most_births, outline_from, place_of, slot_in, shape_at, shape_named, reference_in};
 ghost use Rattle.mh_shadow.specs.OutlineSteps.{Follows, AsksForMemory, overwritten, refused, outline_step, shape_made, with_name};
 
 use mh_heap::plain::clear_slots;
@@ -33,7 +33,7 @@ const MOST_BIRTHS: u64 = 1 << 44;
 
 /// The place of a reference among those of all objects.
 fn place_of(birth: Birth, field: u32) -> u64
-    requires { birth ≤ 17592186044416 }
+    requires { birth ≤ most_births }
     ensures { result ≡ place_of birth field }
 {
     birth.0 * u64::from(PLACES) + u64::from(field)
@@ -121,13 +121,13 @@ impl ShadowHeap {
         ensures { (world : World) → Outlines (outline_of self.now) world → result ≡ overwritten world who command.now }
     {
         match *command {
-            Command::New { slot, .. } => self.own_name(who, slot),
-            Command::Get { slot, .. } => self.own_name(who, slot),
+            Command::New { slot, .. }
+            | Command::Get { slot, .. }
+            | Command::Copy { slot, .. }
+            | Command::Clear { slot }
+            | Command::Take { slot, .. } => self.own_name(who, slot),
             Command::Put { slot, field, .. } => self.name_at(self.own_name(who, slot)?, field),
-            Command::Copy { slot, .. } => self.own_name(who, slot),
-            Command::Clear { slot } => self.own_name(who, slot),
             Command::Post { board, .. } => self.name_in(SESSIONS * SESSION_SLOTS + board as usize),
-            Command::Take { slot, .. } => self.own_name(who, slot),
             _ => None,
         }
     }
@@ -382,10 +382,10 @@ impl ShadowHeap {
             Command::End => {
                 let _ = self.end(who);
             }
-            Command::Read { .. } => {}
-            Command::Write { .. } => {}
-            Command::Same { .. } => {}
-            Command::Shape { .. } => {}
+            Command::Read { .. }
+            | Command::Write { .. }
+            | Command::Same { .. }
+            | Command::Shape { .. } => {}
         }
         Ok(made)
     }

@@ -1,5 +1,4 @@
 use Rattle.std.proofs.Common.{◌≤◌, ◌+◌, arith}
-use Rattle.std.proofs.lemmas.Grind.{common_steps}
 use Rattle.mh_shadow.specs.ShadowHeap.{outline_of}
 use Rattle.mh_shadow.proofs.SoundLemmas.{sound-pushed}
 use Rattle.mh_shadow.proofs.shadow.ShadowHeap.make.Goals as goal

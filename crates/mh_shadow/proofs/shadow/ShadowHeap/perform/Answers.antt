@@ -1,7 +1,5 @@
-use Rattle.std.proofs.Common.{◌≡◌, Option, Some, None, OnOk, IfOk, Result, Ok, Err, arith}
-use Rattle.std.proofs.lemmas.Grind.{common_steps}
 use Rattle.mh_shadow.specs.ShadowHeap.{outline_of}
-use Rattle.mh_shadow.proofs.OutlineLemmas.{follows, follows_if}
+use Rattle.mh_shadow.proofs.OutlineLemmas.{follows_if}
 use Rattle.mh_shadow.proofs.shadow.ShadowHeap.perform.Goals as goal
 
 pub returns-clause-step : goal.returns-clause-step
