@@ -3,10 +3,11 @@ use Rattle.std.specs.Prelude.{◌≡◌, ℕ, ◌==◌, if◌then◌else◌, tru
 use Rattle.mh_model.specs.declared.command.Command.{Command}
 use Rattle.mh_model.specs.declared.command.Command.TheVariants as command
 use Rattle.mh_model.specs.declared.reply.Refusal.{Refusal}
+use Rattle.mh_model.specs.declared.reply.Refusal.TheVariants.{Null, NoField}
 use Rattle.mh_model.specs.declared.reply.Reply.{Reply}
 use Rattle.mh_model.specs.declared.reply.Reply.TheVariants as reply
 use Rattle.mh_model.specs.declared.shape.Shape.{Shape}
-use Rattle.mh_model.specs.World.{World, Sight, most_fields, never_full, own_slot, board_slot, slot_at, object_in, reference_of, cleared, refusal, world_step}
+use Rattle.mh_model.specs.World.{World, Sight, most_fields, never_full, own_slot, board_slot, slot_at, object_in, reference_of, cleared, is_null, lacks_reference, first_refusal, refusal, world_step}
 use Rattle.mh_shadow.specs.Outline.{Outline, Outlines, place_of, slot_in, shape_named, reference_named}
 
 -- what the tests of a command see of an outline
@@ -16,6 +17,12 @@ outline_sight outline = record { most = most_fields outline.config; is_full = ne
 -- why a command is refused, if it is
 abbrev pub refused : Outline → ℕ → Command → Option Refusal
 refused outline who command = refusal (outline_sight outline) who command
+
+-- why a command on a reference of the object in a slot is refused, if it is: there is no object, or the object has no such reference
+abbrev pub refused_reference : Outline → ℕ → ℕ → Option Refusal
+refused_reference outline slot field =
+    let shape = shape_named outline (slot_in outline slot) in
+    first_refusal ((is_null shape, Null) ∷ (lacks_reference shape field, NoField) ∷ [])
 
 -- the outline with a slot that names something else, or nothing
 abbrev pub with_slot : Outline → ℕ → Option ℕ → Outline

@@ -2,16 +2,16 @@
 //! and the references that are set. It never collects, and keeps no numbers.
 //!
 //! `perform` does a command in each world that has the outline. What is reached is read by `name_in` and `next_name`.
-ghost use Rattle.std.specs.Prelude.{◌≡◌, ◌<◌, ◌≤◌, ◌+◌, ℕ, false, [], ◌∷◌, length, get_or, nat_le, option_map, IfOk, OnOk, OnErr, MatchResult, IfSome, Some, None};
+ghost use Rattle.std.specs.Prelude.{◌≡◌, ◌<◌, ◌≤◌, ◌+◌, ℕ, false, [], ◌∷◌, length, get_or, nat_le, IfOk, OnOk, OnErr, MatchResult, IfSome, Some, None};
 ghost use Rattle.std.specs.BTreeMap.{get};
 ghost use Rattle.std.specs.Ordering.{nat_cmp};
-ghost use Rattle.mh_model.specs.World.{World, first_world, first_refusal, is_null, lacks_reference, own_slot, never_full};
-ghost use Rattle.mh_model.specs.declared.reply.Refusal.TheVariants.{Null, NoField, TooManySessions, Ended};
+ghost use Rattle.mh_model.specs.World.{World, first_world, own_slot};
+ghost use Rattle.mh_model.specs.declared.reply.Refusal.TheVariants.{TooManySessions, Ended};
 ghost use Rattle.mh_model.specs.declared.command.Command.TheVariants as command;
 ghost use Rattle.mh_model.specs.Limits.{root_slots};
 ghost use Rattle.mh_heap.specs.Checks.{unless, tested};
-ghost use Rattle.mh_shadow.specs.Outline.{Outlines, IsSound, IsNext, most_births, outline_from, place_of, slot_in, shape_at, shape_named, reference_in};
-ghost use Rattle.mh_shadow.specs.OutlineSteps.{Follows, AsksForMemory, overwritten, refused, outline_step, shape_made, with_name};
+ghost use Rattle.mh_shadow.specs.Outline.{Outlines, IsSound, IsNext, most_births, outline_from, place_of, slot_in, shape_at, reference_in};
+ghost use Rattle.mh_shadow.specs.OutlineSteps.{Follows, AsksForMemory, overwritten, refused, refused_reference, outline_step, shape_made, with_name};
 
 use mh_heap::plain::clear_slots;
 use mh_heap::slots::{board_slot, own_slot};
@@ -175,8 +175,8 @@ impl ShadowHeap {
     fn object_with(&self, slot: usize, field: u32) -> Result<Birth, Refusal>
         requires { slot < root_slots }
         ensures step { MatchResult result
-            (λ birth. first_refusal ((is_null (shape_named (outline_of self.now) (slot_in (outline_of self.now) slot)), Null) ∷ (lacks_reference (shape_named (outline_of self.now) (slot_in (outline_of self.now) slot)) field, NoField) ∷ []) ≡ None)
-            (λ refusal. first_refusal ((is_null (shape_named (outline_of self.now) (slot_in (outline_of self.now) slot)), Null) ∷ (lacks_reference (shape_named (outline_of self.now) (slot_in (outline_of self.now) slot)) field, NoField) ∷ []) ≡ Some refusal) }
+            (λ birth. refused_reference (outline_of self.now) slot field ≡ None)
+            (λ refusal. refused_reference (outline_of self.now) slot field ≡ Some refusal) }
         ensures named { IfOk result (λ birth. slot_in (outline_of self.now) slot ≡ Some birth) }
         ensures there { IfOk result (λ birth. birth < length (outline_of self.now).shapes) }
     {
@@ -346,47 +346,49 @@ impl ShadowHeap {
         Ok(())
     }
 
+    /// Does a command that changes slots alone, or nothing.
+    fn change_slots(&mut self, who: u8, command: &Command) -> Result<(), Refusal>
+        ensures { (AsksForMemory command.now → ⊥) → outline_of self.new ≡ outline_step (outline_of self.old) who command.now }
+    {
+        match *command {
+            Command::Get {
+                slot,
+                source,
+                field,
+            } => self.get(who, slot, source, field),
+            Command::Copy { slot, source } => self.copy(who, slot, source),
+            Command::Clear { slot } => self.clear(who, slot),
+            Command::Post { board, slot } => self.post(who, board, slot),
+            Command::Take { slot, board } => self.take(who, slot, board),
+            Command::End => self.end(who),
+            _ => Ok(()),
+        }
+    }
+
     fn change(&mut self, who: u8, command: &Command) -> Result<Option<Shape>, NoMemory>
         ensures made { IfOk result (λ made. made ≡ shape_made (outline_of self.old) who command.now) }
         ensures step { OnOk result (outline_of self.new ≡ outline_step (outline_of self.old) who command.now) }
         ensures err { OnErr result (outline_of self.new ≡ outline_of self.old) }
         ensures asked { OnErr result (AsksForMemory command.now) }
     {
-        let mut made = None;
         match *command {
             Command::New {
                 slot,
                 references,
                 numbers,
-            } => made = self.make(who, slot, references, numbers)?.ok(),
-            Command::Get {
-                slot,
-                source,
-                field,
             } => {
-                let _ = self.get(who, slot, source, field);
+                let made = self.make(who, slot, references, numbers)?;
+                Ok(made.ok())
             }
-            Command::Put { slot, field, value } => self.put(who, slot, field, value)?,
-            Command::Copy { slot, source } => {
-                let _ = self.copy(who, slot, source);
+            Command::Put { slot, field, value } => {
+                self.put(who, slot, field, value)?;
+                Ok(None)
             }
-            Command::Clear { slot } => {
-                let _ = self.clear(who, slot);
+            _ => {
+                // A refused command changes nothing.
+                let _ = self.change_slots(who, command);
+                Ok(None)
             }
-            Command::Post { board, slot } => {
-                let _ = self.post(who, board, slot);
-            }
-            Command::Take { slot, board } => {
-                let _ = self.take(who, slot, board);
-            }
-            Command::End => {
-                let _ = self.end(who);
-            }
-            Command::Read { .. }
-            | Command::Write { .. }
-            | Command::Same { .. }
-            | Command::Shape { .. } => {}
         }
-        Ok(made)
     }
 }
