@@ -7,7 +7,7 @@ use Rattle.std.specs.declared.ops.Bound.TheVariants.{Included, Excluded}
 use Rattle.std.specs.Ordering.{is_gt, nat_cmp}
 use Rattle.std.proofs.lemmas.Bool.Decides.{nat_tests}
 use Rattle.mh_table_laws.proofs.Lists.{to_some}
-use Rattle.mh_shadow.specs.Outline.{object_places, Outline, IsSound, IsNext, place_of}
+use Rattle.mh_shadow.specs.Outline.{object_places, Outline, IsSound, IsNext, place_of, reference_in}
 use Rattle.mh_shadow.proofs.NameLemmas.{in_places, reference-null}
 
 -- a map of nothing names nothing
@@ -55,10 +55,12 @@ module _ (outline : Outline) (map : BTreeMap ℕ ℕ) (same : (place : ℕ) → 
     first-next sound start starts =
         let within : place - start < object_places = omega (arith, first-to) in
         let here : place_of birth (place - start) ≡ place = omega (arith, first-from) in
+        let set : reference_in outline birth (place - start) ≡ Some name = in_places outline.names birth (place - start) within ∙ ap outline.names here ∙ first-names in
         record {
           after = omega (arith, first-from);
           within = within;
-          set = in_places outline.names birth (place - start) within ∙ ap outline.names here ∙ first-names;
+          has = sound.fields birth (place - start) name set;
+          set = set;
           there = sound.names place name first-names;
           before = λ other later before. reference-null outline birth other (λ has. first-before other later (omega arith));
         }

@@ -58,19 +58,26 @@ pub record Outlines (outline : Outline) (world : World) : Type 0 where
   pub shapes : (birth : ℕ) → option_map shape_of (object_at world birth) ≡ shape_at outline birth
   pub references : (birth field : ℕ) → reference_of (object_at world birth) field ≡ reference_in outline birth field
 
--- the slots are 144, and they and the references name objects that are there. No object has more fields than the rules allow, and there are not
--- too many objects
+-- how many references an object of a shape has, if there is one
+abbrev pub reference_count : Option Shape → ℕ
+reference_count None = 0
+reference_count (Some shape) = shape.references
+
+-- the slots are 144, and they and the references name objects that are there. No object has more fields than the rules allow, and only
+-- references of objects are set. There are not too many objects
 pub record IsSound (outline : Outline) : Type 0 where
   pub count : length outline.slots ≡ root_slots
   pub births : length outline.shapes ≤ most_births
   pub shapes : (birth : ℕ) (shape : Shape) → shape_at outline birth ≡ Some shape → shape.references + shape.numbers ≤ 216000
   pub slots : (slot birth : ℕ) → slot_in outline slot ≡ Some birth → birth < length outline.shapes
   pub names : (place birth : ℕ) → outline.names place ≡ Some birth → birth < length outline.shapes
+  pub fields : (birth field name : ℕ) → reference_in outline birth field ≡ Some name → field < reference_count (shape_at outline birth)
 
 -- The first reference of an object, from a field on, that is set: its field, and what it names. None if there is no such
 pub record IsFirst (outline : Outline) (birth from : ℕ) (field name : ℕ) : Type 0 where
   pub after : from ≤ field
   pub within : field < object_places
+  pub has : field < reference_count (shape_at outline birth)
   pub set : reference_in outline birth field ≡ Some name
   pub there : name < length outline.shapes
   pub before : (other : ℕ) → from ≤ other → other < field → reference_in outline birth other ≡ None

@@ -10,7 +10,7 @@ ghost use Rattle.mh_model.specs.declared.reply.Refusal.TheVariants.{TooManySessi
 ghost use Rattle.mh_model.specs.declared.command.Command.TheVariants as command;
 ghost use Rattle.mh_model.specs.Limits.{root_slots};
 ghost use Rattle.mh_heap.specs.Checks.{unless, tested};
-ghost use Rattle.mh_shadow.specs.Outline.{Outlines, IsSound, IsNext, most_births, outline_from, place_of, slot_in, shape_at, reference_in};
+ghost use Rattle.mh_shadow.specs.Outline.{Outlines, IsSound, IsNext, most_births, outline_from, reference_count, place_of, slot_in, shape_at, reference_in};
 ghost use Rattle.mh_shadow.specs.OutlineSteps.{Follows, AsksForMemory, overwritten, refused, refused_reference, outline_step, shape_made, with_name};
 
 use mh_heap::plain::clear_slots;
@@ -179,6 +179,7 @@ impl ShadowHeap {
             (λ refusal. refused_reference (outline_of self.now) slot field ≡ Some refusal) }
         ensures named { IfOk result (λ birth. slot_in (outline_of self.now) slot ≡ Some birth) }
         ensures there { IfOk result (λ birth. birth < length (outline_of self.now).shapes) }
+        ensures has { IfOk result (λ birth. field < reference_count (shape_at (outline_of self.now) birth)) }
     {
         let birth = self.name_in(slot).ok_or(Refusal::Null)?;
         if field >= self.shape_of(birth).references {
@@ -213,6 +214,7 @@ impl ShadowHeap {
             (λ refusal. refused (outline_of self.now) who (command.Put slot field value) ≡ Some refusal) }
         ensures object { IfOk result (λ target. slot_in (outline_of self.now) (own_slot who slot) ≡ Some target.0) }
         ensures there { IfOk result (λ target. target.0 < length (outline_of self.now).shapes) }
+        ensures has { IfOk result (λ target. field < reference_count (shape_at (outline_of self.now) target.0)) }
         ensures name { IfOk result (λ target. target.1 ≡ slot_in (outline_of self.now) (own_slot who value)) }
         ensures known { IfOk result (λ target. IfSome target.1 (λ birth. birth < length (outline_of self.now).shapes)) }
     {
@@ -272,6 +274,7 @@ impl ShadowHeap {
     /// Lets a reference of an object name another, or none.
     fn set_name(&mut self, birth: Birth, field: u32, name: Option<Birth>) -> Result<(), NoMemory>
         requires there { birth < length (outline_of self.old).shapes }
+        requires has { field < reference_count (shape_at (outline_of self.old) birth) }
         requires known { IfSome name (λ name. name < length (outline_of self.old).shapes) }
         ensures ok { OnOk result (outline_of self.new ≡ with_name (outline_of self.old) (Some birth) field name) }
         ensures err { OnErr result (outline_of self.new ≡ outline_of self.old) }
