@@ -56,6 +56,10 @@ referring-other field other name (Some object) apart = get_or-set_other object.r
 
 -- One more object --------------------------------------------------------------------------------
 
+-- the shape of a new object
+pub blank-shape : (references numbers : ℕ) → Some (shape_of (blank references numbers)) ≡ Some (record { references = references; numbers = numbers })
+blank-shape references numbers = ap₂ (λ r n. Some (record { references = r; numbers = n })) (length-replicate references None) (length-replicate numbers 0)
+
 -- what there is after one more object was added, and after one more shape
 pushed-old : {X : Type 0} (xs : List (Option X)) (x : X) (at : ℕ) → (at ≡ length xs → ⊥) → get_or (xs ++ Some x ∷ []) at None ≡ get_or xs at None
 pushed-old [] x zero apart = absurd (apart refl)
@@ -193,9 +197,6 @@ module _ (outline : Outline) (world : World) (outlines : Outlines outline world)
   put-outlined sound (Some birth) field name there has = referred-outlined birth field name there has (few_references sound birth field (shape_at outline birth) refl there has)
 
   -- One more object, which a slot names
-  blank-shape : (references numbers : ℕ) → Some (shape_of (blank references numbers)) ≡ Some (record { references = references; numbers = numbers })
-  blank-shape references numbers = ap₂ (λ r n. Some (record { references = r; numbers = n })) (length-replicate references None) (length-replicate numbers 0)
-
   made-outlined : (slot references numbers : ℕ) → Outlines (with_shape outline slot (record { references = references; numbers = numbers })) (with_object world slot (blank references numbers))
   made-outlined slot references numbers =
       let shape : Shape = record { references = references; numbers = numbers } in

@@ -13,7 +13,7 @@ use Rattle.mh_model.specs.declared.shape.Shape.{Shape}
 use Rattle.mh_model.specs.Limits.{root_slots}
 use Rattle.mh_table_laws.proofs.Lists.{none_at}
 use Rattle.mh_shadow.specs.Outline.{most_births, object_places, Outline, IsSound, outline_from, reference_count, place_of, slot_in, shape_at, reference_in}
-use Rattle.mh_shadow.proofs.NameLemmas.{in_places, reference-null, written-field, written-birth}
+use Rattle.mh_shadow.proofs.NameLemmas.{reference-null, written-field, written-birth}
 use Rattle.mh_shadow.proofs.OutlineLemmas.{shape-old, shape-new}
 
 -- an outline of no objects

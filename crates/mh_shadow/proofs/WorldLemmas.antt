@@ -64,11 +64,11 @@ module _ (outline : Outline) (world : World) (outlines : Outlines outline world)
   pub first-refers : (birth from field name : ℕ) → IsFirst outline birth from field name → reference_of (object_at world birth) field ≡ Some name
   first-refers birth from field name first = outlines.references birth field ∙ first.set
 
-  pub first-after-null : (birth from field name : ℕ) → IsFirst outline birth from field name → (other : ℕ) → from ≤ other → other < field → reference_of (object_at world birth) other ≡ None
-  first-after-null birth from field name first other after before = outlines.references birth other ∙ first.before other after before
+  pub null-before-first : (birth from field name : ℕ) → IsFirst outline birth from field name → (other : ℕ) → from ≤ other → other < field → reference_of (object_at world birth) other ≡ None
+  null-before-first birth from field name first other after before = outlines.references birth other ∙ first.before other after before
 
-  pub none-after-null : (birth from : ℕ) → IsNext outline birth from None → (other : ℕ) → from ≤ other → reference_of (object_at world birth) other ≡ None
-  none-after-null birth from none other after = outlines.references birth other ∙ none other after
+  pub null-past-last : (birth from : ℕ) → IsNext outline birth from None → (other : ℕ) → from ≤ other → reference_of (object_at world birth) other ≡ None
+  null-past-last birth from none other after = outlines.references birth other ∙ none other after
 
   -- What is there --------------------------------------------------------------------------------
 
@@ -88,6 +88,18 @@ module _ (outline : Outline) (world : World) (outlines : Outlines outline world)
     slots = λ slot birth is. object-there birth (sound.slots slot birth (sym (slot-same outline world outlines slot) ∙ is));
     references = λ birth field target is. object-there target (reference-below sound birth field target (sym (outlines.references birth field) ∙ is));
   }
+
+-- Worlds of one outline, which differ in numbers alone --------------------------------------------
+
+module _ (outline : Outline) (world other : World) (outlines : Outlines outline world) (outlines' : Outlines outline other) where
+  pub reachable-alike : (birth : ℕ) → Reachable world birth → Reachable other birth
+  reachable-alike birth reached = reachable-in-world outline other outlines' birth (reachable-in-outline outline world outlines birth reached)
+
+  pub parts-alike : (birth : ℕ) → object_parts (object_at world birth) ≡ object_parts (object_at other birth)
+  parts-alike birth = parts-same outline world outlines birth ∙ sym (parts-same outline other outlines' birth)
+
+  pub units-alike : (birth : ℕ) → object_units (object_at world birth) ≡ object_units (object_at other birth)
+  units-alike birth = units-same outline world outlines birth ∙ sym (units-same outline other outlines' birth)
 
 -- What a command writes over ---------------------------------------------------------------------
 
