@@ -2,7 +2,7 @@
 //! and the references that are set. It never collects, and keeps no numbers.
 //!
 //! `perform` does a command in each world that has the outline. What is reached is read by `name_in` and `next_name`.
-ghost use Rattle.std.specs.Prelude.{◌≡◌, ◌<◌, ◌≤◌, ◌+◌, ℕ, false, [], ◌∷◌, length, get_or, nat_le, IfOk, OnOk, OnErr, MatchResult, IfSome, Some, None};
+ghost use Rattle.std.specs.Prelude.{◌≡◌, ◌<◌, ◌≤◌, ◌+◌, false, [], ◌∷◌, length, get_or, nat_le, IfOk, OnOk, OnErr, MatchResult, IfSome, Some, None};
 ghost use Rattle.std.specs.BTreeMap.{get};
 ghost use Rattle.std.specs.Ordering.{nat_cmp};
 ghost use Rattle.mh_model.specs.World.{World, first_world, own_slot};
