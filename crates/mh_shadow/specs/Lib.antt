@@ -1,0 +1,5 @@
+pub mod Outline
+pub mod OutlinePaths
+pub mod OutlineSteps
+pub mod OutlinedWorld
+pub mod ShadowHeap
