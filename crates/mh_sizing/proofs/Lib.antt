@@ -12,6 +12,8 @@ pub mod FoundLemmas
 pub mod BirthLemmas
 pub mod ClassLemmas
 pub mod CountLemmas
+pub mod FollowLemmas
+pub mod CutLemmas
 pub mod RunLemmas
 pub mod SearchLemmas
 pub mod StepLemmas

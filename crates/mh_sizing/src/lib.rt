@@ -18,6 +18,7 @@ mod births;
 mod classes;
 pub mod counted;
 mod counts;
+mod cuts;
 pub mod cycles;
 pub mod enough;
 pub mod found;
