@@ -1,19 +1,18 @@
 -- Logs of cuts with one more command. What a command overwrites was reached and is cut, so what was held stays so; what it newly names was reached,
 -- or is the object that it makes, so nothing else comes in.
-use Rattle.std.proofs.Common.{◌≡◌, ◌⊎◌, inl, inr, ℕ, zero, suc, ◌+◌, ◌-◌, ◌<◌, ◌≤◌, min, Option, Some, None, IsSome, option_map, List, [], ◌∷◌, ◌++◌, length, get_or, drop, refl, sym, ap, ◌∙◌, subst, arith}
-use Rattle.std.specs.List.{AllByRecursion, Any}
+use Rattle.std.proofs.Common.{◌≡◌, ◌⊎◌, inl, inr, ℕ, zero, suc, ◌+◌, ◌-◌, ◌<◌, ◌≤◌, min, Option, Some, None, option_map, List, [], ◌∷◌, ◌++◌, length, get_or, drop, refl, sym, ap, ◌∙◌, subst, arith}
+use Rattle.std.specs.List.{All, AllByRecursion, Any}
 use Rattle.std.proofs.Math.ListN.{get_or-append}
 use Rattle.std.proofs.lemmas.List.{drop-append-le, length-append}
 use Rattle.std.proofs.lemmas.List.Quantifiers.{Any-push}
 use Rattle.std.proofs.lemmas.Option.{none-some}
 use Rattle.mh_model.specs.Paths.{IsNamed, Refers, Reachable}
 use Rattle.mh_model.specs.World.{Object, World, births, object_at, slot_at, reference_of, shape_of, IsClosed}
-use Rattle.mh_table_laws.proofs.Lists.{there_below}
 use Rattle.mh_sizing.specs.declared.cuts.Cut.{Cut}
-use Rattle.mh_sizing.specs.Cuts.{cuts_of, IsPathFrom, ReachedFrom, IsCut, IsRoot, births_before, WasHeld, IsKept, IsHeld, HoldsAll, IsHeldOnce, IsLogOf, IsCutIn}
+use Rattle.mh_sizing.specs.Cuts.{cuts_of, IsPathFrom, ReachedFrom, IsCut, IsRoot, births_before, WasHeld, IsKept, IsHeld, HoldsAll, IsHeldOnce, IsLogOf, IsCutIn, IsCutNow}
 use Rattle.mh_sizing.specs.Steps.{made_count}
 use Rattle.mh_sizing.proofs.FollowLemmas.{IsName, Follows, next-refers-not}
-use Rattle.mh_sizing.proofs.SearchLemmas.{reached-in}
+use Rattle.mh_sizing.proofs.PathLemmas.{from-in, from-begin, from-step, reached-from, from-reached, reached-below}
 
 -- Lists ------------------------------------------------------------------------------------------
 
@@ -35,6 +34,16 @@ module _ {X : Type 0} where
   all-drop P (suc index) [] all = all
   all-drop P (suc index) (x ∷ list) all = all-drop P index list all.1
 
+  -- what is so at each index is so of each
+  pub all-index : (P : X → Type 0) (list : List X) → All P list → AllByRecursion P list
+  all-index P [] all = tt
+  all-index P (x ∷ list) all = (all 0 x (omega arith), all-index P list (λ index d inside. all (suc index) d (omega (arith, inside))))
+
+  pub index-all : (P : X → Type 0) (list : List X) → AllByRecursion P list → All P list
+  index-all P [] all index d inside = absurd (omega (arith, inside))
+  index-all P (x ∷ list) all zero d inside = all.0
+  index-all P (x ∷ list) all (suc index) d inside = index-all P list all.1 index d (omega (arith, inside))
+
   pub any-old : (P : X → Type 0) (list : List X) (x : X) → Any P list → Any P (list ++ x ∷ [])
   any-old P list x (index, y, inside, read, is) = (index, y, omega (arith, inside, length-append list (x ∷ [])), get_or-append list (x ∷ []) y index inside ∙ read, is)
 
@@ -54,28 +63,6 @@ module _ {X : Type 0} where
   drop-both (x ∷ list) more zero = let none : 0 ≡ 0 - suc (length list) = omega arith in ap (λ n. x ∷ (list ++ drop n more)) none
   drop-both (x ∷ list) more (suc index) = let left : index - length list ≡ suc index - suc (length list) = omega arith in drop-both list more index ∙ ap (λ n. drop index list ++ drop n more) left
 
--- Paths ------------------------------------------------------------------------------------------
-
--- what is so of each birth that paths begin with, and of each that a reference of such a one names, is so of all that are reached
-pub from-in : (world : World) (Begins P : ℕ → Type 0) → ((birth : ℕ) → Begins birth → P birth) → ((birth target : ℕ) → P birth → Refers world birth target → P target)
-    → (path : List ℕ) (birth : ℕ) → IsPathFrom world Begins birth path → P birth
-from-in world Begins P first along [] birth begins = first birth begins
-from-in world Begins P first along (nearest ∷ path) birth is_path = along nearest birth (from-in world Begins P first along path nearest is_path.1) is_path.0
-
-module _ (world : World) (Begins : ℕ → Type 0) where
-  pub from-begin : (birth : ℕ) → Begins birth → ReachedFrom world Begins birth
-  from-begin birth begins = ([], begins)
-
-  pub from-step : (birth target : ℕ) → ReachedFrom world Begins birth → Refers world birth target → ReachedFrom world Begins target
-  from-step birth target before refers = (birth ∷ before.0, (refers, before.1))
-
-  -- what slots lead to
-  pub reached-from : ((birth : ℕ) → IsNamed world birth → Begins birth) → (birth : ℕ) → Reachable world birth → ReachedFrom world Begins birth
-  reached-from named birth reachable = reached-in world (ReachedFrom world Begins) (λ slot b is. from-begin b (named b (slot, is))) from-step reachable.0 birth reachable.1
-
-  pub from-reached : ((birth : ℕ) → Begins birth → Reachable world birth) → (birth : ℕ) → ReachedFrom world Begins birth → Reachable world birth
-  from-reached begins birth reached = from-in world Begins (Reachable world) begins (λ near target before refers. (near ∷ before.0, (refers, before.1))) reached.0 birth reached.1
-
 -- Cuts -------------------------------------------------------------------------------------------
 
 cut-left : (cuts more : List Cut) (birth : ℕ) → IsCut cuts birth → IsCut (cuts ++ more) birth
@@ -93,6 +80,11 @@ cut-either (cut ∷ cuts) more birth is = elim is [
   | inr later ↦ elim (cut-either cuts more birth later) [ inl old ↦ inl (inr old) | inr new ↦ inr new ]
 ]
 
+pub cuts_of-append : (made : ℕ) (names more : List (Option ℕ)) → cuts_of made (names ++ more) ≡ cuts_of made names ++ cuts_of made more
+cuts_of-append made [] more = refl
+cuts_of-append made (None ∷ names) more = cuts_of-append made names more
+cuts_of-append made (Some birth ∷ names) more = ap (λ (cuts : List Cut). record { birth = birth; births = made } ∷ cuts) (cuts_of-append made names more)
+
 -- each of these names is cut
 pub name-cut : (made : ℕ) (names : List (Option ℕ)) (birth : ℕ) → IsName names birth → IsCut (cuts_of made names) birth
 name-cut made [] birth (index, is) = absurd (none-some birth is)
@@ -105,11 +97,6 @@ name-cut made (Some name ∷ names) birth (zero, is) = inl (ap (λ (o : Option �
 name-cut made (None ∷ names) birth (suc index, is) = name-cut made names birth (index, is)
 name-cut made (Some name ∷ names) birth (suc index, is) = inr (name-cut made names birth (index, is))
 
--- A cut of what this world reaches
-pub record IsCutNow (world : World) (cut : Cut) : Type 0 where
-  pub reached : Reachable world cut.birth
-  pub births_now : cut.births ≡ births world
-
 pub cuts-now : (world : World) (names : List (Option ℕ)) → ((birth : ℕ) → IsName names birth → Reachable world birth) → AllByRecursion (IsCutNow world) (cuts_of (births world) names)
 cuts-now world [] reached = tt
 cuts-now world (None ∷ names) reached = cuts-now world names (λ birth name. reached birth (suc name.0, name.1))
@@ -118,10 +105,6 @@ cuts-now world (Some name ∷ names) reached = (record { reached = reached name 
 cut-reached : (world : World) (cuts : List Cut) (birth : ℕ) → AllByRecursion (IsCutNow world) cuts → IsCut cuts birth → Reachable world birth
 cut-reached world [] birth now is = absurd is
 cut-reached world (cut ∷ cuts) birth now is = elim is [ inl here ↦ subst (Reachable world) here now.0.reached | inr later ↦ cut-reached world cuts birth now.1 later ]
-
--- what a closed world reaches is one of its objects
-pub reached-below : (world : World) (birth : ℕ) → IsClosed world → Reachable world birth → birth < births world
-reached-below world birth closed path = there_below world.objects birth (reached-in world (λ b. IsSome (object_at world b)) closed.slots (λ b target there refers. closed.references b refers.0 target refers.1) path.0 birth path.1)
 
 -- Numbers of births ------------------------------------------------------------------------------
 
@@ -328,7 +311,3 @@ module _ (last new : World) (names : List (Option ℕ)) (object : Option Object)
 -- cuts of now are of objects that are there
 pub now-in : (world : World) → IsClosed world → (cuts : List Cut) → AllByRecursion (IsCutNow world) cuts → AllByRecursion (IsCutIn world) cuts
 now-in world closed cuts now = all-more (IsCutNow world) (IsCutIn world) (λ cut is. record { birth = reached-below world cut.birth closed is.reached; births_few = omega (arith, is.births_now) }) cuts now
-
--- and stay so
-pub in-later : (old new : World) → births old ≤ births new → (cuts : List Cut) → AllByRecursion (IsCutIn old) cuts → AllByRecursion (IsCutIn new) cuts
-in-later old new more cuts all = all-more (IsCutIn old) (IsCutIn new) (λ cut is. record { birth = omega (arith, is.birth, more); births_few = omega (arith, is.births_few, more) }) cuts all

@@ -61,7 +61,7 @@ overwritten-reached world who command.End birth (index, is) = elim (cases_lt ind
   | inl inside ↦ slot-reached world (own_slot who 0 + index) birth (sym (get_or-tabulate (slot_at world) (own_slot who 0) 16 index None inside) ∙ is)
   | inr past ↦ absurd (none-some birth (sym (get_or-tabulate_past (slot_at world) (own_slot who 0) 16 index None past) ∙ is))
 ]
-overwritten-reached world who _ birth name = absurd (none-some birth name.1)
+overwritten-reached world who _ birth name = absurd (none-some birth (one-name None birth name))
 
 -- Changes ----------------------------------------------------------------------------------------
 
@@ -269,13 +269,13 @@ effect-follows world who (command.Put slot field value) =
     ]
 effect-follows world who (command.Copy slot source) = slot-follows world (own_slot who slot) (slot_at world (own_slot who source)) (slot-reached world (own_slot who source))
 effect-follows world who (command.Clear slot) = slot-follows world (own_slot who slot) None (λ birth is. absurd (none-some birth is))
-effect-follows world who (command.Read slot index) = unchanged world []
-effect-follows world who (command.Write slot index value) = change-follows world (own_slot who slot) (with_number index value) [] same (λ object other target is. inl is) (λ object other target at is. inl is)
+effect-follows world who (command.Read slot index) = unchanged world (None ∷ [])
+effect-follows world who (command.Write slot index value) = change-follows world (own_slot who slot) (with_number index value) (None ∷ []) same (λ object other target is. inl is) (λ object other target at is. inl is)
   where
     same : (object : Object) → shape_of (with_number index value object) ≡ shape_of object
     same object = ap {B = Shape} (λ n. record { references = length object.references; numbers = n }) (length-set object.numbers index value)
-effect-follows world who (command.Same left right) = unchanged world []
-effect-follows world who (command.Shape slot) = unchanged world []
+effect-follows world who (command.Same left right) = unchanged world (None ∷ [])
+effect-follows world who (command.Shape slot) = unchanged world (None ∷ [])
 effect-follows world who (command.Post board slot) = slot-follows world (board_slot board) (slot_at world (own_slot who slot)) (slot-reached world (own_slot who slot))
 effect-follows world who (command.Take slot board) = slot-follows world (own_slot who slot) (slot_at world (board_slot board)) (slot-reached world (board_slot board))
 effect-follows world who command.End = end-follows world who

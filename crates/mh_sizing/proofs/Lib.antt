@@ -12,8 +12,11 @@ pub mod FoundLemmas
 pub mod BirthLemmas
 pub mod ClassLemmas
 pub mod CountLemmas
+pub mod MomentLemmas
+pub mod PathLemmas
 pub mod FollowLemmas
 pub mod CutLemmas
+pub mod LogLemmas
 pub mod RunLemmas
 pub mod SearchLemmas
 pub mod StepLemmas

@@ -1,5 +1,5 @@
 -- Names that commands overwrote, in their order. The references of the last world and what was cut say together what earlier worlds reached.
-use Rattle.std.specs.Prelude.{◌≡◌, ◌⊎◌, ℕ, ◌<◌, ◌≤◌, min, Option, Some, None, option_map, List, [], ◌∷◌, length, drop}
+use Rattle.std.specs.Prelude.{◌≡◌, ◌⊎◌, ℕ, ◌<◌, ◌≤◌, min, Option, Some, None, option_map, List, [], ◌∷◌, ◌++◌, length, drop}
 use Rattle.std.specs.List.{AllByRecursion, Any}
 use Rattle.mh_model.specs.declared.command.Command.{Command}
 use Rattle.mh_model.specs.declared.command.Command.TheVariants as command
@@ -11,16 +11,20 @@ use Rattle.mh_sizing.specs.declared.cuts.Cut.{Cut}
 -- What a command overwrites ----------------------------------------------------------------------
 
 -- what a slot or a reference names that a command may overwrite, before it is performed
+abbrev pub overwritten_name : World → ℕ → Command → Option ℕ
+overwritten_name world who (command.New slot references numbers) = slot_at world (own_slot who slot)
+overwritten_name world who (command.Get slot source field) = slot_at world (own_slot who slot)
+overwritten_name world who (command.Put slot field value) = reference_of (object_in world (own_slot who slot)) field
+overwritten_name world who (command.Copy slot source) = slot_at world (own_slot who slot)
+overwritten_name world who (command.Clear slot) = slot_at world (own_slot who slot)
+overwritten_name world who (command.Post board slot) = slot_at world (board_slot board)
+overwritten_name world who (command.Take slot board) = slot_at world (own_slot who slot)
+overwritten_name world who _ = None
+
+-- `end` overwrites all slots of its session
 abbrev pub overwritten : World → ℕ → Command → List (Option ℕ)
-overwritten world who (command.New slot references numbers) = slot_at world (own_slot who slot) ∷ []
-overwritten world who (command.Get slot source field) = slot_at world (own_slot who slot) ∷ []
-overwritten world who (command.Put slot field value) = reference_of (object_in world (own_slot who slot)) field ∷ []
-overwritten world who (command.Copy slot source) = slot_at world (own_slot who slot) ∷ []
-overwritten world who (command.Clear slot) = slot_at world (own_slot who slot) ∷ []
-overwritten world who (command.Post board slot) = slot_at world (board_slot board) ∷ []
-overwritten world who (command.Take slot board) = slot_at world (own_slot who slot) ∷ []
 overwritten world who command.End = tabulate (slot_at world) (own_slot who 0) 16
-overwritten world who _ = []
+overwritten world who other = overwritten_name world who other ∷ []
 
 -- the cuts of these names, when so many objects had been made
 abbrev pub cuts_of : ℕ → List (Option ℕ) → List Cut
@@ -81,8 +85,18 @@ pub record IsLogOf (worlds : List World) (cuts : List Cut) (last : World) : Type
   pub worlds_held : AllByRecursion (IsHeldOnce last cuts) worlds
   pub moments_reached : (index : ℕ) → Any (HoldsAll last (drop index cuts)) worlds
 
--- a cut is of an object of this world, none of which was made after the cut
--- (and it says no more births than the world has)
+-- A cut is of an object of this world, which has no fewer births than it says
 pub record IsCutIn (world : World) (cut : Cut) : Type 0 where
   pub birth : cut.birth < births world
   pub births_few : cut.births ≤ births world
+
+-- A cut is of what this world reaches, and says its births
+pub record IsCutNow (world : World) (cut : Cut) : Type 0 where
+  pub reached : Reachable world cut.birth
+  pub births_now : cut.births ≡ births world
+
+-- A log has grown by cuts of what a world reaches
+pub record HasLogged (world : World) (old new : List Cut) : Type 0 where
+  pub now : List Cut
+  pub are_now : AllByRecursion (IsCutNow world) now
+  pub grown : new ≡ old ++ now

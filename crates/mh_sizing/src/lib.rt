@@ -24,6 +24,7 @@ pub mod enough;
 pub mod found;
 pub mod kinds;
 pub mod laws;
+mod moments;
 pub mod needs;
 pub mod openings;
 pub mod pages;
