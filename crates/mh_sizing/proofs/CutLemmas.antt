@@ -1,16 +1,15 @@
 -- Logs of cuts with one more command. What a command overwrites was reached and is cut, so what was held stays so; what it newly names was reached,
 -- or is the object that it makes, so nothing else comes in.
-use Rattle.std.proofs.Common.{◌≡◌, ◌⊎◌, inl, inr, ℕ, zero, suc, ◌+◌, ◌-◌, ◌<◌, ◌≤◌, min, Option, Some, None, option_map, List, [], ◌∷◌, ◌++◌, length, get_or, drop, refl, sym, ap, ◌∙◌, subst, arith}
+use Rattle.std.proofs.Common.{◌≡◌, ◌⊎◌, inl, inr, ℕ, zero, suc, ◌-◌, ◌<◌, ◌≤◌, min, Option, Some, None, List, [], ◌∷◌, ◌++◌, length, drop, refl, sym, ap, ◌∙◌, subst, arith}
 use Rattle.std.specs.List.{All, AllByRecursion, Any}
 use Rattle.std.proofs.Math.ListN.{get_or-append}
 use Rattle.std.proofs.lemmas.List.{drop-append-le, length-append}
 use Rattle.std.proofs.lemmas.List.Quantifiers.{Any-push}
 use Rattle.std.proofs.lemmas.Option.{none-some}
-use Rattle.mh_model.specs.Paths.{IsNamed, Refers, Reachable}
-use Rattle.mh_model.specs.World.{Object, World, births, object_at, slot_at, reference_of, shape_of, IsClosed}
+use Rattle.mh_model.specs.Paths.{Refers, Reachable}
+use Rattle.mh_model.specs.World.{Object, World, births, IsClosed}
 use Rattle.mh_sizing.specs.declared.cuts.Cut.{Cut}
-use Rattle.mh_sizing.specs.Cuts.{cuts_of, IsPathFrom, ReachedFrom, IsCut, IsRoot, births_before, WasHeld, IsKept, IsHeld, HoldsAll, IsHeldOnce, IsLogOf, IsCutIn, IsCutNow}
-use Rattle.mh_sizing.specs.Steps.{made_count}
+use Rattle.mh_sizing.specs.Cuts.{cuts_of, ReachedFrom, IsCut, IsRoot, births_before, WasHeld, IsKept, IsHeld, HoldsAll, IsHeldOnce, IsLogOf, IsCutIn, IsCutNow}
 use Rattle.mh_sizing.proofs.FollowLemmas.{IsName, Follows, next-refers-not}
 use Rattle.mh_sizing.proofs.PathLemmas.{from-in, from-begin, from-step, reached-from, from-reached, reached-below}
 

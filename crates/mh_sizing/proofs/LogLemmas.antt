@@ -1,7 +1,7 @@
 -- What is logged, name by name.
-use Rattle.std.proofs.Common.{◌≡◌, Result, Ok, Err, OnErr, inl, inr, ℕ, zero, suc, ◌+◌, ◌-◌, ◌≤◌, Option, Some, None, List, [], ◌∷◌, ◌++◌, get_or, refl, sym, ap, ◌∙◌, subst, arith}
+use Rattle.std.proofs.Common.{◌≡◌, Result, Ok, Err, OnErr, inl, inr, ℕ, zero, suc, ◌+◌, ◌-◌, ◌≤◌, Option, None, List, [], ◌∷◌, ◌++◌, refl, sym, ap, ◌∙◌, arith}
 use Rattle.std.proofs.lemmas.Bool.{cases_lt}
-use Rattle.std.proofs.lemmas.List.{append-nil, append_assoc}
+use Rattle.std.proofs.lemmas.List.{append_assoc}
 use Rattle.std.proofs.lemmas.Option.{none-some}
 use Rattle.mh_model.proofs.TabulateLemmas.{get_or-tabulate, get_or-tabulate_past}
 use Rattle.mh_model.specs.declared.command.Command.{Command}
@@ -59,7 +59,3 @@ slots-more world first slot cuts old name new from before named after =
 pub one-overwritten : (world : World) (who : ℕ) (c : Command) → (c ≡ command.End → ⊥) → overwritten world who c ≡ overwritten_name world who c ∷ []
 one-overwritten world who command.End other = absurd (other refl)
 one-overwritten world who _ other = refl
-
--- nothing logged
-pub none-logged : (world : World) (cuts new : List Cut) → new ≡ cuts → HasLogged world cuts new
-none-logged world cuts new same = record { now = []; are_now = tt; grown = same ∙ sym (append-nil cuts) }

@@ -34,4 +34,3 @@ module _ (world : World) (Begins : ℕ → Type 0) where
 
   pub from-reached : ((birth : ℕ) → Begins birth → Reachable world birth) → (birth : ℕ) → ReachedFrom world Begins birth → Reachable world birth
   from-reached begins birth reached = from-in world Begins (Reachable world) begins (λ near target before refers. (near ∷ before.0, (refers, before.1))) reached.0 birth reached.1
-

@@ -1,6 +1,6 @@
 -- Logs of runs, and the most that their worlds reach.
 use Rattle.std.proofs.Common.{◌≡◌, ℕ, ◌+◌, ◌<◌, ◌≤◌, ◌^◌, Option, Some, None, option_map, List, [], ◌∷◌, ◌++◌, length, drop, refl, sym, ap, ◌∙◌, subst, lit<, arith}
-use Rattle.std.specs.List.{All, AllByRecursion, Any, sum_by}
+use Rattle.std.specs.List.{All, AllByRecursion, sum_by}
 use Rattle.std.proofs.lemmas.List.Sums.{sum_by-cons}
 use Rattle.std.proofs.lemmas.Option.{none-some}
 use Rattle.mh_model.specs.declared.birth.TheConstants.{LIFE}
@@ -16,10 +16,10 @@ use Rattle.mh_model.specs.World.{Object, World, first_world, births, object_at, 
 use Rattle.mh_sizing.specs.declared.counts.Counts.{Counts}
 use Rattle.mh_sizing.specs.declared.cuts.Cut.{Cut}
 use Rattle.mh_sizing.specs.Cuts.{cuts_of, overwritten, HasLogged, HoldsAll, IsCutIn, IsCutNow, IsHeldOnce, IsKept, IsLogOf, WasHeld}
-use Rattle.mh_sizing.specs.Moments.{HasMostFrom, HeldJust}
+use Rattle.mh_sizing.specs.Moments.{HasMostFrom}
 use Rattle.mh_sizing.specs.Objects.{field_count}
 use Rattle.mh_sizing.specs.Reached.{sum_of, HasAtMost, HasJust}
-use Rattle.mh_sizing.specs.Steps.{made, made_count}
+use Rattle.mh_sizing.specs.Steps.{made}
 use Rattle.mh_sizing.specs.Within.{HasRoomToMake, IsWithin}
 use Rattle.mh_sizing.specs.Worlds.{IsMostOf}
 use Rattle.mh_sizing.proofs.CountLemmas.{by-shape}

@@ -1,4 +1,4 @@
-use Rattle.std.proofs.Common.{◌≡◌, drop}
+use Rattle.std.proofs.Common.{drop}
 use Rattle.mh_heap.specs.PlainHeap.{world_of}
 use Rattle.mh_model.specs.Batches.{NoneTwice}
 use Rattle.mh_model.specs.CycleUnits.{object_units}

@@ -1,10 +1,9 @@
 use Rattle.std.proofs.Common.{◌≡◌, ◌+◌, ◌<◌, ◌≤◌, ◌^◌, nat_lt, if◌then◌else◌, length, take, sym, ap, ◌∙◌, subst, arith}
-use Rattle.std.specs.List.{fold}
 use Rattle.mh_heap.specs.PlainHeap.{world_of}
 use Rattle.mh_model.specs.CycleUnits.{object_units}
 use Rattle.mh_model.specs.LiveParts.{object_parts}
 use Rattle.mh_model.specs.World.{object_at}
-use Rattle.mh_sizing.specs.Births.{InOrder, with_birth_named}
+use Rattle.mh_sizing.specs.Births.{InOrder}
 use Rattle.mh_sizing.specs.Moments.{sum_before}
 use Rattle.mh_sizing.specs.Reached.{IsSearch}
 use Rattle.mh_sizing.proofs.MomentLemmas.{before-few, before-more}

@@ -1,9 +1,5 @@
-use Rattle.std.proofs.Common.{[], ◌∷◌, List, sym, subst, refl}
-use Rattle.mh_heap.specs.PlainHeap.{world_of}
-use Rattle.mh_model.specs.World.{World, first_world, IsClosed}
-use Rattle.mh_sizing.specs.declared.cuts.Cut.{Cut}
-use Rattle.mh_sizing.specs.Cuts.{IsLogOf}
-use Rattle.mh_sizing.specs.Within.{IsWithin}
+use Rattle.std.proofs.Common.{subst, refl}
+use Rattle.mh_model.specs.World.{first_world, IsClosed}
 use Rattle.mh_sizing.proofs.CutLemmas.{log-first}
 use Rattle.mh_sizing.proofs.WorldLemmas.{first-within}
 use Rattle.mh_sizing.proofs.world.RunWorld.open.Goals as goal
