@@ -1,8 +1,7 @@
 -- Logs of cuts with one more command. What a command overwrites was reached and is cut, so what was held stays so; what it newly names was reached,
 -- or is the object that it makes, so nothing else comes in.
 use Rattle.std.proofs.Common.{◌≡◌, ◌⊎◌, inl, inr, ℕ, zero, suc, ◌-◌, ◌<◌, ◌≤◌, min, Option, Some, None, List, [], ◌∷◌, ◌++◌, length, drop, refl, sym, ap, ◌∙◌, subst, arith}
-use Rattle.std.specs.List.{All, AllByRecursion, Any}
-use Rattle.std.proofs.Math.ListN.{get_or-append}
+use Rattle.std.specs.List.{AllByRecursion, Any}
 use Rattle.std.proofs.lemmas.List.{drop-append-le, length-append}
 use Rattle.std.proofs.lemmas.List.Quantifiers.{Any-push}
 use Rattle.std.proofs.lemmas.Option.{none-some}
@@ -11,56 +10,8 @@ use Rattle.mh_model.specs.World.{Object, World, births, IsClosed}
 use Rattle.mh_sizing.specs.declared.cuts.Cut.{Cut}
 use Rattle.mh_sizing.specs.Cuts.{cuts_of, ReachedFrom, IsCut, IsRoot, births_before, WasHeld, IsKept, IsHeld, HoldsAll, IsHeldOnce, IsLogOf, IsCutIn, IsCutNow}
 use Rattle.mh_sizing.proofs.FollowLemmas.{IsName, Follows, next-refers-not}
+use Rattle.mh_sizing.proofs.ListLemmas.{all-drop, all-more, all-push, any-more, any-old, drop-both, drop-past}
 use Rattle.mh_sizing.proofs.PathLemmas.{from-in, from-begin, from-step, reached-from, from-reached, reached-below}
-
--- Lists ------------------------------------------------------------------------------------------
-
-module _ {X : Type 0} where
-  pub all-push : (P : X → Type 0) (list : List X) (x : X) → AllByRecursion P list → P x → AllByRecursion P (list ++ x ∷ [])
-  all-push P [] x all is = (is, tt)
-  all-push P (first ∷ list) x all is = (all.0, all-push P list x all.1 is)
-
-  pub all-more : (P Q : X → Type 0) → ((x : X) → P x → Q x) → (list : List X) → AllByRecursion P list → AllByRecursion Q list
-  all-more P Q each [] all = tt
-  all-more P Q each (x ∷ list) all = (each x all.0, all-more P Q each list all.1)
-
-  pub all-append : (P : X → Type 0) (list more : List X) → AllByRecursion P list → AllByRecursion P more → AllByRecursion P (list ++ more)
-  all-append P [] more all rest = rest
-  all-append P (first ∷ list) more all rest = (all.0, all-append P list more all.1 rest)
-
-  pub all-drop : (P : X → Type 0) (index : ℕ) (list : List X) → AllByRecursion P list → AllByRecursion P (drop index list)
-  all-drop P zero list all = all
-  all-drop P (suc index) [] all = all
-  all-drop P (suc index) (x ∷ list) all = all-drop P index list all.1
-
-  -- what is so at each index is so of each
-  pub all-index : (P : X → Type 0) (list : List X) → All P list → AllByRecursion P list
-  all-index P [] all = tt
-  all-index P (x ∷ list) all = (all 0 x (omega arith), all-index P list (λ index d inside. all (suc index) d (omega (arith, inside))))
-
-  pub index-all : (P : X → Type 0) (list : List X) → AllByRecursion P list → All P list
-  index-all P [] all index d inside = absurd (omega (arith, inside))
-  index-all P (x ∷ list) all zero d inside = all.0
-  index-all P (x ∷ list) all (suc index) d inside = index-all P list all.1 index d (omega (arith, inside))
-
-  pub any-old : (P : X → Type 0) (list : List X) (x : X) → Any P list → Any P (list ++ x ∷ [])
-  any-old P list x (index, y, inside, read, is) = (index, y, omega (arith, inside, length-append list (x ∷ [])), get_or-append list (x ∷ []) y index inside ∙ read, is)
-
-  pub any-more : (P Q : X → Type 0) → ((x : X) → P x → Q x) → (list : List X) → Any P list → Any Q list
-  any-more P Q each list (index, y, inside, read, is) = (index, y, inside, read, each y is)
-
-  pub drop-past : (list : List X) (index : ℕ) → length list ≤ index → drop index list ≡ []
-  drop-past [] zero past = refl
-  drop-past [] (suc index) past = refl
-  drop-past (x ∷ list) zero past = absurd (omega (arith, past))
-  drop-past (x ∷ list) (suc index) past = drop-past list index (omega (arith, past))
-
-  -- what is left of two lists
-  pub drop-both : (list more : List X) (index : ℕ) → drop index (list ++ more) ≡ drop index list ++ drop (index - length list) more
-  drop-both [] more zero = refl
-  drop-both [] more (suc index) = let all : suc index ≡ suc index - 0 = omega arith in ap (λ n. drop n more) all
-  drop-both (x ∷ list) more zero = let none : 0 ≡ 0 - suc (length list) = omega arith in ap (λ n. x ∷ (list ++ drop n more)) none
-  drop-both (x ∷ list) more (suc index) = let left : index - length list ≡ suc index - suc (length list) = omega arith in drop-both list more index ∙ ap (λ n. drop index list ++ drop n more) left
 
 -- Cuts -------------------------------------------------------------------------------------------
 

@@ -13,6 +13,7 @@ pub mod BirthLemmas
 pub mod ClassLemmas
 pub mod CountLemmas
 pub mod MomentLemmas
+pub mod ListLemmas
 pub mod PathLemmas
 pub mod FollowLemmas
 pub mod CutLemmas

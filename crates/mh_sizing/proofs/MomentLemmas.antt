@@ -12,8 +12,8 @@ use Rattle.mh_sizing.specs.Births.{is_among}
 use Rattle.mh_sizing.specs.Cuts.{IsRoot, ReachedFrom, WasHeld}
 use Rattle.mh_sizing.specs.Moments.{HasMostFrom, HeldAtMost, HeldJust, IsMoment, sum_before}
 use Rattle.mh_sizing.specs.Reached.{AreAtMost, sum_of}
+use Rattle.mh_sizing.proofs.ListLemmas.{drop-past}
 use Rattle.mh_sizing.proofs.CountLemmas.{sum-part}
-use Rattle.mh_sizing.proofs.CutLemmas.{drop-past}
 use Rattle.mh_sizing.proofs.SearchLemmas.{search-ends}
 
 -- those of a list that are below a number

@@ -15,17 +15,10 @@ use Rattle.mh_sizing.specs.Births.{InOrder, is_among, with_birth, with_birth_nam
 use Rattle.mh_sizing.specs.Cuts.{IsRoot, ReachedFrom}
 use Rattle.mh_sizing.specs.Reached.{IsSearch, NamesBelow}
 use Rattle.mh_sizing.proofs.BirthLemmas.{in-push}
+use Rattle.mh_sizing.proofs.ListLemmas.{all-more, all-push}
 use Rattle.mh_sizing.proofs.PathLemmas.{from-in, from-begin, from-step}
 
 -- Elements ---------------------------------------------------------------------------------------
-
-pub all-push : (P : ℕ → Type 0) (list : List ℕ) (birth : ℕ) → AllByRecursion P list → P birth → AllByRecursion P (list ++ birth ∷ [])
-all-push P [] birth all is = (is, tt)
-all-push P (first ∷ list) birth all is = (all.0, all-push P list birth all.1 is)
-
-all-more : (P Q : ℕ → Type 0) → ((birth : ℕ) → P birth → Q birth) → (list : List ℕ) → AllByRecursion P list → AllByRecursion Q list
-all-more P Q each [] all = tt
-all-more P Q each (birth ∷ list) all = (each birth all.0, all-more P Q each list all.1)
 
 pub all-at : (P : ℕ → Type 0) (list : List ℕ) (index : ℕ) → AllByRecursion P list → index < length list → P (get_or list index 0)
 all-at P [] index all inside = absurd (omega (arith, inside))

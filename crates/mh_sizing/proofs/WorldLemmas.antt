@@ -1,6 +1,7 @@
 -- Logs of runs, and the most that their worlds reach.
 use Rattle.std.proofs.Common.{◌≡◌, ℕ, ◌+◌, ◌<◌, ◌≤◌, ◌^◌, Option, Some, None, option_map, List, [], ◌∷◌, ◌++◌, length, drop, refl, sym, ap, ◌∙◌, subst, lit<, arith}
 use Rattle.std.specs.List.{All, AllByRecursion, sum_by}
+use Rattle.std.proofs.lemmas.List.Elements.{All-from_recursion, recursion_from_All}
 use Rattle.std.proofs.lemmas.List.Sums.{sum_by-cons}
 use Rattle.std.proofs.lemmas.Option.{none-some}
 use Rattle.mh_model.specs.declared.birth.TheConstants.{LIFE}
@@ -22,8 +23,9 @@ use Rattle.mh_sizing.specs.Reached.{sum_of, HasAtMost, HasJust}
 use Rattle.mh_sizing.specs.Steps.{made}
 use Rattle.mh_sizing.specs.Within.{HasRoomToMake, IsWithin}
 use Rattle.mh_sizing.specs.Worlds.{IsMostOf}
+use Rattle.mh_sizing.proofs.ListLemmas.{all-append, all-more, any-more}
 use Rattle.mh_sizing.proofs.CountLemmas.{by-shape}
-use Rattle.mh_sizing.proofs.CutLemmas.{all-append, all-index, all-more, any-more, cuts-now, index-all, log-cuts, log-step, name-cut, now-in}
+use Rattle.mh_sizing.proofs.CutLemmas.{cuts-now, log-cuts, log-step, name-cut, now-in}
 use Rattle.mh_sizing.proofs.FollowLemmas.{overwritten-reached, step-follows}
 use Rattle.mh_sizing.proofs.StepLemmas.{IsByShape, same-number, most-grows, step-births, step-sized, made-small, first-sized, first-most, parts-by_shape, units-by_shape}
 
@@ -73,7 +75,7 @@ pub within-logged : (world : World) (cuts new : List Cut) (all : Counts) → IsC
 within-logged world cuts new all closed logged within = record {
   births_few = within.births_few;
   sized = within.sized;
-  cuts_in = subst (All (IsCutIn world)) (sym logged.grown) (index-all (IsCutIn world) (cuts ++ logged.now) (all-append (IsCutIn world) cuts logged.now (all-index (IsCutIn world) cuts within.cuts_in) (now-in world closed logged.now logged.are_now)));
+  cuts_in = subst (All (IsCutIn world)) (sym logged.grown) (All-from_recursion (IsCutIn world) (cuts ++ logged.now) (all-append (IsCutIn world) cuts logged.now (recursion_from_All (IsCutIn world) cuts within.cuts_in) (now-in world closed logged.now logged.are_now)));
   parts = within.parts;
   units = within.units;
   parts_few = within.parts_few;
@@ -96,7 +98,7 @@ module _ (old new : World) (who : ℕ) (command : Command) (answer : Reply) (per
       → IsLogOf worlds cuts old → IsLogOf (worlds ++ new ∷ []) logged new
   log-on worlds cuts logged all closed_old closed within grown log =
       subst (λ (cuts : List Cut). IsLogOf (worlds ++ new ∷ []) cuts new) (sym grown)
-      (log-step old new (overwritten old who command) (made command answer) (step-follows old who command answer new performs) worlds cuts now closed (all-append (IsCutIn old) cuts now (all-index (IsCutIn old) cuts within.cuts_in) (now-in old closed_old now are_now)) are_now (name-cut (births old) (overwritten old who command)) log)
+      (log-step old new (overwritten old who command) (made command answer) (step-follows old who command answer new performs) worlds cuts now closed (all-append (IsCutIn old) cuts now (recursion_from_All (IsCutIn old) cuts within.cuts_in) (now-in old closed_old now are_now)) are_now (name-cut (births old) (overwritten old who command)) log)
     where
       now : List Cut
       now = cuts_of (births old) (overwritten old who command)

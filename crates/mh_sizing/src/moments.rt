@@ -1,11 +1,10 @@
-//! What was held at the moments of a log, from the last one back, by the method of Hertz, Blackburn, Moss, McKinley and
-//! Stefanović ("Error-free garbage collection traces: how to cheat and not get caught", 2002), which they name Merlin:
-//! no collection is run to find when an object ceases to be reached, but what is reached is found once, after all
-//! commands, and then backward.
+//! What was held at the moments of a log, from the last one back. That nothing is searched for while commands are done,
+//! but all once and backward, is Merlin's (Hertz, Blackburn, Moss, McKinley and Stefanović, SIGMETRICS 2002), which so
+//! finds when objects cease to be reached.
 //!
-//! A heap that keeps all objects has the references of all that isn't reached any more as they last were. So what was
-//! held before a cut is what was held after it, and what the name that was cut leads to. Objects that were made later
-//! count no longer. Each object is found once and each reference is looked at once, in a run of any length.
+//! A heap that keeps all objects has the references of those that aren't reached any more as they last were. So what
+//! was held before a cut is what was held after it, with all that the cut name leads to. Objects that were made later
+//! count no longer. Each object is found once, and each reference is looked at once.
 ghost use Rattle.std.specs.Prelude.{◌≡◌, ◌+◌, ◌<◌, ◌≤◌, ◌^◌, if◌then◌else◌, min, max, ℕ, List, [], ◌∷◌, IfOk, length};
 ghost use Rattle.std.specs.List.{All};
 ghost use Rattle.mh_heap.specs.PlainHeap.{world_of};

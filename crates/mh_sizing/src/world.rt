@@ -1,8 +1,11 @@
 //! The ever-growing world of a run, and the most that its worlds have reached. The names that commands overwrite are
 //! logged as it goes on, and the most is found from the last world back.
-ghost use Rattle.std.specs.Prelude.{◌≡◌, ◌≤◌, IsTrue, OnOk, OnErr, IfOk, List, [], ◌∷◌, ◌++◌, option_map};
+ghost use Rattle.std.specs.Prelude.{◌≡◌, ◌<◌, ◌≤◌, IsTrue, OnOk, OnErr, IfOk, List, [], ◌∷◌, ◌++◌, option_map};
 ghost use Rattle.mh_heap.specs.PlainHeap.{world_of};
-ghost use Rattle.mh_model.specs.World.{World, first_world, shape_of, IsNew};
+ghost use Rattle.mh_model.specs.declared.birth.TheConstants.{LIFE};
+ghost use Rattle.mh_model.specs.World.{World, births, first_world, never_full, shape_of, Performs};
+ghost use Rattle.mh_sizing.specs.Cuts.{cuts_of, overwritten, HasLogged};
+ghost use Rattle.mh_sizing.specs.Objects.{IsWellSized};
 ghost use Rattle.mh_sizing.specs.Steps.{made};
 ghost use Rattle.mh_sizing.specs.Within.{HasRoomToMake, IsWithin};
 
@@ -38,6 +41,24 @@ fn made_shape(command: &Command, reply: &Reply) -> Option<Shape>
         }),
         _ => None,
     }
+}
+
+/// Performs a command, and logs before what it may overwrite.
+fn perform_logged(
+    heap: &mut PlainHeap,
+    cuts: &mut Vec<Cut>,
+    who: u8,
+    command: &Command,
+) -> Result<Reply, NoMemory>
+    requires few { births (world_of heap.old) < LIFE }
+    requires sized { IsWellSized (world_of heap.old) }
+    ensures performs { IfOk result (λ reply. Performs never_full (world_of heap.old) who command.now reply (world_of heap.new)) }
+    ensures logged { OnOk result (cuts.new.items ≡ cuts.old.items ++ cuts_of (births (world_of heap.old)) (overwritten (world_of heap.old) who command.now)) }
+    ensures stopped { OnErr result (HasLogged (world_of heap.old) cuts.old.items cuts.new.items) }
+    ensures same { OnErr result (world_of heap.new ≡ world_of heap.old) }
+{
+    log_overwritten(cuts, heap, who, command)?;
+    perform(heap, who, command)
 }
 
 /// The world of a run, which keeps every object, and the log of what its commands overwrote.
@@ -95,8 +116,7 @@ impl RunWorld {
         if !self.has_room(command) {
             return Err(NoMemory);
         }
-        log_overwritten(&mut self.cuts, &self.heap, who, command)?;
-        let reply = perform(&mut self.heap, who, command)?;
+        let reply = perform_logged(&mut self.heap, &mut self.cuts, who, command)?;
         let Some(shape) = made_shape(command, &reply) else {
             return Ok(0);
         };

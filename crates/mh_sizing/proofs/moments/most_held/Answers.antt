@@ -6,7 +6,7 @@ use Rattle.mh_model.specs.LiveParts.{object_parts}
 use Rattle.mh_sizing.specs.declared.counts.Counts.{Counts}
 use Rattle.mh_sizing.specs.declared.cuts.Cut.{Cut}
 use Rattle.mh_sizing.specs.Moments.{HasMostFrom, IsMoment}
-use Rattle.mh_sizing.proofs.CutLemmas.{drop-past}
+use Rattle.mh_sizing.proofs.ListLemmas.{drop-past}
 use Rattle.mh_sizing.proofs.MomentLemmas.{held-just, held-most, most-back, most-last}
 use Rattle.mh_sizing.proofs.moments.most_held.Goals as goal
 
