@@ -1,6 +1,6 @@
-//! What was held at the moments of a log, from the last one back. That nothing is searched for while commands are done,
-//! but all once and backward, is Merlin's (Hertz, Blackburn, Moss, McKinley and Stefanović, SIGMETRICS 2002), which so
-//! finds when objects cease to be reached.
+//! What was held at the moments of a log. The method is Merlin's (Hertz, Blackburn, Moss, McKinley and Stefanović,
+//! SIGMETRICS 2002), which finds when objects cease to be reached. Nothing is searched for while commands are performed:
+//! what was held is found afterwards, from the last world back.
 //!
 //! A heap that keeps all objects has the references of those that aren't reached any more as they last were. So what
 //! was held before a cut is what was held after it, with all that the cut name leads to. Objects that were made later
