@@ -1,11 +1,10 @@
 -- Births that have a mark, and lists of them without repetition.
-use Rattle.std.proofs.Common.{◌≡◌, ℕ, ◌+◌, ◌==◌, ◌<◌, ◌≤◌, ◌||◌, ◌&&◌, not, Bool, true, false, if◌then◌else◌, List, [], ◌∷◌, ◌++◌, length, get_or, set, take, drop, inl, inr, refl, sym, ap, ◌∙◌, subst, arith}
+use Rattle.std.proofs.Common.{◌≡◌, ℕ, zero, suc, ◌+◌, ◌==◌, ◌<◌, ◌≤◌, ◌||◌, Bool, true, false, if◌then◌else◌, List, [], ◌∷◌, ◌++◌, length, get_or, set, take, replicate, inl, inr, refl, sym, ap, ◌∙◌, subst, arith}
 use Rattle.std.specs.List.{IsDistinct}
-use Rattle.std.proofs.Math.Seq.{take-append_seam}
 use Rattle.std.proofs.lemmas.Bool.{cases_lt, cases_eq, false≢true, eq-eqb, ne_eqb, eqb-true}
 use Rattle.std.proofs.lemmas.Cmp.{nat_eq_equiv}
-use Rattle.std.proofs.lemmas.List.{get_or_past, get_or-set_same, get_or-set_other, get_or-take, length-set, length-take-le, length_push, take_more_set, get_or_read}
-use Rattle.std.proofs.lemmas.List.Folds.{list_any-append, list_any_at, list_any_more}
+use Rattle.std.proofs.lemmas.List.{get_or_past, get_or-set_same, get_or-set_other, get_or-take, length-set, length-take-le, length_push, length-replicate, take_more_set, get_or_read}
+use Rattle.std.proofs.lemmas.List.Folds.{list_any-append, list_any_at}
 use Rattle.std.proofs.lemmas.Map.Keys.{IsDistinct-push}
 use Rattle.std.proofs.lemmas.Map.Steps.{length-le_from_distinct_below}
 use Rattle.mh_model.specs.Batches.{NoneTwice}
@@ -97,50 +96,20 @@ pub none-twice : NoneTwice []
 unfolding IsDistinct
 none-twice = tt
 
-pub marked-none : (marks : List Bool) (births : List ℕ) → marks ≡ [] → IsMarked marks births 0
-marked-none marks births empty = record {
-  room = omega (arith, ap (λ (list : List Bool). length list) empty);
+replicated : (room birth : ℕ) → get_or (replicate room false) birth false ≡ false
+replicated zero birth = refl
+replicated (suc room) zero = refl
+replicated (suc room) (suc birth) = replicated room birth
+
+-- a set of no birth, with room for so many
+pub marked-none : (marks : List Bool) (births : List ℕ) (room : ℕ) → marks ≡ replicate room false → length births ≡ room → IsMarked marks births 0
+marked-none marks births room unmarked same = record {
+  room = omega (arith, ap (λ (list : List Bool). length list) unmarked, length-replicate {A = Bool} room false, same);
   few = omega arith;
-  marked = λ birth. ap (λ (list : List Bool). get_or list birth false) empty;
+  marked = λ birth. ap (λ (list : List Bool). get_or list birth false) unmarked ∙ replicated room birth;
   once = none-twice;
 }
-
--- Marks taken away -------------------------------------------------------------------------------
-
-pub unmarked-more : (marks first : List Bool) (births : List ℕ) (index : ℕ) → index < length births → get_or births index 0 < length marks
-    → ((birth : ℕ) → get_or marks birth false ≡ (get_or first birth false && not (is_among (take index births) birth)))
-    → (birth : ℕ) → get_or (set marks (get_or births index 0) false) birth false ≡ (get_or first birth false && not (is_among (take (index + 1) births) birth))
-unmarked-more marks first births index inside below so birth = elim (cases_eq birth (get_or births index 0)) [
-  | inl same ↦ ap (λ n. get_or (set marks (get_or births index 0) false) n false) same ∙ get_or-set_same marks (get_or births index 0) false false below ∙ sym (ap (λ (b : Bool). get_or first birth false && not b) (more ∙ ap (λ b. is_among (take index births) birth || b) (eq-eqb birth (get_or births index 0) same)) ∙ gone (get_or first birth false) (is_among (take index births) birth))
-  | inr apart ↦ get_or-set_other marks (get_or births index 0) birth false false apart ∙ so birth ∙ sym (ap (λ (b : Bool). get_or first birth false && not b) (more ∙ ap (λ b. is_among (take index births) birth || b) (ne_eqb birth (get_or births index 0) apart) ∙ or-false (is_among (take index births) birth)))
-]
-  where
-    more : is_among (take (index + 1) births) birth ≡ (is_among (take index births) birth || (birth == get_or births index 0))
-    more = list_any_more (λ x. birth == x) births index 0 inside
-
-    gone : (a b : Bool) → (a && not (b || true)) ≡ false
-    gone true true = refl
-    gone true false = refl
-    gone false b = refl
-
--- with all its births unmarked a set is empty
-pub cleared : (marks new : List Bool) (births : List ℕ) (count : ℕ) → IsMarked marks births count → length new ≡ length marks
-    → ((birth : ℕ) → get_or new birth false ≡ (get_or marks birth false && not (is_among (take count births) birth))) → IsMarked new births 0
-cleared marks new births count is same so = record {
-  room = omega (arith, is.room, same);
-  few = omega arith;
-  marked = λ birth. so birth ∙ ap (λ (b : Bool). b && not (is_among (take count births) birth)) (is.marked birth) ∙ none (is_among (take count births) birth);
-  once = none-twice;
-}
-  where
-    none : (b : Bool) → (b && not b) ≡ false
-    none true = refl
-    none false = refl
 
 -- a mark that was read
 pub mark-read : (marks : List Bool) (place birth : ℕ) (mark : Bool) → place ≡ birth → birth < length marks → mark ≡ get_or marks place mark → get_or marks birth false ≡ mark
 mark-read marks place birth mark same below is = sym (get_or_read marks birth mark below (is ∙ ap (λ n. get_or marks n mark) same) false)
-
--- what is written back of a whole list
-pub written-back : (marks new : List Bool) (births : List ℕ) (count : ℕ) → length marks ≡ count → length new ≡ length marks → take count (new ++ drop (length new) marks) ≡ new
-written-back marks new births count all same = ap (λ n. take n (new ++ drop (length new) marks)) (sym all ∙ sym same) ∙ take-append_seam new (drop (length new) marks)

@@ -1,19 +1,17 @@
 -- What objects count: their parts, and the units of marking these.
-use Rattle.std.proofs.Common.{◌≡◌, ℕ, zero, suc, ◌+◌, ◌-◌, ◌*◌, ◌<◌, ◌≤◌, ◌==◌, ◌||◌, min, nat_le, Bool, true, false, if◌then◌else◌, Option, Some, None, option_map, List, [], ◌∷◌, ◌++◌, length, get_or, take, refl, sym, ap, ◌∙◌, subst, arith}
+use Rattle.std.proofs.Common.{◌≡◌, ℕ, zero, suc, ◌+◌, ◌-◌, ◌*◌, ◌≤◌, ◌==◌, ◌||◌, min, nat_le, Bool, true, false, if◌then◌else◌, Option, Some, None, option_map, List, [], ◌∷◌, ◌++◌, length, refl, sym, ap, ◌∙◌, subst, arith}
 use Rattle.std.specs.List.{AllByRecursion, IsDistinct, sum_by}
 use Rattle.std.proofs.lemmas.Bool.{eqb-true, eqb-false, ne_eqb, false≢true}
 use Rattle.std.proofs.lemmas.List.{length-append}
-use Rattle.std.proofs.lemmas.List.Sums.{sum_by-append, sum_by-cons, sum_by_more}
+use Rattle.std.proofs.lemmas.List.Sums.{sum_by-append, sum_by-cons}
 use Rattle.std.proofs.lemmas.Option.{none-some, same_Some}
 use Rattle.mh_model.proofs.TabulateLemmas.{length-tabulate}
 use Rattle.mh_model.specs.declared.shape.Shape.{Shape}
 use Rattle.mh_model.specs.Batches.{NoneTwice}
 use Rattle.mh_model.specs.Classes.{Part, tabulate, parts, plain_part, spine_parts, spine_part, middle_spine, arraylet, run_count, middle_count, child_count}
 use Rattle.mh_model.specs.CycleUnits.{part_units}
-use Rattle.mh_model.specs.Paths.{Reachable}
-use Rattle.mh_model.specs.World.{Object, World, object_at, shape_of}
+use Rattle.mh_model.specs.World.{Object, shape_of}
 use Rattle.mh_sizing.specs.Births.{is_among}
-use Rattle.mh_sizing.specs.Reached.{sum_of, HasAtMost, HasJust, AllReached}
 
 -- Units ------------------------------------------------------------------------------------------
 
@@ -133,22 +131,3 @@ sum-part f part (first ∷ list) once all =
   where
     later : (birth : ℕ) → (first ≡ birth → ⊥) → (is_among (first ∷ list) birth ≡ true) → is_among list birth ≡ true
     later birth apart is = sym (ap (λ b. b || is_among list birth) (ne_eqb birth first (λ e. apart (sym e)))) ∙ is
-
-module _ (number : Option Object → ℕ) (world : World) where
-  -- one more birth of a list
-  pub sum-more : (list : List ℕ) (index birth count : ℕ) → index < length list → birth ≡ get_or list index 0 → count ≡ number (object_at world birth)
-      → sum_of number world (take index list) + count ≡ sum_of number world (take (index + 1) list)
-  sum-more list index birth count inside at is =
-      omega (arith, sum_by_more (λ b. number (object_at world b)) list index 0 inside, is, ap (λ (b : ℕ). number (object_at world b)) at)
-
-  -- what all that is reached counts is the most, and no less
-  pub counted-most : (list : List ℕ) (most : ℕ) → AllReached world list → most ≡ sum_of number world list → HasAtMost number most world
-  counted-most list most all is other once reached =
-      omega (arith, is, sum-part (λ b. number (object_at world b)) other list once (all-in other reached))
-    where
-      all-in : (births : List ℕ) → AllByRecursion (Reachable world) births → AllByRecursion (λ birth. is_among list birth ≡ true) births
-      all-in [] reached = tt
-      all-in (birth ∷ births) reached = (all.all birth reached.0, all-in births reached.1)
-
-  pub counted-just : (list : List ℕ) (most : ℕ) → AllReached world list → most ≡ sum_of number world list → HasJust number most world
-  counted-just list most all is = record { list = list; once = all.once; reached = all.reached; sum = sym is }

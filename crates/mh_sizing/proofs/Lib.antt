@@ -12,6 +12,12 @@ pub mod FoundLemmas
 pub mod BirthLemmas
 pub mod ClassLemmas
 pub mod CountLemmas
+pub mod MomentLemmas
+pub mod ListLemmas
+pub mod PathLemmas
+pub mod FollowLemmas
+pub mod CutLemmas
+pub mod LogLemmas
 pub mod RunLemmas
 pub mod SearchLemmas
 pub mod StepLemmas

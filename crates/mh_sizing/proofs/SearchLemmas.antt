@@ -1,25 +1,24 @@
 -- A search that begins with what the slots name, and looks through the references of all that it finds, finds what is reached.
-use Rattle.std.proofs.Common.{◌≡◌, ℕ, zero, suc, ◌+◌, ◌==◌, ◌<◌, ◌≤◌, ◌||◌, Bool, true, false, if◌then◌else◌, Option, Some, None, IsSome, option_map, List, [], ◌∷◌, ◌++◌, length, get_or, take, inl, inr, refl, sym, ap, ap₂, ◌∙◌, subst, arith}
+use Rattle.std.proofs.Common.{◌≡◌, ℕ, zero, suc, ◌+◌, ◌==◌, ◌<◌, ◌≤◌, ◌||◌, Bool, true, false, if◌then◌else◌, Option, Some, None, option_map, List, [], ◌∷◌, ◌++◌, length, get_or, take, inl, inr, refl, sym, ap, ap₂, ◌∙◌, subst, arith}
 use Rattle.std.specs.List.{AllByRecursion, fold}
 use Rattle.std.proofs.Math.ListN.{get_or-append}
 use Rattle.std.proofs.lemmas.Bool.{cases_lt, eq-eqb, eqb-true}
-use Rattle.std.proofs.lemmas.List.{append-nil, append_assoc, get_or_read}
+use Rattle.std.proofs.lemmas.List.{append-nil, append_assoc, get_or_read, length-append, take-append-le}
 use Rattle.std.proofs.lemmas.List.Folds.{Any-from_list_any}
 use Rattle.std.proofs.lemmas.List.Sums.{fold_more}
 use Rattle.std.proofs.lemmas.Option.{none-some, same_Some}
-use Rattle.mh_model.specs.Batches.{NoneTwice}
-use Rattle.mh_model.specs.Paths.{Refers, IsPath, Reachable}
-use Rattle.mh_model.specs.World.{Object, World, births, object_at, slot_at, reference_of, IsClosed}
+use Rattle.mh_model.specs.Paths.{Refers}
+use Rattle.mh_model.specs.World.{Object, World, births, object_at, reference_of, IsClosed}
 use Rattle.mh_table_laws.proofs.Lists.{there_below}
-use Rattle.mh_sizing.specs.Births.{InOrder, is_among, with_birth_named}
-use Rattle.mh_sizing.specs.Reached.{NamesBelow, AllReached}
+use Rattle.mh_sizing.specs.declared.cuts.Cut.{Cut}
+use Rattle.mh_sizing.specs.Births.{InOrder, is_among, with_birth, with_birth_named}
+use Rattle.mh_sizing.specs.Cuts.{IsRoot, ReachedFrom}
+use Rattle.mh_sizing.specs.Reached.{IsSearch, NamesBelow}
 use Rattle.mh_sizing.proofs.BirthLemmas.{in-push}
+use Rattle.mh_sizing.proofs.ListLemmas.{all-more, all-push}
+use Rattle.mh_sizing.proofs.PathLemmas.{from-in, from-begin, from-step}
 
 -- Elements ---------------------------------------------------------------------------------------
-
-pub all-push : (P : ℕ → Type 0) (list : List ℕ) (birth : ℕ) → AllByRecursion P list → P birth → AllByRecursion P (list ++ birth ∷ [])
-all-push P [] birth all is = (is, tt)
-all-push P (first ∷ list) birth all is = (all.0, all-push P list birth all.1 is)
 
 pub all-at : (P : ℕ → Type 0) (list : List ℕ) (index : ℕ) → AllByRecursion P list → index < length list → P (get_or list index 0)
 all-at P [] index all inside = absurd (omega (arith, inside))
@@ -70,6 +69,10 @@ module _ (list : List ℕ) where
       go true = ([], sym (append-nil list))
       go false = (birth ∷ [], refl)
 
+  -- what stood at an index stands there still
+  name-at : (name : Option ℕ) (index : ℕ) → index < length list → get_or (with_birth_named list name) index 0 ≡ get_or list index 0
+  name-at name index inside = let (more, is) = name-more name in ap (λ (l : List ℕ). get_or l index 0) is ∙ get_or-append list more 0 index inside
+
 -- Names inserted in order ------------------------------------------------------------------------
 
 pub names-keep : (list : List ℕ) (names : List (Option ℕ)) (other : ℕ) → is_among list other ≡ true → is_among (fold with_birth_named list names) other ≡ true
@@ -96,19 +99,13 @@ names-more list (name ∷ names) =
 pub names-at : (list : List ℕ) (names : List (Option ℕ)) (index : ℕ) → index < length list → get_or (fold with_birth_named list names) index 0 ≡ get_or list index 0
 names-at list names index inside = let (more, is) = names-more list names in ap (λ (l : List ℕ). get_or l index 0) is ∙ get_or-append list more 0 index inside
 
+pub names-length : (list : List ℕ) (names : List (Option ℕ)) → length list ≤ length (fold with_birth_named list names)
+names-length list names = let (more, is) = names-more list names in omega (arith, ap (λ (l : List ℕ). length l) is, length-append list more)
+
+pub names-take : (list : List ℕ) (names : List (Option ℕ)) (count : ℕ) → count ≤ length list → take count (fold with_birth_named list names) ≡ take count list
+names-take list names count few = let (more, is) = names-more list names in ap (λ (l : List ℕ). take count l) is ∙ take-append-le count list more few
+
 -- Searches ---------------------------------------------------------------------------------------
-
--- A search has found these births, each of which the world reaches, and has looked through the references of the first so many
-pub record IsSearch (world : World) (list : List ℕ) (next : ℕ) : Type 0 where
-  pub reached : AllByRecursion (Reachable world) list
-  pub roots : (slot birth : ℕ) → slot_at world slot ≡ Some birth → is_among list birth ≡ true
-  pub looked : (index field target : ℕ) → index < next → reference_of (object_at world (get_or list index 0)) field ≡ Some target → is_among list target ≡ true
-
--- what is so of each birth that a slot names, and of each that a reference of such a one names, is so of all that are reached
-pub reached-in : (world : World) (P : ℕ → Type 0) → ((slot birth : ℕ) → slot_at world slot ≡ Some birth → P birth)
-    → ((birth target : ℕ) → P birth → Refers world birth target → P target) → (path : List ℕ) (birth : ℕ) → IsPath world birth path → P birth
-reached-in world P in_slots along [] birth (slot, named) = in_slots slot birth named
-reached-in world P in_slots along (nearest ∷ path) birth is_path = along nearest birth (reached-in world P in_slots along path nearest is_path.1) is_path.0
 
 -- the references of an object that is read
 object-references : (object : Option Object) (references : List (Option ℕ)) → option_map (λ (object : Object). object.references) object ≡ Some references
@@ -124,36 +121,56 @@ module _ (world : World) where
   references-below room birth references closed few is field target at =
       omega (arith, few, there_below world.objects target (closed.references birth field target (object-references (object_at world birth) references is field ∙ at)))
 
-  -- where a path leads in a closed world there is an object
-  pub listed-below : (list : List ℕ) (index : ℕ) → IsClosed world → AllByRecursion (Reachable world) list → index < length list → get_or list index 0 < births world
-  listed-below list index closed reached inside =
-      let path = all-at (Reachable world) list index reached inside in
-      there_below world.objects (get_or list index 0) (reached-in world (λ b. IsSome (object_at world b)) closed.slots (λ birth target there refers. closed.references birth refers.0 target refers.1) path.0 (get_or list index 0) path.1)
-
   -- it begins with what the slots name
-  pub search-begins : IsSearch world (fold with_birth_named [] world.slots) 0
+  pub search-begins : IsSearch world [] (fold with_birth_named [] world.slots) 0
   search-begins = record {
-    reached = names-all (Reachable world) [] world.slots tt (λ slot birth is. ([], (slot, is)));
-    roots = λ slot birth is. names-there [] world.slots slot birth is;
+    reached = names-all (ReachedFrom world (IsRoot world [])) [] world.slots tt (λ slot birth is. from-begin world (IsRoot world []) birth (inl (slot, is)));
+    roots = λ birth root. elim root [ inl named ↦ names-there [] world.slots named.0 birth named.1 | inr cut ↦ absurd cut ];
     looked = λ index field target before is. absurd (omega (arith, before));
   }
 
-  -- and goes on with the references of the next birth
-  pub search-more : (list : List ℕ) (next birth : ℕ) (references : List (Option ℕ)) → IsSearch world list next → next < length list → birth ≡ get_or list next 0
-      → option_map (λ (object : Object). object.references) (object_at world birth) ≡ Some references → IsSearch world (fold with_birth_named list references) (next + 1)
-  search-more list next birth references search inside at is = record {
-    reached = names-all (Reachable world) list references search.reached each;
-    roots = λ slot other named. names-keep list references other (search.roots slot other named);
+  -- it goes on with what was cut
+  pub search-cut : (cuts : List Cut) (list : List ℕ) (cut : Cut) → IsSearch world cuts list (length list) → IsSearch world (cut ∷ cuts) (with_birth list cut.birth) (length list)
+  search-cut cuts list cut search = record {
+    reached = name-all list (ReachedFrom world (IsRoot world (cut ∷ cuts))) (Some cut.birth) (all-more (ReachedFrom world (IsRoot world cuts)) (ReachedFrom world (IsRoot world (cut ∷ cuts))) later list search.reached) new;
+    roots = roots;
+    looked = λ index field target before is. name-keeps list (Some cut.birth) target (search.looked index field target before (sym (ap (λ (b : ℕ). reference_of (object_at world b) field) (name-at list (Some cut.birth) index before)) ∙ is));
+  }
+    where
+      new : (birth : ℕ) → Some cut.birth ≡ Some birth → ReachedFrom world (IsRoot world (cut ∷ cuts)) birth
+      new birth is = from-begin world (IsRoot world (cut ∷ cuts)) birth (inr (inl (same_Some cut.birth birth is)))
+
+      later : (birth : ℕ) → ReachedFrom world (IsRoot world cuts) birth → ReachedFrom world (IsRoot world (cut ∷ cuts)) birth
+      later birth reached = from-in world (IsRoot world cuts) (ReachedFrom world (IsRoot world (cut ∷ cuts))) first (from-step world (IsRoot world (cut ∷ cuts))) reached.0 birth reached.1
+        where
+          first : (b : ℕ) → IsRoot world cuts b → ReachedFrom world (IsRoot world (cut ∷ cuts)) b
+          first b root = from-begin world (IsRoot world (cut ∷ cuts)) b (elim root [ inl named ↦ inl named | inr is_cut ↦ inr (inr is_cut) ])
+
+      roots : (birth : ℕ) → IsRoot world (cut ∷ cuts) birth → is_among (with_birth list cut.birth) birth ≡ true
+      roots birth root = elim root [
+        | inl named ↦ name-keeps list (Some cut.birth) birth (search.roots birth (inl named))
+        | inr is_cut ↦ elim is_cut [
+          | inl here ↦ subst (λ (b : ℕ). is_among (with_birth list cut.birth) b ≡ true) here (name-there list cut.birth)
+          | inr old ↦ name-keeps list (Some cut.birth) birth (search.roots birth (inr old))
+        ]
+      ]
+
+  -- and with the references of the next birth
+  pub search-more : (cuts : List Cut) (list : List ℕ) (next birth : ℕ) (references : List (Option ℕ)) → IsSearch world cuts list next → next < length list → birth ≡ get_or list next 0
+      → option_map (λ (object : Object). object.references) (object_at world birth) ≡ Some references → IsSearch world cuts (fold with_birth_named list references) (next + 1)
+  search-more cuts list next birth references search inside at is = record {
+    reached = names-all (ReachedFrom world (IsRoot world cuts)) list references search.reached each;
+    roots = λ other root. names-keep list references other (search.roots other root);
     looked = looked;
   }
     where
       read : (field : ℕ) → reference_of (object_at world birth) field ≡ get_or references field None
       read = object-references (object_at world birth) references is
 
-      each : (field target : ℕ) → get_or references field None ≡ Some target → Reachable world target
+      each : (field target : ℕ) → get_or references field None ≡ Some target → ReachedFrom world (IsRoot world cuts) target
       each field target named =
-          let before = subst (Reachable world) (sym at) (all-at (Reachable world) list next search.reached inside) in
-          (birth ∷ before.0, ((field, read field ∙ named), before.1))
+          let before = subst (ReachedFrom world (IsRoot world cuts)) (sym at) (all-at (ReachedFrom world (IsRoot world cuts)) list next search.reached inside) in
+          from-step world (IsRoot world cuts) birth target before (field, read field ∙ named)
 
       looked : (index field target : ℕ) → index < next + 1 → reference_of (object_at world (get_or (fold with_birth_named list references) index 0)) field ≡ Some target → is_among (fold with_birth_named list references) target ≡ true
       looked index field target before named = elim (cases_lt index next) [
@@ -166,17 +183,13 @@ module _ (world : World) where
             names-there list references field target (sym (read field) ∙ sym old ∙ named)
       ]
 
-  -- it ends when all births are looked through
-  pub search-ends : (list : List ℕ) (next : ℕ) → NoneTwice list → IsSearch world list next → length list ≤ next → AllReached world list
-  search-ends list next once search all = record {
-    once = once;
-    reached = search.reached;
-    all = λ birth reachable. reached-in world (λ b. is_among list b ≡ true) search.roots along reachable.0 birth reachable.1;
-  }
+  -- when all births are looked through, all that is reached is found
+  pub search-ends : (cuts : List Cut) (list : List ℕ) (next : ℕ) → IsSearch world cuts list next → length list ≤ next → (birth : ℕ) → ReachedFrom world (IsRoot world cuts) birth → is_among list birth ≡ true
+  search-ends cuts list next search all birth reached = from-in world (IsRoot world cuts) (λ b. is_among list b ≡ true) search.roots along reached.0 birth reached.1
     where
-      along : (birth target : ℕ) → is_among list birth ≡ true → Refers world birth target → is_among list target ≡ true
-      along birth target there (field, is) =
-          let (index, inside, at) = where-in list birth there in
+      along : (near target : ℕ) → is_among list near ≡ true → Refers world near target → is_among list target ≡ true
+      along near target there (field, is) =
+          let (index, inside, at) = where-in list near there in
           search.looked index field target (omega (arith, inside, all)) (ap (λ (b : ℕ). reference_of (object_at world b) field) at ∙ is)
 
 -- Steps of loops ---------------------------------------------------------------------------------

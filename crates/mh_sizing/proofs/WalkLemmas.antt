@@ -25,6 +25,7 @@ use Rattle.mh_model.specs.World.{Object, World, Answer, blank, refusal, with_cha
 use Rattle.mh_table_laws.proofs.objects.Parts.{some_parts}
 use Rattle.mh_sizing_laws.specs.Made.{demand, intervals_made, made_parts, parts_made}
 use Rattle.mh_sizing.specs.declared.asked.Asked.{Asked}
+use Rattle.mh_sizing.specs.declared.counts.Counts.{Counts}
 use Rattle.mh_sizing.specs.declared.world.RunWorld.{RunWorld}
 use Rattle.mh_sizing.specs.declared.walk.Walk.{Walk}
 use Rattle.mh_sizing.specs.Asked.{HasAsked}
@@ -34,9 +35,9 @@ use Rattle.mh_sizing.specs.Runs.{run_after, ended_in, running_in, most_of}
 use Rattle.mh_sizing.specs.Steps.{made}
 use Rattle.mh_sizing.specs.Units.{units_made}
 use Rattle.mh_sizing.specs.Walk.{HasWalked}
-use Rattle.mh_sizing.specs.Worlds.{world_in, HasMost, Performed}
+use Rattle.mh_sizing.specs.Worlds.{world_in, AreMostOf, HasLogOf, Performed}
 use Rattle.mh_sizing.proofs.RunLemmas.{most_of-enough, most_of-few, after-push, worlds-push, made-push, intervals-cut, ended-push, running-push}
-use Rattle.mh_sizing.proofs.WorldLemmas.{most-of-push, still-grown}
+use Rattle.mh_sizing.proofs.CutLemmas.{log-again}
 
 -- Commands ---------------------------------------------------------------------------------------
 
@@ -167,15 +168,15 @@ module _ (new : Walk) (config : Config) (events : List Event) (event : Event) (q
 
   pub walked-on : new.config ≡ config → (world_in new.world).config ≡ config → runs_quantum run event ≡ quantum → world_in new.world ≡ (half_run run event).world
       → ((config.every ≡ 0 → ⊥) → new.units ≡ (if quantum then 0 else (half_run run event).units))
-      → HasMost new.world (run_worlds (first_run config) events ++ world_in new.world ∷ [])
+      → HasLogOf new.world (run_worlds (first_run config) events ++ world_in new.world ∷ [])
       → HasAsked new.asked (parts_made config events ++ now) (if quantum then [] else running_now ++ now) (if quantum then ended_before ++ (running_now ++ now) ∷ [] else ended_before)
       → HasWalked new config (events ++ event ∷ [])
-  walked-on configured at_config is world units most asks = record {
+  walked-on configured at_config is world units log asks = record {
     configured = configured;
     at_config = at_config;
     at_world = world ∙ sym next;
     at_units = λ some. units some ∙ sym (ap (λ (r : WorldRun). r.units) after ∙ next-units run event quantum);
-    most = subst (HasMost new.world) (ap (λ (w : World). run_worlds (first_run config) events ++ w ∷ []) (world ∙ sym last) ∙ sym (worlds-push (first_run config) events event)) most;
+    log = subst (HasLogOf new.world) (ap (λ (w : World). run_worlds (first_run config) events ++ w ∷ []) (world ∙ sym last) ∙ sym (worlds-push (first_run config) events event)) log;
     asks = subst (λ (all : List Part). HasAsked new.asked all (running_in [] (first_run config) (events ++ event ∷ [])) (ended_in [] (first_run config) (events ++ event ∷ []))) (sym (made-push (first_run config) events event))
         (subst (λ (list : List Part). HasAsked new.asked (parts_made config events ++ now) list (ended_in [] (first_run config) (events ++ event ∷ []))) (sym (running-push quantum [] (first_run config) events event is))
         (subst (HasAsked new.asked (parts_made config events ++ now) (if quantum then [] else running_now ++ now)) (sym (ended-push quantum [] (first_run config) events event is)) asks));
@@ -190,13 +191,6 @@ module _ (new : Walk) (config : Config) (events : List Event) (event : Event) (q
       next : (run_after (first_run config) (events ++ event ∷ [])).world ≡ (half_run run event).world
       next = ap (λ (r : WorldRun). r.world) (after-push (first_run config) events event) ∙ last
 
--- the same world once more
-pub same-most : (world : RunWorld) (worlds : List World) → HasMost world worlds → HasMost world (worlds ++ world_in world ∷ [])
-same-most world worlds most = record {
-  parts = most-of-push object_parts world.reach.parts world.reach.parts (world_in world) worlds (still-grown object_parts world.reach.parts (world_in world) world.bounded.parts_within world.bounded.parts) most.parts;
-  units = most-of-push object_units world.reach.units world.reach.units (world_in world) worlds (still-grown object_units world.reach.units (world_in world) world.bounded.units_within world.bounded.units) most.units;
-}
-
 -- an event that makes nothing
 pub made-nothing : (asked : Asked) (all running : List Part) (ended : List (List Part)) → HasAsked asked all running ended → HasAsked asked (all ++ []) (running ++ []) ended
 made-nothing asked all running ended has = subst (λ (list : List Part). HasAsked asked list (running ++ []) ended) (sym (append-nil all)) (subst (λ (list : List Part). HasAsked asked all list ended) (sym (append-nil running)) has)
@@ -210,7 +204,7 @@ made-list old config before walked who c count new performed list is =
     made-are (run_after (first_run config) before) config who c new count list (ap (λ (w : World). w.config) (sym walked.at_world) ∙ walked.at_config) (subst (λ (w : World). Performed w new who c count) walked.at_world performed) is
 
 module _ (old new : Walk) (config : Config) (before : List Event) (walked : HasWalked old config before) (who : ℕ) (c : Command) (count : ℕ) (configured : new.config ≡ old.config)
-    (performed : Performed (world_in old.world) (world_in new.world) who c count) (most : HasMost new.world (run_worlds (first_run config) before ++ world_in new.world ∷ [])) where
+    (performed : Performed (world_in old.world) (world_in new.world) who c count) (log : HasLogOf new.world (run_worlds (first_run config) before ++ world_in new.world ∷ [])) where
   abbrev at : WorldRun
   at = run_after (first_run config) before
 
@@ -231,7 +225,7 @@ module _ (old new : Walk) (config : Config) (before : List Event) (walked : HasW
   unscheduled none asks =
       let never : config.every ≡ 0 = sym every-same ∙ none in
       walked-on new config before (event.Session who c) false (configured ∙ walked.configured) (half-config at config who c (world_in new.world) count at-config did) (quantum-never at config who c (world_in new.world) count at-config did never)
-      (sym (half-world at config who c (world_in new.world) count at-config did)) (λ some. absurd (some never)) most asks
+      (sym (half-world at config who c (world_in new.world) count at-config did)) (λ some. absurd (some never)) log asks
 
   module _ (some : old.config.every ≡ 0 → ⊥) (units : ℕ) (units_is : units ≡ units_made old.config.rules count) where
     sum-is : old.units + units ≡ at.units + units_made config.rules count
@@ -242,7 +236,7 @@ module _ (old new : Walk) (config : Config) (before : List Event) (walked : HasW
     scheduled-on sum few asks =
         walked-on new config before (event.Session who c) false (configured ∙ walked.configured) (half-config at config who c (world_in new.world) count at-config did)
         (quantum-is at config who c (world_in new.world) count at-config did false (λ none. some (every-same ∙ none)) (lt-leb config.every (at.units + units_made config.rules count) (omega (arith, few, sum, sum-is, every-same))))
-        (sym (half-world at config who c (world_in new.world) count at-config did)) (λ _. sum ∙ sum-is ∙ sym (half-units at config who c (world_in new.world) count at-config did)) most asks
+        (sym (half-world at config who c (world_in new.world) count at-config did)) (λ _. sum ∙ sum-is ∙ sym (half-units at config who c (world_in new.world) count at-config did)) log asks
 
     pub scheduled-due : new.units ≡ 0 → old.config.every ≤ old.units + units
         → HasAsked new.asked (parts_made config before ++ made_now) [] (ended_in [] (first_run config) before ++ (running_in [] (first_run config) before ++ made_now) ∷ [])
@@ -250,7 +244,7 @@ module _ (old new : Walk) (config : Config) (before : List Event) (walked : HasW
     scheduled-due none due asks =
         walked-on new config before (event.Session who c) true (configured ∙ walked.configured) (half-config at config who c (world_in new.world) count at-config did)
         (quantum-is at config who c (world_in new.world) count at-config did true (λ never. some (every-same ∙ never)) (le-leb config.every (at.units + units_made config.rules count) (omega (arith, due, sum-is, every-same))))
-        (sym (half-world at config who c (world_in new.world) count at-config did)) (λ _. none) most asks
+        (sym (half-world at config who c (world_in new.world) count at-config did)) (λ _. none) log asks
 
 -- Controls ---------------------------------------------------------------------------------------
 
@@ -258,14 +252,15 @@ module _ (old new : Walk) (config : Config) (before : List Event) (walked : HasW
   run-config : (run_after (first_run config) before).world.config ≡ old.config
   run-config = ap (λ (w : World). w.config) (sym walked.at_world) ∙ walked.at_config ∙ sym walked.configured
 
-  most-on : HasMost new.world (run_worlds (first_run config) before ++ world_in new.world ∷ [])
-  most-on = subst (λ (w : RunWorld). HasMost w (run_worlds (first_run config) before ++ world_in w ∷ [])) (sym same) (same-most old.world (run_worlds (first_run config) before) walked.most)
+  -- the same world once more
+  log-same : HasLogOf new.world (run_worlds (first_run config) before ++ world_in new.world ∷ [])
+  log-same = subst (λ (w : RunWorld). HasLogOf w (run_worlds (first_run config) before ++ world_in w ∷ [])) (sym same) (log-again (run_worlds (first_run config) before) old.world.cuts.items (world_in old.world) old.world.heap.closed walked.log)
 
   pub control-on : (quantum : Bool) → runs_quantum (run_after (first_run config) before) (event.Control control) ≡ quantum → new.units ≡ (if quantum then 0 else old.units)
       → HasAsked new.asked (parts_made config before ++ []) (if quantum then [] else running_in [] (first_run config) before ++ []) (if quantum then ended_in [] (first_run config) before ++ (running_in [] (first_run config) before ++ []) ∷ [] else ended_in [] (first_run config) before)
       → HasWalked new config (before ++ event.Control control ∷ [])
   control-on quantum is units asks =
-      walked-on new config before (event.Control control) quantum (configured ∙ walked.configured) (ap (λ (w : RunWorld). (world_in w).config) same ∙ walked.at_config) is (ap world_in same ∙ walked.at_world) (λ some. units ∙ ap (λ n. if quantum then 0 else n) (walked.at_units some)) most-on asks
+      walked-on new config before (event.Control control) quantum (configured ∙ walked.configured) (ap (λ (w : RunWorld). (world_in w).config) same ∙ walked.at_config) is (ap world_in same ∙ walked.at_world) (λ some. units ∙ ap (λ n. if quantum then 0 else n) (walked.at_units some)) log-same asks
 
   -- whether it has a quantum run
   pub control-quantum : (asks : Bool) → runs_quantum (run_after (first_run config) before) (event.Control control) ≡ (asks && ((run_after (first_run config) before).world.config.every == 0)) → (due : Bool) → (asks && (old.config.every == 0)) ≡ due
@@ -275,7 +270,7 @@ module _ (old new : Walk) (config : Config) (before : List Event) (walked : HasW
 -- Needs ------------------------------------------------------------------------------------------
 
 -- what all worlds have at most is no less than what one has
-attained-few : (number : Option Object → ℕ) (few most : ℕ) (worlds : List World) → AllByRecursion (HasAtMost number most) worlds → Any (HasJust number few) worlds → few ≤ most
+pub attained-few : (number : Option Object → ℕ) (few most : ℕ) (worlds : List World) → AllByRecursion (HasAtMost number most) worlds → Any (HasJust number few) worlds → few ≤ most
 attained-few number few most [] all (index, world, inside, at, just) = absurd (omega (arith, inside))
 attained-few number few most (first ∷ worlds) all (zero, world, inside, at, just) =
     let reached = subst (HasAtMost number most) at all.0 in omega (arith, reached just.list just.once just.reached, just.sum)
@@ -295,20 +290,20 @@ module _ (walk : Walk) (config : Config) (events : List Event) (walked : HasWalk
   all-opened = ap (sum_by pages_of_parts) cut
 
   -- the numbers that were found are the needs
-  pub needs-are : (needs : Needs) → needs.live ≡ walk.world.reach.parts.most → needs.marking_units ≡ walk.world.reach.units.most
+  pub needs-are : (most : Counts) → AreMostOf most (run_worlds (first_run config) events) → (needs : Needs) → needs.live ≡ most.parts → needs.marking_units ≡ most.units
       → needs.asked ≡ most_of length (ended_in [] (first_run config) events ++ running_in [] (first_run config) events ∷ [])
       → needs.opened ≡ most_of pages_of_parts (ended_in [] (first_run config) events ++ running_in [] (first_run config) events ∷ [])
       → needs.page_units ≡ most_slots (parts_made config events) + most_moves (parts_made config events) → AreTheNeeds needs config events
-  needs-are needs live marked asked opened page = record {
+  needs-are most reached needs live marked asked opened page = record {
     enough = record {
-      live = subst (λ (n : ℕ). AllByRecursion (HasAtMost object_parts n) (run_worlds (first_run config) events)) (sym live) walked.most.parts.enough;
-      marked = subst (λ (n : ℕ). AllByRecursion (HasAtMost object_units n) (run_worlds (first_run config) events)) (sym marked) walked.most.units.enough;
+      live = subst (λ (n : ℕ). AllByRecursion (HasAtMost object_parts n) (run_worlds (first_run config) events)) (sym live) reached.parts.enough;
+      marked = subst (λ (n : ℕ). AllByRecursion (HasAtMost object_units n) (run_worlds (first_run config) events)) (sym marked) reached.units.enough;
       asked = most_of-enough length (intervals_made config events) needs.asked (omega (arith, all-asked));
       opened = most_of-enough pages_of_parts (intervals_made config events) needs.opened (omega (arith, all-pages));
       page = omega (arith, page);
     };
-    live = subst (λ (n : ℕ). Any (HasJust object_parts n) (run_worlds (first_run config) events)) (sym live) walked.most.parts.just;
-    marked = subst (λ (n : ℕ). Any (HasJust object_units n) (run_worlds (first_run config) events)) (sym marked) walked.most.units.just;
+    live = subst (λ (n : ℕ). Any (HasJust object_parts n) (run_worlds (first_run config) events)) (sym live) reached.parts.just;
+    marked = subst (λ (n : ℕ). Any (HasJust object_units n) (run_worlds (first_run config) events)) (sym marked) reached.units.just;
     asked = all-asked;
     opened = all-pages;
     page = page;

@@ -1,9 +1,8 @@
--- The most that is reached, from world to world.
-use Rattle.std.proofs.Common.{◌≡◌, inl, inr, ℕ, ◌+◌, ◌<◌, ◌≤◌, Option, Some, None, option_map, List, [], ◌∷◌, ◌++◌, length, refl, sym, ap, ◌∙◌, subst, lit<, arith}
-use Rattle.std.specs.List.{AllByRecursion, Any, sum_by}
-use Rattle.std.proofs.Math.ListN.{get_or-append}
-use Rattle.std.proofs.lemmas.List.{length-append}
-use Rattle.std.proofs.lemmas.List.Quantifiers.{Any-push}
+-- Logs of runs, and the most that their worlds reach.
+use Rattle.std.proofs.Common.{◌≡◌, ℕ, ◌+◌, ◌<◌, ◌≤◌, ◌^◌, Option, Some, None, option_map, List, [], ◌∷◌, ◌++◌, length, drop, refl, sym, ap, ◌∙◌, subst, lit<, arith}
+use Rattle.std.specs.List.{All, AllByRecursion, sum_by}
+use Rattle.std.proofs.lemmas.List.Elements.{All-from_recursion, recursion_from_All}
+use Rattle.std.proofs.lemmas.List.Sums.{sum_by-cons}
 use Rattle.std.proofs.lemmas.Option.{none-some}
 use Rattle.mh_model.specs.declared.birth.TheConstants.{LIFE}
 use Rattle.mh_model.specs.declared.command.Command.{Command}
@@ -13,83 +12,117 @@ use Rattle.mh_model.specs.declared.shape.Shape.{Shape}
 use Rattle.mh_model.specs.Classes.{parts}
 use Rattle.mh_model.specs.CycleUnits.{part_units, object_units}
 use Rattle.mh_model.specs.LiveParts.{object_parts}
-use Rattle.mh_model.specs.World.{Object, World, first_world, births, shape_of, never_full, Performs}
-use Rattle.mh_sizing.specs.declared.world.Most.{Most}
-use Rattle.mh_sizing.specs.declared.world.Reach.{Reach}
-use Rattle.mh_sizing.specs.Bounded.{ReachesWithinBounds, HasRoomToMake}
+use Rattle.mh_model.specs.Paths.{Reachable}
+use Rattle.mh_model.specs.World.{Object, World, first_world, births, object_at, shape_of, never_full, IsClosed, Performs}
+use Rattle.mh_sizing.specs.declared.counts.Counts.{Counts}
+use Rattle.mh_sizing.specs.declared.cuts.Cut.{Cut}
+use Rattle.mh_sizing.specs.Cuts.{cuts_of, overwritten, HasLogged, HoldsAll, IsCutIn, IsCutNow, IsHeldOnce, IsKept, IsLogOf, WasHeld}
+use Rattle.mh_sizing.specs.Moments.{HasMostFrom}
 use Rattle.mh_sizing.specs.Objects.{field_count}
-use Rattle.mh_sizing.specs.Reached.{HasAtMost, HasJust}
+use Rattle.mh_sizing.specs.Reached.{sum_of, HasAtMost, HasJust}
 use Rattle.mh_sizing.specs.Steps.{made}
-use Rattle.mh_sizing.specs.Worlds.{IsMostOf, HasGrown}
+use Rattle.mh_sizing.specs.Within.{HasRoomToMake, IsWithin}
+use Rattle.mh_sizing.specs.Worlds.{IsMostOf}
+use Rattle.mh_sizing.proofs.ListLemmas.{all-append, all-more, any-more}
 use Rattle.mh_sizing.proofs.CountLemmas.{by-shape}
-use Rattle.mh_sizing.proofs.StepLemmas.{IsByShape, most-grows, step-grows, step-births, step-sized, made-small, first-sized, first-most, first-just, parts-by_shape, units-by_shape}
-
--- Lists of worlds --------------------------------------------------------------------------------
-
-all-push : {X : Type 0} (P : X → Type 0) (list : List X) (x : X) → AllByRecursion P list → P x → AllByRecursion P (list ++ x ∷ [])
-all-push P [] x all is = (is, tt)
-all-push P (first ∷ list) x all is = (all.0, all-push P list x all.1 is)
-
-all-more : {X : Type 0} (P Q : X → Type 0) → ((x : X) → P x → Q x) → (list : List X) → AllByRecursion P list → AllByRecursion Q list
-all-more P Q each [] all = tt
-all-more P Q each (x ∷ list) all = (each x all.0, all-more P Q each list all.1)
-
-any-first : {X : Type 0} (P : X → Type 0) (x : X) → P x → Any P (x ∷ [])
-any-first P x is = (0, x, omega arith, refl, is)
-
-any-old : {X : Type 0} (P : X → Type 0) (list : List X) (x : X) → Any P list → Any P (list ++ x ∷ [])
-any-old P list x (index, y, inside, read, is) = (index, y, omega (arith, inside, length-append list (x ∷ [])), get_or-append list (x ∷ []) y index inside ∙ read, is)
+use Rattle.mh_sizing.proofs.CutLemmas.{cuts-now, log-cuts, log-step, name-cut, now-in}
+use Rattle.mh_sizing.proofs.FollowLemmas.{overwritten-reached, step-follows}
+use Rattle.mh_sizing.proofs.StepLemmas.{IsByShape, same-number, most-grows, step-births, step-sized, made-small, first-sized, first-most, parts-by_shape, units-by_shape}
 
 -- The most of worlds -----------------------------------------------------------------------------
 
-module _ (number : Option Object → ℕ) where
-  pub at-most-more : (few many : ℕ) (world : World) → few ≤ many → HasAtMost number few world → HasAtMost number many world
-  at-most-more few many world more has list once reached = omega (arith, more, has list once reached)
+module _ (number : Option Object → ℕ) (by_shape : IsByShape number) (last : World) where
+  -- objects that are kept count what they did
+  sum-kept : (world : World) (list : List ℕ) → AllByRecursion (IsKept world last) list → sum_of number world list ≡ sum_of number last list
+  sum-kept world [] all = refl
+  sum-kept world (birth ∷ list) all =
+      omega (arith, sum_by-cons (λ b. number (object_at world b)) birth list, sum_by-cons (λ b. number (object_at last b)) birth list, same-number number by_shape (object_at world birth) (object_at last birth) all.0.shape, sum-kept world list all.1)
 
-  pub first-most-of : (config : Config) → IsMostOf number 0 (first_world config ∷ [])
-  first-most-of config = record { enough = (first-most number config, tt); just = any-first (HasJust number 0) (first_world config) (first-just number config) }
-
-  -- one more world
-  pub most-of-push : (old new : Most) (world : World) (worlds : List World) → HasGrown number old new world → IsMostOf number old.most worlds → IsMostOf number new.most (worlds ++ world ∷ [])
-  most-of-push old new world worlds grown most = elim grown.most [
-    | inl same ↦ record {
-      enough = all-push (HasAtMost number new.most) worlds world (subst (λ (n : ℕ). AllByRecursion (HasAtMost number n) worlds) (sym same) most.enough) here;
-      just = any-old (HasJust number new.most) worlds world (subst (λ (n : ℕ). Any (HasJust number n) worlds) (sym same) most.just);
-    }
-    | inr (more, just) ↦ record {
-      enough = all-push (HasAtMost number new.most) worlds world (all-more (HasAtMost number old.most) (HasAtMost number new.most) (λ w has. at-most-more old.most new.most w more has) worlds most.enough) here;
-      just = Any-push (HasJust number new.most) worlds world just;
-    }
-  ]
+  -- the most that was held at a moment of a log is the most that a world reached
+  pub log-most : (worlds : List World) (cuts : List Cut) (most : ℕ) → IsLogOf worlds cuts last → HasMostFrom number most last cuts 0 → IsMostOf number most worlds
+  log-most worlds cuts most log held = record {
+    enough = all-more (IsHeldOnce last cuts) (HasAtMost number most) enough worlds log.worlds_held;
+    just = any-more (HoldsAll last (drop held.just.0 cuts)) (HasJust number most) just worlds (log.moments_reached held.just.0);
+  }
     where
-      here : HasAtMost number new.most world
-      here = at-most-more new.bound new.most world grown.within grown.bound
+      enough : (world : World) → IsHeldOnce last cuts world → HasAtMost number most world
+      enough world (index, inside, is) list once reached =
+          omega (arith, sum-kept world list (all-more (Reachable world) (IsKept world last) (λ b r. (is b r).1) list reached), held.enough index (omega arith) list once (all-more (Reachable world) (WasHeld last (drop index cuts)) (λ b r. (is b r).0) list reached))
+
+      just : (world : World) → HoldsAll last (drop held.just.0 cuts) world → HasJust number most world
+      just world is = record {
+        list = held.just.1.list;
+        once = held.just.1.once;
+        reached = all-more (WasHeld last (drop held.just.0 cuts)) (Reachable world) (λ b was. (is b was).0) held.just.1.list held.just.1.held;
+        sum = sum-kept world held.just.1.list (all-more (WasHeld last (drop held.just.0 cuts)) (IsKept world last) (λ b was. (is b was).1) held.just.1.list held.just.1.held) ∙ held.just.1.sum;
+      }
+
+-- Logs that grow ---------------------------------------------------------------------------------
+
+-- names logged in vain
+pub log-stopped : (worlds : List World) (cuts new : List Cut) (world : World) → HasLogged world cuts new → IsLogOf worlds cuts world → IsLogOf worlds new world
+log-stopped worlds cuts new world logged log = subst (λ (all : List Cut). IsLogOf worlds all world) (sym logged.grown) (log-cuts worlds cuts logged.now world logged.are_now log)
+
+-- what a command may overwrite
+pub logged-names : (world : World) (who : ℕ) (c : Command) (cuts new : List Cut) → new ≡ cuts ++ cuts_of (births world) (overwritten world who c) → HasLogged world cuts new
+logged-names world who c cuts new grown = record {
+  now = cuts_of (births world) (overwritten world who c);
+  are_now = cuts-now world (overwritten world who c) (overwritten-reached world who c);
+  grown = grown;
+}
+
+pub within-logged : (world : World) (cuts new : List Cut) (all : Counts) → IsClosed world → HasLogged world cuts new → IsWithin world cuts all → IsWithin world new all
+within-logged world cuts new all closed logged within = record {
+  births_few = within.births_few;
+  sized = within.sized;
+  cuts_in = subst (All (IsCutIn world)) (sym logged.grown) (All-from_recursion (IsCutIn world) (cuts ++ logged.now) (all-append (IsCutIn world) cuts logged.now (recursion_from_All (IsCutIn world) cuts within.cuts_in) (now-in world closed logged.now logged.are_now)));
+  parts = within.parts;
+  units = within.units;
+  parts_few = within.parts_few;
+  units_few = within.units_few;
+}
+
+-- Commands ---------------------------------------------------------------------------------------
 
 pub none-made : (object : Option Object) → option_map shape_of object ≡ None → object ≡ None
 none-made None is = refl
 none-made (Some object) is = absurd (none-some (shape_of object) (sym is))
 
--- Commands ---------------------------------------------------------------------------------------
+made-some : (object : Option Object) (shape : Shape) → option_map shape_of object ≡ Some shape → (o : Object) × (object ≡ Some o)
+made-some None shape is = absurd (none-some shape is)
+made-some (Some o) shape is = (o, refl)
 
 module _ (old new : World) (who : ℕ) (command : Command) (answer : Reply) (performs : Performs never_full old who command answer new) where
-  pub step-most : (number : Option Object → ℕ) → IsByShape number → (most : ℕ) → HasAtMost number most old → HasAtMost number (most + number (made command answer)) new
-  step-most number by_shape most has = most-grows number (number (made command answer)) old new (step-grows number by_shape old who command answer new performs) most has
+  -- the log of one more world
+  pub log-on : (worlds : List World) (cuts logged : List Cut) (all : Counts) → IsClosed old → IsClosed new → IsWithin old cuts all → logged ≡ cuts ++ cuts_of (births old) (overwritten old who command)
+      → IsLogOf worlds cuts old → IsLogOf (worlds ++ new ∷ []) logged new
+  log-on worlds cuts logged all closed_old closed within grown log =
+      subst (λ (cuts : List Cut). IsLogOf (worlds ++ new ∷ []) cuts new) (sym grown)
+      (log-step old new (overwritten old who command) (made command answer) (step-follows old who command answer new performs) worlds cuts now closed (all-append (IsCutIn old) cuts now (recursion_from_All (IsCutIn old) cuts within.cuts_in) (now-in old closed_old now are_now)) are_now (name-cut (births old) (overwritten old who command)) log)
+    where
+      now : List Cut
+      now = cuts_of (births old) (overwritten old who command)
+
+      are_now : AllByRecursion (IsCutNow old) now
+      are_now = cuts-now old (overwritten old who command) (overwritten-reached old who command)
+
+  -- what is always so, with what was made counted
+  pub within-on : (cuts : List Cut) (all counted : Counts) → IsWithin old cuts all → HasRoomToMake old all command → counted.parts ≡ all.parts + object_parts (made command answer) → counted.units ≡ all.units + object_units (made command answer)
+      → counted.parts ≤ 2 ^ 63 → counted.units ≤ 2 ^ 63 → IsWithin new cuts counted
+  within-on cuts all counted within room parts_are units_are parts_few units_few = record {
+    births_few = omega (arith, step-births old who command answer new performs, room.births_few answer);
+    sized = step-sized old who command answer new performs within.sized;
+    cuts_in = λ index cut inside. let is = within.cuts_in index cut inside in record { birth = omega (arith, is.birth, step-births old who command answer new performs); births_few = omega (arith, is.births_few, step-births old who command answer new performs) };
+    parts = λ list once. omega (arith, parts_are, most-grows object_parts parts-by_shape old new (overwritten old who command) (made command answer) (step-follows old who command answer new performs) all.parts within.parts list once);
+    units = λ list once. omega (arith, units_are, most-grows object_units units-by_shape old new (overwritten old who command) (made command answer) (step-follows old who command answer new performs) all.units within.units list once);
+    parts_few = parts_few;
+    units_few = units_few;
+  }
 
   -- nothing was made
-  module _ (none : made command answer ≡ None) where
-    pub still-most : (number : Option Object → ℕ) → IsByShape number → (most : ℕ) → HasAtMost number most old → HasAtMost number most new
-    still-most number by_shape most has = at-most-more number (most + number (made command answer)) most new (omega (arith, ap number none, by_shape.none)) (step-most number by_shape most has)
-
-    pub still-bounded : (reach : Reach) → ReachesWithinBounds old reach → HasRoomToMake old reach command → ReachesWithinBounds new reach
-    still-bounded reach bounded room = record {
-      few = omega (arith, step-births old who command answer new performs, room.few answer);
-      room = omega (arith, step-births old who command answer new performs, room.room answer);
-      sized = step-sized old who command answer new performs bounded.sized;
-      parts = still-most object_parts parts-by_shape reach.parts.bound bounded.parts;
-      units = still-most object_units units-by_shape reach.units.bound bounded.units;
-      parts_within = bounded.parts_within;
-      units_within = bounded.units_within;
-    }
+  pub within-none : (cuts : List Cut) (all : Counts) → IsWithin old cuts all → HasRoomToMake old all command → made command answer ≡ None → IsWithin new cuts all
+  within-none cuts all within room none =
+      within-on cuts all all within room (omega (arith, ap object_parts none)) (omega (arith, ap object_units none)) within.parts_few within.units_few
 
   -- an object was made
   module _ (shape : Shape) (some : option_map shape_of (made command answer) ≡ Some shape) where
@@ -102,48 +135,21 @@ module _ (old new : World) (who : ℕ) (command : Command) (answer : Reply) (per
     pub made-units : object_units (made command answer) ≡ sum_by part_units (parts shape.references shape.numbers)
     made-units = by-shape (λ r n. sum_by part_units (parts r n)) object_units (λ o. refl) (made command answer) shape some
 
-    pub grown-bounded : (old_reach reach : Reach) → ReachesWithinBounds old old_reach → HasRoomToMake old old_reach command → HasGrown object_parts old_reach.parts reach.parts new → HasGrown object_units old_reach.units reach.units new
-        → reach.set.room ≡ old_reach.set.room → ReachesWithinBounds new reach
-    grown-bounded old_reach reach bounded room parts' units' same = record {
-      few = omega (arith, step-births old who command answer new performs, room.few answer);
-      room = omega (arith, step-births old who command answer new performs, room.room answer, same);
-      sized = step-sized old who command answer new performs bounded.sized;
-      parts = parts'.bound;
-      units = units'.bound;
-      parts_within = parts'.within;
-      units_within = units'.within;
-    }
+    pub parts-few : (all : Counts) → HasRoomToMake old all command → all.parts < LIFE
+    parts-few all room = let (object, is) = made-some (made command answer) shape some in room.parts answer object is
 
-    pub room-grown : (reach : Reach) → HasRoomToMake old reach command → births new ≤ reach.set.room
-    room-grown reach room = omega (arith, step-births old who command answer new performs, room.room answer)
+    pub units-few : (all : Counts) → HasRoomToMake old all command → all.units < LIFE
+    units-few all room = let (object, is) = made-some (made command answer) shape some in room.units answer object is
 
-    made-some : (object : Option Object) → option_map shape_of object ≡ Some shape → (o : Object) × (object ≡ Some o)
-    made-some None is = absurd (none-some shape is)
-    made-some (Some o) is = (o, refl)
+-- The first world --------------------------------------------------------------------------------
 
-    pub parts-few : (reach : Reach) → HasRoomToMake old reach command → reach.parts.bound < LIFE
-    parts-few reach room = let (object, is) = made-some (made command answer) some in room.parts answer object is
-
-    pub units-few : (reach : Reach) → HasRoomToMake old reach command → reach.units.bound < LIFE
-    units-few reach room = let (object, is) = made-some (made command answer) some in room.units answer object is
-
-    pub parts-grown : (most count : ℕ) → count ≡ length (parts shape.references shape.numbers) → HasAtMost object_parts most old → HasAtMost object_parts (most + count) new
-    parts-grown most count is has = subst (λ (n : ℕ). HasAtMost object_parts (most + n) new) (made-parts ∙ sym is) (step-most object_parts parts-by_shape most has)
-
-    pub units-grown : (most count : ℕ) → count ≡ sum_by part_units (parts shape.references shape.numbers) → HasAtMost object_units most old → HasAtMost object_units (most + count) new
-    units-grown most count is has = subst (λ (n : ℕ). HasAtMost object_units (most + n) new) (made-units ∙ sym is) (step-most object_units units-by_shape most has)
-
--- What a bound that stays says of one more world
-pub still-grown : (number : Option Object → ℕ) (most : Most) (world : World) → most.bound ≤ most.most → HasAtMost number most.bound world → HasGrown number most most world
-still-grown number most world within has = record { within = within; bound = has; most = inl refl }
-
-pub first-bounded : (config : Config) (reach : Reach) → reach.parts.bound ≡ 0 → reach.units.bound ≡ 0 → ReachesWithinBounds (first_world config) reach
-first-bounded config reach parts units = record {
-  few = lit< tt;
-  room = omega arith;
+pub first-within : (config : Config) (all : Counts) → all.parts ≡ 0 → all.units ≡ 0 → IsWithin (first_world config) [] all
+first-within config all parts units = record {
+  births_few = lit< tt;
   sized = first-sized config;
-  parts = subst (λ (n : ℕ). HasAtMost object_parts n (first_world config)) (sym parts) (first-most object_parts config);
-  units = subst (λ (n : ℕ). HasAtMost object_units n (first_world config)) (sym units) (first-most object_units config);
-  parts_within = omega (arith, parts);
-  units_within = omega (arith, units);
+  cuts_in = λ index cut inside. absurd (omega (arith, inside));
+  parts = λ list once. omega (arith, parts, first-most object_parts parts-by_shape config list once);
+  units = λ list once. omega (arith, units, first-most object_units units-by_shape config list once);
+  parts_few = omega (arith, parts);
+  units_few = omega (arith, units);
 }

@@ -11,8 +11,9 @@ pub mod Rates
 pub mod Sized
 pub mod Asked
 pub mod Births
-pub mod Bounded
 pub mod ClassCounts
+pub mod Cuts
+pub mod Moments
 pub mod Needed
 pub mod Objects
 pub mod Reached
@@ -20,6 +21,7 @@ pub mod Runs
 pub mod Steps
 pub mod Units
 pub mod Walk
+pub mod Within
 pub mod Worlds
 pub mod OfSizingLaws
 pub mod OfClasses

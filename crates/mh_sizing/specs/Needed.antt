@@ -9,7 +9,6 @@ use Rattle.mh_model.specs.CycleUnits.{object_units, most_slots, most_moves}
 use Rattle.mh_model.specs.LiveParts.{object_parts}
 use Rattle.mh_model.specs.Needs.{first_run, run_worlds}
 use Rattle.mh_model.specs.Openings.{pages_of_parts}
-use Rattle.mh_model.specs.World.{IsNew}
 use Rattle.mh_sizing_laws.specs.Made.{MakeNoMore, MakeOfClasses, demand, intervals_made, parts_made}
 use Rattle.mh_sizing_laws.specs.SharpPages.{fewest_slots, occurring}
 use Rattle.mh_sizing.specs.declared.profile.Profile.{Profile}
@@ -39,10 +38,10 @@ pub record IsTheProfile (profile : Profile) (config : Config) (events : List Eve
   pub kinds : AreTheKinds profile.kinds config events
   pub demanded : MatchOption profile.demand (2 ^ 32 ≤ demand config events) (λ pages. pages ≡ demand config events)
 
--- an event asks for a new object
-abbrev pub AsksForObject : Event → Type 0
-AsksForObject (event.Session who command) = IsNew command
-AsksForObject (event.Control control) = ⊥
+-- an event is a command of a session
+abbrev pub IsCommand : Event → Type 0
+IsCommand (event.Session who command) = Unit {0}
+IsCommand (event.Control control) = ⊥
 
 -- one of the numbers does not fit 32 bits
 abbrev pub IsTooLarge : Needs → Type 0

@@ -1,20 +1,22 @@
--- The births that a world reaches, and how much their objects count.
+-- The births that a search finds, those that a world reaches, and how much their objects count.
 use Rattle.std.specs.Prelude.{◌≡◌, ℕ, ◌<◌, ◌≤◌, true, Option, Some, None, List, get_or}
 use Rattle.std.specs.List.{AllByRecursion, sum_by}
 use Rattle.mh_model.specs.Batches.{NoneTwice}
 use Rattle.mh_model.specs.Paths.{Reachable}
-use Rattle.mh_model.specs.World.{Object, World, object_at}
+use Rattle.mh_model.specs.World.{Object, World, object_at, reference_of}
+use Rattle.mh_sizing.specs.declared.cuts.Cut.{Cut}
 use Rattle.mh_sizing.specs.Births.{is_among}
+use Rattle.mh_sizing.specs.Cuts.{IsRoot, ReachedFrom}
 
 -- what these slots or references name is below a number
 abbrev pub NamesBelow : ℕ → List (Option ℕ) → Type 0
 NamesBelow room names = (index birth : ℕ) → get_or names index None ≡ Some birth → birth < room
 
--- All births that a world reaches and no other, each once
-pub record AllReached (world : World) (list : List ℕ) : Type 0 where
-  pub once : NoneTwice list
-  pub reached : AllByRecursion (Reachable world) list
-  pub all : (birth : ℕ) → Reachable world birth → is_among list birth ≡ true
+-- A search has found these births, all roots among them, each of which is reached from a root, and has looked through the references of the first so many
+pub record IsSearch (world : World) (cuts : List Cut) (list : List ℕ) (next : ℕ) : Type 0 where
+  pub reached : AllByRecursion (ReachedFrom world (IsRoot world cuts)) list
+  pub roots : (birth : ℕ) → IsRoot world cuts birth → is_among list birth ≡ true
+  pub looked : (index field target : ℕ) → index < next → reference_of (object_at world (get_or list index 0)) field ≡ Some target → is_among list target ≡ true
 
 -- how much the objects of these births count
 abbrev pub sum_of : (Option Object → ℕ) → World → List ℕ → ℕ
@@ -30,3 +32,7 @@ pub record HasJust (number : Option Object → ℕ) (count : ℕ) (world : World
   pub once : NoneTwice list
   pub reached : AllByRecursion (Reachable world) list
   pub sum : sum_of number world list ≡ count
+
+-- all objects of a world together count no more than this
+abbrev pub AreAtMost : (Option Object → ℕ) → ℕ → World → Type 0
+AreAtMost number most world = (list : List ℕ) → NoneTwice list → sum_of number world list ≤ most

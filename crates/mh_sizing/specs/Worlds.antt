@@ -1,5 +1,5 @@
 -- The most that the worlds of a run reach.
-use Rattle.std.specs.Prelude.{◌≡◌, ◌⊎◌, ℕ, ◌≤◌, max, Option, List}
+use Rattle.std.specs.Prelude.{◌≡◌, ℕ, Option, List}
 use Rattle.std.specs.List.{AllByRecursion, Any}
 use Rattle.mh_heap.specs.PlainHeap.{world_of}
 use Rattle.mh_model.specs.declared.command.Command.{Command}
@@ -7,8 +7,9 @@ use Rattle.mh_model.specs.declared.reply.Reply.{Reply}
 use Rattle.mh_model.specs.CycleUnits.{object_units}
 use Rattle.mh_model.specs.LiveParts.{object_parts}
 use Rattle.mh_model.specs.World.{Object, World, never_full, Performs}
-use Rattle.mh_sizing.specs.declared.world.Most.{Most}
+use Rattle.mh_sizing.specs.declared.counts.Counts.{Counts}
 use Rattle.mh_sizing.specs.declared.world.RunWorld.{RunWorld}
+use Rattle.mh_sizing.specs.Cuts.{IsLogOf}
 use Rattle.mh_sizing.specs.Reached.{HasAtMost, HasJust}
 use Rattle.mh_sizing.specs.Steps.{made}
 
@@ -17,24 +18,18 @@ pub record IsMostOf (number : Option Object → ℕ) (most : ℕ) (worlds : List
   pub enough : AllByRecursion (HasAtMost number most) worlds
   pub just : Any (HasJust number most) worlds
 
--- the most after a world was counted
-abbrev pub counted : Most → ℕ → Most
-counted old count = record { most = max old.most count; bound = count }
-
--- The most grows only to what a world reaches, which reaches no more
-pub record HasGrown (number : Option Object → ℕ) (old new : Most) (world : World) : Type 0 where
-  pub within : new.bound ≤ new.most
-  pub bound : HasAtMost number new.bound world
-  pub most : (new.most ≡ old.most) ⊎ ((old.most ≤ new.most) × HasJust number new.most world)
+-- the most parts and units of these worlds
+pub record AreMostOf (most : Counts) (worlds : List World) : Type 0 where
+  pub parts : IsMostOf object_parts most.parts worlds
+  pub units : IsMostOf object_units most.units worlds
 
 -- the world that a walk is in
 abbrev pub world_in : RunWorld → World
 world_in run = world_of run.heap
 
--- the most parts and units of these worlds
-pub record HasMost (run : RunWorld) (worlds : List World) : Type 0 where
-  pub parts : IsMostOf object_parts run.reach.parts.most worlds
-  pub units : IsMostOf object_units run.reach.units.most worlds
+-- the walk has a log of these worlds
+abbrev pub HasLogOf : RunWorld → List World → Type 0
+HasLogOf run worlds = IsLogOf worlds run.cuts.items (world_in run)
 
 -- A command was performed in a world, and what it made has so many parts
 pub record Performed (old new : World) (who : ℕ) (command : Command) (parts : ℕ) : Type 0 where

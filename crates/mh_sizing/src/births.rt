@@ -1,5 +1,5 @@
 //! A set of births, in the order in which they were inserted. So a search can go through it while it grows.
-ghost use Rattle.std.specs.Prelude.{◌≡◌, ℕ, ◌+◌, ◌<◌, ◌≤◌, [], true, false, not, ◌&&◌, length, get_or, OnOk, OnErr};
+ghost use Rattle.std.specs.Prelude.{◌≡◌, ◌<◌, ◌≤◌, [], length, get_or, IfOk};
 ghost use Rattle.mh_model.specs.Batches.{NoneTwice};
 ghost use Rattle.mh_sizing.specs.Births.{is_among, with_birth};
 
@@ -8,7 +8,7 @@ use mh_model::memory::NoMemory;
 use std::alloc::Global;
 use std::marker::Model;
 
-/// A set of births below a number, its room. It takes memory only as its room grows.
+/// A set of births below a number, its room. It takes memory once, for its room.
 #[derive(Drop)]
 pub(crate) struct BirthSet {
     marks: Vec<bool>,
@@ -27,27 +27,16 @@ impl Model for BirthSet {
     ghost invariant = { λ set. IsMarked set.marks.items set.births.items set.count };
 }
 
-/// Takes the marks of these births away.
-fn unmark(marks: &mut [bool], births: &[Birth])
-    requires { (birth : ℕ) → is_among births.now birth ≡ true → birth < length marks.old }
-    ensures marks { (birth : ℕ) → get_or marks.new birth false ≡ (get_or marks.old birth false && not (is_among births.now birth)) }
-    ensures room { length marks.new ≡ length marks.old }
-{
-    for birth in births {
-        marks[birth.0 as usize] = false;
-    }
-}
-
 impl BirthSet {
-    /// The empty set without room, which takes no memory.
-    pub(crate) fn new(alloc: Global) -> BirthSet
-        ensures { result ≡ record { births = []; room = 0 } }
+    /// The empty set, with room for births below a number.
+    pub(crate) fn with_room(alloc: Global, room: usize) -> Result<BirthSet, NoMemory>
+        ensures { IfOk result (λ set. set ≡ record { births = []; room = room }) }
     {
-        BirthSet {
-            marks: Vec::new(alloc),
-            births: Vec::new(alloc),
+        Ok(BirthSet {
+            marks: Vec::from_elem(alloc, false, room)?,
+            births: Vec::from_elem(alloc, Birth(0), room)?,
             count: 0,
-        }
+        })
     }
 
     pub(crate) fn len(&self) -> usize
@@ -81,21 +70,10 @@ impl BirthSet {
         self.count += 1;
     }
 
-    pub(crate) fn clear(&mut self)
-        ensures { self.new ≡ record { births = []; room = self.old.room } }
+    pub(crate) fn contains(&self, birth: Birth) -> bool
+        requires { birth < self.now.room }
+        ensures { result ≡ is_among self.now.births birth }
     {
-        unmark(&mut self.marks, &self.births[..self.count]);
-        self.count = 0;
-    }
-
-    /// Makes room for one more birth.
-    pub(crate) fn grow(&mut self) -> Result<(), NoMemory>
-        ensures births { self.new.births ≡ self.old.births }
-        ensures ok { OnOk result (self.new.room ≡ self.old.room + 1) }
-        ensures err { OnErr result (self.new.room ≡ self.old.room) }
-    {
-        self.births.push(Birth(0))?;
-        self.marks.push(false)?;
-        Ok(())
+        self.marks[birth.0 as usize]
     }
 }

@@ -36,12 +36,12 @@ pub fn profile_of(
     for event in events {
         walk.event(event)?;
     }
-    match walk.needs() {
-        Some(needs) => Ok(Some(Profile {
-            needs,
-            kinds: walk.kinds(),
-            demand: walk.demand(),
-        })),
-        None => Ok(None),
-    }
+    let Some(needs) = walk.needs()? else {
+        return Ok(None);
+    };
+    Ok(Some(Profile {
+        needs,
+        kinds: walk.kinds(),
+        demand: walk.demand(),
+    }))
 }

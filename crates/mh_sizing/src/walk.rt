@@ -7,21 +7,22 @@
 //! `Walk::kinds` says how many classes occur, and the fewest slots of their pages, and `Walk::demand` how many pages
 //! all intervals open together.
 //!
-//! A command that the world refuses makes nothing, and counts nothing. A walk that is refused memory is as it was, and
-//! only an event that asks for an object may be.
+//! A command that the world refuses makes nothing, and counts nothing. Only a command may be refused memory, since the
+//! walk logs what it overwrites. A walk that is refused memory is as it was, but for names in its log that do no harm.
 ghost use Rattle.std.specs.Prelude.{◌≡◌, ◌+◌, ◌≤◌, ℕ, [], ◌∷◌, ◌++◌, not, ◌&&◌, ◌==◌, List, ◌^◌, IfOk, IfSome, IsNone, MatchOption, OnErr, OnOk, length};
 ghost use Rattle.mh_model.specs.declared.command.Event.{Event};
 ghost use Rattle.mh_model.specs.declared.command.Event.TheVariants as events;
 ghost use Rattle.mh_model.specs.declared.config.Config.{Config};
 ghost use Rattle.mh_model.specs.declared.needs.Needs.{Needs};
-ghost use Rattle.mh_model.specs.Needs.{WorldRun, runs_quantum};
-ghost use Rattle.mh_model.specs.World.{IsNew};
+ghost use Rattle.mh_model.specs.Needs.{WorldRun, first_run, run_worlds, runs_quantum};
 ghost use Rattle.mh_sizing_laws.specs.Made.{MakeNoMore, MakeOfClasses, demand, parts_made};
 ghost use Rattle.mh_sizing_laws.specs.SharpPages.{fewest_slots, occurring};
-ghost use Rattle.mh_sizing.specs.Needed.{AreTheNeeds, AsksForObject, IsTooLarge};
+ghost use Rattle.mh_sizing.specs.Needed.{AreTheNeeds, IsCommand, IsTooLarge};
 ghost use Rattle.mh_sizing.specs.Units.{units_made};
+ghost use Rattle.mh_sizing.specs.Worlds.{AreMostOf};
 
 use crate::asked::{Asked, parts_asked};
+use crate::counts::Counts;
 use crate::kinds::Kinds;
 use crate::world::RunWorld;
 use mh_model::command::{Command, Control, Event};
@@ -86,7 +87,6 @@ impl Walk {
     fn session(&mut self, who: u8, command: &Command) -> Result<(), NoMemory>
         ensures walked { OnOk result ((config : Config) (before : List Event) → HasWalked self.old config before → HasWalked self.new config (before ++ events.Session who command.now ∷ [])) }
         ensures stopped { OnErr result ((config : Config) (before : List Event) → HasWalked self.old config before → HasWalked self.new config before) }
-        ensures memory { OnErr result (IsNew command.now) }
     {
         let parts = parts_asked(self.config.rules, command);
         if !self.asked.has_room(&parts) {
@@ -119,11 +119,11 @@ impl Walk {
     }
 
     /// Goes on with the next event. If memory is refused, or there is no room to count on, the walk is as it was. There is
-    /// none once 2^62 objects were born, or a bound of what is reached or an interval's parts have come to 2^62.
+    /// none once 2^62 objects were born, or all parts, the units to mark them, or an interval's parts have come to 2^62.
     pub fn event(&mut self, event: &Event) -> Result<(), NoMemory>
         ensures walked { OnOk result ((config : Config) (before : List Event) → HasWalked self.old config before → HasWalked self.new config (before ++ event.now ∷ [])) }
         ensures stopped { OnErr result ((config : Config) (before : List Event) → HasWalked self.old config before → HasWalked self.new config before) }
-        ensures memory { OnErr result (AsksForObject event.now) }
+        ensures memory { OnErr result (IsCommand event.now) }
     {
         match *event {
             Event::Session(who, command) => self.session(who, &command),
@@ -134,13 +134,13 @@ impl Walk {
         }
     }
 
-    /// What the sessions of the events so far need. None if a number has more than 32 bits.
-    pub fn needs(&self) -> Option<Needs>
-        ensures needs { (config : Config) (events : List Event) → HasWalked self.now config events → IfSome result (λ needs. AreTheNeeds needs config events) }
-        ensures none { (config : Config) (events : List Event) → HasWalked self.now config events → IsNone result → (needs : Needs) → MakeNoMore needs config events → IsTooLarge needs }
+    /// What the sessions of the events so far need, if so much is reached at most. None if a number has more than 32 bits.
+    fn needs_with(&self, most: Counts) -> Option<Needs>
+        ensures needs { (config : Config) (events : List Event) → HasWalked self.now config events → AreMostOf most (run_worlds (first_run config) events) → IfSome result (λ needs. AreTheNeeds needs config events) }
+        ensures none { (config : Config) (events : List Event) → HasWalked self.now config events → AreMostOf most (run_worlds (first_run config) events) → IsNone result → (needs : Needs) → MakeNoMore needs config events → IsTooLarge needs }
     {
-        let live = in_32_bits(self.world.live())?;
-        let marked = in_32_bits(self.world.marked())?;
+        let live = in_32_bits(most.parts)?;
+        let marked = in_32_bits(most.units)?;
         let asked = in_32_bits(self.asked.parts())?;
         let opened = in_32_bits(self.asked.pages())?;
         Some(Needs {
@@ -150,6 +150,15 @@ impl Walk {
             opened,
             page_units: self.asked.page_units(),
         })
+    }
+
+    /// What the sessions of the events so far need. None if a number has more than 32 bits.
+    pub fn needs(&self) -> Result<Option<Needs>, NoMemory>
+        ensures needs { (config : Config) (events : List Event) → HasWalked self.now config events → IfOk result (λ found. IfSome found (λ needs. AreTheNeeds needs config events)) }
+        ensures none { (config : Config) (events : List Event) → HasWalked self.now config events → IfOk result (λ found. IsNone found → (needs : Needs) → MakeNoMore needs config events → IsTooLarge needs) }
+    {
+        let most = self.world.most()?;
+        Ok(self.needs_with(most))
     }
 
     /// The most pages that the intervals of the events so far open, all together. None if they are 2^32 or more.

@@ -1,6 +1,8 @@
-use Rattle.std.proofs.Common.{◌≡◌, length, take, ap, sym, subst, ◌∙◌, arith}
+use Rattle.std.proofs.Common.{◌≡◌, Option, IfSome, IsNone, length, take, ap, sym, subst, ◌∙◌, arith}
 use Rattle.std.proofs.Math.Seq.{take-length}
 use Rattle.std.proofs.lemmas.List.{take_more}
+use Rattle.mh_model.specs.declared.needs.Needs.{Needs}
+use Rattle.mh_sizing.specs.Needed.{AreTheNeeds}
 use Rattle.mh_sizing.specs.Walk.{HasWalked}
 use Rattle.mh_sizing.proofs.profile.profile_of.Goals as goal
 
@@ -11,14 +13,14 @@ loop-event-preserved c =
     let walked = c.in_ok-event.ensures.walked c.args.config (take index events) c.loop-event.invariant in
     subst (HasWalked c.event.new.self c.args.config) (sym (take_more events index _ c.loop-event-test.true)) walked
 
-pub returns-in-Some-clause-profile : goal.returns-in-Some-clause-profile
-returns-in-Some-clause-profile c =
+pub returns-clause-profile : goal.returns-clause-profile
+returns-clause-profile c =
     let config = c.args.config in
     let events = c.args.events.now in
     let last : c.loop-event.event-index ≡ length events = omega arith in
     let walked = subst (HasWalked c.loop-event.walk config) (ap (λ n. take n events) last ∙ take-length events) c.loop-event.invariant in
     record {
-      needs = c.in-Some.ensures.needs config events walked;
+      needs = subst (λ (found : Option Needs). IfSome found (λ needs. AreTheNeeds needs config events)) c.in-Some.is (c.in_ok-needs.ensures.needs config events walked);
       kinds = record {
         count = c.kinds.ensures.kinds config events walked;
         least = c.kinds.ensures.least config events walked;
@@ -27,8 +29,9 @@ returns-in-Some-clause-profile c =
       demanded = c.demand.ensures config events walked;
     }
 
-pub returns-clause-none : goal.returns-clause-none
-returns-clause-none c =
+pub returns-in_default-clause-none : goal.returns-in_default-clause-none
+returns-in_default-clause-none c = λ none.
     let events = c.args.events.now in
     let last : c.loop-event.event-index ≡ length events = omega arith in
-    c.in-None.ensures.none c.args.config events (subst (HasWalked c.loop-event.walk c.args.config) (ap (λ n. take n events) last ∙ take-length events) c.loop-event.invariant)
+    let walked = subst (HasWalked c.loop-event.walk c.args.config) (ap (λ n. take n events) last ∙ take-length events) c.loop-event.invariant in
+    c.in_ok-needs.ensures.none c.args.config events walked (subst (λ (found : Option Needs). IsNone found) (sym c.in_default.is) none)

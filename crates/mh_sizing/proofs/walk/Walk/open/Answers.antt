@@ -8,6 +8,6 @@ returns c = record {
   at_config = ap (λ (world : World). world.config) c.open.ensures.world;
   at_world = c.open.ensures.world;
   at_units = λ some. refl;
-  most = c.open.ensures.most;
+  log = c.open.ensures.log;
   asks = c.new.ensures;
 }

@@ -1,11 +1,13 @@
-use Rattle.std.proofs.Common.{refl}
-use Rattle.mh_model.specs.CycleUnits.{object_units}
-use Rattle.mh_model.specs.LiveParts.{object_parts}
-use Rattle.mh_sizing.proofs.WorldLemmas.{first-bounded, first-most-of}
+use Rattle.std.proofs.Common.{subst, refl}
+use Rattle.mh_model.specs.World.{first_world, IsClosed}
+use Rattle.mh_sizing.proofs.CutLemmas.{log-first}
+use Rattle.mh_sizing.proofs.WorldLemmas.{first-within}
 use Rattle.mh_sizing.proofs.world.RunWorld.open.Goals as goal
 
 pub invariant_of-result : goal.invariant_of-result
-invariant_of-result c = record { bounded = rw c.open.ensures (first-bounded c.args.config _ refl refl) }
+invariant_of-result c = record { within = rw c.open.ensures (rw c.new.ensures.items (first-within c.args.config _ refl refl)) }
 
-pub returns-clause-most : goal.returns-clause-most
-returns-clause-most c = record { parts = first-most-of object_parts c.args.config; units = first-most-of object_units c.args.config }
+pub returns-clause-log : goal.returns-clause-log
+returns-clause-log c =
+    let closed = subst IsClosed c.open.ensures c.open.result.closed in
+    rw c.open.ensures (rw c.new.ensures.items (log-first (first_world c.args.config) closed))

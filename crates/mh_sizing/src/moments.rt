@@ -1,0 +1,165 @@
+//! What was held at the moments of a log. The method is Merlin's (Hertz, Blackburn, Moss, McKinley and Stefanović,
+//! SIGMETRICS 2002), which finds when objects cease to be reached. Nothing is searched for while commands are performed:
+//! what was held is found afterwards, from the last world back.
+//!
+//! A heap that keeps all objects has the references of those that aren't reached any more as they last were. So what
+//! was held before a cut is what was held after it, with all that the cut name leads to. Objects that were made later
+//! count no longer. Each object is found once, and each reference is looked at once.
+ghost use Rattle.std.specs.Prelude.{◌≡◌, ◌+◌, ◌<◌, ◌≤◌, ◌^◌, if◌then◌else◌, min, max, ℕ, List, [], ◌∷◌, IfOk, length};
+ghost use Rattle.std.specs.List.{All};
+ghost use Rattle.mh_heap.specs.PlainHeap.{world_of};
+ghost use Rattle.mh_model.specs.Batches.{NoneTwice};
+ghost use Rattle.mh_model.specs.CycleUnits.{object_units};
+ghost use Rattle.mh_model.specs.LiveParts.{object_parts};
+ghost use Rattle.mh_model.specs.World.{births, object_at};
+ghost use Rattle.mh_sizing.specs.declared.cuts.Cut.{Cut};
+ghost use Rattle.mh_sizing.specs.Births.{with_birth};
+ghost use Rattle.mh_sizing.specs.Cuts.{IsCutIn};
+ghost use Rattle.mh_sizing.specs.Moments.{HasMostFrom, IsCounted, IsMoment};
+ghost use Rattle.mh_sizing.specs.Objects.{IsWellSized};
+ghost use Rattle.mh_sizing.specs.Reached.{AreAtMost, IsSearch};
+
+use crate::births::BirthSet;
+use crate::counts::{Counts, count_object};
+use crate::cuts::Cut;
+use crate::reach::{insert_all, insert_roots};
+use mh_heap::heap::Heap;
+use mh_heap::plain::PlainHeap;
+use mh_model::birth::Birth;
+use mh_model::memory::NoMemory;
+use std::alloc::Global;
+
+/// What an object counts that is to be counted, and otherwise nothing.
+fn count_if(heap: &PlainHeap, birth: Birth, is_counted: bool) -> Counts
+    requires sized { IsWellSized (world_of heap.now) }
+    requires there { birth < births (world_of heap.now) }
+    ensures parts { result.parts ≡ if is_counted then object_parts (object_at (world_of heap.now) birth) else 0 }
+    ensures units { result.units ≡ if is_counted then object_units (object_at (world_of heap.now) birth) else 0 }
+{
+    if is_counted {
+        count_object(heap.shape_of(birth))
+    } else {
+        Counts { parts: 0, units: 0 }
+    }
+}
+
+/// What was held at a moment, and the most that was from it on.
+#[derive(Drop)]
+struct Moment {
+    set: BirthSet,
+    /// How many births of the set are counted, and their references looked through.
+    looked: usize,
+    /// How many objects had been made.
+    births: u64,
+    held: Counts,
+    most: Counts,
+}
+
+impl Moment {
+    /// Counts what was inserted in the set, and all that it leads to.
+    fn look_through(&mut self, heap: &PlainHeap)
+        requires counted { IsCounted (world_of heap.now) self.old }
+        requires sized { IsWellSized (world_of heap.now) }
+        requires few_parts { AreAtMost object_parts (2 ^ 63) (world_of heap.now) }
+        requires few_units { AreAtMost object_units (2 ^ 63) (world_of heap.now) }
+        ensures counted { IsCounted (world_of heap.now) self.new }
+        ensures search { (cuts : List Cut) → IsSearch (world_of heap.now) cuts self.old.set.births self.old.looked → IsSearch (world_of heap.now) cuts self.new.set.births self.new.looked }
+        ensures all { self.new.looked ≡ length self.new.set.births }
+        ensures once { NoneTwice self.new.set.births }
+        ensures births { self.new.births ≡ self.old.births }
+        ensures most { self.new.most ≡ self.old.most }
+    {
+        while self.looked < self.set.len() {
+            let birth = self.set.get(self.looked);
+            let object = count_if(heap, birth, birth.0 < self.births);
+            self.held.parts += object.parts;
+            self.held.units += object.units;
+            insert_all(&mut self.set, heap.references(birth));
+            self.looked += 1;
+        }
+    }
+
+    /// The last moment of a log.
+    fn last(alloc: Global, heap: &PlainHeap) -> Result<Moment, NoMemory>
+        requires sized { IsWellSized (world_of heap.now) }
+        requires few_parts { AreAtMost object_parts (2 ^ 63) (world_of heap.now) }
+        requires few_units { AreAtMost object_units (2 ^ 63) (world_of heap.now) }
+        ensures counted { IfOk result (IsCounted (world_of heap.now)) }
+        ensures moment { IfOk result (IsMoment (world_of heap.now) []) }
+        ensures once { IfOk result (λ moment. NoneTwice moment.set.births) }
+        ensures most { IfOk result (λ moment. moment.most ≡ moment.held) }
+    {
+        let mut set = BirthSet::with_room(alloc, heap.births() as usize)?;
+        insert_roots(&mut set, heap);
+        let nothing = Counts { parts: 0, units: 0 };
+        let mut moment = Moment {
+            set,
+            looked: 0,
+            births: heap.births(),
+            held: nothing,
+            most: nothing,
+        };
+        moment.look_through(heap);
+        moment.most = moment.held;
+        Ok(moment)
+    }
+
+    /// Counts no longer what was made when there were so many births or more.
+    fn go_back(&mut self, heap: &PlainHeap, births: u64)
+        requires counted { IsCounted (world_of heap.now) self.old }
+        requires sized { IsWellSized (world_of heap.now) }
+        requires all { self.old.looked ≡ length self.old.set.births }
+        requires once { NoneTwice self.old.set.births }
+        ensures counted { IsCounted (world_of heap.now) self.new }
+        ensures births { self.new.births ≡ min births self.old.births }
+        ensures set { self.new.set ≡ self.old.set }
+        ensures looked { self.new.looked ≡ self.old.looked }
+        ensures most { self.new.most ≡ self.old.most }
+    {
+        while self.births > births {
+            self.births -= 1;
+            let birth = Birth(self.births);
+            let object = count_if(heap, birth, self.set.contains(birth));
+            self.held.parts -= object.parts;
+            self.held.units -= object.units;
+        }
+    }
+
+    /// Goes back to before a cut.
+    fn undo(&mut self, heap: &PlainHeap, cut: Cut)
+        requires counted { IsCounted (world_of heap.now) self.old }
+        requires sized { IsWellSized (world_of heap.now) }
+        requires few_parts { AreAtMost object_parts (2 ^ 63) (world_of heap.now) }
+        requires few_units { AreAtMost object_units (2 ^ 63) (world_of heap.now) }
+        requires all { self.old.looked ≡ length self.old.set.births }
+        requires once { NoneTwice self.old.set.births }
+        requires there { cut.birth < births (world_of heap.now) }
+        ensures counted { IsCounted (world_of heap.now) self.new }
+        ensures moment { (cuts : List Cut) → IsMoment (world_of heap.now) cuts self.old → IsMoment (world_of heap.now) (cut ∷ cuts) self.new }
+        ensures once { NoneTwice self.new.set.births }
+        ensures parts { self.new.most.parts ≡ max self.old.most.parts self.new.held.parts }
+        ensures units { self.new.most.units ≡ max self.old.most.units self.new.held.units }
+    {
+        self.go_back(heap, cut.births);
+        self.set.insert(cut.birth);
+        self.look_through(heap);
+        self.most.parts = self.most.parts.max(self.held.parts);
+        self.most.units = self.most.units.max(self.held.units);
+    }
+}
+
+/// The most that was held at a moment of a log.
+pub(crate) fn most_held(alloc: Global, heap: &PlainHeap, cuts: &[Cut]) -> Result<Counts, NoMemory>
+    requires sized { IsWellSized (world_of heap.now) }
+    requires few_parts { AreAtMost object_parts (2 ^ 63) (world_of heap.now) }
+    requires few_units { AreAtMost object_units (2 ^ 63) (world_of heap.now) }
+    requires cuts { All (IsCutIn (world_of heap.now)) cuts.now }
+    ensures parts { IfOk result (λ most. HasMostFrom object_parts most.parts (world_of heap.now) cuts.now 0) }
+    ensures units { IfOk result (λ most. HasMostFrom object_units most.units (world_of heap.now) cuts.now 0) }
+{
+    let mut moment = Moment::last(alloc, heap)?;
+    for index in (0..cuts.len()).rev() {
+        moment.undo(heap, cuts[index]);
+    }
+    Ok(moment.most)
+}
