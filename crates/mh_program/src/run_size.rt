@@ -1,8 +1,8 @@
 //! The sizes that the program writes, each with its line on standard error and its exit status. Of a heap or a share
 //! the text is made before it is written, so out of memory leaves nothing written.
-ghost use Rattle.std.specs.Prelude.{◌<◌, ◌^◌, IfOk};
+ghost use Rattle.std.specs.Prelude.{◌≡◌, ◌<◌, ◌^◌, Err, IfOk, OnErr};
 ghost use Rattle.std.specs.String.{string_bytes};
-ghost use Rattle.mh_model.specs.Bytes.{Text};
+ghost use Rattle.mh_live.specs.OfScript.ScriptFault.TheVariants as fault;
 ghost use Rattle.mh_program.specs.Program.{Obeys, WritesSize};
 ghost use Rattle.mh_program.specs.Status.{status_of};
 ghost use Rattle.mh_program.specs.Complaints.{SaysEnd, SaysFault, SaysRun};
@@ -33,7 +33,8 @@ use std::alloc::Global;
 /// Writes a text that was made, if there was memory for it.
 fn written<W: Sink>(text: Result<String, NoMemory>, sink: &mut W) -> Result<End, ScriptFault>
     requires { W.failures sink.old < 2 ^ 62 }
-    ensures { (Is : Text → Type 0) → IfOk text (λ made. Is (string_bytes made)) → WritesSize Is (device (W.written sink.old) (W.failures sink.old)) (device (W.written sink.new) (W.failures sink.new)) result }
+    ensures made { IfOk text (λ made. WritesSize (λ body. body ≡ string_bytes made) (device (W.written sink.old) (W.failures sink.old)) (device (W.written sink.new) (W.failures sink.new)) result) }
+    ensures none { OnErr text ((result ≡ Err fault.NoMemory) × (device (W.written sink.new) (W.failures sink.new) ≡ device (W.written sink.old) (W.failures sink.old))) }
 {
     let text = match text {
         Ok(text) => text,
