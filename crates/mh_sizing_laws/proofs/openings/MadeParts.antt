@@ -27,7 +27,7 @@ one_of size other = if size == other then 1 else 0
 pub one_of-same : (size other : ℕ) → other ≡ size → one_of size other ≡ 1
 one_of-same size other same = ap (λ b. if b then 1 else 0) (eq-eqb size other (sym same))
 
-one_of-other : (size other : ℕ) → other ≢ size → one_of size other ≡ 0
+pub one_of-other : (size other : ℕ) → other ≢ size → one_of size other ≡ 0
 one_of-other size other apart = go (size == other) refl
   where
     go : (same : Bool) → (size == other) ≡ same → ◌≡◌ {A = ℕ} (if same then 1 else 0) 0
@@ -190,13 +190,13 @@ first-made table birth stamp index part after made e = by_class (class_of (part_
     by_class (Some size) is h = by_place size is (least_place table size) refl h
 
 -- a place that is taken leaves each page the slots of its class
-pub taken-slots : (table : Table Block) (size place : ℕ) (block : Block) → is_class_size size ≡ true → HaveTheirSlots table → HaveTheirSlots (with_taken table size place block)
-taken-slots table size place block class slots number page at = elim (get_or-set_either table (page_number place) number _ None (Some page) at) [
+pub taken-slots : {X : Type 0} (table : Table X) (size place : ℕ) (block : X) → is_class_size size ≡ true → HaveTheirSlots table → HaveTheirSlots (with_taken table size place block)
+taken-slots {X = X} table size place block class slots number page at = elim (get_or-set_either table (page_number place) number _ None (Some page) at) [
   | inl written ↦ subst HasItsSlots (same_Some _ page written) (page_with-slots old (slot_number place) (Some block) (page_for-slots size (page_at table (page_number place)) class (λ p is. slots (page_number place) p is)))
   | inr before ↦ slots number page before
 ]
   where
-    old : Page Block
+    old : Page X
     old = page_for size (page_at table (page_number place))
 
 pub class_parts-cons : (size other : ℕ) (part : Part) (list : List Part) → class_of (part_words part) ≡ Some size → class_parts other (part ∷ list) ≡ one_of size other + class_parts other list
