@@ -1,6 +1,6 @@
 pub mod PagesOfBirths
 pub mod LastPages
 pub mod FilledClasses
-pub mod FilledCommands
+pub mod FilledPlaces
 pub mod FilledRuns
 pub mod Startups

@@ -33,7 +33,8 @@ use Rattle.mh_sizing_laws.proofs.triggers.Commands.{control-reply}
 use Rattle.mh_sizing_laws.proofs.triggers.SizedRuns.{half-stays, run-collector}
 use Rattle.mh_sizing_laws.proofs.startup.LastPages.{AreUnflagged}
 use Rattle.mh_sizing_laws.proofs.startup.FilledClasses.{AreFilled, few-used, pages_by, used-pages}
-use Rattle.mh_sizing_laws.proofs.startup.FilledCommands.{IsServedInOrder, command-filled}
+use Rattle.mh_sizing_laws.proofs.Births.{IsServedSo, command-served}
+use Rattle.mh_sizing_laws.proofs.startup.FilledPlaces.{FillsWithRoom, filled-births}
 
 -- Flags ------------------------------------------------------------------------------------------
 
@@ -113,7 +114,7 @@ module _ (config : Config) (all : ℕ → List ℕ) where
     unfolding event_step command_step moment_after
     half-way events moment run (event.Session who c) is = record {
       reply = served.reply;
-      filled = served.filled;
+      filled = served.holds.are;
       whole = course.pages ∙ is.whole;
       rests = record { phase = course.phase ∙ is.rests.phase; cycle = course.cycle ∙ is.rests.cycle; asked = course.is_asked ∙ is.rests.asked };
     }
@@ -121,8 +122,9 @@ module _ (config : Config) (all : ℕ → List ℕ) where
         later : ℕ → List ℕ
         later size = births_made_in size (next_run run (event.Session who c)) events
 
-        served : IsServedInOrder all later moment.machine.heap who c
-        served = command-filled all later moment.machine.heap run.world (subst (Agrees (heap_view moment.machine.heap)) is.beside.world (is.agrees [])) who (omega (arith, room, is.whole)) c is.filled
+        served : IsServedSo (FillsWithRoom all) later moment.machine.heap who c
+        served = command-served (FillsWithRoom all) (filled-births all) later moment.machine.heap run.world (subst (Agrees (heap_view moment.machine.heap)) is.beside.world (is.agrees [])) who c
+            (record { are = is.filled; room = omega (arith, room, is.whole, length-table_map birth_of moment.machine.heap.collector.table) })
 
         course : IsOnCourse (most_fields moment.machine.heap.config) moment.machine.heap.collector (mutator_step moment.machine.heap who c).state.collector
         course = mutator_step-course moment.machine.heap who c

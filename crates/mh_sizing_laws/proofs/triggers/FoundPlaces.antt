@@ -26,7 +26,7 @@ abbrev flag_of : Option (Page Block) → Bool
 flag_of content = unwrap_or (option_map (λ page. page.is_flagged) content) false
 
 -- a table with a free page has a free one of some number
-pub free-number : (table : Table Block) → 0 < free_pages table → (number : ℕ) × (number < length table) × (page_at table number ≡ None)
+pub free-number : {X : Type 0} (table : Table X) → 0 < free_pages table → (number : ℕ) × (number < length table) × (page_at table number ≡ None)
 free-number [] some = absurd (omega arith)
 free-number (None ∷ table) some = (0, omega arith, refl)
 free-number (Some page ∷ table) some = let (number, inside, free) = free-number table some in (suc number, omega arith, free)
