@@ -1,3 +1,4 @@
 pub mod Sums
 pub mod Weighing
 pub mod Births
+pub mod ClassWeights

@@ -55,7 +55,7 @@ sum-larger f g (size ∷ sizes) larger =
     omega (arith, sum_by-cons f size sizes, sum_by-cons g size sizes, larger size (among-first size sizes), sum-larger f g sizes (λ other among. larger other (among-later other size sizes among)))
 
 -- and of one more for a class that is among these
-sum-one_more : (f : ℕ → ℕ) (size : ℕ) (sizes : List ℕ) → IsAmong size sizes → sum_by f sizes + 1 ≤ sum_by (λ k. f k + one_of size k) sizes
+pub sum-one_more : (f : ℕ → ℕ) (size : ℕ) (sizes : List ℕ) → IsAmong size sizes → sum_by f sizes + 1 ≤ sum_by (λ k. f k + one_of size k) sizes
 sum-one_more f size [] among = absurd (false≢true among)
 sum-one_more f size (k ∷ sizes) among = go (k == size) refl among (sum-one_more f size sizes)
   where
@@ -83,7 +83,7 @@ pub record IsOpened (sizes : List ℕ) (asked : ℕ → ℕ) (start now : Table 
   pub last : (size : ℕ) → slots_in size * opened size ≤ asked size + (slots_in size - 1)
 
 -- the slots of one page more
-one_page_more : (slots pages one : ℕ) → one ≡ 1 → slots * (pages + one) ≡ slots * pages + slots
+pub one_page_more : (slots pages one : ℕ) → one ≡ 1 → slots * (pages + one) ≡ slots * pages + slots
 one_page_more slots pages one is = rw (is, add-one) (mul-suc slots pages)
 
 no_page_more : (slots pages one : ℕ) → one ≡ 0 → slots * (pages + one) ≡ slots * pages
@@ -236,7 +236,7 @@ abbrev pub pages_of : (ℕ → ℕ) → List ℕ → ℕ
 pages_of asked sizes = sum_by (λ size. pages_for size (asked size)) sizes
 
 -- so many slots are in no more pages than that
-least-pages : (slots pages count : ℕ) → 0 < slots → slots * pages ≤ count + (slots - 1) → pages ≤ div_ceil count slots
+pub least-pages : (slots pages count : ℕ) → 0 < slots → slots * pages ≤ count + (slots - 1) → pages ≤ div_ceil count slots
 least-pages slots pages count some room = elim (cases_lt (div_ceil count slots) pages) [
   | inl less ↦
       let least : ℕ = div_ceil count slots in

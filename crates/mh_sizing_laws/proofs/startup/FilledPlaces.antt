@@ -5,7 +5,8 @@ use Rattle.mh_model.specs.Pages.{Table, page_number, free_pages, least_place, wi
 use Rattle.mh_table_laws.proofs.placing.Places.{least_place-free_page}
 use Rattle.mh_sizing_laws.proofs.Births.{IsKeptByBirths}
 use Rattle.mh_sizing_laws.proofs.triggers.FoundPlaces.{free-number}
-use Rattle.mh_sizing_laws.proofs.startup.FilledClasses.{AreFilled, filled-taken, few-used, pages_by, used-pages}
+use Rattle.mh_sizing_laws.proofs.ClassWeights.{used-pages}
+use Rattle.mh_sizing_laws.proofs.startup.FilledClasses.{AreFilled, filled-taken, few-used, pages_by}
 
 -- pages are filled in order, and there are more than all births fill
 pub record FillsWithRoom (all rest : ℕ → List ℕ) (table : Table ℕ) : Type 0 where

@@ -32,7 +32,8 @@ use Rattle.mh_sizing_laws.proofs.needs.BesideRuns.{NoneIsFull, IsBeside, next-be
 use Rattle.mh_sizing_laws.proofs.triggers.Commands.{control-reply}
 use Rattle.mh_sizing_laws.proofs.triggers.SizedRuns.{half-stays, run-collector}
 use Rattle.mh_sizing_laws.proofs.startup.LastPages.{AreUnflagged}
-use Rattle.mh_sizing_laws.proofs.startup.FilledClasses.{AreFilled, few-used, pages_by, used-pages}
+use Rattle.mh_sizing_laws.proofs.ClassWeights.{used-pages}
+use Rattle.mh_sizing_laws.proofs.startup.FilledClasses.{AreFilled, few-used, pages_by}
 use Rattle.mh_sizing_laws.proofs.Births.{IsServedSo, command-served}
 use Rattle.mh_sizing_laws.proofs.startup.FilledPlaces.{FillsWithRoom, filled-births}
 

@@ -5,14 +5,14 @@ use Rattle.std.specs.List.{sum_by}
 use Rattle.std.proofs.lemmas.Bool.{and_from, and_parts, cases_eq, eqb-true, true≢false}
 use Rattle.std.proofs.lemmas.Option.{none-some, same_Some}
 use Rattle.mh_model.specs.Classes.{slots_in, is_class_size}
-use Rattle.mh_model.specs.Pages.{Page, Table, page_number, slot_number, page_at, is_dense, is_sparse, empty_slot, open_slot, fresh_slot, least_place, page_with, page_for, with_taken, HaveTheirSlots, IsFreeFor}
+use Rattle.mh_model.specs.Pages.{Page, Table, slot_number, page_at, is_dense, is_sparse, empty_slot, open_slot, fresh_slot, least_place, page_for, HaveTheirSlots, IsFreeFor}
 use Rattle.mh_table_laws.specs.Placing.{IsFound, GivesNone}
 use Rattle.mh_table_laws.proofs.Lists.{below_length}
-use Rattle.mh_table_laws.proofs.placing.Places.{IsOpen, shaped-slots, open_slot-is, least_place-free, least_place-least}
+use Rattle.mh_table_laws.proofs.placing.Places.{IsOpen, shaped-slots, open_slot-is, least_place-least}
 use Rattle.mh_table_laws.proofs.tables.PageSlots.{slots_in-class_size}
 use Rattle.mh_sizing_laws.specs.Startup.{filled_pages}
-use Rattle.mh_sizing_laws.proofs.filling.Weights.{weights, weights-set, weigh, weigh-own, weigh-other}
-use Rattle.mh_sizing_laws.proofs.filling.Fronts.{put-at, put-other}
+use Rattle.mh_sizing_laws.proofs.filling.Weights.{weights, weigh, weigh-own}
+use Rattle.mh_sizing_laws.proofs.filling.PutBirths.{number_of, content_of, put_of, taken_of, free-of, flags-put, now-at, now-put, now-there, other-still, other-there, other-weight, own-weight}
 use Rattle.mh_sizing_laws.proofs.startup.PagesOfBirths.{begun, begun-push, filled-sum}
 
 -- Slots ------------------------------------------------------------------------------------------
@@ -93,73 +93,49 @@ pub record IsFilled (size : ℕ) (all rest : List ℕ) (table : Table ℕ) : Typ
 
 module _ (table : Table ℕ) (slots : HaveTheirSlots table) (size place birth : ℕ) (class : is_class_size size ≡ true) (least : least_place table size ≡ Some place) where
   abbrev number : ℕ
-  number = page_number place
+  number = number_of table size place birth
 
   abbrev content : Option (Page ℕ)
-  content = page_at table number
+  content = content_of table size place birth
 
   abbrev put : Page ℕ
-  put = page_with (slot_number place) (Some birth) (page_for size content)
+  put = put_of table size place birth
 
   abbrev taken : Table ℕ
-  taken = with_taken table size place birth
+  taken = taken_of table size place birth
 
   free : IsFreeFor table size place
-  free = least_place-free table size (shaped-slots table slots) (slots_in-class_size size class).0 place least
-
-  -- a page that is there now was there before, or is that of the place
-  now-there : (other : ℕ) (page : Page ℕ) → page_at taken other ≡ Some page → (other ≡ number → ⊥) → page_at table other ≡ Some page
-  now-there other page at apart = sym (put-other table size place birth free.inside other apart) ∙ at
-
-  now-put : (page : Page ℕ) → page_at taken number ≡ Some page → put ≡ page
-  now-put page at = same_Some put page (sym (put-at table size place birth free.inside) ∙ at)
+  free = free-of table size place birth slots class least
 
   pub taken-unflagged : AreUnflagged table → AreUnflagged taken
   taken-unflagged unflagged other page at = elim (cases_eq other number) [
-    | inl here ↦ ap (λ (p : Page ℕ). p.is_flagged) (sym (now-put page (ap (page_at taken) (sym here) ∙ at))) ∙ fresh content refl
-    | inr apart ↦ unflagged other page (now-there other page at apart)
+    | inl here ↦ ap (λ (p : Page ℕ). p.is_flagged) (sym (now-put table size place birth slots class least other page at here)) ∙ flags-put table size place birth slots class least (λ flag. flag ≡ false) refl (λ n p is own. unflagged n p is)
+    | inr apart ↦ unflagged other page (now-there table size place birth slots class least other page at apart)
   ]
-    where
-      fresh : (old : Option (Page ℕ)) → content ≡ old → (page_for size old).is_flagged ≡ false
-      fresh None is = refl
-      fresh (Some page) is = unflagged number page is
 
   module _ (other : ℕ) (apart : size ≡ other → ⊥) where
     full-other : (Excepted : ℕ → Type 0) → IsFullBut Excepted other table → IsFullBut Excepted other taken
-    full-other Excepted full at page there own but = elim (cases_eq at number) [
-      | inl here ↦ absurd (apart (sym free.of_class ∙ ap (λ (p : Page ℕ). p.class_size) (now-put page (ap (page_at taken) (sym here) ∙ there)) ∙ own))
-      | inr different ↦ full at page (now-there at page there different) own but
-    ]
+    full-other Excepted full at page there own but = full at page (other-there table size place birth slots class least other apart at page there own) own but
 
     last-other : (run : List ℕ) → IsLast other run table → IsLast other run taken
     last-other [] full = full-other (λ n. ⊥) full
     last-other (first ∷ run) has = record {
       number = has.number;
       page = has.page;
-      in_use = put-other table size place birth free.inside has.number elsewhere ∙ has.in_use;
+      in_use = other-still table size place birth slots class least other apart has.number has.page has.in_use has.class;
       class = has.class;
       slots = has.slots;
       alone = full-other (λ n. n ≡ has.number) has.alone;
     }
-      where
-        elsewhere : has.number ≡ number → ⊥
-        elsewhere here = apart (sym free.of_class ∙ ap (λ old. (page_for size old).class_size) (ap (page_at table) (sym here) ∙ has.in_use) ∙ has.class)
-
-    weight-other : (weight : List ℕ → ℕ) → class_weight other weight taken ≡ class_weight other weight table
-    weight-other weight = omega (
-      arith,
-      weights-set (weigh other (births_weight weight)) table number (Some put) free.inside,
-      weigh-other other (births_weight weight) number put (λ e. apart (sym free.of_class ∙ e)),
-      none content free.of_class,
-    )
-      where
-        none : (old : Option (Page ℕ)) → (page_for size old).class_size ≡ size → weigh other (births_weight weight) number old ≡ 0
-        none None own = refl
-        none (Some page) own = weigh-other other (births_weight weight) number page (λ e. apart (sym own ∙ e))
 
     -- the pages of this class are as they were
     pub filled-other : (all rest : List ℕ) → IsFilled other all rest table → IsFilled other all rest taken
-    filled-other all rest is = record { run = is.run; short = is.short; last = last-other is.run is.last; weighs = λ weight. omega (arith, is.weighs weight, weight-other weight) }
+    filled-other all rest is = record {
+      run = is.run;
+      short = is.short;
+      last = last-other is.run is.last;
+      weighs = λ weight. omega (arith, is.weighs weight, other-weight table size place birth slots class least other apart (births_weight weight));
+    }
 
   -- A birth of the class -------------------------------------------------------------------------
 
@@ -247,15 +223,14 @@ module _ (table : Table ℕ) (slots : HaveTheirSlots table) (size place birth : 
   full-pushed run is full other page at own but = elim (cases_eq other number) [
     | inl here ↦
         let room : slots_in size - suc (length run) ≡ 0 = omega (arith, full) in
-        ap (λ (p : Page ℕ). empty_slot p.slots) (sym (now-put page (ap (page_at taken) (sym here) ∙ at))) ∙ ap empty_slot (is.slots_are ∙ ap (begun_slots (run ++ birth ∷ [])) room) ∙ full-begun (run ++ birth ∷ [])
-    | inr apart ↦ is.others other page (now-there other page at apart) own apart
+        ap (λ (p : Page ℕ). empty_slot p.slots) (sym (now-put table size place birth slots class least other page at here)) ∙ ap empty_slot (is.slots_are ∙ ap (begun_slots (run ++ birth ∷ [])) room) ∙ full-begun (run ++ birth ∷ [])
+    | inr apart ↦ is.others other page (now-there table size place birth slots class least other page at apart) own apart
   ]
 
   weight-pushed : (run : List ℕ) → IsPushed run → (weight : List ℕ → ℕ) → class_weight size weight taken + begun weight run ≡ class_weight size weight table + weight (run ++ birth ∷ [])
   weight-pushed run is weight = omega (
     arith,
-    weights-set (weigh size (births_weight weight)) table number (Some put) free.inside,
-    weigh-own size (births_weight weight) number put free.of_class,
+    own-weight table size place birth slots class least (births_weight weight),
     is.before weight,
     ap weight (ap births_in is.slots_are ∙ births-begun (run ++ birth ∷ []) (slots_in size - suc (length run))),
   )
@@ -292,10 +267,10 @@ module _ (table : Table ℕ) (slots : HaveTheirSlots table) (size place birth : 
         last = last-push size run birth taken (record {
           number = number;
           page = put;
-          in_use = put-at table size place birth free.inside;
+          in_use = now-at table size place birth slots class least;
           class = free.of_class;
           slots = push.slots_are ∙ ap (λ n. begun_slots now (slots_in size - n)) (sym long);
-          alone = λ other page at own but. push.others other page (now-there other page at but) own but;
+          alone = λ other page at own but. push.others other page (now-there table size place birth slots class least other page at but) own but;
         });
         weighs = λ weight. omega (arith, is.weighs weight, split weight, weight-pushed run push weight, begun-push weight run birth);
       }

@@ -29,7 +29,8 @@ use Rattle.mh_sizing_laws.proofs.filling.Ages.{birth_of, ages}
 use Rattle.mh_sizing_laws.proofs.needs.BesideRuns.{NoneIsFull, first-beside}
 use Rattle.mh_sizing_laws.proofs.triggers.WorldReplies.{never-full-world}
 use Rattle.mh_sizing_laws.proofs.startup.LastPages.{births_in}
-use Rattle.mh_sizing_laws.proofs.startup.FilledClasses.{AreFilled, all-used, all-weigh, filled-first, pages_by, sum-same, table_weight, used-pages}
+use Rattle.mh_sizing_laws.proofs.ClassWeights.{sum-same, table_weight, used-pages}
+use Rattle.mh_sizing_laws.proofs.startup.FilledClasses.{AreFilled, all-used, all-weigh, filled-first, pages_by}
 use Rattle.mh_sizing_laws.proofs.startup.FilledRuns.{IsStarting, starting-run, unflagged-at}
 
 -- Births -----------------------------------------------------------------------------------------
