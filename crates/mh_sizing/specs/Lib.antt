@@ -13,6 +13,7 @@ pub mod Asked
 pub mod Births
 pub mod Bounded
 pub mod ClassCounts
+pub mod Demands
 pub mod Needed
 pub mod Objects
 pub mod Reached
