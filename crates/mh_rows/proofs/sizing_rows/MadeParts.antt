@@ -15,11 +15,11 @@ unfoldable worked : ℕ
 unfolding heap_step
 worked = 0
 
-abbrev a : Command → Event
+abbrev pub a : Command → Event
 a command = event.Session 0 command
 
 -- objects of one block of 64 words
-abbrev wide : ℕ → List Event
+abbrev pub wide : ℕ → List Event
 wide zero = []
 wide (suc count) = a (New 0 0 60) ∷ wide count
 
