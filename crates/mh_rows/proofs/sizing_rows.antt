@@ -4,3 +4,4 @@ pub mod ReachedUnits
 pub mod SharpNeeds
 pub mod MetPremises
 pub mod MadeParts
+pub mod Startups

@@ -56,7 +56,7 @@ pub(crate) fn push_optional(
     Ok(())
 }
 
-/// Adds what all intervals open together.
+/// Adds the demand.
 pub(crate) fn push_demand(text: &mut String, profile: &Profile) -> Result<(), NoMemory>
     ensures { OnOk result (string_bytes text.new ≡ string_bytes text.old ++ lines_text (demand_line profile.now ∷ [])) }
 {

@@ -24,6 +24,7 @@ pub mod StepLemmas
 pub mod WalkLemmas
 pub mod WorldLemmas
 pub mod WalkedKinds
+pub mod DemandLemmas
 pub mod CountedLemmas
 pub mod EveryLemmas
 pub mod RateLemmas

@@ -1,6 +1,6 @@
 -- Walks with one more event.
 use Rattle.std.proofs.Common.{◌≡◌, ℕ, zero, suc, ◌+◌, ◌==◌, ◌<◌, ◌≤◌, ◌&&◌, not, nat_le, nat_lt, Bool, true, false, if◌then◌else◌, Option, Some, None, is_none, List, [], ◌∷◌, ◌++◌, length, refl, sym, ap, ap₂, ◌∙◌, subst, arith}
-use Rattle.std.specs.List.{AllByRecursion, Any, sum_by}
+use Rattle.std.specs.List.{AllByRecursion, Any}
 use Rattle.std.proofs.lemmas.Bool.{eq-eqb, ne_eqb, lt-leb, lt-ltb, le-leb}
 use Rattle.std.proofs.lemmas.List.{append-nil, length-replicate}
 use Rattle.mh_model.specs.declared.command.Command.{Command}
@@ -36,6 +36,8 @@ use Rattle.mh_sizing.specs.Steps.{made}
 use Rattle.mh_sizing.specs.Units.{units_made}
 use Rattle.mh_sizing.specs.Walk.{HasWalked}
 use Rattle.mh_sizing.specs.Worlds.{world_in, AreMostOf, HasLogOf, Performed}
+use Rattle.mh_sizing.specs.Demands.{demand_of}
+use Rattle.mh_sizing.proofs.DemandLemmas.{demand-is}
 use Rattle.mh_sizing.proofs.RunLemmas.{most_of-enough, most_of-few, after-push, worlds-push, made-push, intervals-cut, ended-push, running-push}
 use Rattle.mh_sizing.proofs.CutLemmas.{log-again}
 
@@ -285,9 +287,9 @@ module _ (walk : Walk) (config : Config) (events : List Event) (walked : HasWalk
       → AllByRecursion (λ interval. number interval ≤ most) (intervals_made config events) → count ≤ most
   interval-few number count most is all = omega (arith, is, most_of-few number (ended_in [] (first_run config) events ++ running_in [] (first_run config) events ∷ []) most (subst (AllByRecursion (λ interval. number interval ≤ most)) cut all))
 
-  -- all intervals open together what those open that have ended and the running one
-  pub all-opened : demand config events ≡ sum_by pages_of_parts (ended_in [] (first_run config) events ++ running_in [] (first_run config) events ∷ [])
-  all-opened = ap (sum_by pages_of_parts) cut
+  -- the demand is that of the intervals that have ended and of the running one
+  pub all-demanded : demand config events ≡ demand_of (ended_in [] (first_run config) events ++ running_in [] (first_run config) events ∷ [])
+  all-demanded = demand-is config events ∙ ap demand_of cut
 
   -- the numbers that were found are the needs
   pub needs-are : (most : Counts) → AreMostOf most (run_worlds (first_run config) events) → (needs : Needs) → needs.live ≡ most.parts → needs.marking_units ≡ most.units

@@ -1,5 +1,5 @@
 -- What is enough for what sessions ask of a heap. There are three laws: each new part may keep a page, small parts share pages, or the pages are as many as
--- all intervals open together.
+-- all classes take at most.
 use Rattle.std.specs.Prelude.{◌⊎◌, ℕ, ◌≤◌, min, nat_le, Bool, false, ◌&&◌, ◌||◌, nat_lt, if◌then◌else◌, Option, None, Some, IsSomeAnd}
 use Rattle.mh_model.specs.declared.config.Config.{Config}
 use Rattle.mh_model.specs.declared.needs.Needs.{Needs}
@@ -27,12 +27,12 @@ cycle_quanta needs config = if nat_lt quantum_overhead config.quantum then min (
 abbrev pub pages_needed : Profile → ℕ → ℕ
 pages_needed profile quanta = min (enough_pages profile.needs quanta) (enough_shared_pages profile.needs profile.kinds quanta)
 
--- so many pages are no fewer than all intervals open together, if that is known
+-- so many pages are no fewer than the demand, if that is known
 abbrev pub meets_demand : Option ℕ → ℕ → Bool
 meets_demand None pages = false
 meets_demand (Some demand) pages = nat_le demand pages
 
--- the configuration's pages are enough for all intervals together, or its pages and its trigger are enough for its cycles
+-- the configuration's pages are enough for the demand, or its pages and its trigger are enough for its cycles
 abbrev pub is_enough : Profile → Config → Bool
 is_enough profile config = meets_demand profile.demand config.pages || (nat_le (pages_needed profile (cycle_quanta profile.needs config)) config.pages && nat_le (enough_trigger profile.needs (cycle_quanta profile.needs config)) config.trigger)
 

@@ -14,6 +14,7 @@ pub mod Births
 pub mod ClassCounts
 pub mod Cuts
 pub mod Moments
+pub mod Demands
 pub mod Needed
 pub mod Objects
 pub mod Reached

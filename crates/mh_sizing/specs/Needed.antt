@@ -32,7 +32,7 @@ pub record AreTheKinds (kinds : Kinds) (config : Config) (events : List Event) :
   pub least : kinds.fewest_slots ≡ fewest_slots (parts_made config events)
   pub made : MakeOfClasses kinds.fewest_slots kinds.kinds config events
 
--- What the sessions of these events make and hold, the classes of their parts, and what their intervals open together
+-- What the sessions of these events make and hold, the classes of their parts, and their demand
 pub record IsTheProfile (profile : Profile) (config : Config) (events : List Event) : Type 0 where
   pub needs : AreTheNeeds profile.needs config events
   pub kinds : AreTheKinds profile.kinds config events

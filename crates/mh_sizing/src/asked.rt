@@ -6,11 +6,12 @@ ghost use Rattle.mh_model.specs.CycleUnits.{most_slots, most_moves};
 ghost use Rattle.mh_model.specs.Classes.{Part};
 ghost use Rattle.mh_model.specs.Openings.{asked_parts, pages_of_parts};
 ghost use Rattle.mh_model.specs.World.{IsNew};
-ghost use Rattle.std.specs.List.{sum_by};
 ghost use Rattle.mh_sizing_laws.specs.SharpPages.{fewest_slots, occurring};
+ghost use Rattle.mh_sizing.specs.Demands.{demand_of};
 ghost use Rattle.mh_sizing.specs.Runs.{most_of};
 
 use crate::classes::ClassCounts;
+use crate::demand::Demand;
 use crate::kinds::Kinds;
 use mh_classes::parts::{Parts, parts};
 use mh_model::birth::LIFE;
@@ -33,13 +34,13 @@ pub(crate) fn parts_asked(rules: Rules, command: &Command) -> Option<Parts>
     parts(rules, references, numbers)
 }
 
-/// What a run has made: in the running interval by class, the most of those that have ended, and what these open together.
+/// What a run has made: in the running interval by class, the most of those that have ended, and what these take together.
 #[derive(Drop)]
 pub(crate) struct Asked {
     running: ClassCounts,
     parts: u64,
     pages: u64,
-    demand: u64,
+    demand: Demand,
 }
 
 impl Asked {
@@ -52,7 +53,7 @@ impl Asked {
             running: ClassCounts::new(),
             parts: 0,
             pages: 0,
-            demand: 0,
+            demand: Demand::new(),
         }
     }
 
@@ -79,10 +80,9 @@ impl Asked {
     pub(crate) fn end_interval(&mut self)
         ensures { (all running : List Part) (ended : List (List Part)) → HasAsked self.old all running ended → HasAsked self.new all [] (ended ++ running ∷ []) }
     {
-        let pages = self.running.pages();
         self.parts = self.parts.max(self.running.total());
-        self.pages = self.pages.max(pages);
-        self.demand = self.demand.saturating_add(pages);
+        self.pages = self.pages.max(self.running.pages());
+        self.demand.add(&self.running);
         self.running.clear();
     }
 
@@ -100,11 +100,13 @@ impl Asked {
         self.pages.max(self.running.pages())
     }
 
-    /// The pages that all intervals open together, and 2^64 - 1 if they are more.
+    /// The pages that the run takes at most, or some number from 2^63 on if they are so many.
     pub(crate) fn demand(&self) -> u64
-        ensures { (all running : List Part) (ended : List (List Part)) → HasAsked self.now all running ended → result ≡ min (sum_by pages_of_parts (ended ++ running ∷ [])) (2 ^ 64 - 1) }
+        ensures { (all running : List Part) (ended : List (List Part)) → HasAsked self.now all running ended → min result (2 ^ 63) ≡ min (demand_of (ended ++ running ∷ [])) (2 ^ 63) }
     {
-        self.demand.saturating_add(self.running.pages())
+        let mut demand = self.demand;
+        demand.add(&self.running);
+        demand.pages()
     }
 
     /// The most units that a cycle spends on a page after marking.

@@ -11,7 +11,7 @@ use mh_classes::class::{CLASSES, Class};
 use mh_classes::parts::Parts;
 
 /// The class of this number.
-fn class_at(number: usize) -> Class
+pub(crate) fn class_at(number: usize) -> Class
     requires { number < 20 }
     ensures { result ≡ get_or class_sizes number 0 }
 {
@@ -45,6 +45,14 @@ impl ClassCounts {
         ensures { result ≡ self.now.total }
     {
         self.total
+    }
+
+    /// How many parts of the class of this number the interval has asked for.
+    pub(crate) fn count(&self, number: usize) -> u64
+        requires { number < 20 }
+        ensures { result ≡ get_or self.now.counts number 0 }
+    {
+        self.counts[number]
     }
 
     /// Counts a part of a class.

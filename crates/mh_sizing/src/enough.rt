@@ -48,7 +48,7 @@ pub fn pages_needed(profile: &Profile, quanta: u64) -> u128
     pages.min(enough_shared_pages(&profile.needs, &profile.kinds, quanta))
 }
 
-/// Whether so many pages are as many as all intervals open together.
+/// Whether so many pages are as many as the demand.
 pub(crate) fn meets_demand(profile: &Profile, pages: u32) -> bool
     ensures value { result ≡ meets_demand profile.now.demand pages }
     ensures met { IsTrue result ↔ IsSomeAnd profile.now.demand (λ demand. demand ≤ pages) }

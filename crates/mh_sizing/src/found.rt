@@ -16,7 +16,7 @@ use mh_model::limits::MOST_PAGES;
 /// The law by which a heap is enough.
 #[derive(Clone, Copy, Debug, PartialEq, Eq)]
 pub enum Law {
-    /// Its pages are as many as all intervals open together.
+    /// Its pages are as many as the demand, by class.
     Demand,
     /// Each new part may keep a page.
     Easy,

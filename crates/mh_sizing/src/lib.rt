@@ -5,7 +5,7 @@
 //!
 //! Two numbers of pages are enough for cycles: that of the law by which each new part may keep a page (`needs`), and
 //! that of the law by which small new parts share pages (`shared`). The lesser of them is enough, and neither is always
-//! the lesser. So are pages for all that the intervals of a run open together, whatever its cycles. `enough` says
+//! the lesser. So are pages for the demand of a run, by class, whatever its cycles. `enough` says
 //! whether a configuration is enough by any of these, and `found` searches for the fewest pages. The laws of this crate
 //! say of such numbers what those of `mh_sizing_laws` say of any.
 #![tactic(auto)]
@@ -20,6 +20,7 @@ pub mod counted;
 mod counts;
 mod cuts;
 pub mod cycles;
+mod demand;
 pub mod enough;
 pub mod found;
 pub mod kinds;

@@ -1,5 +1,5 @@
 //! What sessions ask of a heap. The classes of their parts stand beside their needs, since the law by which small
-//! parts share pages asks for these too. So does what their intervals open together, for the law that asks for no more.
+//! parts share pages asks for these too. So does their demand, for the law that asks for no more.
 ghost use Rattle.std.specs.Prelude.{IfOk, IfSome, IsNone};
 ghost use Rattle.mh_model.specs.declared.needs.Needs.{Needs};
 ghost use Rattle.mh_sizing_laws.specs.Made.{MakeNoMore};

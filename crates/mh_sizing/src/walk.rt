@@ -5,7 +5,7 @@
 //! that it makes, and the most pages that these open. By the classes that occur it finds what a page costs a cycle.
 //! None are given exactly if a number has more than 32 bits: no heap of 4,096 pages is enough for such needs.
 //! `Walk::kinds` says how many classes occur, and the fewest slots of their pages, and `Walk::demand` how many pages
-//! all intervals open together.
+//! they take at most, all together.
 //!
 //! A command that the world refuses makes nothing, and counts nothing. Only a command may be refused memory, since the
 //! walk logs what it overwrites. A walk that is refused memory is as it was, but for names in its log that do no harm.

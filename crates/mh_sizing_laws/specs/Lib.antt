@@ -6,5 +6,7 @@ pub mod Reached
 pub mod Made
 pub mod Needs
 pub mod Filling
+pub mod Anchors
 pub mod SharpPages
 pub mod SharpNeeds
+pub mod Startup

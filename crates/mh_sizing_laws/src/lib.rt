@@ -10,4 +10,5 @@ pub mod pages_left;
 pub mod reached;
 pub mod sharp_needs;
 pub mod sharp_pages;
+pub mod startup;
 pub mod triggers;

@@ -15,11 +15,11 @@ unfoldable worked : ℕ
 unfolding heap_step
 worked = 0
 
-abbrev a : Command → Event
+abbrev pub a : Command → Event
 a command = event.Session 0 command
 
 -- objects of one block of 64 words
-abbrev wide : ℕ → List Event
+abbrev pub wide : ℕ → List Event
 wide zero = []
 wide (suc count) = a (New 0 0 60) ∷ wide count
 
@@ -32,7 +32,7 @@ abbrev by_object : Option Config → List Event → List ℕ
 by_object None events = []
 by_object (Some config) events = map length (objects_made config events)
 
--- the pages that intervals open together, and those that all their parts would fill
+-- the pages that a run takes at most, and those that all its parts would fill
 abbrev together : Option Config → List Event → List ℕ
 together None events = []
 together (Some config) events = demand config events ∷ pages_of_parts (parts_made config events) ∷ []
@@ -78,13 +78,14 @@ pub most_in_an_interval : by_interval (configured 9 1000 1 3) (wide 2 ++ a (New 
 unfolding worked
 most_in_an_interval = refl
 
--- five blocks that fill two pages open five in as many intervals
--- refuses: what all parts would fill
-pub one_by_one : together (configured 5 1000 1 1) (wide 5) ≡ 5 ∷ 2 ∷ []
+-- six blocks that fill two pages open six in as many intervals, but three by the births of their class
+-- refuses: what all parts would fill; what the intervals open together; a page more for each part of the first page
+pub one_by_one : together (configured 5 1000 1 1) (wide 6) ≡ 3 ∷ 2 ∷ []
 unfolding worked
 one_by_one = refl
 
 -- and two in one
-pub at_once : together (configured 5 1000 1 8) (wide 5) ≡ 2 ∷ 2 ∷ []
+-- refuses: what the births of a class open, whatever its intervals do
+pub at_once : together (configured 5 1000 1 8) (wide 7) ≡ 2 ∷ 2 ∷ []
 unfolding worked
 at_once = refl

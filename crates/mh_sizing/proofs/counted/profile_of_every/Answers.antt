@@ -1,8 +1,6 @@
-use Rattle.std.proofs.Common.{◌≡◌, ℕ, ◌≤◌, None, sym, ap₂, subst, arith, refl}
-use Rattle.mh_model.specs.declared.needs.Needs.{Needs}
+use Rattle.std.proofs.Common.{ℕ, ◌≤◌, sym, subst, arith, refl}
 use Rattle.mh_sizing.specs.Openings.{least_slots}
 use Rattle.mh_sizing.specs.Sized.{KeepToProfile}
-use Rattle.mh_sizing.specs.declared.kinds.Kinds.{Kinds}
 use Rattle.mh_sizing.specs.declared.profile.Profile.{Profile}
 use Rattle.mh_sizing.specs.Counted.{profile_of_every}
 use Rattle.mh_sizing.proofs.EveryLemmas.{every-keeps}

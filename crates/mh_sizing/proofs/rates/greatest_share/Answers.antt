@@ -1,4 +1,4 @@
-use Rattle.std.proofs.Common.{◌≡◌, ◌<◌, ◌≤◌, Option, Some, None, MatchOption, is_some, true, sym, ◌∙◌, arith}
+use Rattle.std.proofs.Common.{◌≡◌, Option, Some, None, MatchOption, is_some, true, sym, ◌∙◌, arith}
 use Rattle.std.proofs.lemmas.Bool.{false≢true}
 use Rattle.mh_model.specs.declared.config.Config.{Config}
 use Rattle.mh_sizing.specs.Choices.{HasNone}
