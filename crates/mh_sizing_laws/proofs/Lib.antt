@@ -1,2 +1,3 @@
 pub mod Sums
 pub mod Weighing
+pub mod anchors

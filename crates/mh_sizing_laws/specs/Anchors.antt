@@ -1,6 +1,8 @@
 -- Pages that stay in use, since objects that stay have blocks in more than a quarter of their slots. No sweep flags them, and none of these blocks moves.
-use Rattle.std.specs.Prelude.{ℕ, ◌*◌, nat_lt, Bool, if◌then◌else◌, Option, Some, None, length}
+use Rattle.std.specs.Prelude.{◌≡◌, ℕ, ◌*◌, nat_lt, Bool, true, if◌then◌else◌, Option, Some, None, length}
 use Rattle.std.specs.List.{sum_by}
+use Rattle.mh_model.specs.World.{World}
+use Rattle.mh_model.specs.Paths.{Reachable}
 use Rattle.mh_model.specs.LiveParts.{slot_count}
 use Rattle.mh_model.specs.Pages.{Page, Table}
 use Rattle.mh_model.specs.Table.{Block}
@@ -30,3 +32,9 @@ anchored stays table = sum_by (anchor_count stays) table
 -- how many blocks that stay these have
 abbrev pub staying : (ℕ → Bool) → Table Block → ℕ
 staying stays table = sum_by (anchor_blocks stays) table
+
+-- Runs ------------------------------------------------------------------------------------------
+
+-- a world reaches the objects that stay
+abbrev pub ReachesThoseThatStay : (ℕ → Bool) → World → Type 0
+ReachesThoseThatStay stays world = (birth : ℕ) → stays birth ≡ true → Reachable world birth

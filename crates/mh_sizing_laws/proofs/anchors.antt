@@ -1,0 +1,4 @@
+pub mod GrownPages
+pub mod AnchoredPages
+pub mod AnchoredCounts
+pub mod AnchoredQuanta
