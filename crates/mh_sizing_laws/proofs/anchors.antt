@@ -2,3 +2,4 @@ pub mod GrownPages
 pub mod AnchoredPages
 pub mod AnchoredCounts
 pub mod AnchoredQuanta
+pub mod FreshHeaps

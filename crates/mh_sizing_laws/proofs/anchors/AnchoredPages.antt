@@ -29,7 +29,7 @@ survivor-kept cycle block stamp live = rw (live, eq-eqb block.stamp cycle stamp)
 
 module _ (stays : ℕ → Bool) where
   -- a slot has a block of an object that stays, which is no forwarder
-  abbrev IsStaying : Option Block → Type 0
+  abbrev pub IsStaying : Option Block → Type 0
   IsStaying None = ⊥
   IsStaying (Some block) = (stays block.birth ≡ true) × (block.forward ≡ None)
 

@@ -144,7 +144,7 @@ module _ (table : Table Block) (place : ℕ) (slots : HaveTheirSlots table) (bef
 
 -- The end of the sweep ---------------------------------------------------------------------------
 
-live-some : (slots : List (Option Block)) → 0 < block_count slots → (slot : ℕ) × (block : Block) × (get_or slots slot None ≡ Some block)
+pub live-some : (slots : List (Option Block)) → 0 < block_count slots → (slot : ℕ) × (block : Block) × (get_or slots slot None ≡ Some block)
 live-some [] some = absurd (omega (arith, some))
 live-some (None ∷ slots) some = let (slot, block, is) = live-some slots some in (suc slot, block, is)
 live-some (Some block ∷ slots) some = (0, block, refl)
