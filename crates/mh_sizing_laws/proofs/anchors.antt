@@ -3,3 +3,5 @@ pub mod AnchoredPages
 pub mod AnchoredCounts
 pub mod AnchoredQuanta
 pub mod FreshHeaps
+pub mod JoinedRuns
+pub mod AnchoredMoments
