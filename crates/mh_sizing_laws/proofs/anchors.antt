@@ -5,3 +5,4 @@ pub mod AnchoredQuanta
 pub mod FreshHeaps
 pub mod JoinedRuns
 pub mod AnchoredMoments
+pub mod AnchoredRuns

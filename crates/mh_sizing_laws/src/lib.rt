@@ -2,6 +2,7 @@
 //! Each is what a function with nothing to do ensures. They speak of the machine of the model, and not yet of code.
 #![tactic(auto)]
 
+pub mod anchors;
 pub mod cycles;
 pub mod filling;
 pub mod needs;

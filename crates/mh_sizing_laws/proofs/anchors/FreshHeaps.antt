@@ -125,7 +125,7 @@ by_quantum machine is = record {
 by_asking : (machine : Machine) → IsFreshAtFirst machine → IsFreshAtFirst (with_collector machine (record (machine.heap.collector) { is_asked = true }))
 by_asking machine is = record { slots = is.slots; fresh = λ none. let fresh = is.fresh none in record { idle = fresh.idle; unflagged = fresh.unflagged; original = fresh.original; blocks = fresh.blocks } }
 
-first-fresh : (config : Config) → IsFreshAtFirst (first_machine config)
+pub first-fresh : (config : Config) → IsFreshAtFirst (first_machine config)
 unfolding machine_after
 first-fresh config = record {
   slots = (machine_after-pages config []).slots;

@@ -165,7 +165,7 @@ module _ (P : World → Type 0) where
           subst P (sym (next-snapshot moment event ∙ ap (λ b. if b then snapshot_at (half_moment moment event) else moment.snapshot) quiet)) (old (sym half-idle ∙ sym (ap is_idle (quiet-event moment.machine event quiet).phase) ∙ still))
     ]
 
-idle-quiet : (phase : Phase) → is_idle phase ≡ true → in_sweep phase ≡ false
+pub idle-quiet : (phase : Phase) → is_idle phase ≡ true → in_sweep phase ≡ false
 idle-quiet Idle idle = refl
 idle-quiet Roots idle = refl
 idle-quiet Mark idle = refl
