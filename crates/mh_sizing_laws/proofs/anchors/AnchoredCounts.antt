@@ -1,9 +1,9 @@
 -- Anchored pages counted: after the sweep each other page in use has a block that is no forwarder, and each of these has its blocks that stay.
-use Rattle.std.proofs.Common.{◌≡◌, ℕ, suc, ◌+◌, ◌<◌, ◌≤◌, Bool, true, false, if◌then◌else◌, Option, Some, None, List, [], ◌∷◌, length, refl, arith}
+use Rattle.std.proofs.Common.{◌≡◌, ℕ, suc, ◌+◌, ◌≤◌, Bool, true, false, if◌then◌else◌, Option, Some, None, [], ◌∷◌, length, refl, arith}
 use Rattle.std.proofs.lemmas.List.Sums.{sum_by-cons}
-use Rattle.mh_model.specs.Pages.{Page, Table, page_at, free_pages}
+use Rattle.mh_model.specs.Pages.{Page, Table, page_at}
 use Rattle.mh_model.specs.Table.{Block}
-use Rattle.mh_model.specs.LiveParts.{page_count, count_blocks, is_plain}
+use Rattle.mh_model.specs.LiveParts.{page_count, is_plain}
 use Rattle.mh_sizing_laws.specs.Anchors.{staying_in, is_anchored, anchor_count, anchor_blocks, anchored, staying}
 use Rattle.mh_sizing_laws.proofs.openings.Rooms.{if_free}
 use Rattle.mh_sizing_laws.proofs.pages_left.SweptPages.{HavePlain, IsUsedBeside}

@@ -1,17 +1,16 @@
 -- Moments of a run whose worlds reach the objects that stay: the anchored pages stand at each of them.
-use Rattle.std.proofs.Common.{◌≡◌, inl, inr, ℕ, Bool, true, false, List, [], ◌∷◌, ◌++◌, refl, sym, ap, ◌∙◌, subst}
+use Rattle.std.proofs.Common.{inl, inr, ℕ, Bool, List, [], ◌∷◌, ◌++◌, sym, ap, ◌∙◌, subst}
 use Rattle.std.specs.List.{AllByRecursion}
 use Rattle.std.proofs.lemmas.Bool.{cases_Bool}
 use Rattle.mh_model.specs.declared.command.Event.{Event}
 use Rattle.mh_model.specs.declared.command.Event.TheVariants as event
-use Rattle.mh_model.specs.Collector.{Collector, is_idle, quantum}
+use Rattle.mh_model.specs.Collector.{Collector, is_idle}
 use Rattle.mh_model.specs.LiveParts.{worlds}
 use Rattle.mh_model.specs.Machine.{Machine, command_step, half_step, event_step}
 use Rattle.mh_model.specs.Mutator.{HeapState, mutator_step}
 use Rattle.mh_model.specs.Pages.{Table, HaveTheirSlots}
 use Rattle.mh_model.specs.Snapshot.{Moment, half_moment, next_moment, moment_after, has_quantum}
 use Rattle.mh_model.specs.Table.{Block}
-use Rattle.mh_model.specs.World.{World}
 use Rattle.mh_run_laws.specs.BesideTheWorld.{IsFaithful}
 use Rattle.mh_laws.proofs.commands.LeftUnchanged.{mutator_step-course, event-keeps}
 use Rattle.mh_sizing_laws.specs.Anchors.{anchored, staying, ReachesThoseThatStay}

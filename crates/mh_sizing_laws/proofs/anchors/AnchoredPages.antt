@@ -1,14 +1,14 @@
 -- Pages that are anchored stay as they are: in use, unflagged, and with the blocks of objects that stay. The sweep finds these marked, and more than a quarter of the slots are theirs, so it flags none of these pages.
 -- Defragmentation moves blocks of flagged pages alone.
-use Rattle.std.proofs.Common.{◌≡◌, inl, inr, ℕ, suc, ◌+◌, ◌*◌, ◌==◌, ◌<◌, ◌≤◌, nat_lt, nat_le, Bool, true, false, ◌&&◌, if◌then◌else◌, Option, Some, None, option_map, option_and_then, List, [], ◌∷◌, length, get_or, set, refl, sym, ap, ◌∙◌, subst, arith, eq-eqb}
+use Rattle.std.proofs.Common.{◌≡◌, inl, inr, ℕ, ◌*◌, ◌==◌, ◌<◌, ◌≤◌, nat_le, Bool, true, false, ◌&&◌, if◌then◌else◌, Option, Some, None, option_and_then, List, [], ◌∷◌, length, get_or, set, refl, sym, ap, ◌∙◌, subst, arith, eq-eqb}
 use Rattle.std.specs.List.{sum_by}
-use Rattle.std.proofs.lemmas.Bool.{cases_eq, cases_Bool, true≢false, ltb-true, leb-true, eqb-true}
+use Rattle.std.proofs.lemmas.Bool.{cases_eq, true≢false, ltb-true, leb-true, eqb-true}
 use Rattle.std.proofs.lemmas.List.{get_or-set_same, get_or-set_other, length-set}
 use Rattle.std.proofs.lemmas.List.Sums.{sum_by-cons}
 use Rattle.std.proofs.lemmas.Option.{none-some, same_Some}
-use Rattle.mh_model.specs.Pages.{Page, Table, page_number, slot_number, page_at, block_in, block_at, block_count, live_in, has_denser, page_with, with_block, with_taken, HaveTheirSlots, IsFreeFor}
+use Rattle.mh_model.specs.Pages.{Page, Table, page_number, slot_number, page_at, block_in, block_at, block_count, live_in, has_denser, page_with, with_taken, IsFreeFor}
 use Rattle.mh_model.specs.Table.{Block}
-use Rattle.mh_model.specs.Collector.{Collector, is_last_slot, survivor, judged_page, swept_page, swept_table, Move, next_move, moved_table}
+use Rattle.mh_model.specs.Collector.{is_last_slot, survivor, judged_page, swept_page, swept_table, Move, next_move, moved_table}
 use Rattle.mh_model.specs.LiveParts.{slot_count, page_count, is_plain}
 use Rattle.mh_table_laws.proofs.Lists.{below_length}
 use Rattle.mh_laws.proofs.moving.NextMove.{IsNextMove, next_move-is}
@@ -179,9 +179,11 @@ module _ (stays : ℕ → Bool) where
 
   -- A move puts a block into an empty slot, and leaves a forwarder in a flagged page
   pub anchors-moved : (first table : Table Block) (place : ℕ) (move : Move) → next_move table place ≡ Some move → IsFreeFor table move.class_size move.target → AnchorsStand first table → AnchorsStand first (moved_table table place move)
-  anchors-moved first table place move e free is = record { pages = λ number page at anchored.
-      subst (Stands page) (sym (get_or-set_other taken (page_number place) number _ None (apart number page (is.pages number page at anchored))))
-      ((anchors-grow first table taken (grows-taken table move.class_size move.target move.block free from.live) is).pages number page at anchored) }
+  anchors-moved first table place move e free is = record {
+    pages = λ number page at anchored.
+        subst (Stands page) (sym (get_or-set_other taken (page_number place) number _ None (apart number page (is.pages number page at anchored))))
+        ((anchors-grow first table taken (grows-taken table move.class_size move.target move.block free from.live) is).pages number page at anchored);
+  }
     where
       from : IsNextMove table place move
       from = next_move-is table place move e

@@ -1,12 +1,12 @@
 -- Runs after a startup: each cycle leaves in use its anchored pages, and a page for each other block that is no forwarder. So pages for the anchored ones, for the other live parts and for what intervals ask for suffice.
-use Rattle.std.proofs.Common.{◌≡◌, ℕ, ◌+◌, ◌*◌, ◌<◌, ◌≤◌, Bool, true, false, List, [], ◌∷◌, ◌++◌, length, refl, sym, ap, ◌∙◌, subst, arith}
+use Rattle.std.proofs.Common.{◌≡◌, ℕ, ◌+◌, ◌*◌, ◌<◌, ◌≤◌, Bool, true, false, List, [], ◌∷◌, ◌++◌, length, refl, sym, ◌∙◌, subst, arith}
 use Rattle.std.specs.List.{AllByRecursion}
 use Rattle.std.proofs.lemmas.Bool.{true≢false}
 use Rattle.std.proofs.lemmas.List.{append_assoc}
 use Rattle.mh_model.specs.declared.command.Event.{Event}
 use Rattle.mh_model.specs.declared.config.Config.{Config}
 use Rattle.mh_model.specs.Collector.{is_idle}
-use Rattle.mh_model.specs.Intervals.{moments, has_ended, cycle_ends, LeaveFlagged, CyclesTakeAtMost}
+use Rattle.mh_model.specs.Intervals.{moments, has_ended, cycle_ends, LeaveFlagged}
 use Rattle.mh_model.specs.LiveParts.{HasAtMostLive, parts_since, worlds, count_blocks, is_plain}
 use Rattle.mh_model.specs.Machine.{Machine, first_machine, machine_after, machine_replies}
 use Rattle.mh_model.specs.Mutator.{HeapState}
@@ -104,7 +104,7 @@ module _ (config : Config) (start rest : List Event) (stays : ℕ → Bool) (sta
       let next : Moment = next_moment before event in
       let plain : count_blocks is_plain next.machine.heap.collector.table ≤ most + staying stays table + parts_since next.snapshot next.world =
       subst (λ m. has_ended m.machine.heap.collector (next_moment m event).machine.heap.collector ≡ true → HasAtMostLive (most + staying stays table) (next_moment m event).snapshot
-          → count_blocks is_plain (next_moment m event).machine.heap.collector.table ≤ most + staying stays table + parts_since (next_moment m event).snapshot (next_moment m event).world)
+      → count_blocks is_plain (next_moment m event).machine.heap.collector.table ≤ most + staying stays table + parts_since (next_moment m event).snapshot (next_moment m event).world)
       (moment-append start done (first_moment config)) (finished-plain config (start ++ done) event (most + staying stays table)) ended live in
       let stand : IsStanding stays table next =
       subst (IsStanding stays table) (moment-push done from event)

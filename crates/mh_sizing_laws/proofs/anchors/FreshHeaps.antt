@@ -1,6 +1,6 @@
 -- Heaps in which no cycle has begun: none runs, no page is flagged, no block is a forwarder, and each page in use has a block.
 -- So a start in which none begins puts nothing into a flagged page and ends no cycle.
-use Rattle.std.proofs.Common.{◌≡◌, inl, inr, ℕ, suc, ◌+◌, ◌==◌, ◌≤◌, nat_lt, not, Bool, true, false, ◌&&◌, ◌||◌, if◌then◌else◌, Option, Some, None, option_map, unwrap_or, List, [], ◌∷◌, ◌++◌, get_or, refl, sym, ap, ◌∙◌, subst, arith}
+use Rattle.std.proofs.Common.{◌≡◌, inl, inr, ℕ, ◌≤◌, nat_lt, not, Bool, true, false, ◌&&◌, ◌||◌, if◌then◌else◌, Option, Some, None, option_map, unwrap_or, List, [], ◌∷◌, ◌++◌, get_or, refl, sym, ap, ◌∙◌, subst, arith}
 use Rattle.std.specs.List.{AllByRecursion}
 use Rattle.std.proofs.lemmas.Bool.{true≢false, false≢true}
 use Rattle.std.proofs.lemmas.List.Sums.{get_or-le-sum_by}
@@ -10,12 +10,11 @@ use Rattle.mh_model.specs.declared.command.Event.{Event}
 use Rattle.mh_model.specs.declared.config.Config.{Config}
 use Rattle.mh_model.specs.Collector.{Collector, is_idle, cycle_start, steps, quantum}
 use Rattle.mh_model.specs.Intervals.{has_ended, cycle_ends, LeaveFlagged}
-use Rattle.mh_model.specs.LiveParts.{slot_count, page_count, is_plain}
-use Rattle.mh_model.specs.Machine.{Machine, first_machine, with_collector, quantum_run, command_step, half_step, event_step, machine_after, machine_replies}
+use Rattle.mh_model.specs.LiveParts.{slot_count, is_plain}
+use Rattle.mh_model.specs.Machine.{Machine, first_machine, with_collector, quantum_run, command_step, half_step, event_step, machine_after}
 use Rattle.mh_model.specs.Mutator.{mutator_step}
 use Rattle.mh_model.specs.Openings.{LeavesFlagged}
 use Rattle.mh_model.specs.Pages.{Page, Table, page_at, flag_at, HaveTheirSlots}
-use Rattle.mh_model.specs.Snapshot.{is_heap_full}
 use Rattle.mh_model.specs.Table.{Block}
 use Rattle.mh_table_laws.proofs.Lists.{below_length, none_at}
 use Rattle.mh_laws.proofs.bounds.CycleBounds.{steps-count, quantum-number}

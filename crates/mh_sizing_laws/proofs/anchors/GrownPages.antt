@@ -1,5 +1,5 @@
 -- What marking, barriers and commands leave of pages: each in use stays so with its flag and its blocks, and what is added is flagged nowhere and is no forwarder.
-use Rattle.std.proofs.Common.{◌≡◌, inl, inr, ℕ, ◌<◌, Bool, false, Option, Some, None, option_map, option_and_then, List, [], length, get_or, set, replicate, refl, sym, ap, ◌∙◌, subst}
+use Rattle.std.proofs.Common.{◌≡◌, inl, inr, ℕ, ◌<◌, Bool, false, Option, Some, None, option_map, option_and_then, List, [], length, get_or, set, refl, sym, ap, ◌∙◌, subst}
 use Rattle.std.proofs.lemmas.Bool.{cases_eq}
 use Rattle.std.proofs.lemmas.List.{get_or-set_same, get_or-set_other, length-set}
 use Rattle.std.proofs.lemmas.Option.{none-some, same_Some}
