@@ -4,5 +4,6 @@ pub mod AnchoredCounts
 pub mod AnchoredQuanta
 pub mod FreshHeaps
 pub mod JoinedRuns
+pub mod StartedRuns
 pub mod AnchoredMoments
 pub mod AnchoredRuns

@@ -1,17 +1,20 @@
 -- Pages that stay in use, since objects that stay have blocks in more than a quarter of their slots. No sweep flags them, and none of these blocks moves.
-use Rattle.std.specs.Prelude.{◌≡◌, ℕ, ◌+◌, ◌*◌, ◌≤◌, nat_lt, Bool, true, false, if◌then◌else◌, Option, Some, None, length, List, [], ◌++◌}
-use Rattle.std.specs.List.{AllByRecursion, sum_by}
+use Rattle.std.specs.Prelude.{◌≡◌, ℕ, ◌+◌, ◌*◌, ◌<◌, ◌≤◌, nat_lt, Bool, true, false, if◌then◌else◌, Option, Some, None, length, List, [], ◌++◌}
+use Rattle.std.specs.List.{AllByRecursion, flat_map, sum_by}
 use Rattle.mh_model.specs.declared.command.Event.{Event}
 use Rattle.mh_model.specs.declared.config.Config.{Config}
 use Rattle.mh_model.specs.World.{World}
+use Rattle.mh_model.specs.Bound.{most_quanta}
 use Rattle.mh_model.specs.Paths.{Reachable}
 use Rattle.mh_model.specs.Pages.{Page, Table, free_pages}
 use Rattle.mh_model.specs.Table.{Block}
 use Rattle.mh_model.specs.Machine.{first_machine, machine_replies}
 use Rattle.mh_model.specs.Snapshot.{Moment, first_moment, moment_after, is_heap_full}
-use Rattle.mh_model.specs.Openings.{asked_count, opens_at_most, free_of}
+use Rattle.mh_model.specs.Openings.{asked_parts, asked_count, opens_at_most, free_of}
 use Rattle.mh_model.specs.Intervals.{intervals, cycle_ends, CyclesTakeAtMost, IsNeverFull}
+use Rattle.mh_model.specs.CycleUnits.{CyclesReachAtMost, quanta_for}
 use Rattle.mh_model.specs.LiveParts.{HasAtMostLive, worlds, slot_count}
+use Rattle.mh_model.specs.Limits.{quantum_overhead}
 
 -- how many slots of a page have blocks of objects that stay, which are known by their births
 abbrev pub staying_in : (ℕ → Bool) → Page Block → ℕ
@@ -83,3 +86,16 @@ pub record LeavesRoom (config : Config) (events : List Event) (room : ℕ) : Typ
 abbrev pub AnchoredPagesSuffice : Type 0
 AnchoredPagesSuffice = (config : Config) (start rest : List Event) (stays : ℕ → Bool) (quanta opened asked most : ℕ) → 1 ≤ quanta → CyclesTakeAtMost quanta config (start ++ rest) → IsStartup config start rest stays → HasPagesBesideAnchors config start rest stays quanta opened asked most
     → LeavesRoom config (start ++ rest) (quanta * opened)
+
+-- The same with the bound of a cycle in quanta for N, whatever its cycles take
+abbrev pub AnchoredPagesForTheBoundSuffice : Type 0
+AnchoredPagesForTheBoundSuffice = (config : Config) (start rest : List Event) (stays : ℕ → Bool) (opened asked most : ℕ) → IsStartup config start rest stays → HasPagesBesideAnchors config start rest stays (most_quanta config) opened asked most → LeavesRoom config (start ++ rest) (most_quanta config * opened)
+
+-- The same with the quanta of cycles whose snapshots reach little: let marking the objects that the snapshot of each cycle reaches, each counted once,
+-- cost at most M, let quanta have at least 353 units, and let N be `(288 + M + (S + D) * pages) / (quantum - 352) + 1`. And no cycle takes more than N
+-- quanta. S is what the sweep spends on a page of the classes that occur, and D what defragmentation does: at most 64 and 128
+abbrev pub AnchoredPagesForReachedSuffice : Type 0
+AnchoredPagesForReachedSuffice = (config : Config) (start rest : List Event) (stays : ℕ → Bool) (marked opened asked most : ℕ) →
+    let quanta = quanta_for config marked (flat_map (asked_parts config) (start ++ rest)) in
+    quantum_overhead < config.quantum → CyclesReachAtMost marked config (start ++ rest) → IsStartup config start rest stays → HasPagesBesideAnchors config start rest stays quanta opened asked most
+    → CyclesTakeAtMost quanta config (start ++ rest) × LeavesRoom config (start ++ rest) (quanta * opened)

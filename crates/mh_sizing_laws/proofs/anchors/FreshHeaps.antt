@@ -1,6 +1,6 @@
 -- Heaps in which no cycle has begun: none runs, no page is flagged, no block is a forwarder, and each page in use has a block.
 -- So a start in which none begins puts nothing into a flagged page and ends no cycle.
-use Rattle.std.proofs.Common.{◌≡◌, inl, inr, ℕ, ◌≤◌, nat_lt, not, Bool, true, false, ◌&&◌, ◌||◌, if◌then◌else◌, Option, Some, None, option_map, unwrap_or, List, [], ◌∷◌, ◌++◌, get_or, refl, sym, ap, ◌∙◌, subst, arith}
+use Rattle.std.proofs.Common.{◌≡◌, inl, inr, ℕ, ◌<◌, ◌≤◌, nat_lt, not, Bool, true, false, ◌&&◌, ◌||◌, if◌then◌else◌, Option, Some, None, option_map, unwrap_or, List, [], ◌∷◌, ◌++◌, get_or, refl, sym, ap, ◌∙◌, subst, arith}
 use Rattle.std.specs.List.{AllByRecursion}
 use Rattle.std.proofs.lemmas.Bool.{true≢false, false≢true}
 use Rattle.std.proofs.lemmas.List.Sums.{get_or-le-sum_by}
@@ -9,7 +9,7 @@ use Rattle.mh_model.specs.declared.command.Command.{Command}
 use Rattle.mh_model.specs.declared.command.Event.{Event}
 use Rattle.mh_model.specs.declared.config.Config.{Config}
 use Rattle.mh_model.specs.Collector.{Collector, is_idle, cycle_start, steps, quantum}
-use Rattle.mh_model.specs.Intervals.{has_ended, cycle_ends, LeaveFlagged}
+use Rattle.mh_model.specs.Intervals.{moments, has_ended, cycle_ends, LeaveFlagged}
 use Rattle.mh_model.specs.LiveParts.{slot_count, is_plain}
 use Rattle.mh_model.specs.Machine.{Machine, first_machine, with_collector, quantum_run, command_step, half_step, event_step, machine_after}
 use Rattle.mh_model.specs.Mutator.{mutator_step}
@@ -161,6 +161,10 @@ cycles-grow events machine =
     let count : ℕ = machine.heap.collector.cycle in
     machine_after-keeps (HasBegun count) (begun_by_command count) (begun_by_quantum count) (λ m more. more) events machine (omega arith)
 
+-- a cycle that runs has had fewer quanta than this
+abbrev pub HasHadFewer : ℕ → Machine → Type 0
+HasHadFewer quanta machine = is_idle machine.heap.collector.phase ≡ false → machine.heap.collector.quanta < quanta
+
 -- Let no cycle begin in a start
 module _ (rest : List Event) where
   abbrev NoneBegins : Machine → List Event → Type 0
@@ -201,3 +205,8 @@ module _ (rest : List Event) where
       same : has_ended machine.heap.collector next.heap.collector ≡ false
       same = by_tests (is_idle next.heap.collector.phase) (is_idle machine.heap.collector.phase) (nat_lt machine.heap.collector.cycle next.heap.collector.cycle) (is.fresh old_none).idle
           (not_less machine.heap.collector.cycle next.heap.collector.cycle old_none (none-now start next none))
+  pub moments-joined : (quanta : ℕ) (start : List Event) (machine : Machine) → IsFreshAtFirst machine → NoneBegins machine start → AllByRecursion (HasHadFewer quanta) (moments (machine_after machine start) rest) → AllByRecursion (HasHadFewer quanta) (moments machine (start ++ rest))
+  unfolding machine_after
+  moments-joined quanta [] machine is none later = later
+  moments-joined quanta (event ∷ start) machine is none later =
+      (λ runs. absurd (true≢false (sym (is.fresh (none-now (event ∷ start) machine none)).idle ∙ runs)), moments-joined quanta start (event_step machine event).state (next-fresh machine event is) none later)
