@@ -7,3 +7,4 @@ pub mod JoinedRuns
 pub mod StartedRuns
 pub mod AnchoredMoments
 pub mod AnchoredRuns
+pub mod MarkedAnchors

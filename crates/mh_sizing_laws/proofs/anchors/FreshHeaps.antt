@@ -205,6 +205,7 @@ module _ (rest : List Event) where
       same : has_ended machine.heap.collector next.heap.collector ≡ false
       same = by_tests (is_idle next.heap.collector.phase) (is_idle machine.heap.collector.phase) (nat_lt machine.heap.collector.cycle next.heap.collector.cycle) (is.fresh old_none).idle
           (not_less machine.heap.collector.cycle next.heap.collector.cycle old_none (none-now start next none))
+
   pub moments-joined : (quanta : ℕ) (start : List Event) (machine : Machine) → IsFreshAtFirst machine → NoneBegins machine start → AllByRecursion (HasHadFewer quanta) (moments (machine_after machine start) rest) → AllByRecursion (HasHadFewer quanta) (moments machine (start ++ rest))
   unfolding machine_after
   moments-joined quanta [] machine is none later = later

@@ -158,7 +158,7 @@ module _ (config : Config) (marked wide dear : ℕ) (large : quantum_overhead < 
   -- Runs -----------------------------------------------------------------------------------------
 
   -- no event from here on is answered by a full heap or puts anything into a flagged page, and no cycle takes more quanta
-  never-full : (opened : ℕ) (events before : List Event) (start : Table Block) (moment : Moment) → most * opened ≤ config.trigger + 1 → IsFaithfulOn moment → IsReady config most opened before start moment.machine → IsWithinReach moment → AskFitting events
+  pub never-full : (opened : ℕ) (events before : List Event) (start : Table Block) (moment : Moment) → most * opened ≤ config.trigger + 1 → IsFaithfulOn moment → IsReady config most opened before start moment.machine → IsWithinReach moment → AskFitting events
       → AllByRecursion (IsShort config most opened) (intervals before moment.machine events) → AllByRecursion (ReachesAtMost marked) (snapshots moment events) → AllByRecursion (LeavesEnough config most opened) (cycle_ends moment.machine events)
       → AllByRecursion (HasHadFewer config most opened) (moments moment.machine events) × AllByRecursion (λ answer. is_heap_full answer ≡ false) (machine_replies moment.machine events) × LeaveFlagged moment.machine events
   unfolding machine_replies next_moment half_moment
