@@ -1,5 +1,6 @@
 pub mod GrownPages
 pub mod AnchoredPages
+pub mod GivenAnchors
 pub mod AnchoredCounts
 pub mod AnchoredQuanta
 pub mod FreshHeaps

@@ -1,5 +1,5 @@
 -- Steps and quanta of a cycle whose snapshot reaches the objects that stay: the anchored pages stand, and pages in use are counted beside them.
-use Rattle.std.proofs.Common.{◌≡◌, inl, inr, ℕ, zero, suc, ◌+◌, ◌-◌, nat_lt, Bool, true, false, ◌||◌, Option, Some, None, length, get_or, refl, sym, ap, ◌∙◌, subst, arith}
+use Rattle.std.proofs.Common.{◌≡◌, inl, inr, ℕ, zero, suc, ◌+◌, ◌-◌, ◌≤◌, nat_lt, Bool, true, false, ◌||◌, Option, Some, None, length, get_or, refl, sym, ap, ◌∙◌, subst, arith}
 use Rattle.std.proofs.lemmas.Bool.{cases_Bool, or_parts}
 use Rattle.std.proofs.lemmas.Option.{same_Some, slice_get_within}
 use Rattle.mh_model.specs.declared.config.Config.{Config}
@@ -16,7 +16,7 @@ use Rattle.mh_model.specs.Table.{Block}
 use Rattle.mh_model.specs.View.{in_sweep, heap_view}
 use Rattle.mh_model.specs.World.{World}
 use Rattle.mh_table_laws.proofs.objects.Headers.{header_is}
-use Rattle.mh_laws.proofs.commands.LeftUnchanged.{collector_step-keeps}
+use Rattle.mh_laws.proofs.commands.LeftUnchanged.{step_in-keeps, collector_step-keeps}
 use Rattle.mh_laws.proofs.costs.Quanta.{steps-stop, steps-go}
 use Rattle.mh_laws.proofs.costs.QuantumStarts.{begins, quantum-rests}
 use Rattle.mh_laws.proofs.snapshots.CycleSteps.{continues-collector_step, snapshot-counted}
@@ -51,31 +51,31 @@ module _ (stays : ℕ → Bool) (first : Table Block) where
   pub record IsAnchoring (c : Collector) : Type 0 where
     pub blocks : HasBlocksBeside (staying stays first) (anchored stays first) c
     pub anchors : AnchorsStand stays first c.table
-    pub size : length c.table ≡ length first
+    pub size : length first ≤ length c.table
 
-  step-stands : (snapshot : World) (n : ℕ) (c : Collector) → KeepsSnapshot snapshot n c → ReachesThoseThatStay stays snapshot → HaveTheirSlots c.table → IsAnchoring c → (phase : Phase) → c.phase ≡ phase → AnchorsStand stays first (step_in phase c).table
-  step-stands snapshot n c keeps reaches slots is Idle phase = is.anchors
-  step-stands snapshot n c keeps reaches slots is Roots phase = anchors-grow stays first c.table _ (with_shade-grows c (get_or c.slots c.cursor None)) is.anchors
-  step-stands snapshot n c keeps reaches slots is Mark phase = anchors-grow stays first c.table _ (mark_first-grows (marking_of c) c.grey) is.anchors
-  step-stands snapshot n c keeps reaches slots is Sweep phase = anchors-swept stays c.cycle c.table c.cursor (staying-marked stays snapshot n c keeps reaches phase) first is.anchors
+  pub step-stands : (snapshot : World) (n : ℕ) (c : Collector) → KeepsSnapshot snapshot n c → ReachesThoseThatStay stays snapshot → HaveTheirSlots c.table → AnchorsStand stays first c.table → (phase : Phase) → c.phase ≡ phase → AnchorsStand stays first (step_in phase c).table
+  step-stands snapshot n c keeps reaches slots is Idle phase = is
+  step-stands snapshot n c keeps reaches slots is Roots phase = anchors-grow stays first c.table _ (with_shade-grows c (get_or c.slots c.cursor None)) is
+  step-stands snapshot n c keeps reaches slots is Mark phase = anchors-grow stays first c.table _ (mark_first-grows (marking_of c) c.grey) is
+  step-stands snapshot n c keeps reaches slots is Sweep phase = anchors-swept stays c.cycle c.table c.cursor (staying-marked stays snapshot n c keeps reaches phase) first is
   step-stands snapshot n c keeps reaches slots is Defrag phase = go (next_move c.table c.cursor) refl
     where
       go : (move : Option Move) → next_move c.table c.cursor ≡ move → AnchorsStand stays first (with_move c move).table
-      go None e = is.anchors
-      go (Some move) e = anchors-moved stays first c.table c.cursor move e (move-free c.table c.cursor move slots e) is.anchors
+      go None e = is
+      go (Some move) e = anchors-moved stays first c.table c.cursor move e (move-free c.table c.cursor move slots e) is
 
-  step-anchoring : (snapshot : World) (n : ℕ) (c : Collector) → KeepsSnapshot snapshot n c → ReachesThoseThatStay stays snapshot → HaveTheirSlots c.table → IsAnchoring c → IsAnchoring (collector_step c)
+  pub step-anchoring : (snapshot : World) (n : ℕ) (c : Collector) → KeepsSnapshot snapshot n c → ReachesThoseThatStay stays snapshot → HaveTheirSlots c.table → IsAnchoring c → IsAnchoring (collector_step c)
   unfolding collector_step
   step-anchoring snapshot n c keeps reaches slots is = record {
     blocks = step-beside (staying stays first) (anchored stays first) c (snapshot, n, keeps) slots ends is.blocks;
-    anchors = subst (AnchorsStand stays first) (sym (table-phase_after c.phase (step_in c.phase c))) (step-stands snapshot n c keeps reaches slots is c.phase refl);
-    size = (collector_step-keeps 0 c).pages ∙ is.size;
+    anchors = subst (AnchorsStand stays first) (sym (table-phase_after c.phase (step_in c.phase c))) (step-stands snapshot n c keeps reaches slots is.anchors c.phase refl);
+    size = omega (arith, (collector_step-keeps 0 c).pages, is.size);
   }
     where
       ends : c.phase ≡ Sweep → HavePlain (sweep_step c).table → IsUsedBeside (staying stays first) (anchored stays first) (sweep_step c).table
       ends phase plain =
-          anchors-counted stays first (sweep_step c).table (ap (λ (t : Table Block). length t) (sym (ap (λ p. (step_in p c).table) phase) ∙ sym (table-phase_after c.phase (step_in c.phase c))) ∙ (collector_step-keeps 0 c).pages ∙ is.size)
-          (step-stands snapshot n c keeps reaches slots is Sweep phase) plain
+          anchors-counted stays first (sweep_step c).table (omega (arith, (step_in-keeps 0 Sweep c).pages, is.size))
+          (step-stands snapshot n c keeps reaches slots is.anchors Sweep phase) plain
 
   steps-anchoring : (snapshot : World) (n more left : ℕ) (has_moved : Bool) (c : Collector) → KeepsSnapshot snapshot n c → ReachesThoseThatStay stays snapshot → HaveTheirSlots c.table → IsAnchoring c → IsAnchoring (steps more left has_moved c).collector
   unfolding steps

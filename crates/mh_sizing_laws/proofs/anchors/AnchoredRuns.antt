@@ -1,5 +1,5 @@
 -- Runs after a startup: each cycle leaves in use its anchored pages, and a page for each other block that is no forwarder. So pages for the anchored ones, for the other live parts and for what intervals ask for suffice.
-use Rattle.std.proofs.Common.{◌≡◌, ℕ, ◌+◌, ◌*◌, ◌≤◌, Bool, true, List, [], ◌∷◌, ◌++◌, refl, sym, ◌∙◌, subst, arith}
+use Rattle.std.proofs.Common.{◌≡◌, ℕ, ◌+◌, ◌*◌, ◌≤◌, Bool, true, List, [], ◌∷◌, ◌++◌, length, refl, sym, ◌∙◌, subst, arith}
 use Rattle.std.specs.List.{AllByRecursion}
 use Rattle.std.proofs.lemmas.List.{append_assoc}
 use Rattle.mh_model.specs.declared.command.Event.{Event}
@@ -20,7 +20,7 @@ use Rattle.mh_sizing_laws.proofs.pages_left.SizedPages.{moment-push, moments-at,
 use Rattle.mh_sizing_laws.proofs.anchors.AnchoredCounts.{anchors-counted}
 use Rattle.mh_sizing_laws.proofs.anchors.AnchoredMoments.{IsStanding, standing-after}
 use Rattle.mh_sizing_laws.proofs.anchors.FreshHeaps.{IsFresh, fresh-plain, fresh-stand, HasHadFewer}
-use Rattle.mh_sizing_laws.proofs.anchors.StartedRuns.{from-kept, from-fresh, no_cycle, from-pages, from-faithful, from-ready, from-sized, whole-run, later-moments}
+use Rattle.mh_sizing_laws.proofs.anchors.StartedRuns.{from-kept, from-fresh, no_cycle, later-pages, from-faithful, from-ready, from-sized, whole-run, later-moments}
 use Rattle.mh_sizing_laws.proofs.anchors.JoinedRuns.{moment-append}
 
 module _ (config : Config) (start rest : List Event) (stays : ℕ → Bool) (startup : IsStartup config start rest stays) where
@@ -34,12 +34,13 @@ module _ (config : Config) (start rest : List Event) (stays : ℕ → Bool) (sta
   from-standing : IsStanding stays table from
   from-standing = record {
     reaches = λ runs. no_cycle config start startup.none_begins runs;
+    older = λ runs. no_cycle config start startup.none_begins runs;
     slots = (from-kept config start startup.none_begins).slots;
     anchoring = record {
       blocks = quiet-beside (staying stays table) (anchored stays table) from.machine.heap.collector (idle-quiet from.machine.heap.collector.phase fresh.idle)
-          (anchors-counted stays table table refl (fresh-stand from.machine.heap.collector fresh stays) (fresh-plain from.machine.heap.collector fresh));
+          (anchors-counted stays table table (omega arith) (fresh-stand from.machine.heap.collector fresh stays) (fresh-plain from.machine.heap.collector fresh));
       anchors = fresh-stand from.machine.heap.collector fresh stays;
-      size = refl;
+      size = omega arith;
     };
   }
     where
@@ -55,10 +56,12 @@ module _ (config : Config) (start rest : List Event) (stays : ℕ → Bool) (sta
       subst (λ m. has_ended m.machine.heap.collector (next_moment m event).machine.heap.collector ≡ true → HasAtMostLive (most + staying stays table) (next_moment m event).snapshot
       → count_blocks is_plain (next_moment m event).machine.heap.collector.table ≤ most + staying stays table + parts_since (next_moment m event).snapshot (next_moment m event).world)
       (moment-append start done (first_moment config)) (finished-plain config (start ++ done) event (most + staying stays table)) ended live in
+      let whole : length next.machine.heap.collector.table ≡ config.pages =
+      subst (λ (m : Moment). length m.machine.heap.collector.table ≡ config.pages) (moment-push done from event) (later-pages config start startup.none_begins (done ++ event ∷ [])) in
       let stand : IsStanding stays table next =
       subst (IsStanding stays table) (moment-push done from event)
       (standing-after stays table (done ++ event ∷ []) more from (from-faithful config start startup.none_begins) (subst (λ list. AllByRecursion (ReachesThoseThatStay stays) (worlds from list)) (sym (append_assoc done (event ∷ []) more ∙ split)) startup.stay) from-standing) in
-      omega (arith, stand.anchoring.blocks.used (ended-quiet before.machine.heap.collector next.machine.heap.collector ended), plain, stand.anchoring.size, from-pages config start startup.none_begins)
+      omega (arith, stand.anchoring.blocks.used (ended-quiet before.machine.heap.collector next.machine.heap.collector ended), plain, whole)
 
   -- So each cycle leaves room
   pub ends-with-room : (quanta opened asked most : ℕ) → 1 ≤ quanta → FewerSoFar config quanta opened asked (most + staying stays table) from.machine rest → HasPagesBesideAnchors config start rest stays quanta opened asked most

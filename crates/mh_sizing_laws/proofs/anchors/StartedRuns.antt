@@ -1,5 +1,5 @@
 -- The moment after a startup in which no cycle has begun: the run from there on is ready, and the heap is fresh.
-use Rattle.std.proofs.Common.{◌≡◌, ℕ, ◌*◌, ◌≤◌, false, List, [], ◌++◌, length, refl, sym, ◌∙◌, subst, arith}
+use Rattle.std.proofs.Common.{◌≡◌, ℕ, ◌*◌, ◌≤◌, false, List, [], ◌++◌, length, refl, sym, ap, ◌∙◌, subst, arith}
 use Rattle.std.specs.List.{AllByRecursion}
 use Rattle.std.proofs.lemmas.Bool.{true≢false}
 use Rattle.mh_model.specs.declared.command.Event.{Event}
@@ -10,7 +10,7 @@ use Rattle.mh_model.specs.Machine.{Machine, first_machine, machine_after, machin
 use Rattle.mh_model.specs.Mutator.{HeapState}
 use Rattle.mh_model.specs.Openings.{free_of}
 use Rattle.mh_model.specs.Pages.{Table, free_pages}
-use Rattle.mh_model.specs.Snapshot.{Moment, first_moment, is_heap_full}
+use Rattle.mh_model.specs.Snapshot.{Moment, first_moment, moment_after, is_heap_full}
 use Rattle.mh_model.specs.Table.{Block}
 use Rattle.mh_model.specs.View.{heap_view}
 use Rattle.mh_laws.proofs.bounds.CyclesInTime.{StaysInBounds, run-stays}
@@ -24,7 +24,7 @@ use Rattle.mh_sizing_laws.proofs.pages_left.FinishedCycles.{moment-grown}
 use Rattle.mh_sizing_laws.proofs.pages_left.SizedPages.{IsSized}
 use Rattle.mh_sizing_laws.proofs.reached.ReachedRuns.{IsFaithfulOn, faithful-now, faithful-first}
 use Rattle.mh_sizing_laws.proofs.anchors.FreshHeaps.{IsFresh, IsFreshAtFirst, run-fresh, first-fresh, HasHadFewer, flagged-after, ends-after, moments-joined}
-use Rattle.mh_sizing_laws.proofs.anchors.JoinedRuns.{faithful-after, moments-after, replies-joined}
+use Rattle.mh_sizing_laws.proofs.anchors.JoinedRuns.{moment-append, faithful-after, moments-after, replies-joined}
 
 view-config : (heap : HeapState) → (heap_view heap).config ≡ heap.config
 unfolding heap_view
@@ -51,8 +51,10 @@ module _ (config : Config) (start : List Event) (none_begins : (started config s
   pub no_cycle : {X : Type 0} → is_idle from.machine.heap.collector.phase ≡ false → X
   no_cycle runs = absurd (true≢false (sym from-fresh.idle ∙ runs))
 
-  pub from-pages : length table ≡ config.pages
-  from-pages = subst (λ (m : Machine). length m.heap.collector.table ≡ config.pages) (sym machine_is) (machine_after-pages config start).pages
+  pub later-pages : (done : List Event) → length (moment_after from done).machine.heap.collector.table ≡ config.pages
+  later-pages done =
+      ap (λ (m : Moment). length m.machine.heap.collector.table) (sym (moment-append start done (first_moment config))) ∙ ap (λ (m : Machine). length m.heap.collector.table) (machine-moment_after (start ++ done) (first_moment config))
+      ∙ (machine_after-pages config (start ++ done)).pages
 
   pub from-stays : StaysInBounds config from.machine
   from-stays = subst (StaysInBounds config) (sym machine_is) (run-stays config start)
