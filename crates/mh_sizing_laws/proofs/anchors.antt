@@ -8,4 +8,5 @@ pub mod JoinedRuns
 pub mod StartedRuns
 pub mod AnchoredMoments
 pub mod AnchoredRuns
+pub mod StartedClasses
 pub mod MarkedAnchors

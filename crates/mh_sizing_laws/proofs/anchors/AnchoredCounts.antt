@@ -12,9 +12,9 @@ use Rattle.mh_sizing_laws.proofs.pages_left.SweptPages.{HavePlain, IsUsedBeside}
 use Rattle.mh_sizing_laws.proofs.anchors.AnchoredPages.{AnchorsStand, stands-plain}
 
 -- weights that don't rest on numbers are a sum over the pages
-weights-sum : (f : Option (Page Block) → ℕ) (table : Table Block) → weights (λ number. f) table ≡ sum_by f table
-weights-sum f [] = refl
-weights-sum f (page ∷ table) = omega (arith, weights-sum f table, sum_by-cons f page table)
+pub weights-sum_by : (f : Option (Page Block) → ℕ) (table : Table Block) → weights (λ number. f) table ≡ sum_by f table
+weights-sum_by f [] = refl
+weights-sum_by f (page ∷ table) = omega (arith, weights-sum_by f table, sum_by-cons f page table)
 
 module _ (stays : ℕ → Bool) where
   -- a page that is free or in use weighs one or more; one that is anchored weighs its blocks that stay, or more
@@ -53,7 +53,7 @@ module _ (stays : ℕ → Bool) where
         arith,
         used-beside (λ number. page_count is_plain) first table size
             (λ number. balanced (page_at first number) (if_free (page_at table number)) (page_count is_plain (page_at table number)) (λ page at is. stands-plain stays page (page_at table number) (stand.pages number page at is)) (some number (page_at table number) refl)),
-        weights-sum (page_count is_plain) table,
+        weights-sum_by (page_count is_plain) table,
       )
     where
       some : (number : ℕ) (content : Option (Page Block)) → page_at table number ≡ content → 1 ≤ if_free content + page_count is_plain content

@@ -30,7 +30,7 @@ use Rattle.mh_sizing_laws.proofs.anchors.AnchoredPages.{anchors-grow}
 use Rattle.mh_sizing_laws.proofs.anchors.AnchoredQuanta.{IsAnchoring, quantum-anchoring}
 
 -- a world reaches births that it has
-reached-older : (view world : World) → Agrees view world → (birth : ℕ) → Reachable world birth → birth < births world
+pub reached-older : (view world : World) → Agrees view world → (birth : ℕ) → Reachable world birth → birth < births world
 reached-older view world agrees birth reached = omega (arith, there_below view.objects birth (agrees.reached birth reached), agrees.next_birth)
 
 module _ (stays : ℕ → Bool) (first : Table Block) where

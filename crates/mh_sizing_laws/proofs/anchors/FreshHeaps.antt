@@ -96,23 +96,24 @@ by_command machine who command is =
       fresh = λ none. fresh-grows machine.heap.collector (mutator_step machine.heap who command).state.collector course.phase (mutator_step-grows machine.heap who command is.slots) (mutator_step-feeds machine.heap who command is.slots) (is.fresh (sym course.cycle ∙ none));
     }
 
--- a quantum leaves no cycle begun only if none is due
-quantum-fresh : (config : Config) (old : Collector) → (old.cycle ≡ 0 → IsFresh old) → (quantum config old).collector.cycle ≡ 0 → IsFresh (quantum config old).collector
+-- a quantum that leaves no cycle begun leaves all as it was
+pub quantum-none : (config : Config) (old : Collector) → (old.cycle ≡ 0 → is_idle old.phase ≡ true) → (quantum config old).collector.cycle ≡ 0 → (quantum config old).collector ≡ old
 unfolding quantum
-quantum-fresh config old fresh none = elim (begins config old).case [
+quantum-none config old idles none = elim (begins config old).case [
   | inl (due, idle, starts) ↦
       let new : Collector = record (cycle_start old) { quanta = 1 } in
       let (count, back) = steps-count config.quantum config.quantum false new (λ idle. absurd (true≢false (sym idle))) in
       absurd (omega (arith, count.cycle, ap (λ c. (steps config.quantum config.quantum false c).collector.cycle) starts, none))
   | inr other ↦ elim other [
-    | inl (runs, counts) ↦
-        let few : old.cycle ≡ 0 = omega (arith, (quantum-number config old).0, none) in
-        absurd (true≢false (sym (fresh few).idle ∙ runs))
-    | inr (rests, idle, same) ↦
-        let rested = quantum-rests config old (ap is_idle idle) rests in
-        subst IsFresh (sym rested) (fresh (sym (ap (λ (c : Collector). c.cycle) rested) ∙ none))
+    | inl (runs, counts) ↦ absurd (true≢false (sym (idles (omega (arith, (quantum-number config old).0, none))) ∙ runs))
+    | inr (rests, idle, same) ↦ quantum-rests config old (ap is_idle idle) rests
   ]
 ]
+
+quantum-fresh : (config : Config) (old : Collector) → (old.cycle ≡ 0 → IsFresh old) → (quantum config old).collector.cycle ≡ 0 → IsFresh (quantum config old).collector
+quantum-fresh config old fresh none =
+    let same = quantum-none config old (λ few. (fresh few).idle) none in
+    subst IsFresh (sym same) (fresh (sym (ap (λ (c : Collector). c.cycle) same) ∙ none))
 
 by_quantum : (machine : Machine) → IsFreshAtFirst machine → IsFreshAtFirst (quantum_run machine).state
 unfolding quantum_run

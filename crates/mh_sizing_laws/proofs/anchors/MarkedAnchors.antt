@@ -42,39 +42,8 @@ use Rattle.mh_sizing_laws.proofs.reached.ReachedQuanta.{IsReaching}
 use Rattle.mh_sizing_laws.proofs.reached.ReachedRuns.{never-full}
 use Rattle.mh_sizing_laws.proofs.anchors.AnchoredRuns.{ends-with-room}
 use Rattle.mh_sizing_laws.proofs.anchors.FreshHeaps.{HasHadFewer}
+use Rattle.mh_sizing_laws.proofs.anchors.StartedClasses.{from-classes}
 use Rattle.mh_sizing_laws.proofs.anchors.StartedRuns.{from-fresh, from-stays, from-faithful, from-ready, whole-run, whole-moments}
-
--- Classes ----------------------------------------------------------------------------------------
-
-module _ (config : Config) (Fits : ℕ → Type 0) where
-  quantum-classes : (other : Config) (collector : Collector) → HasClasses Fits collector.table → HasClasses Fits (quantum other collector).collector.table
-  unfolding quantum
-  quantum-classes other collector has = steps-classes Fits other.quantum other.quantum false (quantum_start other collector) (subst (HasClasses Fits) (sym (table-quantum_start other collector)) has)
-
-  half-classes : (machine : Machine) (event : Event) → StaysInBounds config machine → PartsFit Fits (asked_parts config event) → HasClasses Fits machine.heap.collector.table → HasClasses Fits (half_step machine event).heap.collector.table
-  unfolding command_step
-  half-classes machine (event.Session who command) stays fit has = command-classes Fits machine.heap who command (subst (λ c. PartsFit Fits (asked_parts c (event.Session who command))) (sym stays.config_is) fit) has
-  half-classes machine (event.Control control) stays fit has = has
-
-  next-classes : (machine : Machine) (event : Event) → StaysInBounds config machine → PartsFit Fits (asked_parts config event) → HasClasses Fits machine.heap.collector.table → HasClasses Fits (event_step machine event).state.heap.collector.table
-  next-classes machine event stays fit has =
-      let half : Machine = half_step machine event in
-      let here = half-classes machine event stays fit has in
-      elim (cases_Bool (has_quantum machine event)) [
-        | inl runs ↦ subst (λ (c : Collector). HasClasses Fits c.table) (sym (ran-collector machine event runs)) (quantum-classes half.heap.config half.heap.collector here)
-        | inr quiet ↦ elim (quiet-collector machine event quiet) [
-          | inl same ↦ subst (λ (c : Collector). HasClasses Fits c.table) (sym same) here
-          | inr asked ↦ subst (λ (c : Collector). HasClasses Fits c.table) (sym asked) here
-        ]
-      ]
-
-  -- a run has pages of the classes of the parts that it asks for
-  run-classes : (events : List Event) (machine : Machine) → StaysInBounds config machine → PartsFit Fits (flat_map (asked_parts config) events) → HasClasses Fits machine.heap.collector.table → HasClasses Fits (machine_after machine events).heap.collector.table
-  unfolding machine_after
-  run-classes [] machine stays fit has = has
-  run-classes (event ∷ events) machine stays fit has =
-      run-classes events (event_step machine event).state (next-stays config machine event stays) (λ size some. fit size (omega (arith, some, asked-cons config event events size)))
-      (next-classes machine event stays (λ size some. fit size (omega (arith, some, asked-cons config event events size))) has)
 
 -- Snapshots --------------------------------------------------------------------------------------
 
@@ -108,17 +77,11 @@ module _ (config : Config) (start : List Event) (none_begins : (started config s
   abbrev quanta_of : List Event → ℕ
   quanta_of rest = quanta_for config marked (asked_in rest)
 
-  from-classes : (Fits : ℕ → Type 0) → PartsFit Fits (flat_map (asked_parts config) start) → HasClasses Fits table
-  unfolding machine_after
-  from-classes Fits fit =
-      subst (λ (m : Machine). HasClasses Fits m.heap.collector.table) (sym (machine-moment_after start (first_moment config)))
-      (run-classes config Fits start (first_machine config) (run-stays config []) fit (λ number page at. absurd (none-some page (sym (none_at config.pages number) ∙ at))))
-
   from-reaching : (wide dear : ℕ) → PartsFit (FitsClass wide dear) (flat_map (asked_parts config) start) → IsReaching config marked wide dear from.snapshot from.machine.heap.collector
   from-reaching wide dear fit = record {
     late = λ late. record {
       fits = subst (λ phase. FitsStage wide dear phase from.machine.heap.collector) (sym idle) tt;
-      classes = from-classes (FitsClass wide dear) fit;
+      classes = from-classes config start (FitsClass wide dear) fit;
       within = omega (
         arith,
         ap (λ n. n * (config.quantum - quantum_overhead)) ((from-stays config start none_begins).bounds.idle (from-fresh config start none_begins).idle),
