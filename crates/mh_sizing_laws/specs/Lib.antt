@@ -9,3 +9,4 @@ pub mod Filling
 pub mod Anchors
 pub mod SharpPages
 pub mod SharpNeeds
+pub mod SharpAnchors

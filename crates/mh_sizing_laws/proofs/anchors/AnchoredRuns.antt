@@ -5,14 +5,14 @@ use Rattle.std.proofs.lemmas.List.{append_assoc}
 use Rattle.mh_model.specs.declared.command.Event.{Event}
 use Rattle.mh_model.specs.declared.config.Config.{Config}
 use Rattle.mh_model.specs.Bound.{most_quanta}
-use Rattle.mh_model.specs.Intervals.{moments, has_ended, cycle_ends}
+use Rattle.mh_model.specs.Intervals.{moments, intervals, has_ended, cycle_ends, CyclesTakeAtMost}
 use Rattle.mh_model.specs.LiveParts.{HasAtMostLive, parts_since, worlds, count_blocks, is_plain}
-use Rattle.mh_model.specs.Machine.{Machine}
-use Rattle.mh_model.specs.Openings.{free_of}
-use Rattle.mh_model.specs.Pages.{Table}
+use Rattle.mh_model.specs.Machine.{Machine, machine_after}
+use Rattle.mh_model.specs.Openings.{opens_at_most, free_of}
+use Rattle.mh_model.specs.Pages.{Table, free_pages}
 use Rattle.mh_model.specs.Snapshot.{Moment, first_moment, next_moment, moment_after}
 use Rattle.mh_model.specs.Table.{Block}
-use Rattle.mh_sizing_laws.specs.Anchors.{anchored, staying, ReachesThoseThatStay, started, started_table, IsStartup, HasPagesBesideAnchors, AnchoredPagesSuffice, AnchoredPagesForTheBoundSuffice}
+use Rattle.mh_sizing_laws.specs.Anchors.{anchored, staying, ReachesThoseThatStay, started, started_table, IsStartup, HasPagesBesideAnchors, LeavesRoom, AnchoredPagesSuffice, AnchoredPagesForTheBoundSuffice}
 use Rattle.mh_sizing_laws.proofs.triggers.SizedRuns.{never-full, some-quanta, cycles-bounded}
 use Rattle.mh_sizing_laws.proofs.pages_left.SweptPages.{quiet-beside}
 use Rattle.mh_sizing_laws.proofs.pages_left.FinishedCycles.{idle-quiet, finished-plain, ended-quiet}
@@ -31,7 +31,7 @@ module _ (config : Config) (start rest : List Event) (stays : ℕ → Bool) (sta
   table = started_table config start
 
   -- the anchored pages stand after the startup
-  from-standing : IsStanding stays table from
+  pub from-standing : IsStanding stays table from
   from-standing = record {
     reaches = λ runs. no_cycle config start startup.none_begins runs;
     older = λ runs. no_cycle config start startup.none_begins runs;
@@ -64,20 +64,49 @@ module _ (config : Config) (start rest : List Event) (stays : ℕ → Bool) (sta
       omega (arith, stand.anchoring.blocks.used (ended-quiet before.machine.heap.collector next.machine.heap.collector ended), plain, whole)
 
   -- So each cycle leaves room
-  pub ends-with-room : (quanta opened asked most : ℕ) → 1 ≤ quanta → FewerSoFar config quanta opened asked (most + staying stays table) from.machine rest → HasPagesBesideAnchors config start rest stays quanta opened asked most
+  ends-with-room : (quanta opened asked most : ℕ) → 1 ≤ quanta → FewerSoFar config quanta opened asked (most + staying stays table) from.machine rest → HasPagesBesideAnchors config start rest stays quanta opened asked most
       → AllByRecursion (λ machine. quanta * opened ≤ free_of machine) (cycle_ends from.machine rest)
   unfolding moment_after
   ends-with-room quanta opened asked most some so_far has =
       ends-enough config quanta opened asked (most + staying stays table) (anchored stays table + most) some has.pages from rest so_far (ends-few quanta opened asked most) rest [] [] from refl refl (from-sized config start startup.none_begins quanta opened asked (most + staying stays table)) has.parts has.live tt
 
--- Pages beside the anchored ones suffice
-pub anchored-pages-suffice : AnchoredPagesSuffice
-anchored-pages-suffice config start rest stays quanta opened asked most some takes startup has =
+-- Runs that leave room ---------------------------------------------------------------------------
+
+module _ (config : Config) (start rest : List Event) (quanta opened : ℕ) where
+  abbrev later : Machine
+  later = (started config start).machine
+
+  abbrev pub LeavesEnough : Machine → Type 0
+  LeavesEnough machine = quanta * opened ≤ free_of machine
+
+  -- no cycle has had all its quanta in any part of the run after the startup of which the cycles left enough
+  abbrev pub HaveHadFewer : Type 0
+  HaveHadFewer = (done more : List Event) → done ++ more ≡ rest → AllByRecursion LeavesEnough (cycle_ends later done) → HasHadFewer quanta (machine_after later done)
+
+  -- What the run after a startup has, for its intervals and cycles: cycles leave enough, if those before them did
+  pub record HasRoomAfter : Type 0 where
+    pub trigger : quanta * opened ≤ config.trigger + 1
+    pub free : quanta * opened ≤ free_pages (started_table config start)
+    pub intervals : AllByRecursion (λ interval. opens_at_most config interval ≤ opened) (intervals [] later rest)
+    pub left : HaveHadFewer → AllByRecursion LeavesEnough (cycle_ends later rest)
+
+-- So it is never full
+pub room-after-suffices : (config : Config) (start rest : List Event) (stays : ℕ → Bool) (quanta opened : ℕ) → 1 ≤ quanta → CyclesTakeAtMost quanta config (start ++ rest) → IsStartup config start rest stays → HasRoomAfter config start rest quanta opened → LeavesRoom config (start ++ rest) (quanta * opened)
+room-after-suffices config start rest stays quanta opened some takes startup has =
     let later : Machine = (started config start).machine in
     let fewer = later-moments config start startup.none_begins rest quanta takes in
-    let left = ends-with-room config start rest stays startup quanta opened asked most some (λ done more split left. moments-at (HasHadFewer quanta) done more later (subst (λ list. AllByRecursion (HasHadFewer quanta) (moments later list)) (sym split) fewer)) has in
+    let left = has.left (λ done more split left. moments-at (HasHadFewer quanta) done more later (subst (λ list. AllByRecursion (HasHadFewer quanta) (moments later list)) (sym split) fewer)) in
     let all = never-full config quanta opened rest [] (started_table config start) later some has.trigger (from-ready config start startup.none_begins quanta opened has.free) has.intervals fewer left in
     whole-run config start startup.none_begins rest (quanta * opened) startup.replies all.0 all.1 left
+
+-- Runs with pages beside the anchored ones have room
+pub anchored-room : (config : Config) (start rest : List Event) (stays : ℕ → Bool) (quanta opened asked most : ℕ) → 1 ≤ quanta → IsStartup config start rest stays → HasPagesBesideAnchors config start rest stays quanta opened asked most → HasRoomAfter config start rest quanta opened
+anchored-room config start rest stays quanta opened asked most some startup has =
+    record { trigger = has.trigger; free = has.free; intervals = has.intervals; left = λ fewer. ends-with-room config start rest stays startup quanta opened asked most some fewer has }
+
+-- Pages beside the anchored ones suffice
+pub anchored-pages-suffice : AnchoredPagesSuffice
+anchored-pages-suffice config start rest stays quanta opened asked most some takes startup has = room-after-suffices config start rest stays quanta opened some takes startup (anchored-room config start rest stays quanta opened asked most some startup has)
 
 -- so they do for the bound of a cycle
 pub bound-anchored-suffice : AnchoredPagesForTheBoundSuffice

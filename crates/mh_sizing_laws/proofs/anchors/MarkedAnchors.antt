@@ -13,7 +13,7 @@ use Rattle.mh_model.specs.declared.cycle.Phase.TheVariants.{Idle}
 use Rattle.mh_model.specs.Classes.{Part}
 use Rattle.mh_model.specs.Collector.{Collector, is_start_due, quantum_start, quantum}
 use Rattle.mh_model.specs.CycleUnits.{ReachesAtMost, snapshots, CyclesReachAtMost, most_slots, most_moves, quanta_for}
-use Rattle.mh_model.specs.Intervals.{moments, intervals, cycle_ends, LeaveFlagged}
+use Rattle.mh_model.specs.Intervals.{moments, intervals, cycle_ends, CyclesTakeAtMost, LeaveFlagged}
 use Rattle.mh_model.specs.Limits.{quantum_overhead}
 use Rattle.mh_model.specs.Machine.{Machine, first_machine, command_step, half_step, event_step, machine_after, machine_replies}
 use Rattle.mh_model.specs.Mutator.{in_roots_or_mark}
@@ -27,7 +27,7 @@ use Rattle.mh_laws.proofs.bounds.CyclesInTime.{StaysInBounds, run-stays}
 use Rattle.mh_laws.proofs.commands.LeftUnchanged.{table-quantum_start}
 use Rattle.mh_laws.proofs.costs.QuantumStarts.{idle_is}
 use Rattle.mh_run_laws.proofs.worlds.Moments.{machine-moment_after}
-use Rattle.mh_sizing_laws.specs.Anchors.{staying, started, started_table, AnchoredPagesForReachedSuffice}
+use Rattle.mh_sizing_laws.specs.Anchors.{staying, started, started_table, AnchoredPagesForReachedSuffice, IsStartup, LeavesRoom}
 use Rattle.mh_sizing_laws.proofs.openings.Intervals.{asked-cons, asked-append}
 use Rattle.mh_sizing_laws.proofs.triggers.SizedRuns.{IsShort, next-stays}
 use Rattle.mh_sizing_laws.proofs.cycles.Classes.{HasClasses, PartsFit, command-classes, steps-classes, FitsClass}
@@ -37,10 +37,9 @@ use Rattle.mh_sizing_laws.proofs.cycles.SharperSteps.{FitsStage}
 use Rattle.mh_sizing_laws.proofs.cycles.SharperRuns.{quiet-collector}
 use Rattle.mh_sizing_laws.proofs.pages_left.FinishedCycles.{ran-collector}
 use Rattle.mh_sizing_laws.proofs.pages_left.MarkedPages.{quanta-more, snapshots-before, short-before, last-moment, weaker}
-use Rattle.mh_sizing_laws.proofs.pages_left.SizedPages.{FewerSoFar}
 use Rattle.mh_sizing_laws.proofs.reached.ReachedQuanta.{IsReaching}
 use Rattle.mh_sizing_laws.proofs.reached.ReachedRuns.{never-full}
-use Rattle.mh_sizing_laws.proofs.anchors.AnchoredRuns.{ends-with-room}
+use Rattle.mh_sizing_laws.proofs.anchors.AnchoredRuns.{HaveHadFewer, HasRoomAfter, anchored-room}
 use Rattle.mh_sizing_laws.proofs.anchors.FreshHeaps.{HasHadFewer}
 use Rattle.mh_sizing_laws.proofs.anchors.StartedClasses.{from-classes}
 use Rattle.mh_sizing_laws.proofs.anchors.StartedRuns.{from-fresh, from-stays, from-faithful, from-ready, whole-run, whole-moments}
@@ -109,10 +108,12 @@ module _ (config : Config) (start : List Event) (none_begins : (started config s
   part-fewer done more rest split = subst (λ list. quanta_of done ≤ quanta_for config marked (flat_map (asked_parts config) list)) (append_assoc start done more ∙ ap (λ list. start ++ list) split)
       (quanta-more config marked (asked_in done) (flat_map (asked_parts config) ((start ++ done) ++ more)) large (λ size. omega (arith, asked-append config (start ++ done) more size)))
 
--- Pages beside the anchored ones suffice for cycles whose snapshots reach little
-pub reached-anchored-suffice : AnchoredPagesForReachedSuffice
-reached-anchored-suffice config start rest stays marked opened asked most large starts startup has =
-    let left = ends-with-room config start rest stays startup quanta opened asked most (omega arith) so_far has in
+-- Room suffices for cycles whose snapshots reach little: they take few quanta
+pub reached-room-suffices : (config : Config) (start rest : List Event) (stays : ℕ → Bool) (marked opened : ℕ) →
+    let quanta = quanta_for config marked (flat_map (asked_parts config) (start ++ rest)) in
+    quantum_overhead < config.quantum → CyclesReachAtMost marked config (start ++ rest) → IsStartup config start rest stays → HasRoomAfter config start rest quanta opened → CyclesTakeAtMost quanta config (start ++ rest) × LeavesRoom config (start ++ rest) (quanta * opened)
+reached-room-suffices config start rest stays marked opened large starts startup has =
+    let left = has.left so_far in
     let all = reached-later config start startup.none_begins marked opened large rest starts has.trigger has.free has.intervals left in
     (whole-moments config start startup.none_begins rest quanta all.0, whole-run config start startup.none_begins rest (quanta * opened) startup.replies all.1 all.2 left)
   where
@@ -122,7 +123,7 @@ reached-anchored-suffice config start rest stays marked opened asked most large 
     quanta : ℕ
     quanta = quanta_for config marked (flat_map (asked_parts config) (start ++ rest))
 
-    so_far : FewerSoFar config quanta opened asked (most + staying stays (started_table config start)) later rest
+    so_far : HaveHadFewer config start rest quanta opened
     so_far done more split left = λ runs. omega (arith, fewer, last-moment (HasHadFewer less) done later takes.0 runs)
       where
         less : ℕ
@@ -143,3 +144,9 @@ reached-anchored-suffice config start rest stays marked opened asked most large 
             (omega (arith, product, has.trigger)) (omega (arith, product, has.free))
             (short-before config quanta opened done more [] later (subst (λ list. AllByRecursion (IsShort config quanta opened) (intervals [] later list)) (sym split) has.intervals))
             (weaker (λ machine. quanta * opened ≤ free_of machine) (λ machine. less * opened ≤ free_of machine) (cycle_ends later done) (λ machine h. omega (arith, product, h)) left)
+
+-- Pages beside the anchored ones suffice for such cycles
+pub reached-anchored-suffice : AnchoredPagesForReachedSuffice
+reached-anchored-suffice config start rest stays marked opened asked most large starts startup has =
+    let quanta : ℕ = quanta_for config marked (flat_map (asked_parts config) (start ++ rest)) in
+    reached-room-suffices config start rest stays marked opened large starts startup (anchored-room config start rest stays quanta opened asked most (omega arith) startup has)
