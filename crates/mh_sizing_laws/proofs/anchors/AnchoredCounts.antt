@@ -1,5 +1,5 @@
 -- Anchored pages counted: after the sweep each other page in use has a block that is no forwarder, and each of these has its blocks that stay.
-use Rattle.std.proofs.Common.{◌≡◌, ℕ, suc, ◌+◌, ◌≤◌, Bool, true, false, if◌then◌else◌, Option, Some, None, List, [], ◌∷◌, length, refl, arith}
+use Rattle.std.proofs.Common.{◌≡◌, ℕ, suc, ◌+◌, ◌≤◌, Bool, true, false, if◌then◌else◌, Option, Some, None, [], ◌∷◌, length, refl, arith}
 use Rattle.std.specs.List.{sum_by}
 use Rattle.std.proofs.lemmas.List.Sums.{sum_by-cons}
 use Rattle.mh_model.specs.Pages.{Page, Table, page_at, free_pages}

@@ -1,41 +1,33 @@
 -- Pages beside anchored ones that suffice for cycles whose snapshots reach little: each part of the run has room, so its cycles take few quanta, so the next one leaves enough.
 use Rattle.std.specs.Prelude.{◌<◌, ◌-◌}
-use Rattle.std.proofs.Common.{◌≡◌, inl, inr, ℕ, ◌+◌, ◌-◌, ◌*◌, ◌<◌, ◌≤◌, Bool, true, false, ◌&&◌, if◌then◌else◌, List, [], ◌∷◌, ◌++◌, flat_map, sym, ap, ◌∙◌, subst, arith}
+use Rattle.std.proofs.Common.{◌≡◌, ℕ, ◌+◌, ◌-◌, ◌*◌, ◌<◌, ◌≤◌, Bool, true, false, ◌&&◌, if◌then◌else◌, List, [], ◌∷◌, ◌++◌, flat_map, sym, ap, ◌∙◌, subst, arith}
 use Rattle.std.specs.List.{AllByRecursion}
 use Rattle.std.proofs.Math.Nat.{mul-le-mul_right}
-use Rattle.std.proofs.lemmas.Bool.{cases_Bool, false≢true}
+use Rattle.std.proofs.lemmas.Bool.{false≢true}
 use Rattle.std.proofs.lemmas.List.{append_assoc}
-use Rattle.std.proofs.lemmas.Option.{none-some}
 use Rattle.mh_model.specs.declared.command.Event.{Event}
-use Rattle.mh_model.specs.declared.command.Event.TheVariants as event
 use Rattle.mh_model.specs.declared.config.Config.{Config}
 use Rattle.mh_model.specs.declared.cycle.Phase.TheVariants.{Idle}
 use Rattle.mh_model.specs.Classes.{Part}
-use Rattle.mh_model.specs.Collector.{Collector, is_start_due, quantum_start, quantum}
+use Rattle.mh_model.specs.Collector.{is_start_due}
 use Rattle.mh_model.specs.CycleUnits.{ReachesAtMost, snapshots, CyclesReachAtMost, most_slots, most_moves, quanta_for}
 use Rattle.mh_model.specs.Intervals.{moments, intervals, cycle_ends, CyclesTakeAtMost, LeaveFlagged}
 use Rattle.mh_model.specs.Limits.{quantum_overhead}
-use Rattle.mh_model.specs.Machine.{Machine, first_machine, command_step, half_step, event_step, machine_after, machine_replies}
+use Rattle.mh_model.specs.Machine.{Machine, machine_replies}
 use Rattle.mh_model.specs.Mutator.{in_roots_or_mark}
 use Rattle.mh_model.specs.Openings.{asked_parts, free_of}
 use Rattle.mh_model.specs.Pages.{Table, free_pages}
 use Rattle.mh_model.specs.Snapshot.{Moment, first_moment, half_moment, next_moment, moment_after, has_quantum, is_heap_full, snapshot_at}
 use Rattle.mh_model.specs.Table.{Block}
 use Rattle.mh_model.specs.World.{World}
-use Rattle.mh_table_laws.proofs.Lists.{none_at}
-use Rattle.mh_laws.proofs.bounds.CyclesInTime.{StaysInBounds, run-stays}
-use Rattle.mh_laws.proofs.commands.LeftUnchanged.{table-quantum_start}
 use Rattle.mh_laws.proofs.costs.QuantumStarts.{idle_is}
-use Rattle.mh_run_laws.proofs.worlds.Moments.{machine-moment_after}
-use Rattle.mh_sizing_laws.specs.Anchors.{staying, started, started_table, AnchoredPagesForReachedSuffice, IsStartup, LeavesRoom}
-use Rattle.mh_sizing_laws.proofs.openings.Intervals.{asked-cons, asked-append}
-use Rattle.mh_sizing_laws.proofs.triggers.SizedRuns.{IsShort, next-stays}
-use Rattle.mh_sizing_laws.proofs.cycles.Classes.{HasClasses, PartsFit, command-classes, steps-classes, FitsClass}
+use Rattle.mh_sizing_laws.specs.Anchors.{started, started_table, AnchoredPagesForReachedSuffice, IsStartup, LeavesRoom}
+use Rattle.mh_sizing_laws.proofs.openings.Intervals.{asked-append}
+use Rattle.mh_sizing_laws.proofs.triggers.SizedRuns.{IsShort}
+use Rattle.mh_sizing_laws.proofs.cycles.Classes.{PartsFit, FitsClass}
 use Rattle.mh_sizing_laws.proofs.cycles.Occurring.{some-slots, some-moves, parts-fit}
 use Rattle.mh_sizing_laws.proofs.cycles.SharperQuanta.{idle-sharp}
 use Rattle.mh_sizing_laws.proofs.cycles.SharperSteps.{FitsStage}
-use Rattle.mh_sizing_laws.proofs.cycles.SharperRuns.{quiet-collector}
-use Rattle.mh_sizing_laws.proofs.pages_left.FinishedCycles.{ran-collector}
 use Rattle.mh_sizing_laws.proofs.pages_left.MarkedPages.{quanta-more, snapshots-before, short-before, last-moment, weaker}
 use Rattle.mh_sizing_laws.proofs.reached.ReachedQuanta.{IsReaching}
 use Rattle.mh_sizing_laws.proofs.reached.ReachedRuns.{never-full}

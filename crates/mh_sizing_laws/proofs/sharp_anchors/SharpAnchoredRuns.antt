@@ -1,12 +1,10 @@
 -- Runs after a startup with pages beside the anchored ones, where small parts share pages: each cycle leaves room.
-use Rattle.std.proofs.Common.{◌≡◌, ℕ, ◌+◌, ◌*◌, ◌<◌, ◌≤◌, Bool, List, [], ◌++◌, refl, arith}
-use Rattle.std.specs.List.{AllByRecursion}
+use Rattle.std.proofs.Common.{ℕ, ◌+◌, ◌<◌, ◌≤◌, Bool, List, [], ◌++◌, refl, arith}
 use Rattle.mh_model.specs.declared.command.Event.{Event}
 use Rattle.mh_model.specs.declared.config.Config.{Config}
 use Rattle.mh_model.specs.Bound.{most_quanta}
 use Rattle.mh_model.specs.Classes.{Part}
 use Rattle.mh_model.specs.CycleUnits.{quanta_for}
-use Rattle.mh_model.specs.Intervals.{cycle_ends}
 use Rattle.mh_model.specs.Openings.{class_parts}
 use Rattle.mh_model.specs.Snapshot.{moment_after}
 use Rattle.mh_sizing_laws.specs.Anchors.{started, started_table, IsStartup}
@@ -16,7 +14,7 @@ use Rattle.mh_sizing_laws.proofs.openings.Intervals.{asked-append}
 use Rattle.mh_sizing_laws.proofs.triggers.SizedRuns.{some-quanta, cycles-bounded}
 use Rattle.mh_sizing_laws.proofs.cycles.Occurring.{parts-class}
 use Rattle.mh_sizing_laws.proofs.anchors.GivenAnchors.{Anchors}
-use Rattle.mh_sizing_laws.proofs.anchors.AnchoredRuns.{from-standing, LeavesEnough, HaveHadFewer, HasRoomAfter, room-after-suffices}
+use Rattle.mh_sizing_laws.proofs.anchors.AnchoredRuns.{from-standing, HasRoomAfter, room-after-suffices}
 use Rattle.mh_sizing_laws.proofs.anchors.MarkedAnchors.{reached-room-suffices}
 use Rattle.mh_sizing_laws.proofs.sharp_pages.ClassesThatOccur.{few_of, occurring-parts}
 use Rattle.mh_sizing_laws.proofs.sharp_pages.SharpStarts.{from-sharp}

@@ -1,11 +1,11 @@
 -- Sums over classes, and over the pages of each.
-use Rattle.std.proofs.Common.{◌≡◌, ℕ, suc, ◌+◌, ◌*◌, ◌≤◌, ◌==◌, ◌||◌, Bool, true, false, if◌then◌else◌, Option, Some, None, option_map, List, [], ◌∷◌, length, refl, sym, ap, ◌∙◌, subst, arith, eq-eqb}
+use Rattle.std.proofs.Common.{◌≡◌, ℕ, suc, ◌+◌, ◌*◌, ◌≤◌, ◌==◌, ◌||◌, Bool, true, false, if◌then◌else◌, Option, Some, None, option_map, List, [], ◌∷◌, refl, sym, ap, ◌∙◌, subst, arith, eq-eqb}
 use Rattle.std.specs.List.{AllByRecursion, IsDistinct, sum_by, list_any}
 use Rattle.std.proofs.Math.Nat.{mul-add}
 use Rattle.std.proofs.lemmas.Bool.{eqb-true, false≢true}
 use Rattle.std.proofs.lemmas.List.Sums.{sum_by-cons}
 use Rattle.mh_model.specs.Batches.{NoneTwice}
-use Rattle.mh_model.specs.Pages.{Page, Table, page_at, free_pages}
+use Rattle.mh_model.specs.Pages.{Page, Table}
 use Rattle.mh_model.specs.Table.{Block}
 use Rattle.mh_table_laws.specs.TableMaps.{table_map}
 use Rattle.mh_sizing_laws.proofs.openings.MadeParts.{IsAmong}

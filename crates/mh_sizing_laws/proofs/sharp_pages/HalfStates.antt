@@ -9,14 +9,10 @@ use Rattle.mh_model.specs.Machine.{Machine, command_step, half_step, event_step}
 use Rattle.mh_model.specs.Openings.{class_parts, asked_parts}
 use Rattle.mh_model.specs.Pages.{HaveTheirSlots}
 use Rattle.mh_model.specs.Snapshot.{has_quantum}
-use Rattle.mh_model.specs.Mutator.{mutator_step}
 use Rattle.mh_laws.proofs.bounds.CyclesInTime.{StaysInBounds}
 use Rattle.mh_laws.proofs.commands.LeftUnchanged.{mutator_step-course}
-use Rattle.mh_sizing_laws.proofs.cycles.Classes.{HasClasses, PartsFit, command-classes}
 use Rattle.mh_sizing_laws.proofs.cycles.SharperRuns.{quiet-collector}
 use Rattle.mh_sizing_laws.proofs.openings.Intervals.{asked_of, asked-cons, asked-append, since-half, since-likewise, since-more, quiet-event}
-use Rattle.mh_sizing_laws.proofs.pages_left.FedCommands.{mutator_step-feeds}
-use Rattle.mh_sizing_laws.proofs.pages_left.SweptPages.{HasItsBlocks, fed-blocks}
 use Rattle.mh_sizing_laws.proofs.anchors.GivenAnchors.{Anchors, anchor_at}
 use Rattle.mh_sizing_laws.proofs.filling.Beside.{family_beside, allows-beside}
 use Rattle.mh_sizing_laws.proofs.filling.FilledTables.{AllFill}

@@ -4,7 +4,7 @@ use Rattle.std.proofs.lemmas.Bool.{cases_Bool, true≢false, and_parts}
 use Rattle.mh_model.specs.declared.command.Event.{Event}
 use Rattle.mh_model.specs.declared.config.Config.{Config}
 use Rattle.mh_model.specs.Classes.{Part}
-use Rattle.mh_model.specs.Collector.{Collector, is_idle, is_start_due, cycle_start, quantum_start, steps, quantum}
+use Rattle.mh_model.specs.Collector.{Collector, is_idle, is_start_due, quantum}
 use Rattle.mh_model.specs.Invariant.{in_trace, in_defrag, HeapKeeps}
 use Rattle.mh_model.specs.LiveParts.{HasAtMostLive}
 use Rattle.mh_model.specs.Machine.{Machine, first_machine, half_step, event_step, machine_after}
@@ -21,7 +21,7 @@ use Rattle.mh_laws.proofs.costs.QuantumStarts.{begins, idle_is, quantum-rests}
 use Rattle.mh_run_laws.proofs.following.AllCommands.{commands-follow}
 use Rattle.mh_run_laws.proofs.runs.FaithfulMoments.{moments-faithful}
 use Rattle.mh_run_laws.proofs.worlds.Moments.{machine-moment_after}
-use Rattle.mh_sizing_laws.proofs.cycles.Classes.{HasClasses, PartsFit, steps-classes}
+use Rattle.mh_sizing_laws.proofs.cycles.Classes.{HasClasses, PartsFit}
 use Rattle.mh_sizing_laws.proofs.openings.Intervals.{quiet-event}
 use Rattle.mh_sizing_laws.proofs.openings.MadeParts.{IsAmong}
 use Rattle.mh_sizing_laws.proofs.triggers.Quanta.{IsAfter, quantum-after}

@@ -1,7 +1,7 @@
 -- The induction over a run with pages where small parts share them: each cycle leaves enough pages free. What is carried bounds the pages of a cycle by three sums:
 -- the pages that its own births fill, those that older blocks fill which it found, and one of each class for each interval.
 -- With N of 3, one live part and 64 small parts an interval, which fill one page, 13 pages suffice, where each part may keep a page 132. For cycles of one quantum that other law is the better.
-use Rattle.std.proofs.Common.{◌≡◌, inl, ℕ, zero, suc, None, replicate, ◌+◌, ◌*◌, ◌/◌, ◌≤◌, Bool, true, false, if◌then◌else◌, List, [], ◌∷◌, ◌++◌, length, flat_map, refl, sym, ap, ◌∙◌, subst, arith}
+use Rattle.std.proofs.Common.{◌≡◌, ℕ, ◌+◌, ◌*◌, ◌/◌, ◌≤◌, Bool, true, false, if◌then◌else◌, List, [], ◌∷◌, ◌++◌, length, flat_map, refl, sym, ap, ◌∙◌, subst, arith}
 use Rattle.std.specs.List.{AllByRecursion}
 use Rattle.std.proofs.Math.Nat.{mul-add, mul-le-mul_right}
 use Rattle.std.proofs.lemmas.Bool.{and_parts, false≢true}
@@ -19,29 +19,22 @@ use Rattle.mh_model.specs.Openings.{asked_parts}
 use Rattle.mh_model.specs.Intervals.{moments, intervals, has_ended, HasRoomFor}
 use Rattle.mh_model.specs.Intervals as run
 use Rattle.mh_model.specs.Snapshot.{Moment, first_moment, next_moment, moment_after, has_quantum}
-use Rattle.mh_laws.proofs.bounds.CyclesInTime.{run-stays}
 use Rattle.mh_laws.proofs.commands.LeftUnchanged.{machine_after-pages}
 use Rattle.mh_run_laws.proofs.worlds.Moments.{machine-moment_after}
-use Rattle.mh_table_laws.proofs.Lists.{none_at}
-use Rattle.mh_table_laws.proofs.TableMapLemmas.{free-table_map}
 use Rattle.mh_sizing_laws.proofs.cycles.Classes.{PartsFit}
 use Rattle.mh_sizing_laws.proofs.openings.Intervals.{asked-cons}
 use Rattle.mh_sizing_laws.proofs.openings.MadeParts.{IsAmong}
 use Rattle.mh_sizing_laws.proofs.triggers.SizedRuns.{IsShort, HasHadFewer, LeavesEnough, event-short, room-suffices, some-quanta, cycles-bounded}
 use Rattle.mh_sizing_laws.proofs.pages_left.BlocksInUse.{run-blocks}
 use Rattle.mh_sizing_laws.proofs.pages_left.FinishedCycles.{ended-run}
-use Rattle.mh_sizing_laws.proofs.pages_left.GrownWorlds.{grown-same}
 use Rattle.mh_sizing_laws.specs.Anchors.{started, ReachesThoseThatStay}
 use Rattle.mh_sizing_laws.specs.SharpPages.{occurring, fewest_of, all_asked, HasSharpPagesFor, SharpPagesSuffice, SharpPagesForTheBoundSuffice}
-use Rattle.mh_sizing_laws.proofs.filling.Ages.{birth_of, ages}
-use Rattle.mh_sizing_laws.proofs.filling.PageWeights.{roomy}
-use Rattle.mh_sizing_laws.proofs.filling.Weights.{weights, weigh}
 use Rattle.mh_sizing_laws.proofs.cycles.Occurring.{parts-class}
 use Rattle.mh_sizing_laws.proofs.pages_left.SizedPages.{moment-push, head-world, ends-push, moments-at}
 use Rattle.mh_sizing_laws.proofs.anchors.GivenAnchors.{Anchors, no_anchors, anchored_pages, staying_blocks}
 use Rattle.mh_sizing_laws.proofs.anchors.AnchoredMoments.{IsStanding}
 use Rattle.mh_sizing_laws.proofs.anchors.JoinedRuns.{moment-append}
-use Rattle.mh_sizing_laws.proofs.sharp_pages.ClassesThatOccur.{few_of, occurring-parts, sum-none}
+use Rattle.mh_sizing_laws.proofs.sharp_pages.ClassesThatOccur.{few_of, occurring-parts}
 use Rattle.mh_sizing_laws.proofs.sharp_pages.SharpStarts.{from-sharp}
 use Rattle.mh_sizing_laws.proofs.sharp_pages.SharpEvents.{IsSharp, left, left-few, sharp-quiet, sharp-quantum}
 

@@ -1,12 +1,12 @@
 -- What stands after a startup in which no cycle has begun: births have filled one page of each class before the next.
-use Rattle.std.proofs.Common.{◌≡◌, inl, ℕ, zero, suc, ◌+◌, ◌*◌, ◌≤◌, Bool, true, false, Option, Some, None, List, [], replicate, flat_map, refl, sym, ap, ◌∙◌, subst, arith}
+use Rattle.std.proofs.Common.{◌≡◌, inl, ℕ, zero, suc, ◌+◌, ◌*◌, ◌≤◌, Bool, true, Option, None, List, [], replicate, flat_map, refl, sym, ap, ◌∙◌, subst, arith}
 use Rattle.std.proofs.Math.Nat.{mul-le-mul_right}
-use Rattle.std.proofs.lemmas.Bool.{true≢false, false≢true}
+use Rattle.std.proofs.lemmas.Bool.{false≢true}
 use Rattle.mh_model.specs.declared.command.Command.{Command}
 use Rattle.mh_model.specs.declared.command.Event.{Event}
 use Rattle.mh_model.specs.declared.config.Config.{Config}
 use Rattle.mh_model.specs.declared.cycle.Phase.TheVariants.{Idle}
-use Rattle.mh_model.specs.Classes.{Part, slots_in, is_class_size}
+use Rattle.mh_model.specs.Classes.{Part, slots_in}
 use Rattle.mh_model.specs.Collector.{Collector, is_idle, quantum}
 use Rattle.mh_model.specs.Invariant.{in_trace, in_defrag}
 use Rattle.mh_model.specs.Machine.{Machine, first_machine, with_collector, quantum_run, command_step, machine_after}
