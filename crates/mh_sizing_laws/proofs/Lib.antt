@@ -1,2 +1,4 @@
 pub mod Sums
 pub mod Weighing
+pub mod Births
+pub mod ClassWeights

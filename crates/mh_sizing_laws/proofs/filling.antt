@@ -4,6 +4,7 @@ pub mod Fillings
 pub mod Slots
 pub mod PageWeights
 pub mod Ages
+pub mod PutBirths
 pub mod Newborns
 pub mod AgedCommands
 pub mod FilledTables

@@ -2,6 +2,9 @@ pub mod AskedNeeds
 pub mod BesideRuns
 pub mod NeededParts
 pub mod NeededRuns
+pub mod ClassPages
+pub mod ClassDemand
+pub mod ClassQuanta
 pub mod OpenedInAll
 pub mod OtherConfigs
 pub mod FullWorlds

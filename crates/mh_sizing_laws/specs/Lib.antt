@@ -10,3 +10,4 @@ pub mod Anchors
 pub mod SharpPages
 pub mod SharpNeeds
 pub mod SharpAnchors
+pub mod Startup

@@ -1,18 +1,18 @@
 -- What the sessions of a run make, by the ever-growing world alone. A command that the world refuses makes nothing, whatever it asks for. So it counts
 -- nothing: a heap that is never full refuses it too.
-use Rattle.std.specs.Prelude.{ℕ, ◌+◌, ◌≤◌, is_none, if◌then◌else◌, length, List, [], ◌∷◌, ◌++◌}
+use Rattle.std.specs.Prelude.{ℕ, ◌+◌, ◌-◌, ◌≤◌, max, min, is_none, if◌then◌else◌, length, List, [], ◌∷◌, ◌++◌}
 use Rattle.std.specs.List.{AllByRecursion, sum_by}
 use Rattle.mh_model.specs.declared.command.Event.{Event}
 use Rattle.mh_model.specs.declared.command.Event.TheVariants as event
 use Rattle.mh_model.specs.declared.config.Config.{Config}
 use Rattle.mh_model.specs.declared.needs.Needs.{Needs}
 use Rattle.mh_model.specs.World.{refusal, sight_of, never_full, world_step}
-use Rattle.mh_model.specs.Classes.{Part}
+use Rattle.mh_model.specs.Classes.{Part, class_sizes, slots_in}
 use Rattle.mh_model.specs.CycleUnits.{ReachesAtMost, most_slots, most_moves}
 use Rattle.mh_model.specs.LiveParts.{HasAtMostLive}
 use Rattle.mh_model.specs.Machine.{command_units}
 use Rattle.mh_model.specs.Needs.{WorldRun, first_run, runs_quantum, next_run, run_worlds}
-use Rattle.mh_model.specs.Openings.{asked_parts, pages_of_parts}
+use Rattle.mh_model.specs.Openings.{asked_parts, class_parts, pages_for, pages_of_parts}
 use Rattle.mh_sizing_laws.specs.SharpPages.{occurring, fewest_slots}
 
 -- Parts ------------------------------------------------------------------------------------------
@@ -80,6 +80,17 @@ pub record MakeOfClasses (least kinds : ℕ) (config : Config) (events : List Ev
   pub slots : least ≤ fewest_slots (parts_made config events)
   pub classes : length (occurring (parts_made config events)) ≤ kinds
 
--- the pages that the intervals of a run open at most, all together
+-- Demand -----------------------------------------------------------------------------------------
+
+-- the most pages of a class at a time if so many parts of it are made in all, whatever cycles run: a second is opened once the first is full, and each
+-- further one by a part
+abbrev pub births_less_slots : ℕ → ℕ → ℕ
+births_less_slots size count = max 1 (count + 1 - slots_in size)
+
+-- the pages of a class at most: those that the intervals of a run open together by its parts, or those that its parts open in all, whichever are fewer
+abbrev pub class_demand : ℕ → Config → List Event → ℕ
+class_demand size config events = min (sum_by (λ interval. pages_for size (class_parts size interval)) (intervals_made config events)) (births_less_slots size (class_parts size (parts_made config events)))
+
+-- the pages that a run has in use at most, whatever cycles run
 abbrev pub demand : Config → List Event → ℕ
-demand config events = sum_by pages_of_parts (intervals_made config events)
+demand config events = sum_by (λ size. class_demand size config events) class_sizes

@@ -29,9 +29,9 @@ pub record StaysInRoom (config : Config) (events : List Event) (quanta opened : 
 abbrev pub EnoughForNeedsSuffices : Type 0
 EnoughForNeedsSuffices = (needs : Needs) (config : Config) (events : List Event) (quanta : ℕ) → MakeNoMore needs config events → HasEnoughFor needs config quanta → StaysInRoom config events quanta needs.opened
 
--- Let a heap have as many pages as all intervals of a run open together, by the ever-growing world alone. No reply is `heap full`, whatever the quanta,
--- the trigger and the cycles. The sum over the intervals counts, and not what all parts of the run would fill together: a cycle may flag the page that
--- births are filling, and the next birth opens another
+-- Let a heap have for each class as many pages as all intervals of a run open together by the parts of that class, or as its parts open in all, whichever
+-- are fewer, by the ever-growing world alone. No reply is `heap full`, whatever the quanta, the trigger and the cycles. What all parts of the run would
+-- fill together isn't enough: a cycle may flag the page that births are filling, and the next birth opens another
 abbrev pub PagesForDemandSuffice : Type 0
 PagesForDemandSuffice = (config : Config) (events : List Event) → demand config events ≤ config.pages → IsNeverFull config events
 

@@ -12,4 +12,5 @@ pub mod reached;
 pub mod sharp_anchors;
 pub mod sharp_needs;
 pub mod sharp_pages;
+pub mod startup;
 pub mod triggers;

@@ -11,8 +11,8 @@ pub fn enough_for_needs_suffices()
     ensures { EnoughForNeedsSuffices }
 {}
 
-/// Nor is a heap ever full that has as many pages as all intervals of a run open together, whatever its quanta, its
-/// trigger and its cycles.
+/// Nor is a heap ever full that has for each class as many pages as all intervals of a run open together, or as its
+/// parts open in all, whatever its quanta, its trigger and its cycles.
 pub fn pages_for_demand_suffice()
     ensures { PagesForDemandSuffice }
 {}

@@ -1,10 +1,9 @@
 -- Runs in which each command that the ever-growing world refuses stands for one that every heap refuses, and that asks for nothing. The world passes the
 -- same states, and the intervals of the one ask for what those of the other make. So what is known by what a run asks for is known by what it makes.
 use Rattle.std.proofs.Common.{◌≡◌, ℕ, ◌+◌, ◌==◌, ◌≤◌, nat_le, not, Bool, true, false, ◌&&◌, if◌then◌else◌, Option, Some, None, is_none, List, [], ◌∷◌, ◌++◌, length, map, get_or, refl, sym, ap, ap₂, ◌∙◌, subst}
-use Rattle.std.specs.List.{AllByRecursion, flat_map, sum_by}
+use Rattle.std.specs.List.{AllByRecursion, flat_map}
 use Rattle.std.proofs.lemmas.List.{append-nil}
 use Rattle.std.proofs.lemmas.List.Concat.{flat_map-append}
-use Rattle.std.proofs.lemmas.List.Sums.{sum_by-cons}
 use Rattle.mh_model.specs.declared.command.Command.{Command}
 use Rattle.mh_model.specs.declared.command.Command.TheVariants as command
 use Rattle.mh_model.specs.declared.command.Event.{Event}
@@ -23,8 +22,8 @@ use Rattle.mh_model.specs.LiveParts.{HasAtMostLive}
 use Rattle.mh_model.specs.Machine.{new_units, command_units}
 use Rattle.mh_model.specs.Needs.{WorldRun, first_run, half_run, runs_quantum, next_run, run_worlds}
 use Rattle.mh_model.specs.Openings.{asked_parts, pages_of_parts}
-use Rattle.mh_sizing_laws.proofs.needs.AskedNeeds.{AskNoMore, opened_in_all, run_intervals}
-use Rattle.mh_sizing_laws.specs.Made.{made_parts, parts_made, parts_made_in, intervals_made, intervals_made_in, MakeNoMore, demand}
+use Rattle.mh_sizing_laws.proofs.needs.AskedNeeds.{AskNoMore, run_intervals}
+use Rattle.mh_sizing_laws.specs.Made.{made_parts, parts_made, parts_made_in, intervals_made, intervals_made_in, MakeNoMore}
 use Rattle.mh_sizing_laws.proofs.needs.BesideRuns.{after-world, config-kept}
 
 -- a command as it counts: one that is refused asks for nothing
@@ -150,10 +149,6 @@ all-mapped : {X Y : Type 0} (P : Y → Type 0) (f : X → Y) (list : List X) →
 all-mapped P f [] all = tt
 all-mapped P f (x ∷ list) all = (all.0, all-mapped P f list all.1)
 
-sum-mapped : {X Y : Type 0} (number : Y → ℕ) (f : X → Y) (list : List X) → sum_by (λ x. number (f x)) list ≡ sum_by number (map f list)
-sum-mapped number f [] = refl
-sum-mapped number f (x ∷ list) = sum_by-cons (λ x. number (f x)) x list ∙ ap (λ n. number (f x) + n) (sum-mapped number f list) ∙ sym (sum_by-cons number (f x) (map f list))
-
 module _ (config : Config) (events : List Event) where
   pub parts-made : flat_map (asked_parts config) (accepted config events) ≡ parts_made config events
   parts-made = all-accepted config events (first_run config) refl
@@ -171,7 +166,3 @@ module _ (config : Config) (events : List Event) where
     opened = intervals-asked (λ list. pages_of_parts list ≤ needs.opened) make.opened;
     page = subst (λ (list : List Part). most_slots list + most_moves list ≤ needs.page_units) (sym parts-made) make.page;
   }
-
-  pub demand-asked : opened_in_all config (accepted config events) ≡ demand config events
-  demand-asked =
-      sum-mapped pages_of_parts (flat_map (asked_parts config)) (run_intervals [] (first_run config) (accepted config events)) ∙ ap (sum_by pages_of_parts) (intervals-accepted config events [] (first_run config) refl)

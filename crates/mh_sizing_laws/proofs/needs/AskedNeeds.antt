@@ -1,6 +1,6 @@
 -- What the sessions of a run ask for, by the ever-growing world alone: objects that are refused count too.
-use Rattle.std.proofs.Common.{ℕ, ◌+◌, ◌≤◌, if◌then◌else◌, List, [], ◌∷◌, ◌++◌, flat_map}
-use Rattle.std.specs.List.{AllByRecursion, sum_by}
+use Rattle.std.proofs.Common.{◌+◌, ◌≤◌, if◌then◌else◌, List, [], ◌∷◌, ◌++◌, flat_map}
+use Rattle.std.specs.List.{AllByRecursion}
 use Rattle.mh_model.specs.declared.command.Event.{Event}
 use Rattle.mh_model.specs.declared.config.Config.{Config}
 use Rattle.mh_model.specs.declared.needs.Needs.{Needs}
@@ -24,7 +24,3 @@ pub record AskNoMore (needs : Needs) (config : Config) (events : List Event) : T
   pub asked : AllByRecursion (λ interval. asked_count config interval ≤ needs.asked) (run_intervals [] (first_run config) events)
   pub opened : AllByRecursion (λ interval. opens_at_most config interval ≤ needs.opened) (run_intervals [] (first_run config) events)
   pub page : let list = flat_map (asked_parts config) events in most_slots list + most_moves list ≤ needs.page_units
-
--- the pages that the intervals open at most, all together
-abbrev pub opened_in_all : Config → List Event → ℕ
-opened_in_all config events = sum_by (opens_at_most config) (run_intervals [] (first_run config) events)

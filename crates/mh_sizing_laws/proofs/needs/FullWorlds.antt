@@ -24,13 +24,16 @@ made-unrefused : (world : World) (who slot references numbers : ℕ) → refusal
 unfolding heap_step
 made-unrefused world who slot references numbers none = ap (λ refused. (unless_refused refused world (effect world who (command.New slot references numbers))).reply) none
 
+-- the world refuses a new object by the same tests as the heap, but for that of its fullness
+pub tested_by_the_world : (heap : HeapState) (world : World) → Agrees (heap_view heap) world → (who slot references numbers : ℕ)
+    → refusal (sight_of never_full world) who (command.New slot references numbers) ≡ refusal (record (heap_sight heap) { is_full = never_full }) who (command.New slot references numbers)
+tested_by_the_world heap world agrees who slot references numbers =
+    refused-alike (sight_of never_full world) (record (heap_sight heap) { is_full = never_full }) who slot references numbers (sym (most-shown heap ∙ ap most_fields agrees.config)) refl (sym (ended-shown heap ∙ agrees.ended))
+
 -- a new object that no test of the heap refuses but that of its fullness, the world doesn't refuse
 pub unrefused_by_the_world : (heap : HeapState) (world : World) → Agrees (heap_view heap) world → (who slot references numbers : ℕ) → refusal (record (heap_sight heap) { is_full = never_full }) who (command.New slot references numbers) ≡ None
     → refusal (sight_of never_full world) who (command.New slot references numbers) ≡ None
-unrefused_by_the_world heap world agrees who slot references numbers none =
-    let same = refused-alike (sight_of never_full world) (record (heap_sight heap) { is_full = never_full }) who slot references numbers
-    (sym (most-shown heap ∙ ap most_fields agrees.config)) refl (sym (ended-shown heap ∙ agrees.ended)) in
-    same ∙ none
+unrefused_by_the_world heap world agrees who slot references numbers none = tested_by_the_world heap world agrees who slot references numbers ∙ none
 
 -- so the world makes it
 pub made_by_the_world : (heap : HeapState) (world : World) → Agrees (heap_view heap) world → (who slot references numbers : ℕ) → refusal (record (heap_sight heap) { is_full = never_full }) who (command.New slot references numbers) ≡ None

@@ -1,7 +1,7 @@
 -- Runs of the ever-growing world in two configurations with the same rules and scheduler: they have the same objects, slots and units, so what is needed
 -- is the same.
 use mathlib.Core.Path.{fun_ext}
-use Rattle.std.proofs.Common.{◌≡◌, ℕ, ◌+◌, ◌==◌, ◌≤◌, nat_le, nat_lt, not, Bool, true, false, ◌&&◌, if◌then◌else◌, Option, Some, None, is_none, option_map, List, [], ◌∷◌, ◌++◌, length, set, refl, sym, ap, ap₂, ◌∙◌, subst}
+use Rattle.std.proofs.Common.{◌≡◌, ℕ, ◌+◌, ◌==◌, ◌≤◌, nat_le, nat_lt, not, Bool, true, false, ◌&&◌, if◌then◌else◌, Option, Some, None, is_none, option_map, List, [], ◌∷◌, ◌++◌, length, min, set, refl, sym, ap, ap₂, ◌∙◌, subst}
 use Rattle.std.specs.List.{AllByRecursion, sum_by}
 use Rattle.mh_model.specs.declared.command.Command.{Command}
 use Rattle.mh_model.specs.declared.command.Command.TheVariants as command
@@ -15,13 +15,13 @@ use Rattle.mh_model.specs.declared.reply.Reply.{Reply}
 use Rattle.mh_model.specs.declared.reply.Reply.TheVariants as reply
 use Rattle.mh_model.specs.World.{Answer, Object, World, most_fields_under, own_slot, slot_at, object_named, shape_of, number_of, reference_of, shape_reply, refusal, effect, with_change, with_number, with_reference, done, says, unless_refused, sight_of, never_full, world_step, heap_step}
 use Rattle.mh_model.specs.Paths.{IsPath, Reachable}
-use Rattle.mh_model.specs.Classes.{Part, parts}
-use Rattle.mh_model.specs.Openings.{asked_parts, pages_of_parts}
+use Rattle.mh_model.specs.Classes.{Part, class_sizes, parts}
+use Rattle.mh_model.specs.Openings.{asked_parts, class_parts, pages_for, pages_of_parts}
 use Rattle.mh_model.specs.CycleUnits.{ReachesAtMost, most_slots, most_moves}
 use Rattle.mh_model.specs.LiveParts.{HasAtMostLive}
 use Rattle.mh_model.specs.Machine.{command_units}
 use Rattle.mh_model.specs.Needs.{WorldRun, first_run, half_run, runs_quantum, next_run, run_worlds}
-use Rattle.mh_sizing_laws.specs.Made.{made_parts, parts_made_in, intervals_made_in}
+use Rattle.mh_sizing_laws.specs.Made.{births_less_slots, made_parts, parts_made_in, intervals_made_in}
 use Rattle.mh_sizing_laws.specs.Needs.{HasSameScheduler, NeedsAreOfTheScheduler}
 use Rattle.mh_sizing_laws.proofs.needs.BesideRuns.{after-world, config-kept}
 
@@ -178,6 +178,8 @@ of-scheduler = record {
     opened = subst (AllByRecursion (λ interval. pages_of_parts interval ≤ needs.opened)) (sym (intervals-same other events [] (first_run config) same)) make.opened;
     page = subst (λ (list : List Part). most_slots list + most_moves list ≤ needs.page_units) (sym (all-same other events (first_run config) same)) make.page;
   };
-  demanded = λ config other events same. ap (sum_by pages_of_parts) (intervals-same other events [] (first_run config) same);
+  demanded = λ config other events same.
+      ap₂ (λ (intervals : List (List Part)) (list : List Part). sum_by (λ size. min (sum_by (λ interval. pages_for size (class_parts size interval)) intervals) (births_less_slots size (class_parts size list))) class_sizes)
+      (intervals-same other events [] (first_run config) same) (all-same other events (first_run config) same);
   parts = λ config other events same. all-same other events (first_run config) same;
 }

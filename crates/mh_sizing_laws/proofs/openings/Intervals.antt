@@ -114,7 +114,7 @@ objects-few table birth stamp list made slots e =
 abbrev pub asked_of : Config → List Event → ℕ → ℕ
 asked_of config events size = class_parts size (flat_map (asked_parts config) events)
 
-class_parts-append : (size : ℕ) (first second : List Part) → class_parts size (first ++ second) ≡ class_parts size first + class_parts size second
+pub class_parts-append : (size : ℕ) (first second : List Part) → class_parts size (first ++ second) ≡ class_parts size first + class_parts size second
 class_parts-append size first second = sum_by-append (λ part. cond (is_of_class size part) 1 0) first second
 
 pub asked-cons : (config : Config) (event : Event) (events : List Event) (size : ℕ) → asked_of config (event ∷ events) size ≡ class_parts size (asked_parts config event) + asked_of config events size

@@ -27,7 +27,7 @@ one_of size other = if size == other then 1 else 0
 pub one_of-same : (size other : ℕ) → other ≡ size → one_of size other ≡ 1
 one_of-same size other same = ap (λ b. if b then 1 else 0) (eq-eqb size other (sym same))
 
-one_of-other : (size other : ℕ) → other ≢ size → one_of size other ≡ 0
+pub one_of-other : (size other : ℕ) → other ≢ size → one_of size other ≡ 0
 one_of-other size other apart = go (size == other) refl
   where
     go : (same : Bool) → (size == other) ≡ same → ◌≡◌ {A = ℕ} (if same then 1 else 0) 0
@@ -55,7 +55,7 @@ sum-larger f g (size ∷ sizes) larger =
     omega (arith, sum_by-cons f size sizes, sum_by-cons g size sizes, larger size (among-first size sizes), sum-larger f g sizes (λ other among. larger other (among-later other size sizes among)))
 
 -- and of one more for a class that is among these
-sum-one_more : (f : ℕ → ℕ) (size : ℕ) (sizes : List ℕ) → IsAmong size sizes → sum_by f sizes + 1 ≤ sum_by (λ k. f k + one_of size k) sizes
+pub sum-one_more : (f : ℕ → ℕ) (size : ℕ) (sizes : List ℕ) → IsAmong size sizes → sum_by f sizes + 1 ≤ sum_by (λ k. f k + one_of size k) sizes
 sum-one_more f size [] among = absurd (false≢true among)
 sum-one_more f size (k ∷ sizes) among = go (k == size) refl among (sum-one_more f size sizes)
   where
@@ -83,7 +83,7 @@ pub record IsOpened (sizes : List ℕ) (asked : ℕ → ℕ) (start now : Table 
   pub last : (size : ℕ) → slots_in size * opened size ≤ asked size + (slots_in size - 1)
 
 -- the slots of one page more
-one_page_more : (slots pages one : ℕ) → one ≡ 1 → slots * (pages + one) ≡ slots * pages + slots
+pub one_page_more : (slots pages one : ℕ) → one ≡ 1 → slots * (pages + one) ≡ slots * pages + slots
 one_page_more slots pages one is = rw (is, add-one) (mul-suc slots pages)
 
 no_page_more : (slots pages one : ℕ) → one ≡ 0 → slots * (pages + one) ≡ slots * pages
@@ -190,13 +190,13 @@ first-made table birth stamp index part after made e = by_class (class_of (part_
     by_class (Some size) is h = by_place size is (least_place table size) refl h
 
 -- a place that is taken leaves each page the slots of its class
-pub taken-slots : (table : Table Block) (size place : ℕ) (block : Block) → is_class_size size ≡ true → HaveTheirSlots table → HaveTheirSlots (with_taken table size place block)
-taken-slots table size place block class slots number page at = elim (get_or-set_either table (page_number place) number _ None (Some page) at) [
+pub taken-slots : {X : Type 0} (table : Table X) (size place : ℕ) (block : X) → is_class_size size ≡ true → HaveTheirSlots table → HaveTheirSlots (with_taken table size place block)
+taken-slots {X = X} table size place block class slots number page at = elim (get_or-set_either table (page_number place) number _ None (Some page) at) [
   | inl written ↦ subst HasItsSlots (same_Some _ page written) (page_with-slots old (slot_number place) (Some block) (page_for-slots size (page_at table (page_number place)) class (λ p is. slots (page_number place) p is)))
   | inr before ↦ slots number page before
 ]
   where
-    old : Page Block
+    old : Page X
     old = page_for size (page_at table (page_number place))
 
 pub class_parts-cons : (size other : ℕ) (part : Part) (list : List Part) → class_of (part_words part) ≡ Some size → class_parts other (part ∷ list) ≡ one_of size other + class_parts other list
@@ -236,7 +236,7 @@ abbrev pub pages_of : (ℕ → ℕ) → List ℕ → ℕ
 pages_of asked sizes = sum_by (λ size. pages_for size (asked size)) sizes
 
 -- so many slots are in no more pages than that
-least-pages : (slots pages count : ℕ) → 0 < slots → slots * pages ≤ count + (slots - 1) → pages ≤ div_ceil count slots
+pub least-pages : (slots pages count : ℕ) → 0 < slots → slots * pages ≤ count + (slots - 1) → pages ≤ div_ceil count slots
 least-pages slots pages count some room = elim (cases_lt (div_ceil count slots) pages) [
   | inl less ↦
       let least : ℕ = div_ceil count slots in

@@ -37,7 +37,7 @@ pub full_is : (answer : Reply) → is_heap_full answer ≡ true → answer ≡ r
 full_is (reply.Refused HeapFull) full = refl
 full_is _ full = absurd (false≢true full)
 
-not_full : (answer : Reply) → (answer ≡ reply.Refused HeapFull → ⊥) → is_heap_full answer ≡ false
+pub not_full : (answer : Reply) → (answer ≡ reply.Refused HeapFull → ⊥) → is_heap_full answer ≡ false
 not_full answer other = elim (cases_Bool (is_heap_full answer)) [ inl full ↦ absurd (other (full_is answer full)) | inr is ↦ is ]
 
 -- Commands ---------------------------------------------------------------------------------------
@@ -89,7 +89,7 @@ module _ (asked : ℕ → ℕ) (start : Table Block) (heap : HeapState) (who : �
 -- Events -----------------------------------------------------------------------------------------
 
 -- no control is answered by a full heap
-control-reply : (machine : Machine) (control : Control) → is_heap_full (control_step machine control).reply ≡ false
+pub control-reply : (machine : Machine) (control : Control) → is_heap_full (control_step machine control).reply ≡ false
 unfolding control_step quantum_run
 control-reply machine control.Quantum = go (machine.heap.config.every == 0)
   where

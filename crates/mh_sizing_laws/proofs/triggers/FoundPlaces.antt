@@ -16,29 +16,29 @@ use Rattle.mh_sizing_laws.proofs.openings.KeptRoom.{linked_parts-room}
 -- One part ---------------------------------------------------------------------------------------
 
 -- the least place of a class is there, and not in a flagged page
-pub record HasPlace (table : Table Block) (size : ℕ) : Type 0 where
+pub record HasPlace {X : Type 0} (table : Table X) (size : ℕ) : Type 0 where
   pub place : ℕ
   pub least : least_place table size ≡ Some place
   pub unflagged : flag_at table (page_number place) ≡ false
 
 -- the flag of a page's content
-abbrev flag_of : Option (Page Block) → Bool
+abbrev flag_of : {X : Type 0} → Option (Page X) → Bool
 flag_of content = unwrap_or (option_map (λ page. page.is_flagged) content) false
 
 -- a table with a free page has a free one of some number
-free-number : (table : Table Block) → 0 < free_pages table → (number : ℕ) × (number < length table) × (page_at table number ≡ None)
+pub free-number : {X : Type 0} (table : Table X) → 0 < free_pages table → (number : ℕ) × (number < length table) × (page_at table number ≡ None)
 free-number [] some = absurd (omega arith)
 free-number (None ∷ table) some = (0, omega arith, refl)
 free-number (Some page ∷ table) some = let (number, inside, free) = free-number table some in (suc number, omega arith, free)
 
-fresh-small : (table : Table Block) (number slot : ℕ) → fresh_slot (page_at table number) ≡ Some slot → (page_at table number ≡ None) × (slot < 64)
-fresh-small table number slot e = go (page_at table number) e
+fresh-small : {X : Type 0} (table : Table X) (number slot : ℕ) → fresh_slot (page_at table number) ≡ Some slot → (page_at table number ≡ None) × (slot < 64)
+fresh-small {X = X} table number slot e = go (page_at table number) e
   where
-    go : (content : Option (Page Block)) → fresh_slot content ≡ Some slot → (content ≡ None) × (slot < 64)
+    go : (content : Option (Page X)) → fresh_slot content ≡ Some slot → (content ≡ None) × (slot < 64)
     go None h = (refl, omega (arith, same_Some 0 slot h))
     go (Some page) h = absurd (none-some slot h)
 
-free-place : (table : Table Block) (size : ℕ) → least_dense_place table size ≡ None → 0 < free_pages table → HasPlace table size
+pub free-place : {X : Type 0} (table : Table X) (size : ℕ) → least_dense_place table size ≡ None → 0 < free_pages table → HasPlace table size
 free-place table size none some =
     let (number, inside, free) = free-number table some in
     let (place, is) = from_some (least fresh_slot table) (least-some fresh_slot table number inside (ap (λ content. is_some (fresh_slot content)) free)) in
@@ -49,19 +49,22 @@ free-place table size none some =
       unflagged = ap flag_of (fresh-small table (page_number place) (slot_number place) found.gives).0;
     }
 
+pub dense-place : {X : Type 0} (table : Table X) (size place : ℕ) → HaveTheirSlots table → least_dense_place table size ≡ Some place → HasPlace table size
+dense-place table size place slots found =
+    let (page, at, of_class, unflagged, empty) = least_dense_place-page table size (shaped-slots table slots) place found in
+    record {
+      place = place;
+      least = ap (λ o. option_or o (option_or (least fresh_slot table) (least (open_slot (is_sparse size)) table))) found;
+      unflagged = ap flag_of at ∙ unflagged;
+    }
+
 -- A class has a place in an unflagged or a free page, if one more block of it would open no more pages than were free
 pub place-found : (asked : ℕ → ℕ) (start now : Table Block) (size : ℕ) → is_class_size size ≡ true → HaveTheirSlots now → IsOpened class_sizes asked start now → pages_of (λ k. asked k + one_of size k) class_sizes ≤ free_pages start → HasPlace now size
 place-found asked start now size class slots is fits = go (least_dense_place now size) refl
   where
     go : (dense : Option ℕ) → least_dense_place now size ≡ dense → HasPlace now size
     go None none = free-place now size none (room-left asked start now size class is (dense_room-none now size (least-none (open_slot (is_dense size)) now none)) fits)
-    go (Some place) found =
-        let (page, at, of_class, unflagged, empty) = least_dense_place-page now size (shaped-slots now slots) place found in
-        record {
-          place = place;
-          least = ap (λ o. option_or o (option_or (least fresh_slot now) (least (open_slot (is_sparse size)) now))) found;
-          unflagged = ap flag_of at ∙ unflagged;
-        }
+    go (Some place) found = dense-place now size place slots found
 
 -- Parts in order ---------------------------------------------------------------------------------
 
