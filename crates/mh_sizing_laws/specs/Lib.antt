@@ -11,3 +11,4 @@ pub mod SharpPages
 pub mod SharpNeeds
 pub mod SharpAnchors
 pub mod Startup
+pub mod Started

@@ -12,5 +12,6 @@ pub mod reached;
 pub mod sharp_anchors;
 pub mod sharp_needs;
 pub mod sharp_pages;
+pub mod started;
 pub mod startup;
 pub mod triggers;

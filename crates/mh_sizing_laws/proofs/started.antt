@@ -1,0 +1,3 @@
+pub mod ReachedThroughout
+pub mod AcceptedStarts
+pub mod StartedPages
