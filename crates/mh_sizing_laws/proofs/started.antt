@@ -1,3 +1,4 @@
 pub mod ReachedThroughout
 pub mod AcceptedStarts
 pub mod StartedPages
+pub mod SharpStartedPages

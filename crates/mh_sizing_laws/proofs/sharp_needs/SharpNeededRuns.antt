@@ -29,10 +29,10 @@ div-larger count more least some less =
     (le-div_iff_mul-le (omega (arith, some))).1 (omega (arith, product, div-mul-le_self count more))
 
 -- events that ask for parts of at most so many classes, whose pages have at least so many slots, and one at least
-record AskOfClasses (least kinds : ℕ) (config : Config) (events : List Event) : Type 0 where
-  some : 1 ≤ least
-  slots : least ≤ fewest_slots (all_asked config events)
-  classes : length (occurring (all_asked config events)) ≤ kinds
+pub record AskOfClasses (least kinds : ℕ) (config : Config) (events : List Event) : Type 0 where
+  pub some : 1 ≤ least
+  pub slots : least ≤ fewest_slots (all_asked config events)
+  pub classes : length (occurring (all_asked config events)) ≤ kinds
 
 -- fewer quanta that make parts of fewer classes
 pub classes-few : (quanta less few more : ℕ) → 1 ≤ quanta → less ≤ quanta → few ≤ more → less * few + more ≤ quanta * more + few
