@@ -2,3 +2,4 @@ pub mod ReachedThroughout
 pub mod AcceptedStarts
 pub mod StartedPages
 pub mod SharpStartedPages
+pub mod OtherStarts

@@ -27,7 +27,7 @@ run-joined : (first more : List Event) (run : WorldRun) → run_after run (first
 run-joined [] more run = refl
 run-joined (event ∷ first) more run = run-joined first more (next_run run event)
 
-run-config : (events : List Event) (run : WorldRun) → (run_after run events).world.config ≡ run.world.config
+pub run-config : (events : List Event) (run : WorldRun) → (run_after run events).world.config ≡ run.world.config
 run-config [] run = refl
 run-config (event ∷ events) run = run-config events (next_run run event) ∙ next-config run event
 
