@@ -9,3 +9,4 @@ pub mod Newborns
 pub mod AgedCommands
 pub mod FilledTables
 pub mod PartlyNew
+pub mod Beside

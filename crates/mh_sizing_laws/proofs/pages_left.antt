@@ -1,4 +1,5 @@
 pub mod Counting
+pub mod MadeGroups
 pub mod FedTables
 pub mod FedCommands
 pub mod SweptPages

@@ -11,5 +11,6 @@ pub mod SharpStates
 pub mod CountedQuanta
 pub mod HalfStates
 pub mod SharpEvents
+pub mod SharpStarts
 pub mod SharpRuns
 pub mod MarkedRuns

@@ -9,4 +9,6 @@ pub mod Filling
 pub mod Anchors
 pub mod SharpPages
 pub mod SharpNeeds
+pub mod SharpAnchors
 pub mod Startup
+pub mod Started

@@ -15,7 +15,7 @@ use Rattle.mh_sizing_laws.proofs.filling.Fronts.{IsFront, front-least, taken-fro
 pub record Kind : Type 1 where
   pub size : ℕ
   pub weight : ℕ → Page ℕ → ℕ
-  pub extra : Page ℕ → ℕ
+  pub extra : ℕ → Page ℕ → ℕ
   pub Touched : Page ℕ → Type 0
   pub paid : ℕ
 
@@ -28,11 +28,11 @@ pub record IsPut (size : ℕ) (page : Page ℕ) (slot : ℕ) : Type 0 where
 
 -- what a block of this birth adds: to a page the room that is left and what is paid, and again what is paid
 pub record Allows (kind : Kind) (birth : ℕ) : Type 0 where
-  pub first : (number slot : ℕ) (page : Page ℕ) → IsPut kind.size page slot → kind.weight number (page_with slot (Some birth) page) ≤ kind.weight number page + (kind.paid + kind.extra (page_with slot (Some birth) page))
-  pub again : (number slot : ℕ) (page : Page ℕ) → IsPut kind.size page slot → kind.Touched page → kind.weight number (page_with slot (Some birth) page) + kind.extra page ≤ kind.weight number page + (kind.paid + kind.extra (page_with slot (Some birth) page))
-  pub opened : (number slot : ℕ) → IsPut kind.size (page_for kind.size None) slot → kind.weight number (page_with slot (Some birth) (page_for kind.size None)) ≤ kind.paid + kind.extra (page_with slot (Some birth) (page_for kind.size None))
+  pub first : (number slot : ℕ) (page : Page ℕ) → IsPut kind.size page slot → kind.weight number (page_with slot (Some birth) page) ≤ kind.weight number page + (kind.paid + kind.extra number (page_with slot (Some birth) page))
+  pub again : (number slot : ℕ) (page : Page ℕ) → IsPut kind.size page slot → kind.Touched page → kind.weight number (page_with slot (Some birth) page) + kind.extra number page ≤ kind.weight number page + (kind.paid + kind.extra number (page_with slot (Some birth) page))
+  pub opened : (number slot : ℕ) → IsPut kind.size (page_for kind.size None) slot → kind.weight number (page_with slot (Some birth) (page_for kind.size None)) ≤ kind.paid + kind.extra number (page_with slot (Some birth) (page_for kind.size None))
   pub touched : (slot : ℕ) (page : Page ℕ) → IsPut kind.size page slot → kind.Touched (page_with slot (Some birth) page)
-  pub full : (page : Page ℕ) → empties page.slots ≡ 0 → kind.extra page ≡ 0
+  pub full : (number : ℕ) (page : Page ℕ) → empties page.slots ≡ 0 → kind.extra number page ≡ 0
 
 -- one page has room and new blocks: all weigh no more than what was counted and what this page may
 pub record FillsAt (kind : Kind) (count budget : ℕ) (table : Table ℕ) : Type 0 where
@@ -44,7 +44,7 @@ pub record FillsAt (kind : Kind) (count budget : ℕ) (table : Table ℕ) : Type
   pub room : 0 < empties page.slots
   pub front : IsFront table kind.size number page
   pub some : 1 ≤ count
-  pub weight : weights (weigh kind.size kind.weight) table ≤ budget + kind.extra page
+  pub weight : weights (weigh kind.size kind.weight) table ≤ budget + kind.extra number page
 
 -- the pages of a class weigh no more than was counted, but for one page at most
 abbrev pub Fills : Kind → ℕ → ℕ → Table ℕ → Type 0
@@ -89,31 +89,31 @@ module _ (kind : Kind) (birth : ℕ) (allows : Allows kind birth) (class : is_cl
   sum = omega (arith, weights-set (weigh kind.size kind.weight) table number (Some put) free.inside, weigh-own kind.size kind.weight number put free.of_class)
 
   -- what the page weighed before
-  first-put : kind.weight number put ≤ weigh kind.size kind.weight number content + (kind.paid + kind.extra put)
+  first-put : kind.weight number put ≤ weigh kind.size kind.weight number content + (kind.paid + kind.extra number put)
   first-put = go content refl is_put
     where
       go : (old : Option (Page ℕ)) → content ≡ old → IsPut kind.size (page_for kind.size old) slot
-          → kind.weight number (page_with slot (Some birth) (page_for kind.size old)) ≤ weigh kind.size kind.weight number old + (kind.paid + kind.extra (page_with slot (Some birth) (page_for kind.size old)))
+          → kind.weight number (page_with slot (Some birth) (page_for kind.size old)) ≤ weigh kind.size kind.weight number old + (kind.paid + kind.extra number (page_with slot (Some birth) (page_for kind.size old)))
       go None at is = omega (arith, allows.opened number slot is)
       go (Some page) at is = omega (arith, allows.first number slot page is, weigh-own kind.size kind.weight number page is.class)
 
-  again-put : (page : Page ℕ) → content ≡ Some page → kind.Touched page → kind.weight number put + kind.extra page ≤ weigh kind.size kind.weight number content + (kind.paid + kind.extra put)
+  again-put : (page : Page ℕ) → content ≡ Some page → kind.Touched page → kind.weight number put + kind.extra number page ≤ weigh kind.size kind.weight number content + (kind.paid + kind.extra number put)
   again-put page at touched = go content at is_put
     where
       go : (old : Option (Page ℕ)) → old ≡ Some page → IsPut kind.size (page_for kind.size old) slot
-          → kind.weight number (page_with slot (Some birth) (page_for kind.size old)) + kind.extra page ≤ weigh kind.size kind.weight number old + (kind.paid + kind.extra (page_with slot (Some birth) (page_for kind.size old)))
+          → kind.weight number (page_with slot (Some birth) (page_for kind.size old)) + kind.extra number page ≤ weigh kind.size kind.weight number old + (kind.paid + kind.extra number (page_with slot (Some birth) (page_for kind.size old)))
       go None e is = absurd (none-some page e)
       go (Some other) e is =
           let same : other ≡ page = same_Some other page e in
           let rest = allows.again number slot other is (subst kind.Touched (sym same) touched) in
-          omega (arith, rest, weigh-own kind.size kind.weight number other is.class, ap kind.extra same)
+          omega (arith, rest, weigh-own kind.size kind.weight number other is.class, ap (kind.extra number) same)
 
   -- all that the table weighs with the block
-  after-put : (count budget : ℕ) → Fills kind count budget table → total taken ≤ budget + (kind.paid + kind.extra put)
+  after-put : (count budget : ℕ) → Fills kind count budget table → total taken ≤ budget + (kind.paid + kind.extra number put)
   after-put count budget (inl light) = omega (arith, light, sum, first-put)
   after-put count budget (inr at) =
       let same : number ≡ at.number = front-least table kind.size at.number place at.page (shaped-slots table slots) (below_length table at.number at.page at.in_use) at.in_use at.class at.room at.front least in
-      omega (arith, at.weight, sum, again-put at.page (ap (page_at table) same ∙ at.in_use) at.touched)
+      omega (arith, at.weight, sum, again-put at.page (ap (page_at table) same ∙ at.in_use) at.touched, ap (λ n. kind.extra n at.page) same)
 
   -- A new block of the class goes into the page that has room, or opens another when none has
   pub fills-own : (count more budget larger : ℕ) → 1 ≤ more → budget + kind.paid ≤ larger → Fills kind count budget table → Fills kind more larger taken
@@ -129,7 +129,7 @@ module _ (kind : Kind) (birth : ℕ) (allows : Allows kind birth) (class : is_cl
       some = some;
       weight = omega (arith, after-put count budget fills, large);
     })
-    | inr none ↦ inl (omega (arith, after-put count budget fills, large, allows.full put (omega (arith, none))))
+    | inr none ↦ inl (omega (arith, after-put count budget fills, large, allows.full number put (omega (arith, none))))
   ]
 
 module _ (kind : Kind) (size birth : ℕ) (apart : size ≡ kind.size → ⊥) (class : is_class_size size ≡ true) (table : Table ℕ) (slots : HaveTheirSlots table) (place : ℕ) (least : least_place table size ≡ Some place) where

@@ -14,7 +14,7 @@ abbrev pub roomy : ℕ → Page ℕ → ℕ
 roomy number page = if nat_lt 0 (empties page.slots) then block_count page.slots else 0
 
 abbrev pub resting : ℕ → Kind
-resting size = record { size = size; weight = roomy; extra = roomy 0; Touched = λ page. Unit {0}; paid = 0 }
+resting size = record { size = size; weight = roomy; extra = roomy; Touched = λ page. Unit {0}; paid = 0 }
 
 pub resting-allows : (size birth : ℕ) → Allows (resting size) birth
 resting-allows size birth = record {
@@ -22,13 +22,13 @@ resting-allows size birth = record {
   again = λ number slot page put touched. omega arith;
   opened = λ number slot put. omega arith;
   touched = λ slot page put. tt;
-  full = λ page none. ap (λ n. if nat_lt 0 n then block_count page.slots else 0) none;
+  full = λ number page none. ap (λ n. if nat_lt 0 n then block_count page.slots else 0) none;
 }
 
 -- Blocks born in a cycle -------------------------------------------------------------------------
 
 abbrev pub newborn : ℕ → ℕ → Kind
-newborn from size = record { size = size; weight = λ number page. youngs from page.slots; extra = λ page. 0; Touched = λ page. Unit {0}; paid = 1 }
+newborn from size = record { size = size; weight = λ number page. youngs from page.slots; extra = λ number page. 0; Touched = λ page. Unit {0}; paid = 1 }
 
 pub newborn-allows : (from size birth : ℕ) → from ≤ birth → Allows (newborn from size) birth
 newborn-allows from size birth young = record {
@@ -36,7 +36,7 @@ newborn-allows from size birth young = record {
   again = λ number slot page put touched. omega (arith, youngs-put from birth young page.slots slot put.within put.empty);
   opened = λ number slot put. omega (arith, youngs-put from birth young (page_for {X = ℕ} size None).slots slot put.within put.empty, none);
   touched = λ slot page put. tt;
-  full = λ page none. refl;
+  full = λ number page none. refl;
 }
   where
     none : youngs from (page_for {X = ℕ} size None).slots ≡ 0
@@ -62,7 +62,7 @@ module _ (from passed entered idle slots : ℕ) where
 
 -- of a class, where the page that is being swept weighs all its slots
 abbrev pub marking : ℕ → ℕ → ℕ → ℕ → Kind
-marking from passed entered size = record { size = size; weight = traced from passed entered (slots_in size) (slots_in size); extra = λ page. empties page.slots; Touched = λ page. 0 < youngs from page.slots; paid = 1 }
+marking from passed entered size = record { size = size; weight = traced from passed entered (slots_in size) (slots_in size); extra = λ number page. empties page.slots; Touched = λ page. 0 < youngs from page.slots; paid = 1 }
 
 module _ (old passed entered : Bool) (slots blocks before after : ℕ) (whole : blocks + before ≡ slots) (less : before ≡ suc after) (none : old ≡ false → blocks ≡ 0) where
   first-young : traced_by true old passed entered true slots slots blocks ≤ traced_by false old passed entered true slots slots blocks + (1 + after)
@@ -80,7 +80,7 @@ marking-allows from passed entered size birth young = record {
   again = again;
   opened = opened;
   touched = λ slot page put. omega (arith, youngs-put from birth young page.slots slot put.within put.empty);
-  full = λ page none. none;
+  full = λ number page none. none;
 }
   where
     all : ℕ

@@ -27,7 +27,7 @@ abbrev partly : ℕ → ℕ → Page ℕ → ℕ
 partly from number page = if nat_lt 0 (youngs from page.slots) && nat_lt 0 (empties page.slots) then 1 else 0
 
 abbrev newness : ℕ → ℕ → Kind
-newness from size = record { size = size; weight = partly from; extra = partly from 0; Touched = λ page. Unit {0}; paid = 0 }
+newness from size = record { size = size; weight = partly from; extra = partly from; Touched = λ page. Unit {0}; paid = 0 }
 
 newness-allows : (from size birth : ℕ) → Allows (newness from size) birth
 newness-allows from size birth = record {
@@ -35,7 +35,7 @@ newness-allows from size birth = record {
   again = λ number slot page put touched. omega arith;
   opened = λ number slot put. omega arith;
   touched = λ slot page put. tt;
-  full = λ page none. ap (λ n. if nat_lt 0 (youngs from page.slots) && nat_lt 0 n then 1 else 0) none ∙ never (nat_lt 0 (youngs from page.slots));
+  full = λ number page none. ap (λ n. if nat_lt 0 (youngs from page.slots) && nat_lt 0 n then 1 else 0) none ∙ never (nat_lt 0 (youngs from page.slots));
 }
   where
     never : (young : Bool) → ◌≡◌ {A = ℕ} (if young && false then 1 else 0) 0

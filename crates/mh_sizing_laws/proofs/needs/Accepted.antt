@@ -88,13 +88,13 @@ quantum-accepted : (run : WorldRun) (event : Event) → runs_quantum run (accept
 quantum-accepted run (event.Session who asked) = ap (λ (half : WorldRun). not (run.world.config.every == 0) && nat_le run.world.config.every half.units) (half-accepted run (event.Session who asked))
 quantum-accepted run (event.Control control) = refl
 
-next-accepted : (run : WorldRun) (event : Event) → next_run run (accepted_event run event) ≡ next_run run event
+pub next-accepted : (run : WorldRun) (event : Event) → next_run run (accepted_event run event) ≡ next_run run event
 next-accepted run event = ap₂ (λ (cut : Bool) (half : WorldRun). if cut then record { world = half.world; units = 0 } else half) (quantum-accepted run event) (half-accepted run event)
 
-next-config : (run : WorldRun) (event : Event) → (next_run run event).world.config ≡ run.world.config
+pub next-config : (run : WorldRun) (event : Event) → (next_run run event).world.config ≡ run.world.config
 next-config run event = ap (λ (w : World). w.config) (after-world run event) ∙ config-kept run event
 
-worlds-accepted : (events : List Event) (run : WorldRun) → run_worlds run (accepted_in run events) ≡ run_worlds run events
+pub worlds-accepted : (events : List Event) (run : WorldRun) → run_worlds run (accepted_in run events) ≡ run_worlds run events
 worlds-accepted [] run = refl
 worlds-accepted (event ∷ events) run =
     ap (λ (next : WorldRun). run.world ∷ run_worlds next (accepted_in (next_run run event) events)) (next-accepted run event)
@@ -117,7 +117,7 @@ module _ (config : Config) where
   all-accepted (event ∷ events) run same = ap₂ (λ (here rest : List Part). here ++ rest) (parts-accepted run event same) (all-accepted events (next_run run event) (next-config run event ∙ same))
 
   -- and so do its intervals
-  intervals-accepted : (events before : List Event) (run : WorldRun) → run.world.config ≡ config → map (flat_map (asked_parts config)) (run_intervals before run (accepted_in run events)) ≡ intervals_made_in (flat_map (asked_parts config) before) run events
+  pub intervals-accepted : (events before : List Event) (run : WorldRun) → run.world.config ≡ config → map (flat_map (asked_parts config)) (run_intervals before run (accepted_in run events)) ≡ intervals_made_in (flat_map (asked_parts config) before) run events
   intervals-accepted [] before run same = refl
   intervals-accepted (event ∷ events) before run same =
       ap₂ (λ (cut : Bool) (after : WorldRun). map (flat_map (asked_parts config)) (if cut then now ∷ run_intervals [] after rest else run_intervals now after rest)) (quantum-accepted run event) (next-accepted run event)
@@ -145,7 +145,7 @@ module _ (config : Config) where
 
 -- Needs ------------------------------------------------------------------------------------------
 
-all-mapped : {X Y : Type 0} (P : Y → Type 0) (f : X → Y) (list : List X) → AllByRecursion P (map f list) → AllByRecursion (λ x. P (f x)) list
+pub all-mapped : {X Y : Type 0} (P : Y → Type 0) (f : X → Y) (list : List X) → AllByRecursion P (map f list) → AllByRecursion (λ x. P (f x)) list
 all-mapped P f [] all = tt
 all-mapped P f (x ∷ list) all = (all.0, all-mapped P f list all.1)
 

@@ -20,6 +20,7 @@ use Rattle.mh_model.specs.Needs.{WorldRun, first_run, half_run, runs_quantum, ne
 use Rattle.mh_laws.proofs.bounds.CyclesInTime.{StaysInBounds, run-stays}
 use Rattle.mh_run_laws.proofs.following.AllCommands.{commands-follow}
 use Rattle.mh_run_laws.proofs.runs.FaithfulMoments.{replies-worlds}
+use Rattle.mh_sizing_laws.specs.Made.{run_after}
 use Rattle.mh_sizing_laws.proofs.needs.AskedNeeds.{run_intervals}
 use Rattle.mh_sizing_laws.proofs.triggers.SizedRuns.{next-stays, half-stays}
 use Rattle.mh_sizing_laws.proofs.pages_left.GrownWorlds.{event-grows}
@@ -134,6 +135,17 @@ module _ (config : Config) where
     answers = λ more who command. beside.answers (event ∷ more) who command;
   }
 
+  pub beside-after : (events : List Event) (moment : Moment) (run : WorldRun) → IsBeside moment run → NoneIsFull (machine_replies moment.machine events) → IsBeside (moment_after moment events) (run_after run events)
+  unfolding machine_replies next_moment half_moment moment_after
+  beside-after [] moment run beside none = beside
+  beside-after (event ∷ events) moment run beside none = beside-after events (next_moment moment event) (next_run run event) (next-beside moment run event beside none.0) none.1
+
+-- a run that was never full wasn't before a moment, nor after it
+pub none-split : (first more : List Event) (moment : Moment) → NoneIsFull (machine_replies moment.machine (first ++ more)) → NoneIsFull (machine_replies moment.machine first) × NoneIsFull (machine_replies (moment_after moment first).machine more)
+unfolding machine_replies next_moment half_moment moment_after
+none-split [] more moment none = (tt, none)
+none-split (event ∷ first) more moment none = let split = none-split first more (next_moment moment event) none.1 in ((none.0, split.0), split.1)
+
 -- Premises ---------------------------------------------------------------------------------------
 
 -- the first of these events, if there is one
@@ -185,7 +197,7 @@ module _ (config : Config) (P : List Event → Type 0) (start : (before later : 
       go false h rest = rest (before ++ event ∷ []) h
 
 module _ (P : World → Type 0) where
-  first-world : (events : List Event) (run : WorldRun) → AllByRecursion P (run_worlds run events) → P run.world
+  pub first-world : (events : List Event) (run : WorldRun) → AllByRecursion P (run_worlds run events) → P run.world
   first-world [] run all = all.0
   first-world (event ∷ events) run all = all.0
 

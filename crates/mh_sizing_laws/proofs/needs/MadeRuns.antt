@@ -7,5 +7,4 @@ use Rattle.mh_sizing_laws.proofs.needs.NeededRuns.{enough-asked}
 -- Enough for needs suffices
 pub enough-suffices : EnoughForNeedsSuffices
 enough-suffices needs config events quanta make has =
-    let all = enough-asked needs config (accepted config events) quanta (needs-asked config events needs make) has in
-    stays-alike config events quanta needs.opened (record { cycles = all.0; left = all.1.room.left; never_full = all.1.never_full })
+    stays-alike config events quanta needs.opened (enough-asked needs config (accepted config events) quanta (needs-asked config events needs make) has)

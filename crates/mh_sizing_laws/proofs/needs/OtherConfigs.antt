@@ -27,7 +27,7 @@ use Rattle.mh_sizing_laws.proofs.needs.BesideRuns.{after-world, config-kept}
 
 module _ (other : Config) where
   -- a world in the other configuration
-  abbrev in_other : World → World
+  abbrev pub in_other : World → World
   in_other world = record { config = other; objects = world.objects; slots = world.slots; ended = world.ended }
 
   named-same : (world : World) (name : Option ℕ) → object_named (in_other world) name ≡ object_named world name
@@ -72,7 +72,7 @@ module _ (other : Config) where
 
   -- Runs -----------------------------------------------------------------------------------------
 
-  abbrev run_in : WorldRun → WorldRun
+  abbrev pub run_in : WorldRun → WorldRun
   run_in run = record { world = in_other run.world; units = run.units }
 
   units-same : (config : Config) → other.rules ≡ config.rules → (command : Command) (answer : Reply) → command_units other command answer ≡ command_units config command answer
@@ -105,7 +105,7 @@ module _ (other : Config) where
   quantum-same run (event.Control control.Left) same = refl
   quantum-same run (event.Control (control.Report window)) same = refl
 
-  next-same : (run : WorldRun) (event : Event) → HasSameScheduler run.world.config other → next_run (run_in run) event ≡ run_in (next_run run event)
+  pub next-same : (run : WorldRun) (event : Event) → HasSameScheduler run.world.config other → next_run (run_in run) event ≡ run_in (next_run run event)
   next-same run event same =
       ap₂ (λ (cut : Bool) (half : WorldRun). if cut then record { world = half.world; units = 0 } else half) (quantum-same run event same) (half-same run event same.rules) ∙ go (runs_quantum run event)
     where
@@ -114,7 +114,7 @@ module _ (other : Config) where
       go false = refl
 
   -- a run keeps its configuration
-  stays-same : (run : WorldRun) (event : Event) → HasSameScheduler run.world.config other → HasSameScheduler (next_run run event).world.config other
+  pub stays-same : (run : WorldRun) (event : Event) → HasSameScheduler run.world.config other → HasSameScheduler (next_run run event).world.config other
   stays-same run event same = subst (λ (config : Config). HasSameScheduler config other) (sym (ap (λ (w : World). w.config) (after-world run event) ∙ config-kept run event)) same
 
   -- What is made ---------------------------------------------------------------------------------
@@ -134,18 +134,18 @@ module _ (other : Config) where
   parts-same config rules (event.Session who command.End) = refl
   parts-same config rules (event.Control control) = refl
 
-  made-same : (run : WorldRun) (event : Event) → other.rules ≡ run.world.config.rules → made_parts (run_in run) event ≡ made_parts run event
+  pub made-same : (run : WorldRun) (event : Event) → other.rules ≡ run.world.config.rules → made_parts (run_in run) event ≡ made_parts run event
   made-same run (event.Session who command) rules =
       ap₂ (λ (refused : Option Refusal) (list : List Part). if is_none refused then list else []) (refusal-same run.world rules who command) (parts-same run.world.config rules (event.Session who command))
   made-same run (event.Control control) rules = refl
 
-  all-same : (events : List Event) (run : WorldRun) → HasSameScheduler run.world.config other → parts_made_in (run_in run) events ≡ parts_made_in run events
+  pub all-same : (events : List Event) (run : WorldRun) → HasSameScheduler run.world.config other → parts_made_in (run_in run) events ≡ parts_made_in run events
   all-same [] run same = refl
   all-same (event ∷ events) run same =
       ap₂ (λ (list : List Part) (after : WorldRun). list ++ parts_made_in after events) (made-same run event same.rules) (next-same run event same)
       ∙ ap (λ (list : List Part). made_parts run event ++ list) (all-same events (next_run run event) (stays-same run event same))
 
-  intervals-same : (events : List Event) (before : List Part) (run : WorldRun) → HasSameScheduler run.world.config other → intervals_made_in before (run_in run) events ≡ intervals_made_in before run events
+  pub intervals-same : (events : List Event) (before : List Part) (run : WorldRun) → HasSameScheduler run.world.config other → intervals_made_in before (run_in run) events ≡ intervals_made_in before run events
   intervals-same [] before run same = refl
   intervals-same (event ∷ events) before run same =
       let next : WorldRun = next_run run event in
@@ -158,12 +158,12 @@ module _ (other : Config) where
   path-same world birth [] is = is
   path-same world birth (nearest ∷ path) is = (is.0, path-same world nearest path is.1)
 
-  all-reached : (world : World) (list : List ℕ) → AllByRecursion (Reachable (in_other world)) list → AllByRecursion (Reachable world) list
+  pub all-reached : (world : World) (list : List ℕ) → AllByRecursion (Reachable (in_other world)) list → AllByRecursion (Reachable world) list
   all-reached world [] all = tt
   all-reached world (birth ∷ list) all = ((all.0.0, path-same world birth all.0.0 all.0.1), all-reached world list all.1)
 
   -- what holds of each world of a run holds of each in the other configuration, if it is seen by what is reached
-  worlds-same : (P : World → Type 0) → ((world : World) → P world → P (in_other world)) → (events : List Event) (run : WorldRun) → HasSameScheduler run.world.config other → AllByRecursion P (run_worlds run events) → AllByRecursion P (run_worlds (run_in run) events)
+  pub worlds-same : (P : World → Type 0) → ((world : World) → P world → P (in_other world)) → (events : List Event) (run : WorldRun) → HasSameScheduler run.world.config other → AllByRecursion P (run_worlds run events) → AllByRecursion P (run_worlds (run_in run) events)
   worlds-same P sees [] run same all = (sees run.world all.0, tt)
   worlds-same P sees (event ∷ events) run same all =
       (sees run.world all.0, subst (λ (next : WorldRun). AllByRecursion P (run_worlds next events)) (sym (next-same run event same)) (worlds-same P sees events (next_run run event) (stays-same run event same) all.1))

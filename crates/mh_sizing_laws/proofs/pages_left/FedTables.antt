@@ -3,17 +3,16 @@ use Rattle.std.proofs.Common.{◌≡◌, inl, inr, ℕ, zero, suc, ◌+◌, ◌<
 use Rattle.std.proofs.lemmas.Bool.{cases_eq}
 use Rattle.std.proofs.lemmas.List.{get_or-set_same, get_or-set_other, length-set}
 use Rattle.std.proofs.lemmas.List.Folds.{sum_by-replicate}
-use Rattle.std.proofs.lemmas.Option.{none-some, same_Some}
-use Rattle.mh_model.specs.Classes.{Part, class_of, part_words, slots_in}
-use Rattle.mh_model.specs.Pages.{Page, Table, page_number, slot_number, page_at, block_in, block_at, block_count, live_in, free_pages, least_place, page_with, with_block, page_for, with_taken, HaveTheirSlots, IsFreeFor}
-use Rattle.mh_model.specs.Table.{Block, Made, MadeParts, new_block, made_in_class, made_part, made_parts, with_block_change, linked_block, linked_parts, group_of, made_group}
+use Rattle.std.proofs.lemmas.Option.{none-some}
+use Rattle.mh_model.specs.Classes.{Part, slots_in}
+use Rattle.mh_model.specs.Pages.{Page, Table, page_number, slot_number, page_at, block_in, block_at, block_count, live_in, free_pages, page_with, with_block, page_for, with_taken, HaveTheirSlots, IsFreeFor}
+use Rattle.mh_model.specs.Table.{Block, Made, new_block, with_block_change, linked_block, made_group}
 use Rattle.mh_table_laws.proofs.Lists.{below_length}
-use Rattle.mh_table_laws.proofs.placing.Places.{with_block-self, shaped-slots, least_place-free, block_in-page_for}
-use Rattle.mh_table_laws.proofs.tables.PageSlots.{slots_in-class_size, class_of-class_size}
+use Rattle.mh_table_laws.proofs.placing.Places.{with_block-self, block_in-page_for}
 use Rattle.mh_model.specs.LiveParts.{slot_count, page_count, count_blocks, is_plain}
 use Rattle.mh_sizing_laws.proofs.openings.Rooms.{if_free, free_pages-set}
-use Rattle.mh_sizing_laws.proofs.openings.MadeParts.{taken-slots}
 use Rattle.mh_sizing_laws.proofs.pages_left.Counting.{count-set, count-slot}
+use Rattle.mh_sizing_laws.proofs.pages_left.MadeGroups.{IsKeptByMaking, group-each}
 
 -- Pages ------------------------------------------------------------------------------------------
 
@@ -89,7 +88,7 @@ fed-page_with page slot block =
 pub plain-is : (block : Block) → block.forward ≡ None → slot_count is_plain (Some block) ≡ 1
 plain-is block live = ap {B = ℕ} (λ forward. if not (is_some forward) then 1 else 0) live
 
-at-most-one : (content : Option Block) → slot_count is_plain content ≤ 1
+pub at-most-one : (content : Option Block) → slot_count is_plain content ≤ 1
 at-most-one None = omega arith
 at-most-one (Some block) = go (is_plain block)
   where
@@ -159,62 +158,13 @@ feeds-taken table size place block free live =
 
 -- New objects ------------------------------------------------------------------------------------
 
--- a part that is made, with the slots of the table kept
-record IsPut (old new : Table Block) : Type 0 where
-  pub feeds : Feeds old new
-  pub slots : HaveTheirSlots new
-
-part-put : (table : Table Block) (birth stamp index : ℕ) (part : Part) → HaveTheirSlots table → (made : Made) → made_part table birth stamp index part ≡ Some made → IsPut table made.table
-part-put table birth stamp index part slots made e = by_class (class_of (part_words part)) refl e
-  where
-    block : Block
-    block = new_block birth stamp index part
-
-    by_place : (size : ℕ) → class_of (part_words part) ≡ Some size → (place : Option ℕ) → least_place table size ≡ place → option_map (λ p. record { place = p; table = with_taken table size p block }) place ≡ Some made → IsPut table made.table
-    by_place size is None found h = absurd (none-some made h)
-    by_place size is (Some p) found h =
-        let class = class_of-class_size (part_words part) size is in
-        let free : IsFreeFor table size p = least_place-free table size (shaped-slots table slots) (slots_in-class_size size class).0 p found in
-        subst (λ (m : Made). IsPut table m.table) (same_Some (record { place = p; table = with_taken table size p block }) made h) (record { feeds = feeds-taken table size p block free refl; slots = taken-slots table size p block class slots })
-
-    by_class : (size : Option ℕ) → class_of (part_words part) ≡ size → option_and_then (made_in_class table block) size ≡ Some made → IsPut table made.table
-    by_class None is h = absurd (none-some made h)
-    by_class (Some size) is h = by_place size is (least_place table size) refl h
-
-parts-put : (list : List Part) (table : Table Block) (birth stamp index : ℕ) → HaveTheirSlots table → (made : MadeParts) → made_parts table birth stamp index list ≡ Some made → Feeds table made.table
-parts-put [] table birth stamp index slots made e = subst (λ (m : MadeParts). Feeds table m.table) (same_Some (record { places = []; table = table }) made e) (feeds-same table)
-parts-put (part ∷ list) table birth stamp index slots made e = by_first (made_part table birth stamp index part) refl e (λ t s m h. parts-put list t birth stamp (suc index) s m h)
-  where
-    by_rest : (first : Made) → IsPut table first.table → (rest : Option MadeParts) → made_parts first.table birth stamp (suc index) list ≡ rest → option_map (λ (r : MadeParts). record { places = first.place ∷ r.places; table = r.table }) rest ≡ Some made
-        → ((m : MadeParts) → made_parts first.table birth stamp (suc index) list ≡ Some m → Feeds first.table m.table) → Feeds table made.table
-    by_rest first one None is h more = absurd (none-some made h)
-    by_rest first one (Some rest) is h more =
-        subst (λ (m : MadeParts). Feeds table m.table) (same_Some (record { places = first.place ∷ rest.places; table = rest.table }) made h) (feeds-then table first.table rest.table one.feeds (more rest is))
-
-    by_first : (first : Option Made) → made_part table birth stamp index part ≡ first
-        → option_and_then (λ (f : Made). option_map (λ (r : MadeParts). record { places = f.place ∷ r.places; table = r.table }) (made_parts f.table birth stamp (suc index) list)) first ≡ Some made
-        → ((t : Table Block) → HaveTheirSlots t → (m : MadeParts) → made_parts t birth stamp (suc index) list ≡ Some m → Feeds t m.table) → Feeds table made.table
-    by_first None is h more = absurd (none-some made h)
-    by_first (Some first) is h more =
-        let one = part-put table birth stamp index part slots first is in
-        by_rest first one (made_parts first.table birth stamp (suc index) list) refl h (more first.table one.slots)
-
-linked-feeds : (all places : List ℕ) (list : List Part) (table : Table Block) → Feeds table (linked_parts all table places list)
-linked-feeds all [] list table = feeds-same table
-linked-feeds all (place ∷ places) [] table = feeds-same table
-linked-feeds all (place ∷ places) (part ∷ list) table =
-    let next : Table Block = with_block_change table place (linked_block all part) in
-    feeds-then table next (linked_parts all next places list) (feeds-change table place (linked_block all part) (λ block. refl)) (linked-feeds all places list next)
+made : IsKeptByMaking Feeds
+made = record {
+  same = feeds-same;
+  joined = feeds-then;
+  taken = λ table size place birth stamp index part free. feeds-taken table size place (new_block birth stamp index part) free refl;
+  linked = λ table place all part. feeds-change table place (linked_block all part) (λ block. refl);
+}
 
 pub group-feeds : (list : List Part) (table : Table Block) (birth stamp : ℕ) → HaveTheirSlots table → (made : Made) → made_group table birth stamp list ≡ Some made → Feeds table made.table
-group-feeds list table birth stamp slots made e = go (made_parts table birth stamp 0 list) refl e
-  where
-    by_places : (places : List ℕ) (t : Table Block) → Feeds table t → group_of t places list ≡ Some made → Feeds table made.table
-    by_places [] t feeds h = absurd (none-some made h)
-    by_places (place ∷ places) t feeds h =
-        let linked : Table Block = linked_parts (place ∷ places) t (place ∷ places) list in
-        subst (λ (m : Made). Feeds table m.table) (same_Some (record { place = place; table = linked }) made h) (feeds-then table t linked feeds (linked-feeds (place ∷ places) (place ∷ places) list t))
-
-    go : (group : Option MadeParts) → made_parts table birth stamp 0 list ≡ group → option_and_then (λ (m : MadeParts). group_of m.table m.places list) group ≡ Some made → Feeds table made.table
-    go None is h = absurd (none-some made h)
-    go (Some m) is h = by_places m.places m.table (parts-put list table birth stamp 0 slots m is) h
+group-feeds = group-each Feeds made

@@ -1,7 +1,8 @@
 -- Events that end a cycle: how many pages they leave in use.
-use Rattle.std.proofs.Common.{◌≡◌, inl, inr, ℕ, nat_lt, not, Bool, true, false, ◌&&◌, ◌||◌, if◌then◌else◌, List, [], ◌∷◌, length, refl, sym, ap, ◌∙◌, subst, arith}
+use Rattle.std.proofs.Common.{◌≡◌, inl, inr, ℕ, ◌+◌, ◌≤◌, nat_lt, not, Bool, true, false, ◌&&◌, ◌||◌, if◌then◌else◌, List, [], ◌∷◌, length, refl, sym, ap, ◌∙◌, subst, arith}
 use Rattle.std.proofs.lemmas.Bool.{cases_Bool, and_parts, false≢true, true≢false, ltb-true}
 use Rattle.mh_model.specs.declared.command.Event.{Event}
+use Rattle.mh_model.specs.declared.config.Config.{Config}
 use Rattle.mh_model.specs.declared.cycle.Phase.{Phase}
 use Rattle.mh_model.specs.declared.cycle.Phase.TheVariants.{Idle, Roots, Mark, Sweep, Defrag}
 use Rattle.mh_model.specs.Collector.{Collector, is_idle, is_start_due, quantum}
@@ -9,6 +10,7 @@ use Rattle.mh_model.specs.Machine.{Machine, half_step, event_step}
 use Rattle.mh_model.specs.Mutator.{HeapState}
 use Rattle.mh_model.specs.Snapshot.{Moment, first_moment, half_moment, next_moment, moment_after, has_quantum, snapshot_at, world_beside_event}
 use Rattle.mh_model.specs.View.{in_sweep}
+use Rattle.mh_model.specs.World.{World}
 use Rattle.mh_run_laws.specs.BesideTheWorld.{IsInCycle}
 use Rattle.mh_laws.proofs.costs.QuantumStarts.{begins, quantum-rests}
 use Rattle.mh_laws.proofs.snapshots.SteadyStates.{heaps-kept}
@@ -119,16 +121,63 @@ ended-run machine event ended = elim (cases_Bool (has_quantum machine event)) [
       ]
     ]
 
-idle-quiet : (phase : Phase) → is_idle phase ≡ true → in_sweep phase ≡ false
+-- a cycle that runs after a quantum ran before it, or was started by it
+running-within : (machine : Machine) (event : Event) → has_quantum machine event ≡ true → is_idle (event_step machine event).state.heap.collector.phase ≡ false → IsInCycle (half_step machine event).heap
+running-within machine event runs still = elim (begins (half_step machine event).heap.config (half_step machine event).heap.collector).case [
+  | inl starts ↦ inr starts.0
+  | inr other ↦ elim other [
+    | inl ran ↦ inl ran.0
+    | inr (rests, idle, same) ↦
+        let rested = ran-collector machine event runs ∙ quantum-rests (half_step machine event).heap.config (half_step machine event).heap.collector (ap is_idle idle) rests in
+        absurd (true≢false (sym (ap (λ (c : Collector). is_idle c.phase) rested ∙ ap is_idle idle) ∙ still))
+  ]
+]
+
+-- What is said of worlds is said of the snapshot while a cycle runs
+module _ (P : World → Type 0) where
+  abbrev pub HoldsOfSnapshot : Moment → Type 0
+  HoldsOfSnapshot moment = is_idle moment.machine.heap.collector.phase ≡ false → P moment.snapshot
+
+  module _ (moment : Moment) (event : Event) (old : HoldsOfSnapshot moment) (now : P (next_moment moment event).world) where
+    half-idle : is_idle (half_step moment.machine event).heap.collector.phase ≡ is_idle moment.machine.heap.collector.phase
+    half-idle = ap is_idle (half-on_way moment.machine event).phase
+
+    pub snapshot-within : IsInCycle (half_step moment.machine event).heap → P (snapshot_at (half_moment moment event))
+    unfolding half_moment next_moment
+    snapshot-within within = go (is_start_due (half_step moment.machine event).heap.config (half_step moment.machine event).heap.collector) refl within
+      where
+        go : (due : Bool) → is_start_due (half_step moment.machine event).heap.config (half_step moment.machine event).heap.collector ≡ due → IsInCycle (half_step moment.machine event).heap
+            → P (if due then (half_moment moment event).world else moment.snapshot)
+        go true is within = now
+        go false is (inl ran) = old (sym half-idle ∙ ran)
+        go false is (inr due) = absurd (true≢false (sym due ∙ is))
+
+    -- so it is of the snapshot of a cycle as it ends
+    pub ended-snapshot : has_quantum moment.machine event ≡ true → IsInCycle (half_step moment.machine event).heap → P (next_moment moment event).snapshot
+    ended-snapshot runs within = subst P (sym (next-snapshot moment event ∙ ap (λ b. if b then snapshot_at (half_moment moment event) else moment.snapshot) runs)) (snapshot-within within)
+
+    -- and of the next snapshot
+    pub running-snapshot : HoldsOfSnapshot (next_moment moment event)
+    unfolding next_moment
+    running-snapshot still = elim (cases_Bool (has_quantum moment.machine event)) [
+      | inl runs ↦ ended-snapshot runs (running-within moment.machine event runs still)
+      | inr quiet ↦
+          subst P (sym (next-snapshot moment event ∙ ap (λ b. if b then snapshot_at (half_moment moment event) else moment.snapshot) quiet)) (old (sym half-idle ∙ sym (ap is_idle (quiet-event moment.machine event quiet).phase) ∙ still))
+    ]
+
+pub idle-quiet : (phase : Phase) → is_idle phase ≡ true → in_sweep phase ≡ false
 idle-quiet Idle idle = refl
 idle-quiet Roots idle = refl
 idle-quiet Mark idle = refl
 idle-quiet Sweep idle = absurd (false≢true idle)
 idle-quiet Defrag idle = refl
 
--- A cycle that ends leaves few pages in use
-pub finished-few : FinishedCyclesLeaveFewPages
-finished-few config events event most ended live =
+-- What a cycle that ends leaves of blocks that are no forwarders
+pub finished-plain : (config : Config) (events : List Event) (event : Event) (most : ℕ) →
+    let before = moment_after (first_moment config) events in
+    let after = next_moment before event in
+    has_ended before.machine.heap.collector after.machine.heap.collector ≡ true → HasAtMostLive most after.snapshot → count_blocks is_plain after.machine.heap.collector.table ≤ most + parts_since after.snapshot after.world
+finished-plain config events event most ended live =
     let before : Moment = moment_after (first_moment config) events in
     let machine : Machine = before.machine in
     let half : Moment = half_moment before event in
@@ -139,12 +188,22 @@ finished-few config events event most ended live =
     let halves : half.machine ≡ half_step machine event = half-machine before event in
     let collector : next.machine.heap.collector ≡ now.collector = ap (λ (m : Machine). m.heap.collector) (next-machine before event) ∙ run.collector ∙ ap (λ (m : Machine). (quantum m.heap.config m.heap.collector).collector) (sym halves) in
     let idle : is_idle now.collector.phase ≡ true = subst (λ (c : Collector). is_idle c.phase ≡ true) collector (and_parts (is_idle next.machine.heap.collector.phase) _ ended).0 in
-    let quiet : in_sweep now.collector.phase ≡ false = idle-quiet now.collector.phase idle in
     let within : IsInCycle heap = subst (λ (m : Machine). IsInCycle m.heap) (sym halves) run.within in
     let faithful = (moments-faithful commands-follow).half config events event in
     let kept = heaps-kept.quanta heap (half.snapshot, faithful.keeps) in
     let snapshot : next.snapshot ≡ snapshot_at half = next-snapshot before event ∙ ap (λ b. if b then snapshot_at half else before.snapshot) run.runs in
-    let few = kept-few (snapshot_at half) half.world now kept.1.sound quiet (agrees-quantum half.snapshot half.world heap faithful.keeps faithful.agrees) (finished-exact commands-follow config events event within idle)
+    let few = kept-few (snapshot_at half) half.world now kept.1.sound (idle-quiet now.collector.phase idle) (agrees-quantum half.snapshot half.world heap faithful.keeps faithful.agrees) (finished-exact commands-follow config events event within idle)
     most (half-grown before event (moment-grown events (first_moment config) (grown-same (first_moment config).world))) (subst (HasAtMostLive most) snapshot live) in
+    omega (arith, few, ap (λ (c : Collector). count_blocks is_plain c.table) collector, ap (λ s. parts_since s next.world) snapshot, ap (λ w. parts_since (snapshot_at half) w) (next-world before event))
+
+-- a machine in which a cycle has ended is in no sweep
+pub ended-quiet : (old new : Collector) → has_ended old new ≡ true → in_sweep new.phase ≡ false
+ended-quiet old new ended = idle-quiet new.phase (and_parts (is_idle new.phase) _ ended).0
+
+-- A cycle that ends leaves few pages in use
+pub finished-few : FinishedCyclesLeaveFewPages
+finished-few config events event most ended live =
+    let before : Moment = moment_after (first_moment config) events in
+    let next : Moment = next_moment before event in
     let uses : UsesWell config next.machine = subst (UsesWell config) (ap (λ (m : Machine). (event_step m event).state) (sym (machine-moment_after events (first_moment config))) ∙ sym (next-machine before event)) (event-uses config events event) in
-    omega (arith, uses (subst (λ (c : Collector). in_sweep c.phase ≡ false) (sym collector) quiet), few, ap (λ (c : Collector). count_blocks is_plain c.table) collector, ap (λ s. parts_since s next.world) snapshot, ap (λ w. parts_since (snapshot_at half) w) (next-world before event))
+    omega (arith, uses (ended-quiet before.machine.heap.collector next.machine.heap.collector ended), finished-plain config events event most ended live)

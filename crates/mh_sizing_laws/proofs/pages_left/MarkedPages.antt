@@ -155,7 +155,7 @@ few-pages-suffice config events marked opened asked most Few large is_few few ha
     quanta : ℕ
     quanta = quanta_of config marked events
 
-    so_far : FewerSoFar config quanta opened asked most events
+    so_far : FewerSoFar config quanta opened asked most first events
     so_far done rest split left = λ runs. omega (arith, fewer, last-moment (λ (machine : Machine). is_idle machine.heap.collector.phase ≡ false → machine.heap.collector.quanta < less) done first takes.0 runs)
       where
         less : ℕ

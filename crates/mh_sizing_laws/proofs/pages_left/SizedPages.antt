@@ -29,7 +29,7 @@ use Rattle.mh_sizing_laws.proofs.openings.Intervals.{quiet-event}
 use Rattle.mh_sizing_laws.proofs.triggers.Quanta.{IsAfter, quantum-after}
 use Rattle.mh_sizing_laws.proofs.triggers.SizedRuns.{half-on_way, next-stays, half-stays, room-suffices, some-quanta, cycles-bounded}
 use Rattle.mh_sizing_laws.proofs.pages_left.BlocksInUse.{half-machine}
-use Rattle.mh_sizing_laws.proofs.pages_left.FinishedCycles.{next-world, next-snapshot, half-snapshot, half-grows, next-grown, ran-collector, ended-run, finished-few}
+use Rattle.mh_sizing_laws.proofs.pages_left.FinishedCycles.{next-world, next-snapshot, half-snapshot, half-grows, next-grown, ran-collector, ended-run, HoldsOfSnapshot, ended-snapshot, running-snapshot, finished-few}
 use Rattle.mh_sizing_laws.proofs.pages_left.GrownWorlds.{HasGrown, grown-same, since-more, since-same}
 
 -- Lists ------------------------------------------------------------------------------------------
@@ -84,8 +84,14 @@ module _ (config : Config) (quanta opened asked most : ℕ) where
   LeavesEnough machine = quanta * opened ≤ free_of machine
 
   -- no cycle has had all its quanta in any part of a run of which the cycles left enough
-  abbrev pub FewerSoFar : List Event → Type 0
-  FewerSoFar all = (done rest : List Event) → done ++ rest ≡ all → AllByRecursion LeavesEnough (run.cycle_ends (first_machine config) done) → HasHadFewer (machine_after (first_machine config) done)
+  abbrev pub FewerSoFar : Machine → List Event → Type 0
+  FewerSoFar from all = (done rest : List Event) → done ++ rest ≡ all → AllByRecursion LeavesEnough (run.cycle_ends from done) → HasHadFewer (machine_after from done)
+
+  -- an event that ends a cycle leaves no more pages in use than this number and the parts born since its snapshot
+  abbrev pub EndsWithFew : ℕ → Moment → Event → Type 0
+  EndsWithFew few moment event =
+      let after = next_moment moment event in
+      has_ended moment.machine.heap.collector after.machine.heap.collector ≡ true → HasAtMostLive most after.snapshot → config.pages ≤ free_of after.machine + (few + parts_since after.snapshot after.world)
 
   -- what came before in an interval asks for no more than the interval
   before-few : (events before : List Event) (machine : Machine) → AllByRecursion AsksFew (intervals before machine events) → AsksFew before
@@ -105,12 +111,12 @@ module _ (config : Config) (quanta opened asked most : ℕ) where
       go false h = before-few events (before ++ event ∷ []) (event_step machine event).state h
 
   -- A moment within an interval: while a cycle runs, what was born since its snapshot is no more than its intervals so far asked for
-  record IsSized (before : List Event) (moment : Moment) : Type 0 where
+  pub record IsSized (before : List Event) (moment : Moment) : Type 0 where
     pub stays : StaysInBounds config moment.machine
     pub slots : HaveTheirSlots moment.machine.heap.collector.table
     pub grown : HasGrown moment.snapshot moment.world
     pub config_is : moment.world.config ≡ config
-    pub live : HasAtMostLive most moment.snapshot
+    pub live : HoldsOfSnapshot (HasAtMostLive most) moment
     pub since : is_idle moment.machine.heap.collector.phase ≡ false → parts_since moment.snapshot moment.world + asked ≤ moment.machine.heap.collector.quanta * asked + asked_count config before
 
   module _ (before : List Event) (moment : Moment) (event : Event) (sized : IsSized before moment) where
@@ -207,17 +213,9 @@ module _ (config : Config) (quanta opened asked most : ℕ) where
       slots = (event-keeps machine event).whole.slots sized.slots;
       grown = next-grown moment event sized.grown;
       config_is = (half-grows moment event).config ∙ sized.config_is;
-      live = live-next (has_quantum machine event);
+      live = running-snapshot (HasAtMostLive most) moment event sized.live live;
       since = since;
     }
-      where
-        live-at : (due : Bool) → HasAtMostLive most (if due then half.world else half.snapshot)
-        live-at true = live
-        live-at false = subst (HasAtMostLive most) (sym (half-snapshot moment event)) sized.live
-
-        live-next : (runs : Bool) → HasAtMostLive most (if runs then snapshot_at half else moment.snapshot)
-        live-next true = live-at (is_start_due half.machine.heap.config half.machine.heap.collector)
-        live-next false = sized.live
 
     quiet-since : has_quantum machine event ≡ false → is_idle (event_step machine event).state.heap.collector.phase ≡ false → parts_since next.snapshot next.world + asked ≤ (event_step machine event).state.heap.collector.quanta * asked + asked_count config (before ++ event ∷ [])
     quiet-since quiet still =
@@ -227,52 +225,53 @@ module _ (config : Config) (quanta opened asked most : ℕ) where
         omega (arith, half-since running, since-next moment.snapshot snapshot, ap (λ n. n * asked) (same.quanta ∙ (half-on_way machine event).quanta))
 
   -- Each cycle of a run leaves enough pages free, if no cycle has had all its quanta while those before it did
-  ends-enough : (all events done before : List Event) (moment : Moment) → 1 ≤ quanta → most + (quanta * asked + quanta * opened) ≤ config.pages + asked → FewerSoFar all → done ++ events ≡ all → moment ≡ moment_after (first_moment config) done → IsSized before moment
-      → AllByRecursion AsksFew (intervals before moment.machine events) → AllByRecursion (HasAtMostLive most) (worlds moment events) → AllByRecursion LeavesEnough (run.cycle_ends (first_machine config) done) → AllByRecursion LeavesEnough (run.cycle_ends (first_machine config) all)
-  unfolding next_moment
-  ends-enough all [] done before moment some pages so_far split is sized few live left = subst (λ list. AllByRecursion LeavesEnough (run.cycle_ends (first_machine config) list)) (sym (append-nil done) ∙ split) left
-  ends-enough all (event ∷ events) done before moment some pages so_far split is sized few live left =
-      by_quantum-run (has_quantum moment.machine event) refl few
-      (λ now there rest. ends-enough all events (done ++ event ∷ []) now next' some pages so_far (append_assoc done (event ∷ []) events ∙ split) on there rest live.1 (ends-push LeavesEnough done (first_machine config) event left left-here))
-    where
-      next' : Moment
-      next' = next_moment moment event
+  module _ (few : ℕ) (some : 1 ≤ quanta) (pages : few + (quanta * asked + quanta * opened) ≤ config.pages + asked) (from : Moment) (all : List Event) (so_far : FewerSoFar from.machine all)
+      (ends : (done : List Event) (event : Event) (rest : List Event) → done ++ event ∷ rest ≡ all → EndsWithFew few (moment_after from done) event) where
+    pub ends-enough : (events done before : List Event) (moment : Moment) → done ++ events ≡ all → moment ≡ moment_after from done → IsSized before moment → AllByRecursion AsksFew (intervals before moment.machine events) → AllByRecursion (HasAtMostLive most) (worlds moment events)
+        → AllByRecursion LeavesEnough (run.cycle_ends from.machine done) → AllByRecursion LeavesEnough (run.cycle_ends from.machine all)
+    unfolding next_moment
+    ends-enough [] done before moment split is sized asks live left = subst (λ list. AllByRecursion LeavesEnough (run.cycle_ends from.machine list)) (sym (append-nil done) ∙ split) left
+    ends-enough (event ∷ events) done before moment split is sized asks live left =
+        by_quantum-run (has_quantum moment.machine event) refl asks
+        (λ now there rest. ends-enough events (done ++ event ∷ []) now next' (append_assoc done (event ∷ []) events ∙ split) on there rest live.1 (ends-push LeavesEnough done from.machine event left left-here))
+      where
+        next' : Moment
+        next' = next_moment moment event
 
-      now-few : AsksFew (before ++ event ∷ [])
-      now-few = event-few events before moment.machine event few
+        now-few : AsksFew (before ++ event ∷ [])
+        now-few = event-few events before moment.machine event asks
 
-      live-now : HasAtMostLive most next'.world
-      live-now = head-world (HasAtMostLive most) events next' live.1
+        live-now : HasAtMostLive most next'.world
+        live-now = head-world (HasAtMostLive most) events next' live.1
 
-      on : next' ≡ moment_after (first_moment config) (done ++ event ∷ [])
-      on = ap (λ m. next_moment m event) is ∙ sym (moment-push done (first_moment config) event)
+        on : next' ≡ moment_after from (done ++ event ∷ [])
+        on = ap (λ m. next_moment m event) is ∙ sym (moment-push done from event)
 
-      machine_is : moment.machine ≡ machine_after (first_machine config) done
-      machine_is = ap (λ (m : Moment). m.machine) is ∙ machine-moment_after done (first_moment config)
+        machine_is : moment.machine ≡ machine_after from.machine done
+        machine_is = ap (λ (m : Moment). m.machine) is ∙ machine-moment_after done from
 
-      fewer : HasHadFewer moment.machine
-      fewer = subst HasHadFewer (sym machine_is) (so_far done (event ∷ events) split left)
+        fewer : HasHadFewer moment.machine
+        fewer = subst HasHadFewer (sym machine_is) (so_far done (event ∷ events) split left)
 
-      here : has_ended moment.machine.heap.collector (event_step moment.machine event).state.heap.collector ≡ true → LeavesEnough (event_step moment.machine event).state
-      here ended =
-          let has = ended-run moment.machine event ended in
-          let since = ended-since before moment event sized some fewer now-few has.runs has.within in
-          let left = subst (λ m. has_ended m.machine.heap.collector (next_moment m event).machine.heap.collector ≡ true → HasAtMostLive most (next_moment m event).snapshot → config.pages ≤ free_of (next_moment m event).machine + (most + parts_since (next_moment m event).snapshot (next_moment m event).world)) (sym is)
-          (finished-few config done event most) ended (goes-on before moment event sized [] live-now (λ still. omega (arith, quantum-since before moment event sized now-few has.runs still))).live in
-          omega (arith, since, left, pages)
+        here : has_ended moment.machine.heap.collector (event_step moment.machine event).state.heap.collector ≡ true → LeavesEnough (event_step moment.machine event).state
+        here ended =
+            let has = ended-run moment.machine event ended in
+            let since = ended-since before moment event sized some fewer now-few has.runs has.within in
+            let left = subst (λ m. EndsWithFew few m event) (sym is) (ends done event events split) ended (ended-snapshot (HasAtMostLive most) moment event sized.live live-now has.runs has.within) in
+            omega (arith, since, left, pages)
 
-      left-here : has_ended (machine_after (first_machine config) done).heap.collector (event_step (machine_after (first_machine config) done) event).state.heap.collector ≡ true → LeavesEnough (event_step (machine_after (first_machine config) done) event).state
-      left-here = subst (λ m. has_ended m.heap.collector (event_step m event).state.heap.collector ≡ true → LeavesEnough (event_step m event).state) machine_is here
+        left-here : has_ended (machine_after from.machine done).heap.collector (event_step (machine_after from.machine done) event).state.heap.collector ≡ true → LeavesEnough (event_step (machine_after from.machine done) event).state
+        left-here = subst (λ m. has_ended m.heap.collector (event_step m event).state.heap.collector ≡ true → LeavesEnough (event_step m event).state) machine_is here
 
-      by_quantum-run : (cut : Bool) → has_quantum moment.machine event ≡ cut
-          → AllByRecursion AsksFew (if cut then (before ++ event ∷ []) ∷ intervals [] (event_step moment.machine event).state events else intervals (before ++ event ∷ []) (event_step moment.machine event).state events)
-          → ((now : List Event) → IsSized now next' → AllByRecursion AsksFew (intervals now (event_step moment.machine event).state events) → AllByRecursion LeavesEnough (run.cycle_ends (first_machine config) all))
-          → AllByRecursion LeavesEnough (run.cycle_ends (first_machine config) all)
-      by_quantum-run true runs asks more = more [] (goes-on before moment event sized [] live-now (λ still. omega (arith, quantum-since before moment event sized now-few runs still))) asks.1
-      by_quantum-run false quiet asks more = more (before ++ event ∷ []) (goes-on before moment event sized (before ++ event ∷ []) live-now (quiet-since before moment event sized quiet)) asks
+        by_quantum-run : (cut : Bool) → has_quantum moment.machine event ≡ cut
+            → AllByRecursion AsksFew (if cut then (before ++ event ∷ []) ∷ intervals [] (event_step moment.machine event).state events else intervals (before ++ event ∷ []) (event_step moment.machine event).state events)
+            → ((now : List Event) → IsSized now next' → AllByRecursion AsksFew (intervals now (event_step moment.machine event).state events) → AllByRecursion LeavesEnough (run.cycle_ends from.machine all))
+            → AllByRecursion LeavesEnough (run.cycle_ends from.machine all)
+        by_quantum-run true runs asks more = more [] (goes-on before moment event sized [] live-now (λ still. omega (arith, quantum-since before moment event sized now-few runs still))) asks.1
+        by_quantum-run false quiet asks more = more (before ++ event ∷ []) (goes-on before moment event sized (before ++ event ∷ []) live-now (quiet-since before moment event sized quiet)) asks
 
 -- Runs with pages enough have room, if no cycle has had all its quanta while those before it left enough
-pub room-of : (config : Config) (events : List Event) (quanta opened asked most : ℕ) → 1 ≤ quanta → FewerSoFar config quanta opened asked most events → HasPagesFor config events quanta opened asked most → HasRoomFor config events quanta opened
+pub room-of : (config : Config) (events : List Event) (quanta opened asked most : ℕ) → 1 ≤ quanta → FewerSoFar config quanta opened asked most (first_machine config) events → HasPagesFor config events quanta opened asked most → HasRoomFor config events quanta opened
 unfolding machine_after moment_after
 room-of config events quanta opened asked most some so_far has =
     let first : Moment = first_moment config in
@@ -281,7 +280,7 @@ room-of config events quanta opened asked most some so_far has =
       slots = (machine_after-pages config []).slots;
       grown = grown-same first.world;
       config_is = refl;
-      live = head-world (HasAtMostLive most) events first has.live;
+      live = λ runs. absurd (true≢false runs);
       since = λ runs. absurd (true≢false runs);
     } in
     let product : 1 * asked ≤ quanta * asked = mul-le-mul_right asked some in
@@ -289,7 +288,7 @@ room-of config events quanta opened asked most some so_far has =
       pages = omega (arith, has.pages, product);
       trigger = has.trigger;
       intervals = has.intervals;
-      left = ends-enough config quanta opened asked most events events [] [] first some has.pages so_far refl refl sized has.parts has.live tt;
+      left = ends-enough config quanta opened asked most most some has.pages first events so_far (λ done event rest split. finished-few config done event most) events [] [] first refl refl sized has.parts has.live tt;
     }
 
 pub moments-at : (P : Machine → Type 0) (done rest : List Event) (start : Machine) → AllByRecursion P (moments start (done ++ rest)) → P (machine_after start done)

@@ -26,29 +26,44 @@ use Rattle.mh_sizing_laws.proofs.pages_left.Counting.{count-set, count-with_bloc
 use Rattle.mh_sizing_laws.proofs.pages_left.FedTables.{HasBlock, IsWithin, Feeds, plain-is, taken-counts}
 use Rattle.mh_sizing_laws.proofs.pages_left.FedCommands.{with_shade-feeds, mark_first-feeds}
 
--- No more pages are in use than there are blocks that are no forwarders
-abbrev pub IsUsedWell : Table Block → Type 0
-IsUsedWell table = length table ≤ free_pages table + count_blocks is_plain table
+-- Let some pages, which are anchored, have some blocks that stay
+module _ (staying anchored : ℕ) where
+  -- no more other pages are in use than there are other blocks that are no forwarders
+  abbrev pub IsUsedBeside : Table Block → Type 0
+  IsUsedBeside table = length table + staying ≤ free_pages table + count_blocks is_plain table + anchored
 
--- So it is but in a sweep, in which each page that it has passed has a block, and the cursor is in a page
-pub record HasItsBlocks (c : Collector) : Type 0 where
-  pub used : in_sweep c.phase ≡ false → IsUsedWell c.table
-  pub swept : in_sweep c.phase ≡ true → (number : ℕ) → number < page_number c.cursor → HasBlock (page_at c.table number)
-  pub cursor : in_sweep c.phase ≡ true → IsWithin (slot_number c.cursor) (page_at c.table (page_number c.cursor))
+  -- So it is but in a sweep, in which each page that it has passed has a block, and the cursor is in a page
+  pub record HasBlocksBeside (c : Collector) : Type 0 where
+    pub used : in_sweep c.phase ≡ false → IsUsedBeside c.table
+    pub swept : in_sweep c.phase ≡ true → (number : ℕ) → number < page_number c.cursor → HasBlock (page_at c.table number)
+    pub cursor : in_sweep c.phase ≡ true → IsWithin (slot_number c.cursor) (page_at c.table (page_number c.cursor))
+
+  pub quiet-beside : (c : Collector) → in_sweep c.phase ≡ false → IsUsedBeside c.table → HasBlocksBeside c
+  quiet-beside c quiet used = record { used = λ no. used; swept = λ s. absurd (true≢false (sym s ∙ quiet)); cursor = λ s. absurd (true≢false (sym s ∙ quiet)) }
+
+  fed-used : (old new : Table Block) → Feeds old new → IsUsedBeside old → IsUsedBeside new
+  fed-used old new feeds used = omega (arith, feeds.count, feeds.used, used)
+
+  -- what is fed keeps it
+  pub fed-beside : (c d : Collector) → d.phase ≡ c.phase → d.cursor ≡ c.cursor → Feeds c.table d.table → HasBlocksBeside c → HasBlocksBeside d
+  fed-beside c d phase cursor feeds has = record {
+    used = λ no. fed-used c.table d.table feeds (has.used (ap in_sweep (sym phase) ∙ no));
+    swept = λ s number below. (feeds.pages number).blocks (has.swept (ap in_sweep (sym phase) ∙ s) number (subst (λ place. number < page_number place) cursor below));
+    cursor = λ s. subst (λ place. IsWithin (slot_number place) (page_at d.table (page_number place))) (sym cursor) ((feeds.pages (page_number c.cursor)).within (slot_number c.cursor) (has.cursor (ap in_sweep (sym phase) ∙ s)));
+  }
+
+-- Without such pages no more pages are in use than there are blocks that are no forwarders
+abbrev pub IsUsedWell : Table Block → Type 0
+IsUsedWell table = IsUsedBeside 0 0 table
+
+abbrev pub HasItsBlocks : Collector → Type 0
+HasItsBlocks c = HasBlocksBeside 0 0 c
 
 pub quiet-blocks : (c : Collector) → in_sweep c.phase ≡ false → IsUsedWell c.table → HasItsBlocks c
-quiet-blocks c quiet used = record { used = λ no. used; swept = λ s. absurd (true≢false (sym s ∙ quiet)); cursor = λ s. absurd (true≢false (sym s ∙ quiet)) }
+quiet-blocks = quiet-beside 0 0
 
-pub fed-used : (old new : Table Block) → Feeds old new → IsUsedWell old → IsUsedWell new
-fed-used old new feeds used = omega (arith, feeds.count, feeds.used, used)
-
--- what is fed keeps it
 pub fed-blocks : (c d : Collector) → d.phase ≡ c.phase → d.cursor ≡ c.cursor → Feeds c.table d.table → HasItsBlocks c → HasItsBlocks d
-fed-blocks c d phase cursor feeds has = record {
-  used = λ no. fed-used c.table d.table feeds (has.used (ap in_sweep (sym phase) ∙ no));
-  swept = λ s number below. (feeds.pages number).blocks (has.swept (ap in_sweep (sym phase) ∙ s) number (subst (λ place. number < page_number place) cursor below));
-  cursor = λ s. subst (λ place. IsWithin (slot_number place) (page_at d.table (page_number place))) (sym cursor) ((feeds.pages (page_number c.cursor)).within (slot_number c.cursor) (has.cursor (ap in_sweep (sym phase) ∙ s)));
-}
+fed-blocks = fed-beside 0 0
 
 -- The sweep --------------------------------------------------------------------------------------
 
@@ -129,112 +144,122 @@ module _ (table : Table Block) (place : ℕ) (slots : HaveTheirSlots table) (bef
 
 -- The end of the sweep ---------------------------------------------------------------------------
 
-live-some : (slots : List (Option Block)) → 0 < block_count slots → (slot : ℕ) × (block : Block) × (get_or slots slot None ≡ Some block)
+pub live-some : (slots : List (Option Block)) → 0 < block_count slots → (slot : ℕ) × (block : Block) × (get_or slots slot None ≡ Some block)
 live-some [] some = absurd (omega (arith, some))
 live-some (None ∷ slots) some = let (slot, block, is) = live-some slots some in (suc slot, block, is)
 live-some (Some block ∷ slots) some = (0, block, refl)
 
-pages-counted : (table : Table Block) → ((number : ℕ) (page : Page Block) → page_at table number ≡ Some page → 0 < page_count is_plain (Some page)) → IsUsedWell table
+-- each page in use has a block that is no forwarder
+abbrev pub HavePlain : Table Block → Type 0
+HavePlain table = (number : ℕ) (page : Page Block) → page_at table number ≡ Some page → 0 < page_count is_plain (Some page)
+
+pages-counted : (table : Table Block) → HavePlain table → IsUsedWell table
 pages-counted [] each = omega arith
 pages-counted (None ∷ table) each = omega (arith, pages-counted table (λ number. each (suc number)), sum_by-cons (page_count is_plain) None table)
 pages-counted (Some page ∷ table) each = omega (arith, pages-counted table (λ number. each (suc number)), each 0 page refl, sum_by-cons (page_count is_plain) (Some page) table)
 
 -- after the sweep of the last page no page in use is without a block that is no forwarder
-swept-used : (n : ℕ) (c : Collector) → IsSound n c → c.phase ≡ Sweep → HaveTheirSlots c.table → is_past c.table c.cursor ≡ true → ((number : ℕ) → number < page_number c.cursor → HasBlock (page_at c.table number)) → IsUsedWell c.table
-swept-used n c sound sweeps slots past has = pages-counted c.table counted
-  where
-    counted : (number : ℕ) (page : Page Block) → page_at c.table number ≡ Some page → 0 < page_count is_plain (Some page)
-    counted number page at =
-        let below : number < page_number c.cursor = omega (arith, below_length c.table number page at, leb-true (length c.table) (page_number c.cursor) past) in
-        let (slot, block, is) = live-some page.slots (subst HasBlock at (has number below)) in
-        let (place, same, there) = place-of c.table (shaped-slots c.table slots) number slot page block at is in
-        let stamp = sound.swept (ap in_sweep sweeps) place block there (omega (arith, same, below)) in
-        let live = sound.original (ap in_trace sweeps) place block there stamp in
-        omega (arith, plain-is block live, ap (slot_count is_plain) is, get_or-le-sum_by (slot_count is_plain) page.slots slot None (below_length page.slots slot block is))
+swept-plain : (n : ℕ) (c : Collector) → IsSound n c → c.phase ≡ Sweep → HaveTheirSlots c.table → is_past c.table c.cursor ≡ true → ((number : ℕ) → number < page_number c.cursor → HasBlock (page_at c.table number)) → HavePlain c.table
+swept-plain n c sound sweeps slots past has number page at =
+    let below : number < page_number c.cursor = omega (arith, below_length c.table number page at, leb-true (length c.table) (page_number c.cursor) past) in
+    let (slot, block, is) = live-some page.slots (subst HasBlock at (has number below)) in
+    let (place, same, there) = place-of c.table (shaped-slots c.table slots) number slot page block at is in
+    let stamp = sound.swept (ap in_sweep sweeps) place block there (omega (arith, same, below)) in
+    let live = sound.original (ap in_trace sweeps) place block there stamp in
+    omega (arith, plain-is block live, ap (slot_count is_plain) is, get_or-le-sum_by (slot_count is_plain) page.slots slot None (below_length page.slots slot block is))
 
 -- Moves ------------------------------------------------------------------------------------------
 
 length-with_block : (table : Table Block) (place : ℕ) (content : Option Block) → length (with_block table place content) ≡ length table
 length-with_block table place content = length-set table (page_number place) _
 
--- a move takes a block from one page in use to another
-moved-used : (table : Table Block) (place : ℕ) (move : Move) → HaveTheirSlots table → next_move table place ≡ Some move → IsUsedWell table → IsUsedWell (moved_table table place move)
-moved-used table place move slots e used =
-    let is = next_move-is table place move e in
-    let (page, at, of_class, unflagged, empty) = least_dense_place-page table move.class_size (shaped-slots table slots) move.target is.target in
-    let number : ℕ = page_number move.target in
-    let taken : Table Block = with_taken table move.class_size move.target move.block in
-    let none : block_at table move.target ≡ None = ap (option_and_then (block_in (slot_number move.target))) at ∙ empty.empty in
-    let there : block_at table place ≡ Some move.block = ap (option_and_then (block_in (slot_number place))) is.in_use ∙ is.there in
-    let inside : number < length table = below_length table number page at in
-    let free : IsFreeFor table move.class_size move.target = record {
-      inside = inside;
-      empty = none;
+-- a move goes to a place that is free for its class
+pub move-free : (table : Table Block) (place : ℕ) (move : Move) → HaveTheirSlots table → next_move table place ≡ Some move → IsFreeFor table move.class_size move.target
+move-free table place move slots e =
+    let (page, at, of_class, unflagged, empty) = least_dense_place-page table move.class_size (shaped-slots table slots) move.target (next_move-is table place move e).target in
+    record {
+      inside = below_length table (page_number move.target) page at;
+      empty = ap (option_and_then (block_in (slot_number move.target))) at ∙ empty.empty;
       within = subst (λ content. slot_number move.target < length (page_for move.class_size content).slots) (sym at) empty.within;
       of_class = subst (λ content. (page_for move.class_size content).class_size ≡ move.class_size) (sym at) of_class;
-    } in
-    let still : block_at taken place ≡ Some move.block = block_at-with_taken_other table move.class_size move.target place move.block (λ same. none-some move.block (sym none ∙ ap (block_at table) (sym same) ∙ there)) ∙ there in
-    let forwarder : Option Block = Some (record (move.block) { forward = Some move.target }) in
-    omega (
-      arith,
-      used,
-      taken-counts table move.class_size move.target move.block free is.live,
-      ap if_free at,
-      plain-is move.block is.live,
-      free_pages-set table number (Some (page_with (slot_number move.target) (Some move.block) (page_for move.class_size (page_at table number)))) inside,
-      count-set is_plain table number (Some (page_with (slot_number move.target) (Some move.block) (page_for move.class_size (page_at table number)))) inside,
-      length-set table number (Some (page_with (slot_number move.target) (Some move.block) (page_for move.class_size (page_at table number)))),
-      count-with_block is_plain taken place move.block forwarder still,
-      (same_room-with_block taken place forwarder (sym (ap is_some still))).free,
-      length-with_block taken place forwarder,
-    )
+    }
 
--- Steps ------------------------------------------------------------------------------------------
+module _ (staying anchored : ℕ) where
+  -- a move takes a block from one page in use to another
+  moved-used : (table : Table Block) (place : ℕ) (move : Move) → HaveTheirSlots table → next_move table place ≡ Some move → IsUsedBeside staying anchored table → IsUsedBeside staying anchored (moved_table table place move)
+  moved-used table place move slots e used =
+      let is = next_move-is table place move e in
+      let (page, at, of_class, unflagged, empty) = least_dense_place-page table move.class_size (shaped-slots table slots) move.target is.target in
+      let number : ℕ = page_number move.target in
+      let taken : Table Block = with_taken table move.class_size move.target move.block in
+      let there : block_at table place ≡ Some move.block = ap (option_and_then (block_in (slot_number place))) is.in_use ∙ is.there in
+      let free : IsFreeFor table move.class_size move.target = move-free table place move slots e in
+      let inside : number < length table = free.inside in
+      let still : block_at taken place ≡ Some move.block = block_at-with_taken_other table move.class_size move.target place move.block (λ same. none-some move.block (sym free.empty ∙ ap (block_at table) (sym same) ∙ there)) ∙ there in
+      let forwarder : Option Block = Some (record (move.block) { forward = Some move.target }) in
+      omega (
+        arith,
+        used,
+        taken-counts table move.class_size move.target move.block free is.live,
+        ap if_free at,
+        plain-is move.block is.live,
+        free_pages-set table number (Some (page_with (slot_number move.target) (Some move.block) (page_for move.class_size (page_at table number)))) inside,
+        count-set is_plain table number (Some (page_with (slot_number move.target) (Some move.block) (page_for move.class_size (page_at table number)))) inside,
+        length-set table number (Some (page_with (slot_number move.target) (Some move.block) (page_for move.class_size (page_at table number)))),
+        count-with_block is_plain taken place move.block forwarder still,
+        (same_room-with_block taken place forwarder (sym (ap is_some still))).free,
+        length-with_block taken place forwarder,
+      )
 
-with_move-used : (c : Collector) → HaveTheirSlots c.table → (move : Option Move) → next_move c.table c.cursor ≡ move → IsUsedWell c.table → IsUsedWell (with_move c move).table
-with_move-used c slots None is used = used
-with_move-used c slots (Some move) is used = moved-used c.table c.cursor move slots is used
+  -- Steps ----------------------------------------------------------------------------------------
 
--- marking goes on or ends
-after_mark-blocks : (c : Collector) (grey : List ℕ) → IsUsedWell c.table → ((number slot : ℕ) → slot ≡ 0 → IsWithin slot (page_at c.table number)) → HasItsBlocks (after_mark c grey)
-after_mark-blocks c [] used first = record { used = λ no. used; swept = λ s number below. absurd (omega (arith, below)); cursor = λ s. first 0 0 refl }
-after_mark-blocks c (place ∷ grey) used first = quiet-blocks (with_phase c Mark 0) refl used
+  with_move-used : (c : Collector) → HaveTheirSlots c.table → (move : Option Move) → next_move c.table c.cursor ≡ move → IsUsedBeside staying anchored c.table → IsUsedBeside staying anchored (with_move c move).table
+  with_move-used c slots None is used = used
+  with_move-used c slots (Some move) is used = moved-used c.table c.cursor move slots is used
 
-fed-first : (old new : Table Block) → Feeds old new → HaveTheirSlots old → (number slot : ℕ) → slot ≡ 0 → IsWithin slot (page_at new number)
-fed-first old new feeds slots number slot first = (feeds.pages number).within slot (first-within old slots number slot first)
+  -- marking goes on or ends
+  after_mark-blocks : (c : Collector) (grey : List ℕ) → IsUsedBeside staying anchored c.table → ((number slot : ℕ) → slot ≡ 0 → IsWithin slot (page_at c.table number)) → HasBlocksBeside staying anchored (after_mark c grey)
+  after_mark-blocks c [] used first = record { used = λ no. used; swept = λ s number below. absurd (omega (arith, below)); cursor = λ s. first 0 0 refl }
+  after_mark-blocks c (place ∷ grey) used first = quiet-beside staying anchored (with_phase c Mark 0) refl used
 
--- Each step keeps it
+  fed-first : (old new : Table Block) → Feeds old new → HaveTheirSlots old → (number slot : ℕ) → slot ≡ 0 → IsWithin slot (page_at new number)
+  fed-first old new feeds slots number slot first = (feeds.pages number).within slot (first-within old slots number slot first)
+
+  -- Each step keeps it
+  pub step-beside : (c : Collector) → IsSteady c → HaveTheirSlots c.table → (c.phase ≡ Sweep → HavePlain (sweep_step c).table → IsUsedBeside staying anchored (sweep_step c).table) → HasBlocksBeside staying anchored c → HasBlocksBeside staying anchored (collector_step c)
+  unfolding collector_step
+  step-beside c (snapshot, n, keeps) slots ends has = go c.phase refl
+    where
+      after_roots : (d : Collector) → d.phase ≡ Roots → Feeds c.table d.table → IsUsedBeside staying anchored c.table → (test : Bool) → HasBlocksBeside staying anchored (if test then after_mark d d.grey else d)
+      after_roots d phase feeds used true = after_mark-blocks d d.grey (fed-used staying anchored c.table d.table feeds used) (fed-first c.table d.table feeds slots)
+      after_roots d phase feeds used false = quiet-beside staying anchored d (ap in_sweep phase) (fed-used staying anchored c.table d.table feeds used)
+
+      after_sweep : c.phase ≡ Sweep → (test : Bool) → is_past (sweep_step c).table (sweep_step c).cursor ≡ test → HasBlocksBeside staying anchored (if test then with_phase (sweep_step c) Defrag 0 else sweep_step c)
+      after_sweep phase test past =
+          let on : SweepsOn (sweep_step c).table (sweep_step c).cursor = swept-on c.table c.cursor slots (record { swept = has.swept (ap in_sweep phase); cursor = has.cursor (ap in_sweep phase) }) c.cycle in
+          by_test test past on
+        where
+          by_test : (test : Bool) → is_past (sweep_step c).table (sweep_step c).cursor ≡ test → SweepsOn (sweep_step c).table (sweep_step c).cursor → HasBlocksBeside staying anchored (if test then with_phase (sweep_step c) Defrag 0 else sweep_step c)
+          by_test true past on =
+              quiet-beside staying anchored (with_phase (sweep_step c) Defrag 0) refl (ends phase (swept-plain n (sweep_step c) (snapshot-sweep_step snapshot n c phase keeps).sound phase ((step_in-keeps 0 Sweep c).slots slots) past on.swept))
+          by_test false past on = record { used = λ no. absurd (true≢false (sym (ap in_sweep phase) ∙ no)); swept = λ s. on.swept; cursor = λ s. on.cursor }
+
+      after_defrag : (d : Collector) → d.phase ≡ Defrag → IsUsedBeside staying anchored d.table → (test : Bool) → HasBlocksBeside staying anchored (if test then cycle_end d else d)
+      after_defrag d phase used true = quiet-beside staying anchored (cycle_end d) refl used
+      after_defrag d phase used false = quiet-beside staying anchored d (ap in_sweep phase) used
+
+      used : in_sweep c.phase ≡ false → IsUsedBeside staying anchored c.table
+      used = has.used
+
+      go : (phase : Phase) → c.phase ≡ phase → HasBlocksBeside staying anchored (phase_after phase (step_in phase c))
+      go Idle is = has
+      go Roots is = after_roots (roots_step c) refl (with_shade-feeds c (get_or c.slots c.cursor None)) (used (ap in_sweep is)) ((roots_step c).cursor == root_slots)
+      go Mark is =
+          let marked : Collector = with_marking c (mark_step (marking_of c)) in
+          let feeds = mark_first-feeds (marking_of c) c.grey in
+          after_mark-blocks marked marked.grey (fed-used staying anchored c.table marked.table feeds (used (ap in_sweep is))) (fed-first c.table marked.table feeds slots)
+      go Sweep is = after_sweep is (is_past (sweep_step c).table (sweep_step c).cursor) refl
+      go Defrag is = after_defrag (defrag_step c) refl (with_move-used c slots (next_move c.table c.cursor) refl (used (ap in_sweep is))) (is_past (defrag_step c).table (defrag_step c).cursor)
+
 pub step-blocks : (c : Collector) → IsSteady c → HaveTheirSlots c.table → HasItsBlocks c → HasItsBlocks (collector_step c)
-unfolding collector_step
-step-blocks c (snapshot, n, keeps) slots has = go c.phase refl
-  where
-    after_roots : (d : Collector) → d.phase ≡ Roots → Feeds c.table d.table → IsUsedWell c.table → (test : Bool) → HasItsBlocks (if test then after_mark d d.grey else d)
-    after_roots d phase feeds used true = after_mark-blocks d d.grey (fed-used c.table d.table feeds used) (fed-first c.table d.table feeds slots)
-    after_roots d phase feeds used false = quiet-blocks d (ap in_sweep phase) (fed-used c.table d.table feeds used)
-
-    after_sweep : c.phase ≡ Sweep → (test : Bool) → is_past (sweep_step c).table (sweep_step c).cursor ≡ test → HasItsBlocks (if test then with_phase (sweep_step c) Defrag 0 else sweep_step c)
-    after_sweep phase test past =
-        let on : SweepsOn (sweep_step c).table (sweep_step c).cursor = swept-on c.table c.cursor slots (record { swept = has.swept (ap in_sweep phase); cursor = has.cursor (ap in_sweep phase) }) c.cycle in
-        by_test test past on
-      where
-        by_test : (test : Bool) → is_past (sweep_step c).table (sweep_step c).cursor ≡ test → SweepsOn (sweep_step c).table (sweep_step c).cursor → HasItsBlocks (if test then with_phase (sweep_step c) Defrag 0 else sweep_step c)
-        by_test true past on =
-            quiet-blocks (with_phase (sweep_step c) Defrag 0) refl (swept-used n (sweep_step c) (snapshot-sweep_step snapshot n c phase keeps).sound phase ((step_in-keeps 0 Sweep c).slots slots) past on.swept)
-        by_test false past on = record { used = λ no. absurd (true≢false (sym (ap in_sweep phase) ∙ no)); swept = λ s. on.swept; cursor = λ s. on.cursor }
-
-    after_defrag : (d : Collector) → d.phase ≡ Defrag → IsUsedWell d.table → (test : Bool) → HasItsBlocks (if test then cycle_end d else d)
-    after_defrag d phase used true = quiet-blocks (cycle_end d) refl used
-    after_defrag d phase used false = quiet-blocks d (ap in_sweep phase) used
-
-    used : in_sweep c.phase ≡ false → IsUsedWell c.table
-    used = has.used
-
-    go : (phase : Phase) → c.phase ≡ phase → HasItsBlocks (phase_after phase (step_in phase c))
-    go Idle is = has
-    go Roots is = after_roots (roots_step c) refl (with_shade-feeds c (get_or c.slots c.cursor None)) (used (ap in_sweep is)) ((roots_step c).cursor == root_slots)
-    go Mark is =
-        let marked : Collector = with_marking c (mark_step (marking_of c)) in
-        let feeds = mark_first-feeds (marking_of c) c.grey in
-        after_mark-blocks marked marked.grey (fed-used c.table marked.table feeds (used (ap in_sweep is))) (fed-first c.table marked.table feeds slots)
-    go Sweep is = after_sweep is (is_past (sweep_step c).table (sweep_step c).cursor) refl
-    go Defrag is = after_defrag (defrag_step c) refl (with_move-used c slots (next_move c.table c.cursor) refl (used (ap in_sweep is))) (is_past (defrag_step c).table (defrag_step c).cursor)
+step-blocks c steady slots has = step-beside 0 0 c steady slots (λ phase plain. pages-counted (sweep_step c).table plain) has

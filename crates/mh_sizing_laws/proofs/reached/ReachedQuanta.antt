@@ -49,7 +49,7 @@ module _ (heap : HeapState) (world : World) (quiet : in_sweep heap.collector.pha
   abbrev c : Collector
   c = heap.collector
 
-  started-keeps : KeepsSnapshot world heap.next_birth (cycle_start c)
+  pub started-keeps : KeepsSnapshot world heap.next_birth (cycle_start c)
   started-keeps = snapshot-agreeing (heap_view heap) world agrees heap.next_birth (cycle_start c) (snapshot-started heap quiet sound)
 
   start-shapely : IsShapely world c.table

@@ -43,7 +43,7 @@ module _ (moment : Moment) (event : Event) where
   abbrev beside : World
   beside = (half_moment moment event).world
 
-  half-faithful : IsFaithful (half_moment moment event) → IsFaithful (record { machine = half; world = beside; snapshot = moment.snapshot })
+  pub half-faithful : IsFaithful (half_moment moment event) → IsFaithful (record { machine = half; world = beside; snapshot = moment.snapshot })
   unfolding half_moment
   half-faithful faithful = faithful
 
@@ -68,23 +68,23 @@ module _ {X : Type 0} (P : X → Type 0) (x : X) (rest : List X) where
   starts-later false all = all
 
 -- a moment from which on all are faithful
-record IsFaithfulOn (moment : Moment) : Type 0 where
-  at_each : (more : List Event) → IsFaithful (moment_after moment more)
-  at_half : (more : List Event) (event : Event) → IsFaithful (half_moment (moment_after moment more) event)
+pub record IsFaithfulOn (moment : Moment) : Type 0 where
+  pub at_each : (more : List Event) → IsFaithful (moment_after moment more)
+  pub at_half : (more : List Event) (event : Event) → IsFaithful (half_moment (moment_after moment more) event)
 
-faithful-now : (moment : Moment) → IsFaithfulOn moment → IsFaithful moment
+pub faithful-now : (moment : Moment) → IsFaithfulOn moment → IsFaithful moment
 unfolding moment_after
 faithful-now moment on = on.at_each []
 
-faithful-half : (moment : Moment) (event : Event) → IsFaithfulOn moment → IsFaithful (half_moment moment event)
+pub faithful-half : (moment : Moment) (event : Event) → IsFaithfulOn moment → IsFaithful (half_moment moment event)
 unfolding moment_after
 faithful-half moment event on = on.at_half [] event
 
-faithful-next : (moment : Moment) (event : Event) → IsFaithfulOn moment → IsFaithfulOn (next_moment moment event)
+pub faithful-next : (moment : Moment) (event : Event) → IsFaithfulOn moment → IsFaithfulOn (next_moment moment event)
 unfolding moment_after
 faithful-next moment event on = record { at_each = λ more. on.at_each (event ∷ more); at_half = λ more other. on.at_half (event ∷ more) other }
 
-faithful-first : (config : Config) → IsFaithfulOn (first_moment config)
+pub faithful-first : (config : Config) → IsFaithfulOn (first_moment config)
 faithful-first config = record { at_each = (moments-faithful commands-follow).at_each config; at_half = (moments-faithful commands-follow).half config }
 
 -- Events -----------------------------------------------------------------------------------------
@@ -158,7 +158,7 @@ module _ (config : Config) (marked wide dear : ℕ) (large : quantum_overhead < 
   -- Runs -----------------------------------------------------------------------------------------
 
   -- no event from here on is answered by a full heap or puts anything into a flagged page, and no cycle takes more quanta
-  never-full : (opened : ℕ) (events before : List Event) (start : Table Block) (moment : Moment) → most * opened ≤ config.trigger + 1 → IsFaithfulOn moment → IsReady config most opened before start moment.machine → IsWithinReach moment → AskFitting events
+  pub never-full : (opened : ℕ) (events before : List Event) (start : Table Block) (moment : Moment) → most * opened ≤ config.trigger + 1 → IsFaithfulOn moment → IsReady config most opened before start moment.machine → IsWithinReach moment → AskFitting events
       → AllByRecursion (IsShort config most opened) (intervals before moment.machine events) → AllByRecursion (ReachesAtMost marked) (snapshots moment events) → AllByRecursion (LeavesEnough config most opened) (cycle_ends moment.machine events)
       → AllByRecursion (HasHadFewer config most opened) (moments moment.machine events) × AllByRecursion (λ answer. is_heap_full answer ≡ false) (machine_replies moment.machine events) × LeaveFlagged moment.machine events
   unfolding machine_replies next_moment half_moment

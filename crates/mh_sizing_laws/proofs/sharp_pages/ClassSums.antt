@@ -1,11 +1,11 @@
 -- Sums over classes, and over the pages of each.
-use Rattle.std.proofs.Common.{◌≡◌, ℕ, suc, ◌+◌, ◌*◌, ◌≤◌, ◌==◌, ◌||◌, Bool, true, false, if◌then◌else◌, Option, Some, None, List, [], ◌∷◌, length, refl, sym, ap, ◌∙◌, subst, arith, eq-eqb}
+use Rattle.std.proofs.Common.{◌≡◌, ℕ, suc, ◌+◌, ◌*◌, ◌≤◌, ◌==◌, ◌||◌, Bool, true, false, if◌then◌else◌, Option, Some, None, option_map, List, [], ◌∷◌, refl, sym, ap, ◌∙◌, subst, arith, eq-eqb}
 use Rattle.std.specs.List.{AllByRecursion, IsDistinct, sum_by, list_any}
 use Rattle.std.proofs.Math.Nat.{mul-add}
 use Rattle.std.proofs.lemmas.Bool.{eqb-true, false≢true}
 use Rattle.std.proofs.lemmas.List.Sums.{sum_by-cons}
 use Rattle.mh_model.specs.Batches.{NoneTwice}
-use Rattle.mh_model.specs.Pages.{Page, Table, page_at, free_pages}
+use Rattle.mh_model.specs.Pages.{Page, Table}
 use Rattle.mh_model.specs.Table.{Block}
 use Rattle.mh_table_laws.specs.TableMaps.{table_map}
 use Rattle.mh_sizing_laws.proofs.openings.MadeParts.{IsAmong}
@@ -69,20 +69,12 @@ module _ {X : Type 0} where
       ∙ ap (λ n. weights (weigh k (w k)) table + n) (sum-weights w sizes table)
       ∙ sym (sum_by-cons (λ j. weights (weigh j (w j)) table) k sizes)
 
--- Pages in use are no more than there are of two sorts, if each is of one
-pub pages-of_sorts : (first : Option (Page Block) → ℕ) (second : ℕ → Option (Page ℕ) → ℕ) (table : Table Block) → ((number : ℕ) (page : Page Block) → page_at table number ≡ Some page → 1 ≤ first (Some page) + second number (Some (aged page)))
-    → length table ≤ free_pages table + (sum_by first table + weights second (ages table))
+-- what a table weighs by its ages
+pub weights-ages : (w : ℕ → Option (Page ℕ) → ℕ) (table : Table Block) → weights (λ number content. w number (option_map aged content)) table ≡ weights w (ages table)
 unfolding table_map
-pages-of_sorts first second [] each = omega arith
-pages-of_sorts first second (None ∷ table) each = omega (arith, pages-of_sorts first (λ n. second (suc n)) table (λ n. each (suc n)), sum_by-cons first None table)
-pages-of_sorts first second (Some page ∷ table) each = omega (arith, pages-of_sorts first (λ n. second (suc n)) table (λ n. each (suc n)), each 0 page refl, sum_by-cons first (Some page) table)
-
--- what a table weighs is no more than a sum over its pages
-pub weights-sum_by : (w : ℕ → Option (Page ℕ) → ℕ) (f : Option (Page Block) → ℕ) (table : Table Block) → ((number : ℕ) → w number None ≤ f None) → ((number at : ℕ) (page : Page Block) → page_at table at ≡ Some page → w number (Some (aged page)) ≤ f (Some page)) → weights w (ages table) ≤ sum_by f table
-unfolding table_map
-weights-sum_by w f [] none each = omega arith
-weights-sum_by w f (None ∷ table) none each = omega (arith, none 0, sum_by-cons f None table, weights-sum_by (λ n. w (suc n)) f table (λ n. none (suc n)) (λ n at. each (suc n) (suc at)))
-weights-sum_by w f (Some page ∷ table) none each = omega (arith, each 0 0 page refl, sum_by-cons f (Some page) table, weights-sum_by (λ n. w (suc n)) f table (λ n. none (suc n)) (λ n at. each (suc n) (suc at)))
+weights-ages w [] = refl
+weights-ages w (None ∷ table) = omega (arith, weights-ages (λ n. w (suc n)) table)
+weights-ages w (Some page ∷ table) = omega (arith, weights-ages (λ n. w (suc n)) table)
 
 -- Larger terms -----------------------------------------------------------------------------------
 

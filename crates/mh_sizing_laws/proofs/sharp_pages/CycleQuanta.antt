@@ -28,25 +28,31 @@ use Rattle.mh_sizing_laws.proofs.cycles.Classes.{HasClasses, collector_step-clas
 use Rattle.mh_sizing_laws.proofs.openings.MadeParts.{IsAmong}
 use Rattle.mh_sizing_laws.proofs.openings.Rooms.{empties}
 use Rattle.mh_sizing_laws.proofs.pages_left.GrownWorlds.{HasGrown, grown-same}
-use Rattle.mh_sizing_laws.proofs.pages_left.SweptPages.{HasItsBlocks, quiet-blocks, step-blocks}
+use Rattle.mh_sizing_laws.specs.Anchors.{ReachesThoseThatStay}
+use Rattle.mh_sizing_laws.proofs.pages_left.SweptPages.{quiet-beside}
+use Rattle.mh_sizing_laws.proofs.filling.Beside.{beside, beside-less, beside-most}
 use Rattle.mh_sizing_laws.proofs.filling.Newborns.{none-young}
 use Rattle.mh_sizing_laws.proofs.filling.Weights.{weights, weigh, weigh-less}
 use Rattle.mh_sizing_laws.proofs.filling.Slots.{youngs, olds, blocks-empties}
 use Rattle.mh_sizing_laws.proofs.filling.PageWeights.{traced, traced_by, roomy}
 use Rattle.mh_sizing_laws.proofs.filling.Ages.{birth_of, ages}
 use Rattle.mh_sizing_laws.proofs.filling.FilledTables.{AllFill}
+use Rattle.mh_sizing_laws.proofs.anchors.GivenAnchors.{Anchors, anchor_at, anchored_pages, staying_blocks}
+use Rattle.mh_sizing_laws.proofs.anchors.AnchoredQuanta.{IsAnchoring, step-anchoring}
+use Rattle.mh_sizing_laws.proofs.anchors.AnchoredMoments.{AreOlder}
 use Rattle.mh_sizing_laws.proofs.sharp_pages.ClassSums.{weights-same, weights-zero}
-use Rattle.mh_sizing_laws.proofs.sharp_pages.Moves.{resting_family}
+use Rattle.mh_sizing_laws.proofs.sharp_pages.Moves.{resting_beside}
 use Rattle.mh_sizing_laws.proofs.sharp_pages.SweptTables.{young_in}
 use Rattle.mh_sizing_laws.proofs.sharp_pages.CycleSteps.{Goes, Works, step-goes}
 
-module _ (sizes : List ℕ) (most : ℕ) (once : NoneTwice sizes) (are_classes : (size : ℕ) → IsAmong size sizes → is_class_size size ≡ true) where
-  module _ (from bound : ℕ) (base fresh : ℕ → ℕ) (snapshot world : World) (from_is : births snapshot ≡ from) (grown : HasGrown snapshot world) (live : HasAtMostLive most snapshot) where
+module _ (anchors : Anchors) (sizes : List ℕ) (most : ℕ) (once : NoneTwice sizes) (are_classes : (size : ℕ) → IsAmong size sizes → is_class_size size ≡ true) where
+  module _ (from bound : ℕ) (base fresh : ℕ → ℕ) (snapshot world : World) (from_is : births snapshot ≡ from) (grown : HasGrown snapshot world) (live : HasAtMostLive (most + staying_blocks anchors) snapshot)
+      (reaches : ReachesThoseThatStay anchors.stays snapshot) (older : AreOlder anchors.stays anchors.first snapshot) where
     abbrev IsGoing : Collector → Type 0
-    IsGoing c = Goes sizes from most bound base fresh c
+    IsGoing c = Goes anchors sizes from most bound base fresh c
 
     -- steps of a quantum
-    steps-goes : (more left : ℕ) (has_moved : Bool) (heap : HeapState) → Works sizes from most bound base fresh snapshot world heap → IsGoing heap.collector → IsGoing (steps more left has_moved heap.collector).collector
+    steps-goes : (more left : ℕ) (has_moved : Bool) (heap : HeapState) → Works anchors sizes from most bound base fresh snapshot world heap → IsGoing heap.collector → IsGoing (steps more left has_moved heap.collector).collector
     unfolding steps
     steps-goes zero left has_moved heap works goes = goes
     steps-goes (suc more) left has_moved heap works goes = elim (cases_Bool (is_idle heap.collector.phase || nat_lt left (step_cost heap.collector has_moved))) [
@@ -54,19 +60,19 @@ module _ (sizes : List ℕ) (most : ℕ) (once : NoneTwice sizes) (are_classes :
       | inr on ↦
           let (runs, fits) = or_parts (is_idle heap.collector.phase) (nat_lt left (step_cost heap.collector has_moved)) on in
           let next : HeapState = record heap { collector = collector_step heap.collector } in
-          let later : Works sizes from most bound base fresh snapshot world next = record {
+          let later : Works anchors sizes from most bound base fresh snapshot world next = record {
             keeps = (continues-collector_step snapshot heap.next_birth heap.collector runs works.keeps).keeps;
             agrees = agrees-collector_step snapshot world heap runs works.keeps works.agrees;
             slots = (collector_step-keeps 0 heap.collector).slots works.slots;
             classes = collector_step-classes (λ size. IsAmong size sizes) heap.collector works.classes;
-            blocks = step-blocks heap.collector (snapshot, heap.next_birth, works.keeps) works.slots works.blocks;
+            anchoring = step-anchoring anchors.stays anchors.first snapshot heap.next_birth heap.collector works.keeps reaches works.slots works.anchoring;
           } in
           subst (λ s. IsGoing s.collector) (sym (steps-go more left has_moved heap.collector on))
-          (steps-goes more (left - step_cost heap.collector has_moved) (has_moved || is_moving heap.collector) next later (step-goes sizes from most bound base fresh once are_classes snapshot world from_is grown live heap works runs goes))
+          (steps-goes more (left - step_cost heap.collector has_moved) (has_moved || is_moving heap.collector) next later (step-goes anchors sizes from most bound base fresh once are_classes snapshot world from_is grown live reaches older heap works runs goes))
     ]
 
     -- a quantum that begins with such a collector
-    from-start : (heap : HeapState) (d : Collector) → quantum_start heap.config heap.collector ≡ d → Works sizes from most bound base fresh snapshot world (record heap { collector = d }) → IsGoing d → IsGoing (quantum heap.config heap.collector).collector
+    from-start : (heap : HeapState) (d : Collector) → quantum_start heap.config heap.collector ≡ d → Works anchors sizes from most bound base fresh snapshot world (record heap { collector = d }) → IsGoing d → IsGoing (quantum heap.config heap.collector).collector
     unfolding quantum
     from-start heap d is works goes =
         subst (λ z. IsGoing (steps heap.config.quantum heap.config.quantum false z).collector) (sym is) (steps-goes heap.config.quantum heap.config.quantum false (record heap { collector = d }) works goes)
@@ -76,7 +82,7 @@ module _ (sizes : List ℕ) (most : ℕ) (once : NoneTwice sizes) (are_classes :
     counted-view heap quanta = refl
 
     -- A quantum of a cycle that runs
-    pub quantum-goes : (heap : HeapState) → is_idle heap.collector.phase ≡ false → Works sizes from most bound base fresh snapshot world heap → IsGoing heap.collector → IsGoing (quantum heap.config heap.collector).collector
+    pub quantum-goes : (heap : HeapState) → is_idle heap.collector.phase ≡ false → Works anchors sizes from most bound base fresh snapshot world heap → IsGoing heap.collector → IsGoing (quantum heap.config heap.collector).collector
     quantum-goes heap runs works goes = elim (begins heap.config heap.collector).case [
       | inl starts ↦ absurd (true≢false (sym (ap is_idle starts.1) ∙ runs))
       | inr other ↦ elim other [
@@ -89,7 +95,11 @@ module _ (sizes : List ℕ) (most : ℕ) (once : NoneTwice sizes) (are_classes :
               agrees = subst (λ v. Agrees v world) (sym (counted-view heap (c.quanta + 1))) works.agrees;
               slots = works.slots;
               classes = works.classes;
-              blocks = record { used = works.blocks.used; swept = works.blocks.swept; cursor = works.blocks.cursor };
+              anchoring = record {
+                blocks = record { used = works.anchoring.blocks.used; swept = works.anchoring.blocks.swept; cursor = works.anchoring.blocks.cursor };
+                anchors = works.anchoring.anchors;
+                size = works.anchoring.size;
+              };
             })
             (record {
               traces = λ e. let t = goes.traces e in record { weight = t.weight; young = t.young; enough = t.enough };
@@ -105,6 +115,9 @@ module _ (sizes : List ℕ) (most : ℕ) (once : NoneTwice sizes) (are_classes :
     abbrev table : Table Block
     table = heap.collector.table
 
+    abbrev out : ℕ → Bool
+    out = anchor_at anchors
+
     started-traced : (size number : ℕ) (page : Page ℕ) → youngs heap.next_birth page.slots ≡ 0 → traced heap.next_birth 0 0 0 (slots_in size) number page ≤ roomy number page
     started-traced size number page none = go (nat_lt 0 (youngs heap.next_birth page.slots)) (nat_lt number 0) (nat_lt 0 (empties page.slots)) (ap (λ n. nat_lt 0 n) none)
       where
@@ -115,14 +128,15 @@ module _ (sizes : List ℕ) (most : ℕ) (once : NoneTwice sizes) (are_classes :
         go false false false e = omega arith
 
     -- pages with room have few blocks as a cycle starts
-    started-weight : (base : ℕ → ℕ) → AllFill resting_family base (λ k. 1) table → (k : ℕ) → is_class_size k ≡ true → weights (weigh k (traced heap.next_birth 0 0 0 (slots_in k))) (ages table) ≤ base k + slots_in k
+    started-weight : (base : ℕ → ℕ) → AllFill (resting_beside out) base (λ k. 1) table → (k : ℕ) → is_class_size k ≡ true → weights (weigh k (beside out (traced heap.next_birth 0 0 0 (slots_in k)))) (ages table) ≤ base k + slots_in k
     started-weight base fill k class =
-        let less = weigh-less k (traced heap.next_birth 0 0 0 (slots_in k)) roomy (ages table) (λ number page at own. started-traced k number page (none-young heap.next_birth table slots sound.births number page at)) in
+        let less = weigh-less k (beside out (traced heap.next_birth 0 0 0 (slots_in k))) (beside out roomy) (ages table)
+        (λ number page at own. beside-less out (traced heap.next_birth 0 0 0 (slots_in k)) roomy number page page (started-traced k number page (none-young heap.next_birth table slots sound.births number page at))) in
         elim (fill k class) [
           | inl light ↦ omega (arith, light, less)
           | inr at ↦
               let has = have_their_slots birth_of table slots at.number at.page at.in_use in
-              omega (arith, at.weight, less, blocks-empties at.page.slots, has.slots, ap slots_in at.class, small (nat_lt 0 (empties at.page.slots)) (block_count at.page.slots))
+              omega (arith, at.weight, beside-most out roomy at.number at.page, less, blocks-empties at.page.slots, has.slots, ap slots_in at.class, small (nat_lt 0 (empties at.page.slots)) (block_count at.page.slots))
         ]
       where
         small : (room : Bool) (blocks : ℕ) → (if room then blocks else 0) ≤ blocks
@@ -154,25 +168,25 @@ module _ (sizes : List ℕ) (most : ℕ) (once : NoneTwice sizes) (are_classes :
         refl
 
   -- A quantum that starts a cycle
-  pub quantum-starts : (bound : ℕ) (base : ℕ → ℕ) (heap : HeapState) (snapshot world : World) → HeapKeeps snapshot heap → Agrees (heap_view heap) world → HaveTheirSlots heap.collector.table → HasClasses (λ size. IsAmong size sizes) heap.collector.table → HasItsBlocks heap.collector
-      → HasAtMostLive most world → is_start_due heap.config heap.collector ≡ true → heap.collector.phase ≡ Idle → AllFill resting_family base (λ k. 1) heap.collector.table → most + sum_by (λ k. (base k + slots_in k) / slots_in k) sizes ≤ bound
-      → Goes sizes (births world) most bound (λ k. base k + slots_in k) (λ k. 0) (quantum heap.config heap.collector).collector
-  quantum-starts bound base heap snapshot world keeps agrees slots classes blocks live due idle fill enough = elim (begins heap.config heap.collector).case [
+  pub quantum-starts : (bound : ℕ) (base : ℕ → ℕ) (heap : HeapState) (snapshot world : World) → HeapKeeps snapshot heap → Agrees (heap_view heap) world → HaveTheirSlots heap.collector.table → HasClasses (λ size. IsAmong size sizes) heap.collector.table → IsAnchoring anchors.stays anchors.first heap.collector
+      → HasAtMostLive (most + staying_blocks anchors) world → ReachesThoseThatStay anchors.stays world → AreOlder anchors.stays anchors.first world → is_start_due heap.config heap.collector ≡ true → heap.collector.phase ≡ Idle → AllFill (resting_beside (anchor_at anchors)) base (λ k. 1) heap.collector.table → most + anchored_pages anchors + sum_by (λ k. (base k + slots_in k) / slots_in k) sizes ≤ bound
+      → Goes anchors sizes (births world) most bound (λ k. base k + slots_in k) (λ k. 0) (quantum heap.config heap.collector).collector
+  quantum-starts bound base heap snapshot world keeps agrees slots classes anchoring live reaches older due idle fill enough = elim (begins heap.config heap.collector).case [
     | inl starts ↦
         let d : Collector = record (cycle_start heap.collector) { quanta = 1 } in
         let view : KeepsSnapshot (heap_view heap) heap.next_birth d = snapshot-counted (heap_view heap) heap.next_birth (cycle_start heap.collector) false 1 (snapshot-started heap (ap in_sweep idle) keeps.sound) in
         let same : heap.next_birth ≡ births world = sym (births-view heap) ∙ agrees.next_birth in
-        from-start (births world) bound (λ k. base k + slots_in k) (λ k. 0) world world refl (grown-same world) live heap d starts.2
+        from-start (births world) bound (λ k. base k + slots_in k) (λ k. 0) world world refl (grown-same world) live reaches older heap d starts.2
         (record {
           keeps = snapshot-agreeing (heap_view heap) world agrees heap.next_birth d view;
           agrees = subst (λ v. Agrees v world) (sym (started-view heap slots keeps.sound idle view)) agrees;
           slots = slots;
           classes = classes;
-          blocks = quiet-blocks d refl (blocks.used (ap in_sweep idle));
+          anchoring = record { blocks = quiet-beside (staying_blocks anchors) (anchored_pages anchors) d refl (anchoring.blocks.used (ap in_sweep idle)); anchors = anchoring.anchors; size = anchoring.size };
         })
         (record {
           traces = λ e. record {
-            weight = λ k class. subst (λ n. weights (weigh k (traced n 0 0 0 (slots_in k))) (ages heap.collector.table) ≤ base k + slots_in k) same (started-weight heap slots keeps.sound base fill k class);
+            weight = λ k class. subst (λ n. weights (weigh k (beside (anchor_at anchors) (traced n 0 0 0 (slots_in k)))) (ages heap.collector.table) ≤ base k + slots_in k) same (started-weight heap slots keeps.sound base fill k class);
             young = λ k class. subst (λ n. weights (weigh k (young_in n)) (ages heap.collector.table) ≤ 0) same (started-young heap slots keeps.sound k);
             enough = enough;
           };

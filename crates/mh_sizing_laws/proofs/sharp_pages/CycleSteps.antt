@@ -28,16 +28,20 @@ use Rattle.mh_sizing_laws.proofs.cycles.Classes.{HasClasses, swept-classes}
 use Rattle.mh_sizing_laws.proofs.openings.MadeParts.{IsAmong}
 use Rattle.mh_sizing_laws.proofs.pages_left.FedTables.{HasBlock, IsWithin}
 use Rattle.mh_sizing_laws.proofs.pages_left.GrownWorlds.{HasGrown}
-use Rattle.mh_sizing_laws.proofs.pages_left.SweptPages.{HasItsBlocks}
+use Rattle.mh_sizing_laws.specs.Anchors.{ReachesThoseThatStay}
+use Rattle.mh_sizing_laws.proofs.filling.Beside.{beside, beside-less}
 use Rattle.mh_sizing_laws.proofs.filling.Weights.{weights, weigh, weigh-less}
 use Rattle.mh_sizing_laws.proofs.filling.PageWeights.{traced}
 use Rattle.mh_sizing_laws.proofs.filling.Ages.{ages}
 use Rattle.mh_sizing_laws.proofs.filling.AgedCommands.{with_shade-ages, mark_first-ages}
 use Rattle.mh_sizing_laws.proofs.filling.FilledTables.{AllFill}
+use Rattle.mh_sizing_laws.proofs.anchors.GivenAnchors.{Anchors, anchor_at, anchored_pages, staying_blocks}
+use Rattle.mh_sizing_laws.proofs.anchors.AnchoredQuanta.{IsAnchoring, step-stands}
+use Rattle.mh_sizing_laws.proofs.anchors.AnchoredMoments.{AreOlder}
 use Rattle.mh_sizing_laws.proofs.sharp_pages.ClassSums.{sum-below}
-use Rattle.mh_sizing_laws.proofs.sharp_pages.Moves.{resting_family, moved}
-use Rattle.mh_sizing_laws.proofs.sharp_pages.OldBlocks.{old-few}
-use Rattle.mh_sizing_laws.proofs.sharp_pages.SweptTables.{is_old, old_in, young_in, new_page, used-sorts, new-few, olds-few, roomy-few}
+use Rattle.mh_sizing_laws.proofs.sharp_pages.Moves.{resting_beside, moved}
+use Rattle.mh_sizing_laws.proofs.sharp_pages.OldBlocks.{stands-old, old-few}
+use Rattle.mh_sizing_laws.proofs.sharp_pages.SweptTables.{is_old, HasOldAnchors, old_in, young_in, new_page, used-sorts, new-few, olds-few, roomy-few}
 use Rattle.mh_sizing_laws.proofs.sharp_pages.SweptWeights.{aged, swept-weights, youngs-swept, others-less, here-traced, next-page, entered-traced}
 
 -- how many pages the sweep has passed, and how many it has begun with
@@ -47,19 +51,22 @@ passed_by phase cursor = if in_sweep phase then page_number cursor else 0
 abbrev pub entered_by : Phase → ℕ → ℕ
 entered_by phase cursor = if in_sweep phase then suc (page_number cursor) else 0
 
-module _ (sizes : List ℕ) (from most bound : ℕ) (base fresh : ℕ → ℕ) where
+module _ (anchors : Anchors) (sizes : List ℕ) (from most bound : ℕ) (base fresh : ℕ → ℕ) where
+  abbrev out : ℕ → Bool
+  out = anchor_at anchors
+
   -- While a cycle marks and sweeps the pages of each class weigh no more than this, and no more blocks of it are young
   pub record Traces (c : Collector) : Type 0 where
-    pub weight : (k : ℕ) → is_class_size k ≡ true → weights (weigh k (traced from (passed_by c.phase c.cursor) (entered_by c.phase c.cursor) 0 (slots_in k))) (ages c.table) ≤ base k
+    pub weight : (k : ℕ) → is_class_size k ≡ true → weights (weigh k (beside out (traced from (passed_by c.phase c.cursor) (entered_by c.phase c.cursor) 0 (slots_in k)))) (ages c.table) ≤ base k
     pub young : (k : ℕ) → is_class_size k ≡ true → weights (weigh k (young_in from)) (ages c.table) ≤ fresh k
-    pub enough : most + sum_by (λ k. base k / slots_in k) sizes ≤ bound
+    pub enough : most + anchored_pages anchors + sum_by (λ k. base k / slots_in k) sizes ≤ bound
 
   -- what the sweep leaves: few pages in use, and few blocks in those that have room
   pub record Leaves (c : Collector) : Type 0 where
     pub used : length c.table ≤ free_pages c.table + bound
     pub old : ℕ → ℕ
     pub few : sum_by old sizes ≤ most
-    pub fill : AllFill resting_family (λ k. old k + fresh k) (λ k. 1) c.table
+    pub fill : AllFill (resting_beside out) (λ k. old k + fresh k) (λ k. 1) c.table
 
   pub record Goes (c : Collector) : Type 0 where
     pub traces : in_trace c.phase ≡ true → Traces c
@@ -72,11 +79,11 @@ module _ (sizes : List ℕ) (from most bound : ℕ) (base fresh : ℕ → ℕ) w
   goes-left c is leaves = record { traces = λ e. absurd (true≢false (sym e ∙ is)); leaves = λ e. leaves }
 
   -- marking goes on, or the sweep begins
-  trace-on : (old new : Table Block) (phase : Phase) (cursor : ℕ) → passed_by phase cursor ≡ 0 → ages new ≡ ages old → ((k : ℕ) → is_class_size k ≡ true → weights (weigh k (traced from 0 0 0 (slots_in k))) (ages old) ≤ base k)
-      → (k : ℕ) → is_class_size k ≡ true → weights (weigh k (traced from (passed_by phase cursor) (entered_by phase cursor) 0 (slots_in k))) (ages new) ≤ base k
+  trace-on : (old new : Table Block) (phase : Phase) (cursor : ℕ) → passed_by phase cursor ≡ 0 → ages new ≡ ages old → ((k : ℕ) → is_class_size k ≡ true → weights (weigh k (beside out (traced from 0 0 0 (slots_in k)))) (ages old) ≤ base k)
+      → (k : ℕ) → is_class_size k ≡ true → weights (weigh k (beside out (traced from (passed_by phase cursor) (entered_by phase cursor) 0 (slots_in k)))) (ages new) ≤ base k
   trace-on old new phase cursor none same weight k class =
-      let lighter = weigh-less k (traced from 0 (entered_by phase cursor) 0 (slots_in k)) (traced from 0 0 0 (slots_in k)) (ages old) (λ number page at own. entered-traced from (slots_in k) (entered_by phase cursor) number page) in
-      omega (arith, weight k class, lighter, ap (λ t. weights (weigh k (traced from (passed_by phase cursor) (entered_by phase cursor) 0 (slots_in k))) t) same, ap (λ n. weights (weigh k (traced from n (entered_by phase cursor) 0 (slots_in k))) (ages old)) none)
+      let lighter = weigh-less k (beside out (traced from 0 (entered_by phase cursor) 0 (slots_in k))) (beside out (traced from 0 0 0 (slots_in k))) (ages old) (λ number page at own. beside-less out (traced from 0 (entered_by phase cursor) 0 (slots_in k)) (traced from 0 0 0 (slots_in k)) number page page (entered-traced from (slots_in k) (entered_by phase cursor) number page)) in
+      omega (arith, weight k class, lighter, ap (λ t. weights (weigh k (beside out (traced from (passed_by phase cursor) (entered_by phase cursor) 0 (slots_in k)))) t) same, ap (λ n. weights (weigh k (beside out (traced from n (entered_by phase cursor) 0 (slots_in k)))) (ages old)) none)
 
   -- what a cycle's steps work with
   pub record Works (snapshot world : World) (heap : HeapState) : Type 0 where
@@ -84,11 +91,12 @@ module _ (sizes : List ℕ) (from most bound : ℕ) (base fresh : ℕ → ℕ) w
     pub agrees : Agrees (heap_view heap) world
     pub slots : HaveTheirSlots heap.collector.table
     pub classes : HasClasses (λ size. IsAmong size sizes) heap.collector.table
-    pub blocks : HasItsBlocks heap.collector
+    pub anchoring : IsAnchoring anchors.stays anchors.first heap.collector
 
-  module _ (once : NoneTwice sizes) (are_classes : (size : ℕ) → IsAmong size sizes → is_class_size size ≡ true) (snapshot world : World) (from_is : births snapshot ≡ from) (grown : HasGrown snapshot world) (live : HasAtMostLive most snapshot) where
+  module _ (once : NoneTwice sizes) (are_classes : (size : ℕ) → IsAmong size sizes → is_class_size size ≡ true) (snapshot world : World) (from_is : births snapshot ≡ from) (grown : HasGrown snapshot world) (live : HasAtMostLive (most + staying_blocks anchors) snapshot)
+      (reaches : ReachesThoseThatStay anchors.stays snapshot) (older : AreOlder anchors.stays anchors.first snapshot) where
     -- After the sweep the old blocks are no more than the live parts
-    swept-old : (heap : HeapState) → in_defrag heap.collector.phase ≡ true → HeapKeeps snapshot heap → Agrees (heap_view heap) world → count_blocks (is_old from) heap.collector.table ≤ most
+    swept-old : (heap : HeapState) → in_defrag heap.collector.phase ≡ true → HeapKeeps snapshot heap → Agrees (heap_view heap) world → count_blocks (is_old from) heap.collector.table ≤ most + staying_blocks anchors
     swept-old heap defrags keeps agrees =
         let runs : is_idle heap.collector.phase ≡ false = defrag-runs heap.collector.phase defrags in
         let quiet : in_sweep heap.collector.phase ≡ false = defrag-quiet heap.collector.phase defrags in
@@ -97,7 +105,7 @@ module _ (sizes : List ℕ) (from most bound : ℕ) (base fresh : ℕ → ℕ) w
           whole = λ birth kept. keeps.cycle.whole runs birth kept;
           stamped = λ place block there. keeps.sound.marked defrags place block there;
         } in
-        subst (λ n. count_blocks (is_old n) heap.collector.table ≤ most) from_is (old-few snapshot world heap keeps.sound quiet agrees finished most grown live)
+        subst (λ n. count_blocks (is_old n) heap.collector.table ≤ most + staying_blocks anchors) from_is (old-few snapshot world heap keeps.sound quiet agrees finished (most + staying_blocks anchors) grown live)
       where
         defrag-runs : (phase : Phase) → in_defrag phase ≡ true → is_idle phase ≡ false
         defrag-runs Defrag e = refl
@@ -136,10 +144,12 @@ module _ (sizes : List ℕ) (from most bound : ℕ) (base fresh : ℕ → ℕ) w
           let on : (next ≡ n) ⊎ (next ≡ suc n) = next-page c.cursor (page_at c.table n) in
           record {
             weight = λ k class.
-                let less = swept-weights k c.cycle c.table c.cursor (traced from next (suc next) 0 (slots_in k)) (traced from n (suc n) 0 (slots_in k)) (others-less from (slots_in k) n next on)
-                (λ page new at is. here-traced from (slots_in k) n next on (aged new) (aged page) (youngs-swept from c.cycle c.table c.cursor (survives sweeps) page new at is)) in
-                subst (λ s. weights (weigh k (traced from (if s then next else 0) (if s then suc next else 0) 0 (slots_in k))) (ages (swept_table c.cycle c.table c.cursor)) ≤ base k) (sym (ap in_sweep sweeps))
-                (omega (arith, less, subst (λ s. weights (weigh k (traced from (if s then n else 0) (if s then suc n else 0) 0 (slots_in k))) (ages c.table) ≤ base k) (ap in_sweep sweeps) (traces.weight k class)));
+                let less = swept-weights k c.cycle c.table c.cursor (beside out (traced from next (suc next) 0 (slots_in k))) (beside out (traced from n (suc n) 0 (slots_in k)))
+                (λ number page apart. beside-less out (traced from next (suc next) 0 (slots_in k)) (traced from n (suc n) 0 (slots_in k)) number page page (others-less from (slots_in k) n next on number page apart))
+                (λ page new at is. beside-less out (traced from next (suc next) 0 (slots_in k)) (traced from n (suc n) 0 (slots_in k)) n (aged new) (aged page)
+                (here-traced from (slots_in k) n next on (aged new) (aged page) (youngs-swept from c.cycle c.table c.cursor (survives sweeps) page new at is))) in
+                subst (λ s. weights (weigh k (beside out (traced from (if s then next else 0) (if s then suc next else 0) 0 (slots_in k)))) (ages (swept_table c.cycle c.table c.cursor)) ≤ base k) (sym (ap in_sweep sweeps))
+                (omega (arith, less, subst (λ s. weights (weigh k (beside out (traced from (if s then n else 0) (if s then suc n else 0) 0 (slots_in k)))) (ages c.table) ≤ base k) (ap in_sweep sweeps) (traces.weight k class)));
             young = λ k class. omega (
               arith,
               traces.young k class,
@@ -158,7 +168,7 @@ module _ (sizes : List ℕ) (from most bound : ℕ) (base fresh : ℕ → ℕ) w
         | inl same ↦ this-page (page_at c.table n) refl (ap (page_at swept.table) (sym same) ∙ at) (λ old e. last (page_at c.table n) refl old e same)
         | inr apart ↦
             let before : page_at c.table number ≡ Some page = sym (get_or-set_other c.table n number _ None apart) ∙ at in
-            subst HasBlock before (works.blocks.swept (ap in_sweep sweeps) number (below apart (next-page c.cursor (page_at c.table n))))
+            subst HasBlock before (works.anchoring.blocks.swept (ap in_sweep sweeps) number (below apart (next-page c.cursor (page_at c.table n))))
       ]
         where
           n : ℕ
@@ -179,7 +189,7 @@ module _ (sizes : List ℕ) (from most bound : ℕ) (base fresh : ℕ → ℕ) w
               by_test : (test : Bool) → is_last_slot c.cursor old ≡ test → is_last_slot c.cursor old ≡ true
               by_test true is = is
               by_test false is =
-                  let within : slot_number c.cursor < length old.slots = subst (IsWithin (slot_number c.cursor)) (there ∙ e) (works.blocks.cursor (ap in_sweep sweeps)) in
+                  let within : slot_number c.cursor < length old.slots = subst (IsWithin (slot_number c.cursor)) (there ∙ e) (works.anchoring.blocks.cursor (ap in_sweep sweeps)) in
                   let few : length old.slots ≤ 64 = shaped-slots c.table works.slots n old (there ∙ e) in
                   let on : swept.cursor ≡ c.cursor + 1 = ap (next_place c.cursor) (there ∙ e) ∙ ap (λ b. if b then next_page c.cursor else c.cursor + 1) is in
                   let apart : suc (slot_number c.cursor) ≡ length old.slots → ⊥ = eqb-false (suc (slot_number c.cursor)) (length old.slots) is in
@@ -208,7 +218,7 @@ module _ (sizes : List ℕ) (from most bound : ℕ) (base fresh : ℕ → ℕ) w
               let left : Page Block = page_with (slot_number c.cursor) (option_and_then (survivor c.cycle) (block_in (slot_number c.cursor) old)) old in
               judged left page (sym (ap (λ b. if b then judged_page c.table n left else Some left) (ends old refl)) ∙ written)
 
-      swept-leaves : c.phase ≡ Sweep → is_past swept.table swept.cursor ≡ true → Traces swept → count_blocks (is_old from) swept.table ≤ most → Leaves (with_phase swept Defrag 0)
+      swept-leaves : c.phase ≡ Sweep → is_past swept.table swept.cursor ≡ true → Traces swept → count_blocks (is_old from) swept.table ≤ most + staying_blocks anchors → Leaves (with_phase swept Defrag 0)
       swept-leaves sweeps past traces few =
           let slots : HaveTheirSlots swept.table = (step_in-keeps 0 Sweep c).slots works.slots in
           let classes = swept-classes (λ size. IsAmong size sizes) c.cycle c.table c.cursor works.classes in
@@ -217,15 +227,20 @@ module _ (sizes : List ℕ) (from most bound : ℕ) (base fresh : ℕ → ℕ) w
           let within : length swept.table ≤ passed = leb-true (length swept.table) passed past in
           let some = swept-some sweeps past in
           let plain = swept-plain sound within in
-          let weight = λ (k : ℕ) (class : is_class_size k ≡ true). subst (λ s. weights (weigh k (traced from (if s then passed else 0) (if s then suc passed else 0) 0 (slots_in k))) (ages swept.table) ≤ base k) (ap in_sweep sweeps) (traces.weight k class) in
-          let sorts = used-sorts sizes from passed (suc passed) swept.table slots classes some plain within in
+          let stand = step-stands anchors.stays anchors.first snapshot heap.next_birth c works.keeps reaches works.slots works.anchoring.anchors Sweep sweeps in
+          let has : HasOldAnchors anchors from swept.table = record {
+            size = omega (arith, works.anchoring.size, (step_in-keeps 0 Sweep c).pages);
+            old = λ number page at is. stands-old anchors.stays from (λ birth stay. omega (arith, older birth stay, from_is)) page (page_at swept.table number) (stand.pages number page at is);
+          } in
+          let weight = λ (k : ℕ) (class : is_class_size k ≡ true). subst (λ s. weights (weigh k (beside out (traced from (if s then passed else 0) (if s then suc passed else 0) 0 (slots_in k)))) (ages swept.table) ≤ base k) (ap in_sweep sweeps) (traces.weight k class) in
+          let sorts = used-sorts anchors sizes from passed (suc passed) swept.table slots classes some plain within has in
           let pages = sum-below (λ k. weights (weigh k (new_page from)) (ages swept.table)) (λ k. base k / slots_in k) sizes
-          (λ k among. new-few sizes from passed (suc passed) swept.table slots classes some plain within k (base k) (are_classes k among) (weight k (are_classes k among))) in
+          (λ k among. new-few anchors sizes from passed (suc passed) swept.table slots classes some plain within has k (base k) (are_classes k among) (weight k (are_classes k among))) in
           record {
             used = omega (arith, sorts, pages, few, traces.enough);
-            old = λ k. weights (weigh k (old_in from)) (ages swept.table);
-            few = omega (arith, olds-few sizes from passed (suc passed) swept.table slots classes some plain within once, few);
-            fill = λ k class. inl (omega (arith, roomy-few sizes from passed (suc passed) swept.table slots classes some plain within k, traces.young k class));
+            old = λ k. weights (weigh k (beside out (old_in from))) (ages swept.table);
+            few = omega (arith, olds-few anchors sizes from passed (suc passed) swept.table slots classes some plain within has once, few);
+            fill = λ k class. inl (omega (arith, roomy-few anchors sizes from passed (suc passed) swept.table slots classes some plain within has k, traces.young k class));
           }
         where
           swept-plain : IsSound heap.next_birth swept → length swept.table ≤ page_number swept.cursor → (place : ℕ) (block : Block) → block_at swept.table place ≡ Some block → is_plain block ≡ true
@@ -240,8 +255,8 @@ module _ (sizes : List ℕ) (from most bound : ℕ) (base fresh : ℕ → ℕ) w
       step-goes runs goes = go c.phase refl (λ defrags. swept-old (record heap { collector = collector_step c }) defrags (continues-collector_step snapshot heap.next_birth c runs works.keeps).keeps (agrees-collector_step snapshot world heap runs works.keeps works.agrees))
         where
           -- a phase that marks weighs as no sweep has begun
-          marked-weight : in_trace c.phase ≡ true → in_sweep c.phase ≡ false → (k : ℕ) → is_class_size k ≡ true → weights (weigh k (traced from 0 0 0 (slots_in k))) (ages c.table) ≤ base k
-          marked-weight trace quiet k class = subst (λ s. weights (weigh k (traced from (if s then page_number c.cursor else 0) (if s then suc (page_number c.cursor) else 0) 0 (slots_in k))) (ages c.table) ≤ base k) quiet ((goes.traces trace).weight k class)
+          marked-weight : in_trace c.phase ≡ true → in_sweep c.phase ≡ false → (k : ℕ) → is_class_size k ≡ true → weights (weigh k (beside out (traced from 0 0 0 (slots_in k)))) (ages c.table) ≤ base k
+          marked-weight trace quiet k class = subst (λ s. weights (weigh k (beside out (traced from (if s then page_number c.cursor else 0) (if s then suc (page_number c.cursor) else 0) 0 (slots_in k)))) (ages c.table) ≤ base k) quiet ((goes.traces trace).weight k class)
 
           trace-to : (d : Collector) → in_trace c.phase ≡ true → in_sweep c.phase ≡ false → in_trace d.phase ≡ true → passed_by d.phase d.cursor ≡ 0 → ages d.table ≡ ages c.table → Goes d
           trace-to d trace quiet still none same = goes-trace d still (record {
@@ -258,7 +273,7 @@ module _ (sizes : List ℕ) (from most bound : ℕ) (base fresh : ℕ → ℕ) w
           after_roots d phase trace quiet same true = after d d.grey trace quiet same
           after_roots d phase trace quiet same false = trace-to d trace quiet (ap in_trace phase) (ap (λ s. if s then page_number d.cursor else 0) (ap in_sweep phase)) same
 
-          after_sweep : c.phase ≡ Sweep → (test : Bool) → is_past swept.table swept.cursor ≡ test → (in_defrag (if test then with_phase swept Defrag 0 else swept).phase ≡ true → count_blocks (is_old from) (if test then with_phase swept Defrag 0 else swept).table ≤ most)
+          after_sweep : c.phase ≡ Sweep → (test : Bool) → is_past swept.table swept.cursor ≡ test → (in_defrag (if test then with_phase swept Defrag 0 else swept).phase ≡ true → count_blocks (is_old from) (if test then with_phase swept Defrag 0 else swept).table ≤ most + staying_blocks anchors)
               → Goes (if test then with_phase swept Defrag 0 else swept)
           after_sweep sweeps true past few = goes-left (with_phase swept Defrag 0) refl (swept-leaves sweeps past (sweep-traces sweeps (goes.traces (ap in_trace sweeps))) (few refl))
           after_sweep sweeps false past few = goes-trace swept (ap in_trace sweeps) (sweep-traces sweeps (goes.traces (ap in_trace sweeps)))
@@ -267,12 +282,12 @@ module _ (sizes : List ℕ) (from most bound : ℕ) (base fresh : ℕ → ℕ) w
           after_defrag d phase leaves true = goes-left (cycle_end d) refl (record { used = leaves.used; old = leaves.old; few = leaves.few; fill = leaves.fill })
           after_defrag d phase leaves false = goes-left d (ap in_trace phase) leaves
 
-          go : (phase : Phase) → c.phase ≡ phase → (in_defrag (phase_after phase (step_in phase c)).phase ≡ true → count_blocks (is_old from) (phase_after phase (step_in phase c)).table ≤ most) → Goes (phase_after phase (step_in phase c))
+          go : (phase : Phase) → c.phase ≡ phase → (in_defrag (phase_after phase (step_in phase c)).phase ≡ true → count_blocks (is_old from) (phase_after phase (step_in phase c)).table ≤ most + staying_blocks anchors) → Goes (phase_after phase (step_in phase c))
           go Idle is few = absurd (true≢false (sym (ap is_idle is) ∙ runs))
           go Roots is few = after_roots (roots_step c) refl (ap in_trace is) (ap in_sweep is) (with_shade-ages c (get_or c.slots c.cursor None)) ((roots_step c).cursor == root_slots)
           go Mark is few = after (with_marking c (mark_step (marking_of c))) (with_marking c (mark_step (marking_of c))).grey (ap in_trace is) (ap in_sweep is) (mark_first-ages (marking_of c) c.grey)
           go Sweep is few = after_sweep is (is_past swept.table swept.cursor) refl few
           go Defrag is few =
               let leaves : Leaves c = goes.leaves (ap in_trace is) in
-              let move = moved c (λ k. leaves.old k + fresh k) works.slots (next_move c.table c.cursor) refl in
+              let move = moved out c (λ k. leaves.old k + fresh k) works.slots (next_move c.table c.cursor) refl in
               after_defrag (defrag_step c) refl (record { used = omega (arith, leaves.used, move.free, move.count); old = leaves.old; few = leaves.few; fill = move.fill leaves.fill }) (is_past (defrag_step c).table (defrag_step c).cursor)

@@ -9,20 +9,18 @@ use Rattle.mh_model.specs.Machine.{Machine, command_step, half_step, event_step}
 use Rattle.mh_model.specs.Openings.{class_parts, asked_parts}
 use Rattle.mh_model.specs.Pages.{HaveTheirSlots}
 use Rattle.mh_model.specs.Snapshot.{has_quantum}
-use Rattle.mh_model.specs.Mutator.{mutator_step}
 use Rattle.mh_laws.proofs.bounds.CyclesInTime.{StaysInBounds}
 use Rattle.mh_laws.proofs.commands.LeftUnchanged.{mutator_step-course}
-use Rattle.mh_sizing_laws.proofs.cycles.Classes.{HasClasses, PartsFit, command-classes}
 use Rattle.mh_sizing_laws.proofs.cycles.SharperRuns.{quiet-collector}
 use Rattle.mh_sizing_laws.proofs.openings.Intervals.{asked_of, asked-cons, asked-append, since-half, since-likewise, since-more, quiet-event}
-use Rattle.mh_sizing_laws.proofs.pages_left.FedCommands.{mutator_step-feeds}
-use Rattle.mh_sizing_laws.proofs.pages_left.SweptPages.{HasItsBlocks, fed-blocks}
+use Rattle.mh_sizing_laws.proofs.anchors.GivenAnchors.{Anchors, anchor_at}
+use Rattle.mh_sizing_laws.proofs.filling.Beside.{family_beside, allows-beside}
 use Rattle.mh_sizing_laws.proofs.filling.FilledTables.{AllFill}
-use Rattle.mh_sizing_laws.proofs.filling.PageWeights.{resting-allows, newborn-allows, marking-allows}
+use Rattle.mh_sizing_laws.proofs.filling.PageWeights.{resting, marking, resting-allows, newborn-allows, marking-allows}
 use Rattle.mh_sizing_laws.proofs.sharp_pages.ClassesThatOccur.{few_of}
 use Rattle.mh_sizing_laws.proofs.sharp_pages.CycleSteps.{passed_by, entered_by}
 use Rattle.mh_sizing_laws.proofs.sharp_pages.Intervals.{marking_family, newborn_family, half-fill, interval-fill}
-use Rattle.mh_sizing_laws.proofs.sharp_pages.Moves.{resting_family, fill-rested}
+use Rattle.mh_sizing_laws.proofs.sharp_pages.Moves.{resting_beside, fill-rested}
 use Rattle.mh_sizing_laws.proofs.sharp_pages.SharpStates.{Rests, Marks, Moves}
 
 -- a half step leaves the course of the collector
@@ -36,27 +34,15 @@ unfolding command_step
 half-course machine (event.Session who command) = let course = mutator_step-course machine.heap who command in record { phase = course.phase; cursor = course.cursor; quanta = course.quanta }
 half-course machine (event.Control control) = record { phase = refl; cursor = refl; quanta = refl }
 
-pub half-blocks : (machine : Machine) (event : Event) → HaveTheirSlots machine.heap.collector.table → HasItsBlocks machine.heap.collector → HasItsBlocks (half_step machine event).heap.collector
-unfolding command_step
-half-blocks machine (event.Session who command) slots blocks =
-    let course = mutator_step-course machine.heap who command in
-    fed-blocks machine.heap.collector (mutator_step machine.heap who command).state.collector course.phase course.cursor (mutator_step-feeds machine.heap who command slots) blocks
-half-blocks machine (event.Control control) slots blocks = blocks
-
-pub half-classes : (Fits : ℕ → Type 0) (config : Config) (machine : Machine) (event : Event) → machine.heap.config ≡ config → PartsFit Fits (asked_parts config event) → HasClasses Fits machine.heap.collector.table → HasClasses Fits (half_step machine event).heap.collector.table
-unfolding command_step
-half-classes Fits config machine (event.Session who command) same fit has = command-classes Fits machine.heap who command (subst (λ c. PartsFit Fits (asked_parts c (event.Session who command))) (sym same) fit) has
-half-classes Fits config machine (event.Control control) same fit has = has
-
-module _ (config : Config) (quanta opened most unit : ℕ) (list : List Part) (unit_is : unit ≡ opened + few_of opened list + 1) where
+module _ (config : Config) (anchors : Anchors) (quanta opened most unit : ℕ) (list : List Part) (unit_is : unit ≡ opened + few_of opened list + 1) where
   abbrev MarksOf : ℕ → List Event → Collector → Type 0
-  MarksOf = Marks config quanta opened most unit list unit_is
+  MarksOf = Marks config anchors quanta opened most unit list unit_is
 
   abbrev MovesOf : List Event → Machine → Type 0
-  MovesOf = Moves config quanta opened most unit list unit_is
+  MovesOf = Moves config anchors quanta opened most unit list unit_is
 
   abbrev RestsOf : Collector → Type 0
-  RestsOf = Rests config quanta opened most unit list unit_is
+  RestsOf = Rests config anchors quanta opened most unit list unit_is
 
   module _ (before : List Event) (machine : Machine) (event : Event) (stays : StaysInBounds config machine) (slots : HaveTheirSlots machine.heap.collector.table) where
     abbrev half : Machine
@@ -68,9 +54,9 @@ module _ (config : Config) (quanta opened most unit : ℕ) (list : List Part) (u
     same : IsSameCourse machine.heap.collector half.heap.collector
     same = half-course machine event
 
-    rested : (base : ℕ → ℕ) → AllFill resting_family base (λ k. 1) machine.heap.collector.table → AllFill resting_family base (λ k. 1) half.heap.collector.table
-    rested base fill = fill-rested base (λ k. 1 + class_parts k (asked_parts config event)) (λ k. 1) half.heap.collector.table (λ k. omega arith)
-        (half-fill resting_family base (λ k. 1) config machine event stays.config_is (λ k. resting-allows k machine.heap.next_birth) slots fill)
+    rested : (base : ℕ → ℕ) → AllFill (resting_beside (anchor_at anchors)) base (λ k. 1) machine.heap.collector.table → AllFill (resting_beside (anchor_at anchors)) base (λ k. 1) half.heap.collector.table
+    rested base fill = fill-rested (anchor_at anchors) base (λ k. 1 + class_parts k (asked_parts config event)) (λ k. 1) half.heap.collector.table (λ k. omega arith)
+        (half-fill (resting_beside (anchor_at anchors)) base (λ k. 1) config machine event stays.config_is (λ k. allows-beside (anchor_at anchors) (resting k) machine.heap.next_birth (resting-allows k machine.heap.next_birth)) slots fill)
 
     pub half-rests : RestsOf machine.heap.collector → RestsOf half.heap.collector
     half-rests rests = record { old = rests.old; born = rests.born; few = rests.few; births = rests.births; fill = rested (λ k. rests.old k + slots_in k * rests.born k) rests.fill }
@@ -104,9 +90,10 @@ module _ (config : Config) (quanta opened most unit : ℕ) (list : List Part) (u
           pages = omega (arith, marks.pages, ap (λ n. n * unit) same.quanta);
           one = marks.one;
           births = omega (arith, marks.births, ap (λ n. n * opened) same.quanta);
-          fill = subst (λ phase. AllFill (marking_family from (passed_by phase half.heap.collector.cursor) (entered_by phase half.heap.collector.cursor)) base (asked_of config now) half.heap.collector.table) (sym same.phase)
-              (subst (λ cursor. AllFill (marking_family from (passed_by machine.heap.collector.phase cursor) (entered_by machine.heap.collector.phase cursor)) base (asked_of config now) half.heap.collector.table) (sym same.cursor)
-              (interval-fill (marking_family from passed entered) base config before machine event stays.config_is (λ k. marking-allows from passed entered k machine.heap.next_birth young) slots marks.fill));
+          fill = subst (λ phase. AllFill (family_beside (anchor_at anchors) (marking_family from (passed_by phase half.heap.collector.cursor) (entered_by phase half.heap.collector.cursor))) base (asked_of config now) half.heap.collector.table) (sym same.phase)
+              (subst (λ cursor. AllFill (family_beside (anchor_at anchors) (marking_family from (passed_by machine.heap.collector.phase cursor) (entered_by machine.heap.collector.phase cursor))) base (asked_of config now) half.heap.collector.table) (sym same.cursor)
+              (interval-fill (family_beside (anchor_at anchors) (marking_family from passed entered)) base config before machine event stays.config_is
+              (λ k. allows-beside (anchor_at anchors) (marking from passed entered k) machine.heap.next_birth (marking-allows from passed entered k machine.heap.next_birth young)) slots marks.fill));
           young = interval-fill (newborn_family from) (λ k. slots_in k * marks.born k) config before machine event stays.config_is (λ k. newborn-allows from k machine.heap.next_birth young) slots marks.young;
         }
 
@@ -142,5 +129,5 @@ module _ (config : Config) (quanta opened most unit : ℕ) (list : List Part) (u
             limit = omega (arith, moves.limit, ap (λ n. n * unit) like.quanta);
             used = moves.used;
             since = since-likewise config (asked_of config now) moves.start half next like moves.since;
-            fill = subst (AllFill resting_family (λ k. moves.old k + slots_in k * moves.born k) (λ k. 1)) (sym like.table) moves.fill;
+            fill = subst (AllFill (resting_beside (anchor_at anchors)) (λ k. moves.old k + slots_in k * moves.born k) (λ k. 1)) (sym like.table) moves.fill;
           }

@@ -17,6 +17,7 @@ use Rattle.mh_sizing_laws.proofs.filling.Weights.{weights, weigh, weigh-less}
 use Rattle.mh_sizing_laws.proofs.filling.Slots.{youngs, olds, blocks-empties}
 use Rattle.mh_sizing_laws.proofs.filling.PageWeights.{traced_by, traced, marking, newborn}
 use Rattle.mh_sizing_laws.proofs.filling.Ages.{birth_of, ages}
+use Rattle.mh_sizing_laws.proofs.filling.Beside.{beside, kind_beside, beside-less, beside-most}
 use Rattle.mh_sizing_laws.proofs.filling.Fillings.{Allows, Fills}
 use Rattle.mh_sizing_laws.proofs.filling.FilledTables.{Family, AllFill, fill-more, mutator_step-fill}
 use Rattle.mh_sizing_laws.proofs.sharp_pages.ClassesThatOccur.{filled-pages, open-page}
@@ -46,7 +47,7 @@ interval-fill family base config before machine event same allows slots fill =
 
 -- Ends of intervals ------------------------------------------------------------------------------
 
-module _ (from passed entered k count base : ℕ) (class : is_class_size k ≡ true) (table : Table Block) (slots : HaveTheirSlots table) where
+module _ (out : ℕ → Bool) (from passed entered k count base : ℕ) (class : is_class_size k ≡ true) (table : Table Block) (slots : HaveTheirSlots table) where
   more-idle : (young old gone begun room : Bool) (all blocks : ℕ) → traced_by young old gone begun room all 0 blocks ≤ traced_by young old gone begun room all all blocks
   more-idle true old gone begun room all blocks = omega arith
   more-idle false old true begun room all blocks = omega arith
@@ -55,18 +56,18 @@ module _ (from passed entered k count base : ℕ) (class : is_class_size k ≡ t
   more-idle false old false false false all blocks = omega arith
 
   -- As an interval ends each class that it made has filled its pages but one
-  pub marking-closed : Fills (marking from passed entered k) count (base + count) (ages table) → weights (weigh k (traced from passed entered 0 (slots_in k))) (ages table) ≤ base + slots_in k * (pages_for k count + min 1 (pages_for k count))
+  pub marking-closed : Fills (kind_beside out (marking from passed entered k)) count (base + count) (ages table) → weights (weigh k (beside out (traced from passed entered 0 (slots_in k)))) (ages table) ≤ base + slots_in k * (pages_for k count + min 1 (pages_for k count))
   marking-closed fills = omega (arith, less, all fills)
     where
-      less : weights (weigh k (traced from passed entered 0 (slots_in k))) (ages table) ≤ weights (weigh k (traced from passed entered (slots_in k) (slots_in k))) (ages table)
-      less = weigh-less k (traced from passed entered 0 (slots_in k)) (traced from passed entered (slots_in k) (slots_in k)) (ages table)
-          (λ number page at own. more-idle (nat_lt 0 (youngs from page.slots)) (nat_lt 0 (olds from page.slots)) (nat_lt number passed) (nat_lt number entered) (nat_lt 0 (empties page.slots)) (slots_in k) (block_count page.slots))
+      less : weights (weigh k (beside out (traced from passed entered 0 (slots_in k)))) (ages table) ≤ weights (weigh k (beside out (traced from passed entered (slots_in k) (slots_in k)))) (ages table)
+      less = weigh-less k (beside out (traced from passed entered 0 (slots_in k))) (beside out (traced from passed entered (slots_in k) (slots_in k))) (ages table)
+          (λ number page at own. beside-less out (traced from passed entered 0 (slots_in k)) (traced from passed entered (slots_in k) (slots_in k)) number page page (more-idle (nat_lt 0 (youngs from page.slots)) (nat_lt 0 (olds from page.slots)) (nat_lt number passed) (nat_lt number entered) (nat_lt 0 (empties page.slots)) (slots_in k) (block_count page.slots)))
 
-      all : Fills (marking from passed entered k) count (base + count) (ages table) → weights (weigh k (traced from passed entered (slots_in k) (slots_in k))) (ages table) ≤ base + slots_in k * (pages_for k count + min 1 (pages_for k count))
+      all : Fills (kind_beside out (marking from passed entered k)) count (base + count) (ages table) → weights (weigh k (beside out (traced from passed entered (slots_in k) (slots_in k)))) (ages table) ≤ base + slots_in k * (pages_for k count + min 1 (pages_for k count))
       all (inl light) = omega (arith, light, filled-pages k count class, mul-add (slots_in k) (pages_for k count) (min 1 (pages_for k count)))
       all (inr at) =
           let has = have_their_slots birth_of table slots at.number at.page at.in_use in
-          omega (arith, at.weight, blocks-empties at.page.slots, has.slots, ap slots_in at.class, filled-pages k count class, open-page k count class at.some, mul-add (slots_in k) (pages_for k count) (min 1 (pages_for k count)))
+          omega (arith, at.weight, beside-most out (λ number page. empties page.slots) at.number at.page, blocks-empties at.page.slots, has.slots, ap slots_in at.class, filled-pages k count class, open-page k count class at.some, mul-add (slots_in k) (pages_for k count) (min 1 (pages_for k count)))
 
   pub newborn-closed : Fills (newborn from k) count (base + count) (ages table) → weights (weigh k (young_in from)) (ages table) ≤ base + slots_in k * pages_for k count
   newborn-closed (inl light) = omega (arith, light, filled-pages k count class)
@@ -88,7 +89,7 @@ weights-but_one w v (page ∷ table) (suc place) extra others here =
 abbrev pub of_class_at : Table ℕ → ℕ → ℕ → ℕ
 of_class_at table number k = weigh k (λ n page. 1) number (page_at table number)
 
-module _ (from passed entered k : ℕ) (few : entered ≤ suc passed) (table : Table ℕ) where
+module _ (out : ℕ → Bool) (from passed entered k : ℕ) (few : entered ≤ suc passed) (table : Table ℕ) where
   passed-idle : (young old begun room : Bool) (all blocks : ℕ) → traced_by young old true begun room all all blocks ≡ traced_by young old true begun room all 0 blocks
   passed-idle true old begun room all blocks = refl
   passed-idle false old begun room all blocks = refl
@@ -144,22 +145,29 @@ module _ (from passed entered k : ℕ) (few : entered ≤ suc passed) (table : T
       not_less true is most = elim (cases_lt passed number) [ inl more ↦ absurd (omega (arith, ltb-true number entered is, few, more)) | inr back ↦ absurd (apart (omega (arith, most, back))) ]
       not_less false is most = refl
 
-  other-content : (number : ℕ) (content : Option (Page ℕ)) → (number ≡ passed → ⊥) → weigh k full number content ≤ weigh k light number content
+  other-content : (number : ℕ) (content : Option (Page ℕ)) → (number ≡ passed → ⊥) → weigh k (beside out full) number content ≤ weigh k (beside out light) number content
   other-content number None apart = omega arith
   other-content number (Some page) apart = go (page.class_size == k)
     where
-      go : (same : Bool) → (if same then full number page else 0) ≤ (if same then light number page else 0)
-      go true = other-page number page apart
+      go : (same : Bool) → (if same then beside out full number page else 0) ≤ (if same then beside out light number page else 0)
+      go true = beside-less out full light number page page (other-page number page apart)
       go false = omega arith
 
-  this-content : (content : Option (Page ℕ)) → weigh k full passed content ≤ weigh k light passed content + slots_in k * weigh k (λ n page. 1) passed content
+  this-content : (content : Option (Page ℕ)) → weigh k (beside out full) passed content ≤ weigh k (beside out light) passed content + slots_in k * weigh k (λ n page. 1) passed content
   this-content None = omega arith
   this-content (Some page) = go (page.class_size == k)
     where
-      go : (same : Bool) → (if same then full passed page else 0) ≤ (if same then light passed page else 0) + slots_in k * (if same then 1 else 0)
-      go true = here-idle (nat_lt 0 (youngs from page.slots)) (nat_lt 0 (olds from page.slots)) (nat_lt passed passed) (nat_lt passed entered) (nat_lt 0 (empties page.slots)) (slots_in k) (block_count page.slots)
+      here : full passed page ≤ light passed page + slots_in k * 1
+      here = here-idle (nat_lt 0 (youngs from page.slots)) (nat_lt 0 (olds from page.slots)) (nat_lt passed passed) (nat_lt passed entered) (nat_lt 0 (empties page.slots)) (slots_in k) (block_count page.slots)
+
+      by_out : (test : Bool) → (if test then 0 else full passed page) ≤ (if test then 0 else light passed page) + slots_in k * 1
+      by_out true = omega arith
+      by_out false = here
+
+      go : (same : Bool) → (if same then beside out full passed page else 0) ≤ (if same then beside out light passed page else 0) + slots_in k * (if same then 1 else 0)
+      go true = by_out (out passed)
       go false = omega arith
 
   -- As an interval begins the page that is being swept is counted by all its slots
-  pub marking-opened : weights (weigh k full) table ≤ weights (weigh k light) table + slots_in k * of_class_at table passed k
-  marking-opened = weights-but_one (weigh k full) (weigh k light) table passed (slots_in k * of_class_at table passed k) other-content (this-content (page_at table passed))
+  pub marking-opened : weights (weigh k (beside out full)) table ≤ weights (weigh k (beside out light)) table + slots_in k * of_class_at table passed k
+  marking-opened = weights-but_one (weigh k (beside out full)) (weigh k (beside out light)) table passed (slots_in k * of_class_at table passed k) other-content (this-content (page_at table passed))

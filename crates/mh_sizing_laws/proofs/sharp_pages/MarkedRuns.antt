@@ -20,6 +20,7 @@ use Rattle.mh_sizing_laws.proofs.cycles.SharperRuns.{marking-suffices}
 use Rattle.mh_sizing_laws.proofs.reached.ReachedRuns.{reached-suffices}
 use Rattle.mh_sizing_laws.proofs.pages_left.MarkedPages.{quanta-more, starts-before, last-moment, weaker, short-before, snapshots-before}
 use Rattle.mh_sizing_laws.specs.SharpPages.{all_asked, HasSharpPagesFor, SharpPagesForMarkingSuffice, SharpPagesForReachedSuffice}
+use Rattle.mh_sizing_laws.proofs.anchors.GivenAnchors.{no_anchors}
 use Rattle.mh_sizing_laws.proofs.sharp_pages.ClassesThatOccur.{few_of}
 use Rattle.mh_sizing_laws.proofs.sharp_pages.SharpRuns.{FewerSoFar, sharp-room}
 
@@ -47,7 +48,7 @@ few-pages-suffice config events marked opened most Few large is_few few has =
     quanta : ℕ
     quanta = quanta_of config marked events
 
-    so_far : FewerSoFar config quanta opened most (opened + few_of opened (all_asked config events) + 1) (all_asked config events) refl events
+    so_far : FewerSoFar config no_anchors quanta opened most (opened + few_of opened (all_asked config events) + 1) (all_asked config events) refl first events
     so_far done rest split left = λ runs. omega (arith, fewer, last-moment (λ (machine : Machine). is_idle machine.heap.collector.phase ≡ false → machine.heap.collector.quanta < less) done first takes.0 runs)
       where
         less : ℕ

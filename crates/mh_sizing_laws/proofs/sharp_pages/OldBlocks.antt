@@ -1,20 +1,41 @@
 -- What a sweep leaves of the blocks that were there as its cycle started: parts of what the snapshot reached, each of them at most once.
-use Rattle.std.proofs.Common.{◌≡◌, ℕ, ◌==◌, ◌<◌, ◌≤◌, nat_le, not, Bool, true, false, None, refl, arith}
-use Rattle.std.proofs.lemmas.Bool.{and_parts, and_from, leb-false, false≢true}
+use Rattle.std.proofs.Common.{◌≡◌, ℕ, ◌==◌, ◌<◌, ◌≤◌, nat_le, not, Bool, true, false, if◌then◌else◌, Option, Some, None, is_some, refl, sym, ap, subst, arith}
+use Rattle.std.proofs.lemmas.Bool.{and_parts, and_from, leb-true, leb-false, false≢true}
 use Rattle.mh_model.specs.Collector.{Collector}
 use Rattle.mh_model.specs.Mutator.{HeapState}
+use Rattle.mh_model.specs.Pages.{Page, block_in}
 use Rattle.mh_model.specs.Paths.{Reachable, Agrees}
 use Rattle.mh_model.specs.Table.{Block}
 use Rattle.mh_model.specs.View.{in_sweep, heap_view}
 use Rattle.mh_model.specs.World.{World, births, object_at}
 use Rattle.mh_model.specs.Invariant.{IsSound, IsFinished}
-use Rattle.mh_model.specs.LiveParts.{object_parts, parts_of_births, HasAtMostLive, count_blocks, is_plain}
-use Rattle.mh_sizing_laws.proofs.Sums.{sum_to, sum_to-below, present, present-once, present-all, present-sum}
+use Rattle.mh_model.specs.LiveParts.{object_parts, parts_of_births, HasAtMostLive, slot_count, page_count, count_blocks, is_plain}
+use Rattle.mh_sizing_laws.specs.Anchors.{staying_in}
+use Rattle.mh_sizing_laws.proofs.Sums.{sum_by-pointwise, sum_to, sum_to-below, present, present-once, present-all, present-sum}
 use Rattle.mh_sizing_laws.proofs.Weighing.{with_key}
 use Rattle.mh_sizing_laws.proofs.pages_left.Counting.{count-less, count-keys}
 use Rattle.mh_sizing_laws.proofs.pages_left.KeptBlocks.{plain-live, is_of, birth-few, birth-reached}
 use Rattle.mh_sizing_laws.proofs.pages_left.GrownWorlds.{HasGrown, parts-before}
+use Rattle.mh_sizing_laws.proofs.anchors.AnchoredPages.{IsStaying, Stands}
 use Rattle.mh_sizing_laws.proofs.sharp_pages.SweptTables.{is_old}
+
+-- Anchored pages that stand have their blocks that stay among the old ones, if the objects that stay are old
+module _ (stays : ℕ → Bool) (from : ℕ) (older : (birth : ℕ) → stays birth ≡ true → birth < from) where
+  staying-old : (slot : Option Block) → IsStaying stays slot → slot_count (is_old from) slot ≡ 1
+  staying-old None is = absurd is
+  staying-old (Some block) (stay, live) = ap {B = ℕ} (λ test. if test then 1 else 0) (and_from (is_plain block) (not (nat_le from block.birth)) (ap (λ forward. not (is_some forward)) live) (go (nat_le from block.birth) refl))
+    where
+      go : (young : Bool) → nat_le from block.birth ≡ young → not young ≡ true
+      go true is = absurd (omega (arith, leb-true from block.birth is, older block.birth stay))
+      go false is = refl
+
+  pub stands-old : (page : Page Block) (content : Option (Page Block)) → Stands stays page content → staying_in stays page ≤ page_count (is_old from) content
+  stands-old page content is =
+      subst (λ c. staying_in stays page ≤ page_count (is_old from) c) (sym is.in_use) (sum_by-pointwise (slot_count (λ block. stays block.birth)) (slot_count (is_old from)) refl page.slots is.now.slots (λ slot block at. by_test slot block at (stays block.birth) refl) refl)
+    where
+      by_test : (slot : ℕ) (block : Block) → block_in slot page ≡ Some block → (test : Bool) → stays block.birth ≡ test → (if test then 1 else 0) ≤ slot_count (is_old from) (block_in slot is.now)
+      by_test slot block at true stay = omega (arith, staying-old (block_in slot is.now) (is.blocks slot block at stay))
+      by_test slot block at false stay = omega arith
 
 module _ (snapshot world : World) (heap : HeapState) (sound : IsSound heap.next_birth heap.collector) (quiet : in_sweep heap.collector.phase ≡ false) (agrees : Agrees (heap_view heap) world) (finished : IsFinished snapshot heap.next_birth heap.collector) where
   abbrev c : Collector

@@ -4,7 +4,7 @@ use Rattle.std.proofs.lemmas.Bool.{cases_Bool, true≢false, and_parts}
 use Rattle.mh_model.specs.declared.command.Event.{Event}
 use Rattle.mh_model.specs.declared.config.Config.{Config}
 use Rattle.mh_model.specs.Classes.{Part}
-use Rattle.mh_model.specs.Collector.{Collector, is_idle, is_start_due, cycle_start, quantum_start, steps, quantum}
+use Rattle.mh_model.specs.Collector.{Collector, is_idle, is_start_due, quantum}
 use Rattle.mh_model.specs.Invariant.{in_trace, in_defrag, HeapKeeps}
 use Rattle.mh_model.specs.LiveParts.{HasAtMostLive}
 use Rattle.mh_model.specs.Machine.{Machine, first_machine, half_step, event_step, machine_after}
@@ -21,34 +21,26 @@ use Rattle.mh_laws.proofs.costs.QuantumStarts.{begins, idle_is, quantum-rests}
 use Rattle.mh_run_laws.proofs.following.AllCommands.{commands-follow}
 use Rattle.mh_run_laws.proofs.runs.FaithfulMoments.{moments-faithful}
 use Rattle.mh_run_laws.proofs.worlds.Moments.{machine-moment_after}
-use Rattle.mh_sizing_laws.proofs.cycles.Classes.{HasClasses, PartsFit, steps-classes}
+use Rattle.mh_sizing_laws.proofs.cycles.Classes.{HasClasses, PartsFit}
 use Rattle.mh_sizing_laws.proofs.openings.Intervals.{quiet-event}
 use Rattle.mh_sizing_laws.proofs.openings.MadeParts.{IsAmong}
 use Rattle.mh_sizing_laws.proofs.triggers.Quanta.{IsAfter, quantum-after}
 use Rattle.mh_sizing_laws.proofs.triggers.SizedRuns.{HasHadFewer, next-stays, half-stays}
-use Rattle.mh_sizing_laws.proofs.pages_left.BlocksInUse.{run-blocks, half-machine}
-use Rattle.mh_sizing_laws.proofs.pages_left.FinishedCycles.{next-world, next-snapshot, half-snapshot, half-grows, next-grown, ran-collector}
+use Rattle.mh_sizing_laws.specs.Anchors.{ReachesThoseThatStay}
+use Rattle.mh_sizing_laws.proofs.pages_left.BlocksInUse.{half-machine}
+use Rattle.mh_sizing_laws.proofs.pages_left.FinishedCycles.{next-world, next-snapshot, half-snapshot, half-grows, next-grown, ran-collector, HoldsOfSnapshot, running-snapshot}
 use Rattle.mh_sizing_laws.proofs.pages_left.GrownWorlds.{HasGrown, grown-more}
-use Rattle.mh_sizing_laws.proofs.pages_left.SweptPages.{HasItsBlocks}
+use Rattle.mh_sizing_laws.proofs.anchors.GivenAnchors.{Anchors, staying_blocks}
+use Rattle.mh_sizing_laws.proofs.anchors.StartedClasses.{quantum-classes, half-classes}
+use Rattle.mh_sizing_laws.proofs.anchors.AnchoredMoments.{reached-older, IsStanding, half-anchoring, next-standing}
 use Rattle.mh_sizing_laws.specs.SharpPages.{occurring}
 use Rattle.mh_sizing_laws.proofs.sharp_pages.ClassesThatOccur.{few_of}
 use Rattle.mh_sizing_laws.proofs.sharp_pages.SharpStates.{Rests, Marks, Moves, IsCounted, marks-counted, moves-counted, after, phase-cases, traced-runs, moving-runs}
 use Rattle.mh_sizing_laws.proofs.sharp_pages.SharpStates as states
 use Rattle.mh_sizing_laws.proofs.sharp_pages.CountedQuanta.{IsAtWork, counted-quantum, counted-start}
-use Rattle.mh_sizing_laws.proofs.sharp_pages.HalfStates.{IsSameCourse, half-course, half-blocks, half-classes, half-rests, half-moves, half-marks, quiet-rests, quiet-marks, quiet-moves}
+use Rattle.mh_sizing_laws.proofs.sharp_pages.HalfStates.{IsSameCourse, half-course, half-rests, half-moves, half-marks, quiet-rests, quiet-marks, quiet-moves}
 
--- a quantum adds no class
-quantum-classes : (Fits : ℕ → Type 0) (config : Config) (c : Collector) → HasClasses Fits c.table → HasClasses Fits (quantum config c).collector.table
-unfolding quantum
-quantum-classes Fits config c has = elim (begins config c).case [
-  | inl starts ↦ go (record (cycle_start c) { quanta = 1 }) starts.2 has
-  | inr other ↦ elim other [ inl counted ↦ go (record c { quanta = c.quanta + 1 }) counted.1 has | inr rests ↦ go c rests.2 has ]
-]
-  where
-    go : (d : Collector) → quantum_start config c ≡ d → HasClasses Fits d.table → HasClasses Fits (steps config.quantum config.quantum false (quantum_start config c)).collector.table
-    go d is has = subst (λ z. HasClasses Fits (steps config.quantum config.quantum false z).collector.table) (sym is) (steps-classes Fits config.quantum config.quantum false d has)
-
-module _ (config : Config) (quanta opened most unit : ℕ) (list : List Part) (unit_is : unit ≡ opened + few_of opened list + 1) where
+module _ (config : Config) (anchors : Anchors) (quanta opened most unit : ℕ) (list : List Part) (unit_is : unit ≡ opened + few_of opened list + 1) where
   abbrev Among : ℕ → Type 0
   Among size = IsAmong size (occurring list)
 
@@ -57,14 +49,15 @@ module _ (config : Config) (quanta opened most unit : ℕ) (list : List Part) (u
     pub stays : StaysInBounds config moment.machine
     pub slots : HaveTheirSlots moment.machine.heap.collector.table
     pub grown : HasGrown moment.snapshot moment.world
-    pub live : HasAtMostLive most moment.snapshot
+    pub live : HoldsOfSnapshot (HasAtMostLive (most + staying_blocks anchors)) moment
+    pub standing : IsStanding anchors.stays anchors.first moment
     pub classes : HasClasses Among moment.machine.heap.collector.table
-    pub marks : in_trace moment.machine.heap.collector.phase ≡ true → Marks config quanta opened most unit list unit_is (births moment.snapshot) before moment.machine.heap.collector
-    pub moves : in_defrag moment.machine.heap.collector.phase ≡ true → Moves config quanta opened most unit list unit_is before moment.machine
-    pub rests : is_idle moment.machine.heap.collector.phase ≡ true → Rests config quanta opened most unit list unit_is moment.machine.heap.collector
+    pub marks : in_trace moment.machine.heap.collector.phase ≡ true → Marks config anchors quanta opened most unit list unit_is (births moment.snapshot) before moment.machine.heap.collector
+    pub moves : in_defrag moment.machine.heap.collector.phase ≡ true → Moves config anchors quanta opened most unit list unit_is before moment.machine
+    pub rests : is_idle moment.machine.heap.collector.phase ≡ true → Rests config anchors quanta opened most unit list unit_is moment.machine.heap.collector
 
   module _ (done before : List Event) (moment : Moment) (event : Event) (is : moment ≡ moment_after (first_moment config) done) (sharp : IsSharp before moment) (fit : PartsFit Among (asked_parts config event))
-      (live : HasAtMostLive most (next_moment moment event).world) (some : 1 ≤ quanta) (fewer : HasHadFewer config quanta opened moment.machine) (short : opens_at_most config (before ++ event ∷ []) ≤ opened) where
+      (live : HasAtMostLive (most + staying_blocks anchors) (next_moment moment event).world) (reach : ReachesThoseThatStay anchors.stays (next_moment moment event).world) (some : 1 ≤ quanta) (fewer : HasHadFewer config quanta opened moment.machine) (short : opens_at_most config (before ++ event ∷ []) ≤ opened) where
     abbrev machine : Machine
     machine = moment.machine
 
@@ -98,22 +91,19 @@ module _ (config : Config) (quanta opened most unit : ℕ) (list : List Part) (u
     half-faithful : IsFaithful middle
     half-faithful = subst (λ m. IsFaithful (half_moment m event)) (sym is) ((moments-faithful commands-follow).half config done event)
 
-    blocks : HasItsBlocks machine.heap.collector
-    blocks = subst (λ (m : Machine). HasItsBlocks m.heap.collector) (sym machine_is) (run-blocks config done).blocks
-
     whole : length machine.heap.collector.table ≡ config.pages
     whole = ap (λ (m : Machine). length m.heap.collector.table) machine_is ∙ (machine_after-pages config done).pages
 
     half-slots : HaveTheirSlots half.heap.collector.table
     half-slots = (event-keeps machine event).half.slots sharp.slots
 
-    at_work : IsAtWork config quanta opened most unit list unit_is moment.snapshot middle.world half.heap
+    at_work : IsAtWork config anchors quanta opened most unit list unit_is moment.snapshot middle.world half.heap
     at_work = record {
       keeps = subst (λ s. HeapKeeps s half.heap) (half-snapshot moment event) (subst (λ (m : Machine). HeapKeeps middle.snapshot m.heap) (half-machine moment event) half-faithful.keeps);
       agrees = subst (λ (m : Machine). Agrees (heap_view m.heap) middle.world) (half-machine moment event) half-faithful.agrees;
       slots = half-slots;
-      classes = half-classes Among config machine event sharp.stays.config_is fit sharp.classes;
-      blocks = half-blocks machine event sharp.slots blocks;
+      classes = half-classes config Among machine event sharp.stays fit sharp.classes;
+      anchoring = half-anchoring anchors.stays anchors.first machine event sharp.slots sharp.standing.anchoring;
     }
 
     half-grown : HasGrown moment.snapshot middle.world
@@ -149,31 +139,38 @@ module _ (config : Config) (quanta opened most unit : ℕ) (list : List Part) (u
     -- Quanta -------------------------------------------------------------------------------------
 
     abbrev Counted : ℕ → Collector → Type 0
-    Counted from c = IsCounted config quanta opened most unit list unit_is from (suc count) c
+    Counted from c = IsCounted config anchors quanta opened most unit list unit_is from (suc count) c
 
     half-counted : is_idle half.heap.collector.phase ≡ false → Counted (births moment.snapshot) half.heap.collector
     half-counted runs = elim (phase-cases half.heap.collector.phase runs) [
       | inl traces ↦
-          marks-counted config quanta opened most unit list unit_is (births moment.snapshot) now half.heap.collector traces half-slots short
-          (half-marks config quanta opened most unit list unit_is before machine event sharp.stays sharp.slots (births moment.snapshot) faithful.keeps.before (sharp.marks (ap in_trace (sym same.phase) ∙ traces)))
+          marks-counted config anchors quanta opened most unit list unit_is (births moment.snapshot) now half.heap.collector traces half-slots short
+          (half-marks config anchors quanta opened most unit list unit_is before machine event sharp.stays sharp.slots (births moment.snapshot) faithful.keeps.before (sharp.marks (ap in_trace (sym same.phase) ∙ traces)))
       | inr moving ↦
-          moves-counted config quanta opened most unit list unit_is (births moment.snapshot) now half moving ((event-keeps machine event).half.pages ∙ whole) short
-          (half-moves config quanta opened most unit list unit_is before machine event sharp.stays sharp.slots (sharp.moves (ap in_defrag (sym same.phase) ∙ moving)))
+          moves-counted config anchors quanta opened most unit list unit_is (births moment.snapshot) now half moving ((event-keeps machine event).half.pages ∙ whole) short
+          (half-moves config anchors quanta opened most unit list unit_is before machine event sharp.stays sharp.slots (sharp.moves (ap in_defrag (sym same.phase) ∙ moving)))
     ]
 
-    half-rested : is_idle half.heap.collector.phase ≡ true → Rests config quanta opened most unit list unit_is half.heap.collector
-    half-rested idle = half-rests config quanta opened most unit list unit_is before machine event sharp.stays sharp.slots (sharp.rests (ap is_idle (sym same.phase) ∙ idle))
+    half-rested : is_idle half.heap.collector.phase ≡ true → Rests config anchors quanta opened most unit list unit_is half.heap.collector
+    half-rested idle = half-rests config anchors quanta opened most unit list unit_is before machine event sharp.stays sharp.slots (sharp.rests (ap is_idle (sym same.phase) ∙ idle))
+
+    running : is_idle half.heap.collector.phase ≡ false → is_idle machine.heap.collector.phase ≡ false
+    running ran = ap is_idle (sym same.phase) ∙ ran
+
+    middle-reach : ReachesThoseThatStay anchors.stays middle.world
+    middle-reach = subst (ReachesThoseThatStay anchors.stays) (next-world moment event) reach
 
     counted : has_quantum machine event ≡ true → IsInCycle half.heap → Counted (births later.snapshot) next.heap.collector
     counted runs (inl ran) =
         subst (λ s. Counted (births s) next.heap.collector) (sym (snapshot-runs runs false (not-due ran)))
         (subst (Counted (births moment.snapshot)) (sym (ran-collector machine event runs))
-        (counted-quantum config quanta opened most unit list unit_is (suc count) moment.snapshot middle.world half.heap at_work half-grown sharp.live ran (half-counted ran)))
+        (counted-quantum config anchors quanta opened most unit list unit_is (suc count) moment.snapshot middle.world half.heap at_work half-grown (sharp.live (running ran)) (sharp.standing.reaches (running ran)) (sharp.standing.older (running ran)) ran (half-counted ran)))
     counted runs (inr due) =
         let idle : is_idle half.heap.collector.phase ≡ true = (and_parts (is_idle half.heap.collector.phase) _ due).0 in
         subst (λ s. Counted (births s) next.heap.collector) (sym (snapshot-runs runs true due))
         (subst (Counted (births middle.world)) (sym (ran-collector machine event runs))
-        (counted-start config quanta opened most unit list unit_is count moment.snapshot middle.world half.heap at_work (subst (HasAtMostLive most) (next-world moment event) live) due (idle_is half.heap.collector.phase idle) (half-rested idle)))
+        (counted-start config anchors quanta opened most unit list unit_is count moment.snapshot middle.world half.heap at_work (subst (HasAtMostLive (most + staying_blocks anchors)) (next-world moment event) live) middle-reach
+        (λ birth stay. reached-older (heap_view middle.machine.heap) middle.world half-faithful.agrees birth (middle-reach birth stay)) due (idle_is half.heap.collector.phase idle) (half-rested idle)))
 
     counts : has_quantum machine event ≡ true → is_idle next.heap.collector.phase ≡ false → next.heap.collector.quanta ≡ suc count
     counts runs still = elim (is_after.case) [
@@ -185,9 +182,9 @@ module _ (config : Config) (quanta opened most unit : ℕ) (list : List Part) (u
         is_after = subst (IsAfter config half.heap.collector) (sym (ran-collector machine event runs ∙ ap (λ c. (quantum c half.heap.collector).collector) halves.config_is)) (quantum-after config half.heap.collector halves.bounds half-slots)
 
     -- what a quantum of a cycle leaves
-    pub left : has_quantum machine event ≡ true → IsInCycle half.heap → states.IsAfter config quanta opened most unit list unit_is (births later.snapshot) (suc count) next
+    pub left : has_quantum machine event ≡ true → IsInCycle half.heap → states.IsAfter config anchors quanta opened most unit list unit_is (births later.snapshot) (suc count) next
     left runs within =
-        after config quanta opened most unit list unit_is (births later.snapshot) (suc count) next (next-stays config machine event sharp.stays).config_is ((event-keeps machine event).whole.slots sharp.slots) ((event-keeps machine event).whole.pages ∙ whole)
+        after config anchors quanta opened most unit list unit_is (births later.snapshot) (suc count) next (next-stays config machine event sharp.stays).config_is ((event-keeps machine event).whole.slots sharp.slots) ((event-keeps machine event).whole.pages ∙ whole)
         (counts runs) few (counted runs within)
 
     pub left-few : suc count ≤ quanta
@@ -197,42 +194,35 @@ module _ (config : Config) (quanta opened most unit : ℕ) (list : List Part) (u
 
     next-classes : HasClasses Among next.heap.collector.table
     next-classes = elim (cases_Bool (has_quantum machine event)) [
-      | inl runs ↦ subst (λ (c : Collector). HasClasses Among c.table) (sym (ran-collector machine event runs)) (quantum-classes Among half.heap.config half.heap.collector at_work.classes)
+      | inl runs ↦ subst (λ (c : Collector). HasClasses Among c.table) (sym (ran-collector machine event runs)) (quantum-classes config Among half.heap.config half.heap.collector at_work.classes)
       | inr quiet ↦ subst (HasClasses Among) (sym (quiet-event machine event quiet).table) at_work.classes
     ]
 
-    goes-on : (interval : List Event) → (in_trace next.heap.collector.phase ≡ true → Marks config quanta opened most unit list unit_is (births later.snapshot) interval next.heap.collector) → (in_defrag next.heap.collector.phase ≡ true → Moves config quanta opened most unit list unit_is interval next)
-        → (is_idle next.heap.collector.phase ≡ true → Rests config quanta opened most unit list unit_is next.heap.collector) → IsSharp interval later
+    goes-on : (interval : List Event) → (in_trace next.heap.collector.phase ≡ true → Marks config anchors quanta opened most unit list unit_is (births later.snapshot) interval next.heap.collector) → (in_defrag next.heap.collector.phase ≡ true → Moves config anchors quanta opened most unit list unit_is interval next)
+        → (is_idle next.heap.collector.phase ≡ true → Rests config anchors quanta opened most unit list unit_is next.heap.collector) → IsSharp interval later
     unfolding next_moment
     goes-on interval marks moves rests = record {
       stays = next-stays config machine event sharp.stays;
       slots = (event-keeps machine event).whole.slots sharp.slots;
       grown = next-grown moment event sharp.grown;
-      live = live-next (has_quantum machine event);
+      live = running-snapshot (HasAtMostLive (most + staying_blocks anchors)) moment event sharp.live live;
+      standing = next-standing anchors.stays anchors.first moment event half-faithful reach sharp.standing;
       classes = next-classes;
       marks = marks;
       moves = moves;
       rests = rests;
     }
-      where
-        live-at : (due : Bool) → HasAtMostLive most (if due then middle.world else middle.snapshot)
-        live-at true = live
-        live-at false = subst (HasAtMostLive most) (sym (half-snapshot moment event)) sharp.live
-
-        live-next : (runs : Bool) → HasAtMostLive most (if runs then snapshot_at middle else moment.snapshot)
-        live-next true = live-at (is_start_due middle.machine.heap.config middle.machine.heap.collector)
-        live-next false = sharp.live
 
     pub sharp-quiet : has_quantum machine event ≡ false → IsSharp now later
     sharp-quiet quiet =
         let like = quiet-event machine event quiet in
         goes-on now
-        (λ traces. subst (λ s. Marks config quanta opened most unit list unit_is (births s) now next.heap.collector) (sym (snapshot-quiet quiet))
-        (quiet-marks config quanta opened most unit list unit_is before machine event sharp.stays sharp.slots quiet (births moment.snapshot)
-        (half-marks config quanta opened most unit list unit_is before machine event sharp.stays sharp.slots (births moment.snapshot) faithful.keeps.before (sharp.marks (ap in_trace (sym (like.phase ∙ same.phase)) ∙ traces)))))
-        (λ moving. quiet-moves config quanta opened most unit list unit_is before machine event sharp.stays sharp.slots quiet
-        (half-moves config quanta opened most unit list unit_is before machine event sharp.stays sharp.slots (sharp.moves (ap in_defrag (sym (like.phase ∙ same.phase)) ∙ moving))))
-        (λ idle. quiet-rests config quanta opened most unit list unit_is before machine event sharp.stays sharp.slots quiet (half-rested (ap is_idle (sym like.phase) ∙ idle)))
+        (λ traces. subst (λ s. Marks config anchors quanta opened most unit list unit_is (births s) now next.heap.collector) (sym (snapshot-quiet quiet))
+        (quiet-marks config anchors quanta opened most unit list unit_is before machine event sharp.stays sharp.slots quiet (births moment.snapshot)
+        (half-marks config anchors quanta opened most unit list unit_is before machine event sharp.stays sharp.slots (births moment.snapshot) faithful.keeps.before (sharp.marks (ap in_trace (sym (like.phase ∙ same.phase)) ∙ traces)))))
+        (λ moving. quiet-moves config anchors quanta opened most unit list unit_is before machine event sharp.stays sharp.slots quiet
+        (half-moves config anchors quanta opened most unit list unit_is before machine event sharp.stays sharp.slots (sharp.moves (ap in_defrag (sym (like.phase ∙ same.phase)) ∙ moving))))
+        (λ idle. quiet-rests config anchors quanta opened most unit list unit_is before machine event sharp.stays sharp.slots quiet (half-rested (ap is_idle (sym like.phase) ∙ idle)))
 
     pub sharp-quantum : has_quantum machine event ≡ true → IsSharp [] later
     sharp-quantum runs = elim (begins half.heap.config half.heap.collector).case [
@@ -245,9 +235,9 @@ module _ (config : Config) (quanta opened most unit : ℕ) (list : List Part) (u
             goes-on []
             (λ traces. absurd (true≢false (sym none ∙ traced-runs next.heap.collector.phase traces)))
             (λ moving. absurd (true≢false (sym none ∙ moving-runs next.heap.collector.phase moving)))
-            (λ e. subst (Rests config quanta opened most unit list unit_is) (sym still) (half-rested (ap is_idle idle)))
+            (λ e. subst (Rests config anchors quanta opened most unit list unit_is) (sym still) (half-rested (ap is_idle idle)))
       ]
     ]
       where
-        by_cycle : states.IsAfter config quanta opened most unit list unit_is (births later.snapshot) (suc count) next → IsSharp [] later
+        by_cycle : states.IsAfter config anchors quanta opened most unit list unit_is (births later.snapshot) (suc count) next → IsSharp [] later
         by_cycle is_left = goes-on [] is_left.marks is_left.moves is_left.rests

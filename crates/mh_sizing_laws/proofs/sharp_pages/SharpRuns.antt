@@ -1,7 +1,7 @@
 -- The induction over a run with pages where small parts share them: each cycle leaves enough pages free. What is carried bounds the pages of a cycle by three sums:
 -- the pages that its own births fill, those that older blocks fill which it found, and one of each class for each interval.
 -- With N of 3, one live part and 64 small parts an interval, which fill one page, 13 pages suffice, where each part may keep a page 132. For cycles of one quantum that other law is the better.
-use Rattle.std.proofs.Common.{◌≡◌, inl, ℕ, zero, suc, None, replicate, ◌+◌, ◌*◌, ◌/◌, ◌≤◌, Bool, true, false, if◌then◌else◌, List, [], ◌∷◌, ◌++◌, length, flat_map, refl, sym, ap, ◌∙◌, subst, arith}
+use Rattle.std.proofs.Common.{◌≡◌, ℕ, ◌+◌, ◌*◌, ◌/◌, ◌≤◌, Bool, true, false, if◌then◌else◌, List, [], ◌∷◌, ◌++◌, length, flat_map, refl, sym, ap, ◌∙◌, subst, arith}
 use Rattle.std.specs.List.{AllByRecursion}
 use Rattle.std.proofs.Math.Nat.{mul-add, mul-le-mul_right}
 use Rattle.std.proofs.lemmas.Bool.{and_parts, false≢true}
@@ -13,41 +13,34 @@ use Rattle.mh_model.specs.Bound.{most_quanta}
 use Rattle.mh_model.specs.Classes.{Part}
 use Rattle.mh_model.specs.Collector.{is_idle}
 use Rattle.mh_model.specs.LiveParts.{HasAtMostLive, worlds}
+use Rattle.mh_model.specs.World.{World}
 use Rattle.mh_model.specs.Machine.{Machine, first_machine, event_step, machine_after}
 use Rattle.mh_model.specs.Openings.{asked_parts}
 use Rattle.mh_model.specs.Intervals.{moments, intervals, has_ended, HasRoomFor}
 use Rattle.mh_model.specs.Intervals as run
 use Rattle.mh_model.specs.Snapshot.{Moment, first_moment, next_moment, moment_after, has_quantum}
-use Rattle.mh_laws.proofs.bounds.CyclesInTime.{run-stays}
 use Rattle.mh_laws.proofs.commands.LeftUnchanged.{machine_after-pages}
 use Rattle.mh_run_laws.proofs.worlds.Moments.{machine-moment_after}
-use Rattle.mh_table_laws.proofs.Lists.{none_at}
-use Rattle.mh_table_laws.proofs.TableMapLemmas.{free-table_map}
 use Rattle.mh_sizing_laws.proofs.cycles.Classes.{PartsFit}
 use Rattle.mh_sizing_laws.proofs.openings.Intervals.{asked-cons}
 use Rattle.mh_sizing_laws.proofs.openings.MadeParts.{IsAmong}
 use Rattle.mh_sizing_laws.proofs.triggers.SizedRuns.{IsShort, HasHadFewer, LeavesEnough, event-short, room-suffices, some-quanta, cycles-bounded}
+use Rattle.mh_sizing_laws.proofs.pages_left.BlocksInUse.{run-blocks}
 use Rattle.mh_sizing_laws.proofs.pages_left.FinishedCycles.{ended-run}
-use Rattle.mh_sizing_laws.proofs.pages_left.GrownWorlds.{grown-same}
+use Rattle.mh_sizing_laws.specs.Anchors.{started, ReachesThoseThatStay}
 use Rattle.mh_sizing_laws.specs.SharpPages.{occurring, fewest_of, all_asked, HasSharpPagesFor, SharpPagesSuffice, SharpPagesForTheBoundSuffice}
-use Rattle.mh_sizing_laws.proofs.filling.Ages.{birth_of, ages}
-use Rattle.mh_sizing_laws.proofs.filling.PageWeights.{roomy}
-use Rattle.mh_sizing_laws.proofs.filling.Weights.{weights, weigh}
 use Rattle.mh_sizing_laws.proofs.cycles.Occurring.{parts-class}
 use Rattle.mh_sizing_laws.proofs.pages_left.SizedPages.{moment-push, head-world, ends-push, moments-at}
-use Rattle.mh_sizing_laws.proofs.sharp_pages.ClassesThatOccur.{few_of, occurring-parts, sum-none}
+use Rattle.mh_sizing_laws.proofs.anchors.GivenAnchors.{Anchors, no_anchors, anchored_pages, staying_blocks}
+use Rattle.mh_sizing_laws.proofs.anchors.AnchoredMoments.{IsStanding}
+use Rattle.mh_sizing_laws.proofs.anchors.JoinedRuns.{moment-append}
+use Rattle.mh_sizing_laws.proofs.sharp_pages.ClassesThatOccur.{few_of, occurring-parts}
+use Rattle.mh_sizing_laws.proofs.sharp_pages.SharpStarts.{from-sharp}
 use Rattle.mh_sizing_laws.proofs.sharp_pages.SharpEvents.{IsSharp, left, left-few, sharp-quiet, sharp-quantum}
-
--- The first table --------------------------------------------------------------------------------
-
--- free pages weigh nothing
-zeros : (k pages : ℕ) → weights (weigh k roomy) (replicate pages None) ≤ 0
-zeros k zero = omega arith
-zeros k (suc pages) = omega (arith, zeros k pages)
 
 -- Runs -------------------------------------------------------------------------------------------
 
-module _ (config : Config) (quanta opened most unit : ℕ) (list : List Part) (unit_is : unit ≡ opened + few_of opened list + 1) where
+module _ (config : Config) (anchors : Anchors) (quanta opened most unit : ℕ) (list : List Part) (unit_is : unit ≡ opened + few_of opened list + 1) where
   abbrev Leaving : Machine → Type 0
   Leaving = LeavesEnough config quanta opened
 
@@ -55,102 +48,112 @@ module _ (config : Config) (quanta opened most unit : ℕ) (list : List Part) (u
   Short = IsShort config quanta opened
 
   -- no cycle has had all its quanta in any part of a run of which the cycles left enough
-  abbrev pub FewerSoFar : List Event → Type 0
-  FewerSoFar all = (done rest : List Event) → done ++ rest ≡ all → AllByRecursion Leaving (run.cycle_ends (first_machine config) done) → HasHadFewer config quanta opened (machine_after (first_machine config) done)
+  abbrev pub FewerSoFar : Machine → List Event → Type 0
+  FewerSoFar from all = (done rest : List Event) → done ++ rest ≡ all → AllByRecursion Leaving (run.cycle_ends from done) → HasHadFewer config quanta opened (machine_after from done)
 
   -- the parts that these events ask for have classes that occur
   abbrev pub AskAmong : List Event → Type 0
   AskAmong events = PartsFit (λ size. IsAmong size (occurring list)) (flat_map (asked_parts config) events)
 
   -- Each cycle of a run leaves enough pages free, if no cycle has had all its quanta while those before it did
-  ends-enough : (all events done before : List Event) (moment : Moment) → 1 ≤ quanta → most + most / fewest_of (occurring list) + 3 * (quanta * opened) + quanta * few_of opened list + length (occurring list) + quanta ≤ config.pages + (2 * opened + few_of opened list + 1) → FewerSoFar all → done ++ events ≡ all → moment ≡ moment_after (first_moment config) done
-      → IsSharp config quanta opened most unit list unit_is before moment → AskAmong events → AllByRecursion Short (intervals before moment.machine events) → AllByRecursion (HasAtMostLive most) (worlds moment events) → AllByRecursion Leaving (run.cycle_ends (first_machine config) done)
-      → AllByRecursion Leaving (run.cycle_ends (first_machine config) all)
-  unfolding next_moment
-  ends-enough all [] done before moment some pages so_far split is sharp fit short live lefts = subst (λ l. AllByRecursion Leaving (run.cycle_ends (first_machine config) l)) (sym (append-nil done) ∙ split) lefts
-  ends-enough all (event ∷ events) done before moment some pages so_far split is sharp fit short live lefts =
-      by_quantum-run (has_quantum moment.machine event) refl short
-      (λ now there rest. ends-enough all events (done ++ event ∷ []) now next' some pages so_far (append_assoc done (event ∷ []) events ∙ split) on there (λ size one. fit size (omega (arith, one, asked-cons config event events size))) rest live.1
-      (ends-push Leaving done (first_machine config) event lefts left-here))
-    where
-      next' : Moment
-      next' = next_moment moment event
+  module _ (start : List Event) (some : 1 ≤ quanta) (pages : most + anchored_pages anchors + most / fewest_of (occurring list) + 3 * (quanta * opened) + quanta * few_of opened list + length (occurring list) + quanta ≤ config.pages + (2 * opened + few_of opened list + 1))
+      (all : List Event) (so_far : FewerSoFar (started config start).machine all) where
+    abbrev from : Moment
+    from = started config start
 
-      now-short : Short (before ++ event ∷ [])
-      now-short = event-short config quanta opened events before moment.machine event short
+    pub ends-enough : (events done before : List Event) (moment : Moment) → done ++ events ≡ all → moment ≡ moment_after from done → IsSharp config anchors quanta opened most unit list unit_is before moment → AskAmong events → AllByRecursion Short (intervals before moment.machine events)
+        → AllByRecursion (HasAtMostLive (most + staying_blocks anchors)) (worlds moment events) → AllByRecursion (ReachesThoseThatStay anchors.stays) (worlds moment events) → AllByRecursion Leaving (run.cycle_ends from.machine done) → AllByRecursion Leaving (run.cycle_ends from.machine all)
+    unfolding next_moment
+    ends-enough [] done before moment split is sharp fit short live reach lefts = subst (λ l. AllByRecursion Leaving (run.cycle_ends from.machine l)) (sym (append-nil done) ∙ split) lefts
+    ends-enough (event ∷ events) done before moment split is sharp fit short live reach lefts =
+        by_quantum-run (has_quantum moment.machine event) refl short
+        (λ now there rest. ends-enough events (done ++ event ∷ []) now next' (append_assoc done (event ∷ []) events ∙ split) on there (λ size one. fit size (omega (arith, one, asked-cons config event events size))) rest live.1 reach.1
+        (ends-push Leaving done from.machine event lefts left-here))
+      where
+        next' : Moment
+        next' = next_moment moment event
 
-      live-now : HasAtMostLive most next'.world
-      live-now = head-world (HasAtMostLive most) events next' live.1
+        now-short : Short (before ++ event ∷ [])
+        now-short = event-short config quanta opened events before moment.machine event short
 
-      on : next' ≡ moment_after (first_moment config) (done ++ event ∷ [])
-      on = ap (λ m. next_moment m event) is ∙ sym (moment-push done (first_moment config) event)
+        live-now : HasAtMostLive (most + staying_blocks anchors) next'.world
+        live-now = head-world (HasAtMostLive (most + staying_blocks anchors)) events next' live.1
 
-      machine_is : moment.machine ≡ machine_after (first_machine config) done
-      machine_is = ap (λ (m : Moment). m.machine) is ∙ machine-moment_after done (first_moment config)
+        reach-now : ReachesThoseThatStay anchors.stays next'.world
+        reach-now = head-world (ReachesThoseThatStay anchors.stays) events next' reach.1
 
-      fewer : HasHadFewer config quanta opened moment.machine
-      fewer = subst (HasHadFewer config quanta opened) (sym machine_is) (so_far done (event ∷ events) split lefts)
+        whole : moment ≡ moment_after (first_moment config) (start ++ done)
+        whole = is ∙ sym (moment-append start done (first_moment config))
 
-      event-fit : PartsFit (λ size. IsAmong size (occurring list)) (asked_parts config event)
-      event-fit size one = fit size (omega (arith, one, asked-cons config event events size))
+        on : next' ≡ moment_after from (done ++ event ∷ [])
+        on = ap (λ m. next_moment m event) is ∙ sym (moment-push done from event)
 
-      here : has_ended moment.machine.heap.collector (event_step moment.machine event).state.heap.collector ≡ true → Leaving (event_step moment.machine event).state
-      here ended =
-          let has = ended-run moment.machine event ended in
-          let idle : is_idle (event_step moment.machine event).state.heap.collector.phase ≡ true = (and_parts (is_idle (event_step moment.machine event).state.heap.collector.phase) _ ended).0 in
-          let after = left config quanta opened most unit list unit_is done before moment event is sharp event-fit live-now some fewer now-short has.runs has.within in
-          let count = left-few config quanta opened most unit list unit_is done before moment event is sharp event-fit live-now some fewer now-short in
-          let product = mul-le-mul_right unit count in
-          let whole : quanta * unit ≡ quanta * opened + quanta * few_of opened list + quanta * 1 = ap (λ n. quanta * n) unit_is ∙ mul-add quanta (opened + few_of opened list) 1 ∙ ap (λ n. n + quanta * 1) (mul-add quanta opened (few_of opened list)) in
-          omega (arith, after.ends idle, product, whole, pages, unit_is)
+        machine_is : moment.machine ≡ machine_after from.machine done
+        machine_is = ap (λ (m : Moment). m.machine) is ∙ machine-moment_after done from
 
-      left-here : has_ended (machine_after (first_machine config) done).heap.collector (event_step (machine_after (first_machine config) done) event).state.heap.collector ≡ true → Leaving (event_step (machine_after (first_machine config) done) event).state
-      left-here = subst (λ m. has_ended m.heap.collector (event_step m event).state.heap.collector ≡ true → Leaving (event_step m event).state) machine_is here
+        fewer : HasHadFewer config quanta opened moment.machine
+        fewer = subst (HasHadFewer config quanta opened) (sym machine_is) (so_far done (event ∷ events) split lefts)
 
-      by_quantum-run : (cut : Bool) → has_quantum moment.machine event ≡ cut
-          → AllByRecursion Short (if cut then (before ++ event ∷ []) ∷ intervals [] (event_step moment.machine event).state events else intervals (before ++ event ∷ []) (event_step moment.machine event).state events)
-          → ((now : List Event) → IsSharp config quanta opened most unit list unit_is now next' → AllByRecursion Short (intervals now (event_step moment.machine event).state events) → AllByRecursion Leaving (run.cycle_ends (first_machine config) all))
-          → AllByRecursion Leaving (run.cycle_ends (first_machine config) all)
-      by_quantum-run true runs cuts more = more [] (sharp-quantum config quanta opened most unit list unit_is done before moment event is sharp event-fit live-now some fewer now-short runs) cuts.1
-      by_quantum-run false quiet cuts more = more (before ++ event ∷ []) (sharp-quiet config quanta opened most unit list unit_is done before moment event is sharp event-fit live-now some fewer now-short quiet) cuts
+        event-fit : PartsFit (λ size. IsAmong size (occurring list)) (asked_parts config event)
+        event-fit size one = fit size (omega (arith, one, asked-cons config event events size))
 
-  -- the first moment: nothing is there
-  first-sharp : 1 ≤ quanta → HasAtMostLive most (first_moment config).world → IsSharp config quanta opened most unit list unit_is [] (first_moment config)
-  unfolding machine_after
-  first-sharp some live = record {
-    stays = run-stays config [];
-    slots = (machine_after-pages config []).slots;
-    grown = grown-same (first_moment config).world;
-    live = live;
-    classes = λ number page at. absurd (none-some page (sym (none_at config.pages number) ∙ at));
-    marks = λ e. absurd (false≢true e);
-    moves = λ e. absurd (false≢true e);
-    rests = λ e. record {
-      old = λ k. 0;
-      born = λ k. 0;
-      few = omega (arith, sum-none (occurring list));
-      births = omega (arith, sum-none (occurring list), mul-le-mul_right opened some);
-      fill = λ k class. inl (omega (arith, nothing k config.pages));
-    };
-  }
-    where
-      nothing : (k pages : ℕ) → weights (weigh k roomy) (ages (replicate pages None)) ≤ 0
-      nothing k pages = omega (arith, ap (weights (weigh k roomy)) (free-table_map birth_of pages), zeros k pages)
+        here : has_ended moment.machine.heap.collector (event_step moment.machine event).state.heap.collector ≡ true → Leaving (event_step moment.machine event).state
+        here ended =
+            let has = ended-run moment.machine event ended in
+            let idle : is_idle (event_step moment.machine event).state.heap.collector.phase ≡ true = (and_parts (is_idle (event_step moment.machine event).state.heap.collector.phase) _ ended).0 in
+            let after = left config anchors quanta opened most unit list unit_is (start ++ done) before moment event whole sharp event-fit live-now reach-now some fewer now-short has.runs has.within in
+            let count = left-few config anchors quanta opened most unit list unit_is (start ++ done) before moment event whole sharp event-fit live-now reach-now some fewer now-short in
+            let product = mul-le-mul_right unit count in
+            let sum : quanta * unit ≡ quanta * opened + quanta * few_of opened list + quanta * 1 = ap (λ n. quanta * n) unit_is ∙ mul-add quanta (opened + few_of opened list) 1 ∙ ap (λ n. n + quanta * 1) (mul-add quanta opened (few_of opened list)) in
+            omega (arith, after.ends idle, product, sum, pages, unit_is)
+
+        left-here : has_ended (machine_after from.machine done).heap.collector (event_step (machine_after from.machine done) event).state.heap.collector ≡ true → Leaving (event_step (machine_after from.machine done) event).state
+        left-here = subst (λ m. has_ended m.heap.collector (event_step m event).state.heap.collector ≡ true → Leaving (event_step m event).state) machine_is here
+
+        by_quantum-run : (cut : Bool) → has_quantum moment.machine event ≡ cut
+            → AllByRecursion Short (if cut then (before ++ event ∷ []) ∷ intervals [] (event_step moment.machine event).state events else intervals (before ++ event ∷ []) (event_step moment.machine event).state events)
+            → ((now : List Event) → IsSharp config anchors quanta opened most unit list unit_is now next' → AllByRecursion Short (intervals now (event_step moment.machine event).state events) → AllByRecursion Leaving (run.cycle_ends from.machine all))
+            → AllByRecursion Leaving (run.cycle_ends from.machine all)
+        by_quantum-run true runs cuts more = more [] (sharp-quantum config anchors quanta opened most unit list unit_is (start ++ done) before moment event whole sharp event-fit live-now reach-now some fewer now-short runs) cuts.1
+        by_quantum-run false quiet cuts more = more (before ++ event ∷ []) (sharp-quiet config anchors quanta opened most unit list unit_is (start ++ done) before moment event whole sharp event-fit live-now reach-now some fewer now-short quiet) cuts
+
+-- The first moment -------------------------------------------------------------------------------
+
+-- without objects that stay nothing is asked of worlds, and no page is anchored
+worlds-all : (P : World → Type 0) → ((world : World) → P world) → (events : List Event) (moment : Moment) → AllByRecursion P (worlds moment events)
+worlds-all P each [] moment = (each moment.world, tt)
+worlds-all P each (event ∷ events) moment = (each moment.world, worlds-all P each events (next_moment moment event))
+
+first-standing : (config : Config) → IsStanding no_anchors.stays no_anchors.first (first_moment config)
+unfolding machine_after
+first-standing config = record {
+  reaches = λ runs birth stay. absurd (false≢true stay);
+  older = λ runs birth stay. absurd (false≢true stay);
+  slots = (machine_after-pages config []).slots;
+  anchoring = record {
+    blocks = (run-blocks config []).blocks;
+    anchors = record { pages = λ number page at. absurd (none-some page at) };
+    size = omega arith;
+  };
+}
 
 -- Runs with pages enough have room, if no cycle has had all its quanta while those before it left enough
-pub sharp-room : (config : Config) (events : List Event) (quanta opened most : ℕ) → 1 ≤ quanta → FewerSoFar config quanta opened most (opened + few_of opened (all_asked config events) + 1) (all_asked config events) refl events → HasSharpPagesFor config events quanta opened most → HasRoomFor config events quanta opened
+pub sharp-room : (config : Config) (events : List Event) (quanta opened most : ℕ) → 1 ≤ quanta → FewerSoFar config no_anchors quanta opened most (opened + few_of opened (all_asked config events) + 1) (all_asked config events) refl (first_machine config) events → HasSharpPagesFor config events quanta opened most → HasRoomFor config events quanta opened
 unfolding moment_after
 sharp-room config events quanta opened most some so_far has =
     let list : List Part = all_asked config events in
     let unit : ℕ = opened + few_of opened list + 1 in
     let first : Moment = first_moment config in
     let product = mul-le-mul_right opened some in
+    let more : most ≡ most + staying_blocks no_anchors = omega arith in
     record {
       pages = omega (arith, has.pages, product, some);
       trigger = has.trigger;
       intervals = has.intervals;
-      left = ends-enough config quanta opened most unit list refl events events [] [] first some (omega (arith, has.pages)) so_far refl refl
-          (first-sharp config quanta opened most unit list refl some (head-world (HasAtMostLive most) events first has.live)) (λ size one. occurring-parts list size (parts-class size list one) one) has.intervals has.live tt;
+      left = ends-enough config no_anchors quanta opened most unit list refl [] some (omega (arith, has.pages)) events so_far events [] [] first refl refl
+          (from-sharp config no_anchors quanta opened most unit list refl [] refl some (λ size one. occurring-parts list size (parts-class size [] one) (omega (arith, one))) (first-standing config))
+          (λ size one. occurring-parts list size (parts-class size list one) one) has.intervals (subst (λ n. AllByRecursion (HasAtMostLive n) (worlds first events)) more has.live)
+          (worlds-all (ReachesThoseThatStay no_anchors.stays) (λ world birth stay. absurd (false≢true stay)) events first) tt;
     }
 
 -- Pages suffice where small parts share them

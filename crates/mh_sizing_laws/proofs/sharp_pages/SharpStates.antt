@@ -19,6 +19,8 @@ use Rattle.mh_sizing_laws.proofs.openings.Intervals.{asked_of, IsSince}
 use Rattle.mh_sizing_laws.proofs.openings.MadeParts.{opened-none, opened-few}
 use Rattle.mh_sizing_laws.proofs.pages_left.MarkedPages.{div-more}
 use Rattle.mh_sizing_laws.specs.SharpPages.{occurring, fewest_of}
+use Rattle.mh_sizing_laws.proofs.anchors.GivenAnchors.{Anchors, anchor_at, anchored_pages}
+use Rattle.mh_sizing_laws.proofs.filling.Beside.{family_beside}
 use Rattle.mh_sizing_laws.proofs.filling.Weights.{weigh}
 use Rattle.mh_sizing_laws.proofs.filling.Ages.{ages}
 use Rattle.mh_sizing_laws.proofs.filling.FilledTables.{AllFill}
@@ -26,7 +28,7 @@ use Rattle.mh_sizing_laws.proofs.sharp_pages.ClassSums.{sum-once}
 use Rattle.mh_sizing_laws.proofs.sharp_pages.ClassesThatOccur.{few-classes, few_of, fewest-some, occurring-once, occurring-classes, occurring-sum, sum-both, sum-none, sum-slots, sum-pages}
 use Rattle.mh_sizing_laws.proofs.sharp_pages.CycleSteps.{passed_by, entered_by, Traces, Leaves, Goes}
 use Rattle.mh_sizing_laws.proofs.sharp_pages.Intervals.{marking_family, newborn_family, marking-closed, newborn-closed, of_class_at, marking-opened}
-use Rattle.mh_sizing_laws.proofs.sharp_pages.Moves.{resting_family}
+use Rattle.mh_sizing_laws.proofs.sharp_pages.Moves.{resting_beside}
 
 -- the phases in which a cycle runs
 not-traced : (phase : Phase) → in_trace phase ≡ false → is_idle phase ≡ false → in_defrag phase ≡ true
@@ -74,7 +76,7 @@ begun-few phase cursor = go (in_sweep phase)
     go true = omega arith
     go false = omega arith
 
-module _ (config : Config) (quanta opened most unit : ℕ) (list : List Part) (unit_is : unit ≡ opened + few_of opened list + 1) where
+module _ (config : Config) (anchors : Anchors) (quanta opened most unit : ℕ) (list : List Part) (unit_is : unit ≡ opened + few_of opened list + 1) where
   abbrev pub sizes : List ℕ
   sizes = occurring list
 
@@ -84,7 +86,7 @@ module _ (config : Config) (quanta opened most unit : ℕ) (list : List Part) (u
 
   -- the pages that may be in use after so many quanta of a cycle
   abbrev pub allowed : ℕ → ℕ
-  allowed count = most + most / fewest_of sizes + begun + count * unit
+  allowed count = most + anchored_pages anchors + most / fewest_of sizes + begun + count * unit
 
   -- no cycle runs: the blocks of pages with room are what the last one kept, what was born in it, and those of one page of each class
   pub record Rests (c : Collector) : Type 0 where
@@ -92,7 +94,7 @@ module _ (config : Config) (quanta opened most unit : ℕ) (list : List Part) (u
     pub born : ℕ → ℕ
     pub few : sum_by old sizes ≤ most
     pub births : sum_by born sizes + opened ≤ quanta * opened
-    pub fill : AllFill resting_family (λ k. old k + slots_in k * born k) (λ k. 1) c.table
+    pub fill : AllFill (resting_beside (anchor_at anchors)) (λ k. old k + slots_in k * born k) (λ k. 1) c.table
 
   -- a cycle marks or sweeps
   pub record Marks (from : ℕ) (before : List Event) (c : Collector) : Type 0 where
@@ -104,7 +106,7 @@ module _ (config : Config) (quanta opened most unit : ℕ) (list : List Part) (u
     pub pages : sum_by touched sizes + (unit + opened) ≤ begun + c.quanta * unit
     pub one : sum_by swept sizes ≤ 1
     pub births : sum_by born sizes + opened ≤ c.quanta * opened
-    pub fill : AllFill (marking_family from (passed_by c.phase c.cursor) (entered_by c.phase c.cursor)) (λ k. old k + slots_in k * (touched k + swept k)) (asked_of config before) c.table
+    pub fill : AllFill (family_beside (anchor_at anchors) (marking_family from (passed_by c.phase c.cursor) (entered_by c.phase c.cursor))) (λ k. old k + slots_in k * (touched k + swept k)) (asked_of config before) c.table
     pub young : AllFill (newborn_family from) (λ k. slots_in k * born k) (asked_of config before) c.table
 
   -- a cycle moves blocks
@@ -118,7 +120,7 @@ module _ (config : Config) (quanta opened most unit : ℕ) (list : List Part) (u
     pub limit : bound + (unit + opened) ≤ allowed machine.heap.collector.quanta
     pub used : config.pages ≤ free_pages start + bound
     pub since : IsSince config (asked_of config before) start machine
-    pub fill : AllFill resting_family (λ k. old k + slots_in k * born k) (λ k. 1) machine.heap.collector.table
+    pub fill : AllFill (resting_beside (anchor_at anchors)) (λ k. old k + slots_in k * born k) (λ k. 1) machine.heap.collector.table
 
   -- a cycle that goes on, counted for so many quanta
   pub record IsCounted (from count : ℕ) (c : Collector) : Type 0 where
@@ -130,10 +132,10 @@ module _ (config : Config) (quanta opened most unit : ℕ) (list : List Part) (u
     pub pages : sum_by touched sizes + (unit + opened) ≤ begun + count * unit
     pub births : sum_by born sizes + opened ≤ count * opened
     pub limit : bound + (unit + opened) ≤ allowed count
-    pub goes : Goes sizes from most bound (λ k. old k + slots_in k * touched k) (λ k. slots_in k * born k) c
+    pub goes : Goes anchors sizes from most bound (λ k. old k + slots_in k * touched k) (λ k. slots_in k * born k) c
 
   -- the pages that the weights of each class may fill
-  pub filled : (old touched : ℕ → ℕ) (count : ℕ) → sum_by old sizes ≤ most → sum_by touched sizes + (unit + opened) ≤ begun + count * unit → most + sum_by (λ k. (old k + slots_in k * touched k) / slots_in k) sizes + (unit + opened) ≤ allowed count
+  pub filled : (old touched : ℕ → ℕ) (count : ℕ) → sum_by old sizes ≤ most → sum_by touched sizes + (unit + opened) ≤ begun + count * unit → most + anchored_pages anchors + sum_by (λ k. (old k + slots_in k * touched k) / slots_in k) sizes + (unit + opened) ≤ allowed count
   filled old touched count few pages =
       omega (arith, sum-pages old touched sizes (occurring-classes list), sum-slots old sizes (occurring-classes list), more, pages)
     where
@@ -157,7 +159,7 @@ module _ (config : Config) (quanta opened most unit : ℕ) (list : List Part) (u
         old = marks.old;
         touched = touched;
         born = born;
-        bound = most + sum_by (λ k. (marks.old k + slots_in k * touched k) / slots_in k) sizes;
+        bound = most + anchored_pages anchors + sum_by (λ k. (marks.old k + slots_in k * touched k) / slots_in k) sizes;
         few = marks.few;
         pages = counted;
         births = births;
@@ -166,10 +168,10 @@ module _ (config : Config) (quanta opened most unit : ℕ) (list : List Part) (u
           traces = λ e. record {
             weight = λ k class. omega (
               arith,
-              marking-closed from (passed_by c.phase c.cursor) (entered_by c.phase c.cursor) k (asked k) (marks.old k + slots_in k * (marks.touched k + marks.swept k)) class c.table slots (marks.fill k class),
+              marking-closed (anchor_at anchors) from (passed_by c.phase c.cursor) (entered_by c.phase c.cursor) k (asked k) (marks.old k + slots_in k * (marks.touched k + marks.swept k)) class c.table slots (marks.fill k class),
               mul-add (slots_in k) (marks.touched k + marks.swept k) (pages k + ones k),
             );
-            young = λ k class. omega (arith, newborn-closed from (passed_by c.phase c.cursor) (entered_by c.phase c.cursor) k (asked k) (slots_in k * marks.born k) class c.table slots (marks.young k class), mul-add (slots_in k) (marks.born k) (pages k));
+            young = λ k class. omega (arith, newborn-closed (anchor_at anchors) from (passed_by c.phase c.cursor) (entered_by c.phase c.cursor) k (asked k) (slots_in k * marks.born k) class c.table slots (marks.young k class), mul-add (slots_in k) (marks.born k) (pages k));
             enough = omega arith;
           };
           leaves = λ e. absurd (true≢false (sym traces ∙ e));
@@ -221,7 +223,7 @@ module _ (config : Config) (quanta opened most unit : ℕ) (list : List Part) (u
 
     after-marks : in_trace c.phase ≡ true → Marks from [] c
     after-marks traces =
-        let t : Traces sizes from most is.bound base fresh c = is.goes.traces traces in
+        let t : Traces anchors sizes from most is.bound base fresh c = is.goes.traces traces in
         let runs : c.quanta ≡ count = counts (traced-runs c.phase traces) in
         let passed : ℕ = passed_by c.phase c.cursor in
         let swept : ℕ → ℕ = of_class_at (ages c.table) passed in
@@ -234,14 +236,14 @@ module _ (config : Config) (quanta opened most unit : ℕ) (list : List Part) (u
           pages = omega (arith, is.pages, ap (λ n. n * unit) runs);
           one = one-swept passed (page_at (ages c.table) passed);
           births = omega (arith, is.births, ap (λ n. n * opened) runs);
-          fill = λ k class. inl (omega (arith, t.weight k class, marking-opened from passed (entered_by c.phase c.cursor) k (begun-few c.phase c.cursor) (ages c.table), mul-add (slots_in k) (is.touched k) (swept k)));
+          fill = λ k class. inl (omega (arith, t.weight k class, marking-opened (anchor_at anchors) from passed (entered_by c.phase c.cursor) k (begun-few c.phase c.cursor) (ages c.table), mul-add (slots_in k) (is.touched k) (swept k)));
           young = λ k class. inl (omega (arith, t.young k class));
         }
 
     after-moves : in_defrag c.phase ≡ true → Moves [] machine
     after-moves moving =
         let runs : c.quanta ≡ count = counts (moving-runs c.phase moving) in
-        let l : Leaves sizes from most is.bound base fresh c = is.goes.leaves (moving-untraced c.phase moving) in
+        let l : Leaves anchors sizes from most is.bound base fresh c = is.goes.leaves (moving-untraced c.phase moving) in
         record {
           old = l.old;
           born = is.born;
@@ -257,13 +259,13 @@ module _ (config : Config) (quanta opened most unit : ℕ) (list : List Part) (u
 
     after-rests : is_idle c.phase ≡ true → Rests c
     after-rests idle =
-        let l : Leaves sizes from most is.bound base fresh c = is.goes.leaves (idle-untraced c.phase idle) in
+        let l : Leaves anchors sizes from most is.bound base fresh c = is.goes.leaves (idle-untraced c.phase idle) in
         let product : count * opened ≤ quanta * opened = mul-le-mul_right opened few in
         record { old = l.old; born = is.born; few = l.few; births = omega (arith, is.births, product); fill = l.fill }
 
     after-ends : is_idle c.phase ≡ true → config.pages + (unit + opened) ≤ free_pages c.table + allowed count
     after-ends idle =
-        let l : Leaves sizes from most is.bound base fresh c = is.goes.leaves (idle-untraced c.phase idle) in
+        let l : Leaves anchors sizes from most is.bound base fresh c = is.goes.leaves (idle-untraced c.phase idle) in
         omega (arith, l.used, whole, is.limit)
 
     pub after : IsAfter from count machine

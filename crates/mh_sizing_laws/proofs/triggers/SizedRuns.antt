@@ -219,7 +219,7 @@ module _ (config : Config) (quanta opened : ℕ) where
       next = (event_step machine event).state
 
   -- No event from here on is answered by a full heap or puts anything into a flagged page
-  never-full : (events before : List Event) (start : Table Block) (machine : Machine) → 1 ≤ quanta → quanta * opened ≤ config.trigger + 1 → IsReady before start machine
+  pub never-full : (events before : List Event) (start : Table Block) (machine : Machine) → 1 ≤ quanta → quanta * opened ≤ config.trigger + 1 → IsReady before start machine
       → AllByRecursion IsShort (intervals before machine events) → AllByRecursion HasHadFewer (moments machine events) → AllByRecursion LeavesEnough (run.cycle_ends machine events)
       → AllByRecursion (λ answer. is_heap_full answer ≡ false) (machine_replies machine events) × LeaveFlagged machine events
   unfolding machine_replies

@@ -1,0 +1,12 @@
+pub mod GrownPages
+pub mod AnchoredPages
+pub mod GivenAnchors
+pub mod AnchoredCounts
+pub mod AnchoredQuanta
+pub mod FreshHeaps
+pub mod JoinedRuns
+pub mod StartedRuns
+pub mod AnchoredMoments
+pub mod AnchoredRuns
+pub mod StartedClasses
+pub mod MarkedAnchors

@@ -1,0 +1,5 @@
+pub mod ReachedThroughout
+pub mod AcceptedStarts
+pub mod StartedPages
+pub mod SharpStartedPages
+pub mod OtherStarts

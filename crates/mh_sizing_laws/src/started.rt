@@ -1,0 +1,17 @@
+//! Laws of runs after a startup whose objects stay, of which only the needs of their sessions are known.
+ghost use Rattle.mh_sizing_laws.specs.Started.{EnoughAfterStartupSuffices, SharpEnoughAfterStartupSuffices, StartedNeedsAreOfTheScheduler};
+
+/// A page that a startup anchors counts once, also where the ever-growing world alone tells what sessions make and hold.
+pub fn enough_after_startup_suffices()
+    ensures { EnoughAfterStartupSuffices }
+{}
+
+/// So it does where small parts share pages.
+pub fn sharp_enough_after_startup_suffices()
+    ensures { SharpEnoughAfterStartupSuffices }
+{}
+
+/// What sessions need after a startup is the same in each configuration with the same rules and as many units between two quanta.
+pub fn started_needs_are_of_the_scheduler()
+    ensures { StartedNeedsAreOfTheScheduler }
+{}
