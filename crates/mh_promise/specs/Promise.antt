@@ -1,6 +1,6 @@
 -- What a run of a list of events promises of its replies, its heap and its trace. By the laws at the end an outcome that is the machine's keeps this
 -- promise. If a clause speaks of the events before another, it holds at each moment of the run. docs/THEOREM.md has the clauses in plain words.
-use Rattle.std.specs.Prelude.{◌≡◌, ℕ, ◌-◌, ◌*◌, ◌<◌, ◌≤◌, true, false, Some, None, List, [], ◌∷◌, ◌++◌, length}
+use Rattle.std.specs.Prelude.{◌≡◌, ℕ, ◌-◌, ◌*◌, ◌<◌, ◌≤◌, Bool, true, false, Some, None, List, [], ◌∷◌, ◌++◌, length}
 use Rattle.std.specs.List.{AllByRecursion}
 use Rattle.mh_model.specs.declared.command.Command.{Command}
 use Rattle.mh_model.specs.declared.command.Command.TheVariants as command
@@ -29,6 +29,7 @@ use Rattle.mh_run_laws.specs.BesideTheWorld.{IsFaithful, IsInCycle}
 use Rattle.mh_laws.specs.Bounds.{HasEnded, HasRunQuanta}
 use Rattle.mh_sizing_laws.specs.Made.{MakeNoMore, MakeOfClasses, demand}
 use Rattle.mh_sizing_laws.specs.SharpNeeds.{HasSharpEnoughFor}
+use Rattle.mh_sizing_laws.specs.Started.{HasEnoughBeside, HasSharpEnoughBeside, IsStartupWithin, MakeNoMoreAfter}
 use Rattle.mh_run_laws.specs.Forwarders.{AreOfItsCycle}
 use Rattle.mh_run_laws.specs.Replays.{machine_at, moment_at}
 use Rattle.mh_promise.specs.Runs.{Outcome, outcome_of, IsAnswered, IsTheMachines, AreAnsweredSoFar}
@@ -147,13 +148,18 @@ pub record HasRoom (config : Config) (events : List Event) (replies : List Reply
   pub never_full : NeverAnswersFull config events replies
 
 -- A run is never full whose trigger and pages are enough: for what its cycles take and leave, or for what its sessions make and hold, by the
--- ever-growing world alone. What that refuses counts nothing. For these needs each new part may keep a page, or small parts share pages. Nor is it full
--- if its pages are as many as its classes take at most, by their parts. No cycle takes more quanta than its bound
+-- ever-growing world alone. What that refuses counts nothing. For these needs each new part may keep a page, or small parts share pages. If its first
+-- events make what stays, and ask for no cycle, the needs may be those of what follows, beside the pages that are anchored. Nor is it full if its pages
+-- are as many as its classes take at most, by their parts. No cycle takes more quanta than its bound
 pub record RoomIsEnough (config : Config) (events : List Event) (replies : List Reply) : Type 0 where
   pub bound : CyclesTakeAtMost (most_quanta config) config events
   pub room : (quanta opened : ℕ) → 1 ≤ quanta → CyclesTakeAtMost quanta config events → HasRoomFor config events quanta opened → NeverAnswersFull config events replies
   pub needs : (needs : Needs) (quanta : ℕ) → MakeNoMore needs config events → HasEnoughFor needs config quanta → HasRoom config events replies quanta needs.opened
   pub shared : (needs : Needs) (least kinds quanta : ℕ) → MakeNoMore needs config events → MakeOfClasses least kinds config events → HasSharpEnoughFor needs least kinds config quanta → HasRoom config events replies quanta needs.opened
+  pub started : (needs : Needs) (anchored startup_pages quanta : ℕ) (start rest : List Event) (stays : ℕ → Bool) → events ≡ start ++ rest → MakeNoMoreAfter needs config start rest stays → IsStartupWithin anchored startup_pages config start stays
+      → HasEnoughBeside needs anchored startup_pages config quanta → HasRoom config events replies quanta needs.opened
+  pub started_shared : (needs : Needs) (least kinds anchored startup_pages quanta : ℕ) (start rest : List Event) (stays : ℕ → Bool) → events ≡ start ++ rest → MakeNoMoreAfter needs config start rest stays → MakeOfClasses least kinds config events → IsStartupWithin anchored startup_pages config start stays
+      → HasSharpEnoughBeside needs least kinds anchored startup_pages config quanta → HasRoom config events replies quanta needs.opened
   pub demanded : demand config events ≤ config.pages → NeverAnswersFull config events replies
 
 -- The promise ------------------------------------------------------------------------------------

@@ -1,4 +1,4 @@
-use Rattle.std.proofs.Common.{◌≡◌, ◌≤◌, true, false, List, sym, ap, ◌∙◌, subst, length}
+use Rattle.std.proofs.Common.{◌≡◌, ℕ, ◌≤◌, true, false, List, sym, ap, ◌∙◌, subst, length}
 use Rattle.mh_model.specs.declared.command.Command.TheVariants as command
 use Rattle.mh_model.specs.declared.command.Control.TheVariants as control
 use Rattle.mh_model.specs.declared.command.Event.{Event}
@@ -19,7 +19,9 @@ use Rattle.mh_run_laws.specs.Utilisation.{HasShare}
 use Rattle.mh_laws.proofs.bounds.CyclesInTime.{run-stays}
 use Rattle.mh_model.specs.Intervals as run
 use Rattle.mh_sizing_laws.specs.Triggers.{NeverFullIsTheWorld}
-use Rattle.mh_promise.specs.Promise.{NeverAnswersFull}
+use Rattle.mh_sizing_laws.specs.Made.{MakeOfClasses}
+use Rattle.mh_sizing_laws.specs.Needs.{StaysInRoom}
+use Rattle.mh_promise.specs.Promise.{HasRoom, NeverAnswersFull}
 use Rattle.mh_run_laws.specs.Replays.{machine_at, moment_at}
 use Rattle.mh_run_laws.proofs.runs.RunsByEvents.{after_more, replies-length}
 use Rattle.mh_run_laws.proofs.forwarders.RunForwarders.{event-quantum}
@@ -32,6 +34,10 @@ use Rattle.mh_promise.proofs.promise.runs_keep_their_promise.Goals as goal
 -- a run that is never full, by its replies
 never-full : (config : Config) (events : List Event) (replies : List Reply) → replies ≡ machine_replies (first_machine config) events → NeverFullIsTheWorld → run.IsNeverFull config events → NeverAnswersFull config events replies
 never-full config events replies are worlds never = subst (λ list. NeverAnswersFull config events list) (sym are) (record { none = never.replies; worlds = worlds config events never; flagged = never.flagged })
+
+-- and one that stays in room
+has-room : (config : Config) (events : List Event) (replies : List Reply) (quanta opened : ℕ) → replies ≡ machine_replies (first_machine config) events → NeverFullIsTheWorld → StaysInRoom config events quanta opened → HasRoom config events replies quanta opened
+has-room config events replies quanta opened are worlds stays = record { cycles = stays.cycles; left = stays.left; never_full = never-full config events replies are worlds stays.never_full }
 
 pub returns : goal.returns
 returns c config events outcome is = record {
@@ -109,11 +115,16 @@ returns c config events outcome is = record {
     bound = c.cycles_take_the_bound.ensures config events;
     room = λ quanta opened some takes has. never-full config events outcome.replies is.replies c.never_full_is_the_world.ensures (c.room_suffices.ensures config events quanta opened some takes has);
     needs = λ needs quanta make has.
-        let stays = c.enough_for_needs_suffices.ensures needs config events quanta make has in
-        record { cycles = stays.cycles; left = stays.left; never_full = never-full config events outcome.replies is.replies c.never_full_is_the_world.ensures stays.never_full };
+        has-room config events outcome.replies quanta needs.opened is.replies c.never_full_is_the_world.ensures (c.enough_for_needs_suffices.ensures needs config events quanta make has);
     shared = λ needs least kinds quanta make few has.
-        let stays = c.sharp_enough_for_needs_suffices.ensures needs least kinds config events quanta make few has in
-        record { cycles = stays.cycles; left = stays.left; never_full = never-full config events outcome.replies is.replies c.never_full_is_the_world.ensures stays.never_full };
+        has-room config events outcome.replies quanta needs.opened is.replies c.never_full_is_the_world.ensures (c.sharp_enough_for_needs_suffices.ensures needs least kinds config events quanta make few has);
+    started = λ needs anchored startup_pages quanta start rest stays split make within has.
+        has-room config events outcome.replies quanta needs.opened is.replies c.never_full_is_the_world.ensures
+        (subst (λ list. StaysInRoom config list quanta needs.opened) (sym split) (c.enough_after_startup_suffices.ensures needs anchored startup_pages config start rest stays quanta make within has));
+    started_shared = λ needs least kinds anchored startup_pages quanta start rest stays split make few within has.
+        has-room config events outcome.replies quanta needs.opened is.replies c.never_full_is_the_world.ensures
+        (subst (λ list. StaysInRoom config list quanta needs.opened) (sym split)
+        (c.sharp_enough_after_startup_suffices.ensures needs least kinds anchored startup_pages config start rest stays quanta make (subst (MakeOfClasses least kinds config) split few) within has));
     demanded = λ few. never-full config events outcome.replies is.replies c.never_full_is_the_world.ensures (c.pages_for_demand_suffice.ensures config events few);
   };
   share = λ often. subst (HasShare config) (sym is.trace) (c.mutator_has_its_share.ensures.after_events config events often);
