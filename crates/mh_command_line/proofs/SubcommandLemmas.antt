@@ -237,9 +237,25 @@ sound-size words e =
     let rows : List Row = rows_after s.rules [] words in
     let value : (name : Text) → _ = λ name. safe-value size_parser size_plain name 1 in
     let all : AreRead size_parser size_plain rows =
-    level-read size_parser size_plain s words
-    (value (codes "pages"), (value (codes "every"), (value (codes "quantum"), (value (codes "allocates"), (value (codes "live"), (value (codes "references"),
-    (value (codes "rate"), (value (codes "classes"), (value (codes "parts"), (value (codes "target"), (value (codes "window"), (value (codes "rules"), (safe-help size_parser size_plain 1, tt))))))))))))) e in
+    level-read size_parser size_plain s words (
+      value (codes "pages"),
+      (
+        value (codes "every"),
+        (
+          value (codes "quantum"),
+          (
+            value (codes "allocates"),
+            (
+              value (codes "live"),
+              (
+                value (codes "references"),
+                (value (codes "rate"), (value (codes "classes"), (value (codes "parts"), (value (codes "target"), (value (codes "window"), (value (codes "rules"), (safe-help size_parser size_plain 1, tt))))))),
+              ),
+            ),
+          ),
+        ),
+      ),
+    ) e in
     let may : (name : Text) → IfSome (one_of name rows) (Accepts false (size_parser name)) = λ name. value-may size_parser size_plain name rows all in
     Sizes refl (record {
       pages = may (codes "pages");

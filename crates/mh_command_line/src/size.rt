@@ -78,7 +78,8 @@ fn with_rates<'a>(alloc: Global) -> Result<Command<'a>, AllocError>
         "How fast blocks are made: words of a block as above, and how many such at most to how many units of the mutator, from 1 to 1000000";
     let rate = blocks(alloc, "rate", "WORDS:PARTS/UNITS,..", help);
     let command = with_option(with_blocks(alloc), rate);
-    let help = "The words of the blocks that are made, of which no more is known; all classes if it is not given";
+    let help =
+        "The words of the blocks that are made, of which no more is known; all classes if it is not given";
     let classes = blocks(alloc, "classes", "WORDS,..", help);
     let command = with_option(command, classes);
     let help = "The most blocks of an object, from 1 to 3661; 1 if it is not given";

@@ -188,7 +188,10 @@ fn share_asked<'a>(matches: &ArgMatches<'a>, percent: u32) -> Result<Target, Opt
 }
 
 /// The quantum of a heap that is to keep a share.
-fn shared_quantum<'a>(matches: &ArgMatches<'a>, percent: u32) -> Result<HeapQuantum, OptionFault<'a>>
+fn shared_quantum<'a>(
+    matches: &ArgMatches<'a>,
+    percent: u32,
+) -> Result<HeapQuantum, OptionFault<'a>>
     requires asks { AsksToSize (rows_of (found_of matches.now)) }
     requires heap { is_of_heap (rows_of (found_of matches.now)) ≡ true }
     requires target { HasNumber (rows_of (found_of matches.now)) (codes "target") percent }

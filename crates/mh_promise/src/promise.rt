@@ -15,9 +15,7 @@ use mh_sizing_laws::needs::{
     cycles_take_the_bound, enough_for_needs_suffices, pages_for_demand_suffice,
 };
 use mh_sizing_laws::sharp_needs::sharp_enough_for_needs_suffices;
-use mh_sizing_laws::started::{
-    enough_after_startup_suffices, sharp_enough_after_startup_suffices,
-};
+use mh_sizing_laws::started::{enough_after_startup_suffices, sharp_enough_after_startup_suffices};
 use mh_sizing_laws::triggers::{never_full_is_the_world, room_suffices};
 
 /// An outcome that is the machine's keeps the promise.

@@ -98,16 +98,16 @@ pub kept-more : {X : Type 0} (test : X → Bool) (all kept : List X) (count numb
 kept-more test all kept count number x d within room is passed before =
     let at : test (get_or all number d) ≡ true = ap test (sym is) ∙ passed in
     take_more_set kept count x room
-        ∙ (ap₂ (λ (list : List _) y. list ++ y ∷ []) before is
-        ∙ (sym (ap (λ b. filter test (take number all) ++ cond b (get_or all number d ∷ []) []) at)
-        ∙ sym (filter_more test all number d within)))
+    ∙ (ap₂ (λ (list : List _) y. list ++ y ∷ []) before is
+    ∙ (sym (ap (λ b. filter test (take number all) ++ cond b (get_or all number d ∷ []) []) at)
+    ∙ sym (filter_more test all number d within)))
 
 pub left-more : {X : Type 0} (test : X → Bool) (all kept : List X) (count number : ℕ) (d : X) → number < length all → test (get_or all number d) ≡ false → take count kept ≡ filter test (take number all) → take count kept ≡ filter test (take (number + 1) all)
 left-more test all kept count number d within missed before =
     before
-        ∙ (sym (append-nil (filter test (take number all)))
-        ∙ (sym (ap (λ b. filter test (take number all) ++ cond b (get_or all number d ∷ []) []) missed)
-        ∙ sym (filter_more test all number d within)))
+    ∙ (sym (append-nil (filter test (take number all)))
+    ∙ (sym (ap (λ b. filter test (take number all) ++ cond b (get_or all number d ∷ []) []) missed)
+    ∙ sym (filter_more test all number d within)))
 
 -- the quantum of a heap that is to have the least
 pub least-needed : (options : HeapOptions) (profile : Profile) (pages : ℕ) (which : HeapQuantum) (quantum : Option ℕ) → which ≡ chosen.Least → IsQuantumOf options profile pages which quantum → quantum ≡ quantum_needed profile pages

@@ -106,7 +106,11 @@ pub(crate) fn profile_asked(options: &HeapOptions) -> Profile
         ..
     } = *options;
     match options.allocation {
-        Allocation::Counts(counts) => profile_of_counts(&counts_of(&counts.parts), live, references),
+        Allocation::Counts(counts) => profile_of_counts(
+            &counts_of(&counts.parts),
+            live,
+            references,
+        ),
         Allocation::Rates(rates) => {
             profile_at_rates(&rates_of(&rates), most_parts, live, references, every)
         }

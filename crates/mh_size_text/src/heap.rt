@@ -292,11 +292,7 @@ fn quantum_text(
 }
 
 /// What is written if no pages are given.
-fn fewest_text(
-    alloc: Global,
-    options: &HeapOptions,
-    profile: &Profile,
-) -> Result<String, NoMemory>
+fn fewest_text(alloc: Global, options: &HeapOptions, profile: &Profile) -> Result<String, NoMemory>
     requires profile { profile.now ≡ profile_asked options.now }
     requires kept { AskNoMore options.now profile.now }
     requires pages { options.now.pages ≡ None }

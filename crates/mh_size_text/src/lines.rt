@@ -74,7 +74,11 @@ fn law_word(law: Law) -> &'static str
 }
 
 /// Adds what a cycle of a heap takes, and its numbers.
-pub(crate) fn push_numbers(text: &mut String, config: &Config, profile: &Profile) -> Result<(), NoMemory>
+pub(crate) fn push_numbers(
+    text: &mut String,
+    config: &Config,
+    profile: &Profile,
+) -> Result<(), NoMemory>
     ensures { OnOk result (string_bytes text.new ≡ string_bytes text.old ++ lines_text (found_lines profile.now config.now)) }
 {
     let Config {

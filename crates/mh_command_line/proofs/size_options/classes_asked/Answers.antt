@@ -17,8 +17,7 @@ returns-in-Some-clause-classes c =
 pub returns-in-Some-get_str-clause-fault : goal.returns-in-Some-get_str-clause-fault
 returns-in-Some-get_str-clause-fault c =
     let same = one_text-rows (found_of c.args.matches.now) (codes "classes") in
-    let given = is_given (found_of c.args.matches.now) (codes "classes") c.in-Some-get_str.text.now (sym c.in-Some-get_str.ensures) in
-    (
+    let given = is_given (found_of c.args.matches.now) (codes "classes") c.in-Some-get_str.text.now (sym c.in-Some-get_str.ensures) in (
       refl,
       NoClasses refl
           (text-lacking ReadsClasses (λ text. classes_in text ≡ None) (one_of (codes "classes") (rows_of (found_of c.args.matches.now))) given.0 (λ t e is. is) given.1

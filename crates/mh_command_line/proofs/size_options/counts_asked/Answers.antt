@@ -19,8 +19,7 @@ unreachable-requires c = given-there _ c.requires (not_given (found_of c.args.ma
 pub returns-clause-fault : goal.returns-clause-fault
 returns-clause-fault c =
     let same = one_text-rows (found_of c.args.matches.now) (codes "allocates") in
-    let given = is_given (found_of c.args.matches.now) (codes "allocates") c.in-Some-get_str.text.now (sym c.in-Some-get_str.ensures) in
-    (
+    let given = is_given (found_of c.args.matches.now) (codes "allocates") c.in-Some-get_str.text.now (sym c.in-Some-get_str.ensures) in (
       refl,
       NoCounts refl
           (text-lacking ReadsAllocations (λ text. allocations_in text ≡ None) (one_of (codes "allocates") (rows_of (found_of c.args.matches.now))) given.0 (λ t e is. is) given.1

@@ -19,9 +19,9 @@ unfolding profile_asked
 returns-in-Counts-clause-value c =
     let options = c.args.options.now in
     c.profile_of_counts.ensures.value
-        ∙ (ap (λ counts. profile_of_counts counts options.live c.references-references.result) c.counts_of.ensures
-        ∙ (ap (profile_of_counts (counts_of c.in-Counts.counts.parts) options.live) c.references-references.ensures.value
-        ∙ ap (profile_of options) (sym c.in-Counts.is)))
+    ∙ (ap (λ counts. profile_of_counts counts options.live c.references-references.result) c.counts_of.ensures
+    ∙ (ap (profile_of_counts (counts_of c.in-Counts.counts.parts) options.live) c.references-references.ensures.value
+    ∙ ap (profile_of options) (sym c.in-Counts.is)))
 
 pub returns-in-Counts-clause-kept : goal.returns-in-Counts-clause-kept
 returns-in-Counts-clause-kept c = λ config events keep.
@@ -35,9 +35,9 @@ unfolding profile_asked
 returns-in-Rates-clause-value c =
     let options = c.args.options.now in
     c.profile_at_rates.ensures.value
-        ∙ (ap (λ rates. profile_at_rates rates options.most_parts options.live c.references-references.result options.every) c.rates_of.ensures
-        ∙ (ap (λ n. profile_at_rates (rates_of c.in-Rates.rates.parts c.in-Rates.rates.units) options.most_parts options.live n options.every) c.references-references.ensures.value
-        ∙ ap (profile_of options) (sym c.in-Rates.is)))
+    ∙ (ap (λ rates. profile_at_rates rates options.most_parts options.live c.references-references.result options.every) c.rates_of.ensures
+    ∙ (ap (λ n. profile_at_rates (rates_of c.in-Rates.rates.parts c.in-Rates.rates.units) options.most_parts options.live n options.every) c.references-references.ensures.value
+    ∙ ap (profile_of options) (sym c.in-Rates.is)))
 
 pub returns-in-Rates-clause-kept : goal.returns-in-Rates-clause-kept
 returns-in-Rates-clause-kept c = λ config events keep.
@@ -51,9 +51,9 @@ unfolding profile_asked
 returns-in-Classes-clause-value c =
     let options = c.args.options.now in
     c.profile_of_every.ensures.value
-        ∙ (ap (λ classes. profile_of_every options.every classes options.most_parts options.live c.references-references.result) c.classes_of-list.ensures
-        ∙ (ap (profile_of_every options.every (classes_of c.in-Classes.known.has) options.most_parts options.live) c.references-references.ensures.value
-        ∙ ap (profile_of options) (sym c.in-Classes.is)))
+    ∙ (ap (λ classes. profile_of_every options.every classes options.most_parts options.live c.references-references.result) c.classes_of-list.ensures
+    ∙ (ap (profile_of_every options.every (classes_of c.in-Classes.known.has) options.most_parts options.live) c.references-references.ensures.value
+    ∙ ap (profile_of options) (sym c.in-Classes.is)))
 
 pub returns-in-Classes-clause-kept : goal.returns-in-Classes-clause-kept
 returns-in-Classes-clause-kept c = λ config events keep.

@@ -15,6 +15,6 @@ returns-in-None-Least c =
     let none : quantum_needed (profile_asked options) pages ≡ None = ap (λ (profile : Profile). quantum_needed profile pages) (sym c.requires.profile) ∙ (sym needed ∙ c.in-None-Least.is-0) in
     if_ok c.small_text.result (λ text. string_bytes text ≡ small_text c.args.profile.now (least_pages c.args.profile.now) (shares_enough options.allocation c.args.profile.now pages)) (λ text. IsTextFor options (Some pages) (string_bytes text))
     (λ text is.
-      let small : IsSmallText options pages (string_bytes text) = (c.in-None-Least.is-1, none, is ∙ ap (λ (profile : Profile). small_text profile (least_pages profile) (shares_enough options.allocation profile pages)) c.requires.profile) in
-      inr (inl small))
+    let small : IsSmallText options pages (string_bytes text) = (c.in-None-Least.is-1, none, is ∙ ap (λ (profile : Profile). small_text profile (least_pages profile) (shares_enough options.allocation profile pages)) c.requires.profile) in
+    inr (inl small))
     c.small_text.ensures
