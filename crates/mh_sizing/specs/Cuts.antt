@@ -19,7 +19,11 @@ overwritten_name world who (command.Copy slot source) = slot_at world (own_slot 
 overwritten_name world who (command.Clear slot) = slot_at world (own_slot who slot)
 overwritten_name world who (command.Post board slot) = slot_at world (board_slot board)
 overwritten_name world who (command.Take slot board) = slot_at world (own_slot who slot)
-overwritten_name world who _ = None
+overwritten_name world who (command.Read slot index) = None
+overwritten_name world who (command.Write slot index number) = None
+overwritten_name world who (command.Same left right) = None
+overwritten_name world who (command.Shape slot) = None
+overwritten_name world who command.End = None
 
 -- `end` overwrites all slots of its session
 abbrev pub overwritten : World → ℕ → Command → List (Option ℕ)

@@ -63,7 +63,11 @@ fn overwritten_name(heap: &PlainHeap, who: u8, command: &Command) -> Option<Birt
         | Command::Take { slot, .. } => name_at(heap, first + slot as usize),
         Command::Put { slot, field, .. } => name_in_field(heap, first + slot as usize, field),
         Command::Post { board, .. } => name_at(heap, SESSIONS * SESSION_SLOTS + board as usize),
-        _ => None,
+        Command::Read { .. }
+        | Command::Write { .. }
+        | Command::Same { .. }
+        | Command::Shape { .. }
+        | Command::End => None,
     }
 }
 
