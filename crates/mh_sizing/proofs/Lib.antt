@@ -21,4 +21,6 @@ pub mod WalkedKinds
 pub mod CountedLemmas
 pub mod EveryLemmas
 pub mod RateLemmas
+pub mod GreaterQuanta
+pub mod LeastQuantum
 pub mod RateSearch
