@@ -24,12 +24,13 @@ use mh_model::memory::NoMemory;
 use mh_model::needs::Needs;
 use mh_orders::allocation::Allocation;
 use mh_orders::heap_options::{HeapOptions, HeapQuantum};
-use mh_sizing::enough::{cycle_quanta, quantum_needed};
+use mh_sizing::enough::cycle_quanta;
 use mh_sizing::found::{Found, choose, find};
 use mh_sizing::laws::sufficient_heaps_are_never_full;
 use mh_sizing::needs::{enough_trigger, parts_counted};
 use mh_sizing::openings::pages_opened;
 use mh_sizing::profile::Profile;
+use mh_sizing::quantum::quantum_needed;
 use mh_sizing::targets::greatest_quantum_for;
 use std::alloc::Global;
 

@@ -10,9 +10,10 @@ use mh_model::config::Config;
 use mh_model::limits::MOST_PAGES;
 use mh_model::memory::NoMemory;
 use mh_model::needs::Needs;
-use mh_sizing::enough::{cycle_quanta, cycle_units, is_enough, quantum_needed};
+use mh_sizing::enough::{cycle_quanta, cycle_units, is_enough};
 use mh_sizing::found::{Found, Law};
 use mh_sizing::profile::Profile;
+use mh_sizing::quantum::quantum_needed;
 use std::fmt::Write;
 
 fn answer_word(answer: bool) -> &'static str

@@ -28,4 +28,6 @@ pub mod DemandLemmas
 pub mod CountedLemmas
 pub mod EveryLemmas
 pub mod RateLemmas
+pub mod GreaterQuanta
+pub mod LeastQuantum
 pub mod RateSearch

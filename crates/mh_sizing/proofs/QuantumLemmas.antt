@@ -1,19 +1,15 @@
--- The least quantum by division, and the ends of a search for a quantum or for what lies between two.
+-- The least number that passes a test, and the ends of a search for a quantum that keeps a share or for what lies between two.
 use Rattle.std.specs.Prelude.{◌<◌, ◌-◌, suc}
-use Rattle.std.proofs.Common.{◌≡◌, ℕ, zero, suc, ◌+◌, ◌-◌, ◌*◌, ◌/◌, ◌<◌, ◌≤◌, ◌↔◌, nat_le, Bool, true, false, if◌then◌else◌, Option, Some, None, MatchOption, refl, sym, ap, ◌∙◌, subst, inl, inr, arith}
-use Rattle.std.proofs.Math.Nat.{div-le_self}
+use Rattle.std.proofs.Common.{◌≡◌, ℕ, zero, suc, ◌+◌, ◌-◌, ◌*◌, ◌<◌, ◌≤◌, nat_le, Bool, true, false, if◌then◌else◌, Option, Some, None, MatchOption, refl, sym, ap, ◌∙◌, subst, inl, inr, arith}
 use Rattle.std.proofs.lemmas.Nat.{mul-le}
-use Rattle.std.proofs.lemmas.Bool.{and_parts, leb-true, le-leb, cases_lt, cases_Bool}
+use Rattle.std.proofs.lemmas.Bool.{and_parts, leb-true, cases_lt}
 use Rattle.std.proofs.lemmas.Bool.Decides.{nat_tests}
 use Rattle.mh_model.specs.declared.config.Config.{Config}
 use Rattle.mh_model.specs.declared.config.Rules.TheVariants.{Second}
-use Rattle.mh_model.specs.Limits.{is_configuration, least_quantum, quantum_overhead}
+use Rattle.mh_model.specs.Limits.{is_configuration, least_quantum}
 use Rattle.mh_model.specs.Trace.{floor}
-use Rattle.mh_model.specs.declared.needs.Needs.{Needs}
-use Rattle.mh_model.specs.Needs.{quanta_needed, units_needed}
 use Rattle.mh_orders.specs.declared.target_options.Target.{Target}
-use Rattle.mh_sizing.specs.Choices.{HasNone, least_from, IsLeastQuantum, IsGreatestQuantum, IsLeastEvery, IsFit, NoneFits, IsLeastFit}
-use Rattle.mh_sizing.specs.Needs.{enough_pages, is_enough_with, least_quantum_of, HasEnough}
+use Rattle.mh_sizing.specs.Choices.{HasNone, least_from, IsGreatestQuantum, IsLeastEvery}
 use Rattle.mh_sizing.specs.Targets.{IsMetBy, Meets, MeetsAfter, MeetsWith}
 use Rattle.mh_sizing.proofs.FloorLemmas.{floor_falls, floor_grows}
 
@@ -35,36 +31,7 @@ within config =
 limits : (pages quantum every : ℕ) → 1 ≤ pages → pages ≤ 4096 → least_quantum ≤ quantum → quantum ≤ 1000000 → every ≤ 1000000 → is_configuration pages quantum 0 every ≡ true
 limits pages quantum every a b c d e = grind (arith, nat_tests)
 
--- Pages and quanta -------------------------------------------------------------------------------
-
--- A property of configurations that says of those of so many pages just that their quantum fits
-pub record IsByQuanta (P : Config → Type 0) (pages units quanta : ℕ) : Type 0 where
-  pub has : (config : Config) → config.pages ≡ pages → IsFit units quanta config.quantum → P config
-  pub fits : (config : Config) → P config → IsFit units quanta config.quantum
-
-pub least_config : (P : Config → Type 0) (pages units quanta : ℕ) (found : Option ℕ) → 1 ≤ pages → pages ≤ 4096 → IsByQuanta P pages units quanta → MatchOption found (NoneFits units quanta) (IsLeastFit units quanta) → MatchOption found (HasNone P) (IsLeastQuantum P)
-least_config P pages units quanta None some few by none = λ config has. none config.quantum (by.fits config has)
-least_config P pages units quanta (Some quantum) some few by least =
-    let fit = least.fit in
-    let config : Config = record { pages = pages; quantum = quantum; trigger = 0; every = 0; rules = Second; in_limits = limits pages quantum 0 some few (omega (arith, fit.some)) fit.few (omega arith) } in
-    record { has = (config, refl, by.has config refl fit); least = λ other has. least.least other.quantum (by.fits other has) }
-
--- what is known of the most quanta of a cycle that so many pages are enough for, of which each number of quanta asks for a number
-abbrev pub AreMost : (ℕ → ℕ) → ℕ → ℕ → ℕ → Type 0
-AreMost number pages units most = (quanta : ℕ) → 1 ≤ quanta → quanta ≤ units + 1 → (number quanta ≤ pages) ↔ (quanta ≤ most)
-
-no_more_than_units : (units quantum : ℕ) → units / (quantum - quantum_overhead) + 1 ≤ units + 1
-no_more_than_units units quantum = let few = div-le_self units (quantum - quantum_overhead) in omega (arith, few)
-
--- pages are enough for a configuration exactly if its quantum fits
-pub enough_fits : (number : ℕ → ℕ) (needs : Needs) (pages units most : ℕ) (config : Config) → units ≡ units_needed needs pages → AreMost number pages units most → config.pages ≡ pages
-    → (number (quanta_needed needs config) ≤ config.pages) ↔ (units / (config.quantum - quantum_overhead) + 1 ≤ most)
-enough_fits number needs pages units most config all are same =
-    let quanta : quanta_needed needs config ≡ units / (config.quantum - quantum_overhead) + 1 = rw (same, all) refl in
-    let most_fit = are (units / (config.quantum - quantum_overhead) + 1) (omega arith) (no_more_than_units units config.quantum) in (
-      λ enough. most_fit.0 (rw (quanta, same) at enough),
-      λ few. rw (quanta, same) (most_fit.1 few),
-    )
+-- Pages ------------------------------------------------------------------------------------------
 
 -- enough pages are no fewer than the trigger
 pub trigger_within : (live asked opened pages quanta : ℕ) → 1 ≤ quanta → live + (quanta * asked + quanta * opened) - asked ≤ pages → quanta * opened - 1 ≤ pages
@@ -72,15 +39,7 @@ trigger_within live asked opened pages quanta some enough =
     let least : 1 * asked ≤ quanta * asked = mul-le 1 asked quanta asked some (omega arith) in
     omega (arith, least, enough)
 
-pub enough_by_quanta : (needs : Needs) (pages units most : ℕ) → units ≡ units_needed needs pages → AreMost (enough_pages needs) pages units most → IsByQuanta (HasEnough needs pages) pages units most
-enough_by_quanta needs pages units most all are = record {
-  has = λ config same fit.
-      let enough = (enough_fits (enough_pages needs) needs pages units most config all are same).1 fit.fits in
-      record { of_pages = same; quantum = fit.some; enough = enough; trigger = trigger_within needs.live needs.asked needs.opened config.pages (quanta_needed needs config) (omega arith) enough };
-  fits = λ config has. record { some = has.quantum; few = (within config).most; fits = (enough_fits (enough_pages needs) needs pages units most config all are has.of_pages).0 has.enough };
-}
-
--- The least quantum as a number that is searched for --------------------------------------------
+-- The least number that passes a test -----------------------------------------------------------
 
 module _ (test : ℕ → Bool) where
   pub least_from-next : (first count : ℕ) → test first ≡ false → least_from test first (suc count) ≡ least_from test (suc first) count
@@ -104,58 +63,6 @@ module _ (test : ℕ → Bool) where
         let same : first ≡ n = omega arith in
         subst (λ (k : ℕ). least_from test first (suc count) ≡ Some k) same (least_from-here first count (subst (λ (k : ℕ). test k ≡ true) (sym same) passed))
   ]
-
--- a quantum passes the test exactly if a configuration with it has enough
-test_passed : (needs : Needs) (pages : ℕ) (config : Config) → HasEnough needs pages config → is_enough_with needs pages config.quantum ≡ true
-test_passed needs pages config has =
-    let same = has.of_pages in
-    let quanta : quanta_needed needs config ≡ units_needed needs pages / (config.quantum - quantum_overhead) + 1 = rw same refl in
-    let enough : enough_pages needs (units_needed needs pages / (config.quantum - quantum_overhead) + 1) ≤ pages = rw (quanta, same) at has.enough in
-    le-leb _ _ enough
-
-passed_test : (needs : Needs) (pages quantum : ℕ) → 1 ≤ pages → pages ≤ 4096 → quantum_overhead < quantum → quantum ≤ 1000000 → is_enough_with needs pages quantum ≡ true
-    → (config : Config) × (config.quantum ≡ quantum) × HasEnough needs pages config
-passed_test needs pages quantum some few least most is =
-    let config : Config = record { pages = pages; quantum = quantum; trigger = 0; every = 0; rules = Second; in_limits = limits pages quantum 0 some few (omega arith) most (omega arith) } in
-    let enough : enough_pages needs (units_needed needs pages / (quantum - quantum_overhead) + 1) ≤ pages = leb-true _ _ is in (
-      config,
-      refl,
-      record {
-        of_pages = refl;
-        quantum = least;
-        enough = enough;
-        trigger = trigger_within needs.live needs.asked needs.opened pages _ (omega arith) enough;
-      },
-    )
-
--- so the least with which pages are enough is the least that passes it
-pub least_value : (needs : Needs) (pages : ℕ) (found : Option ℕ) → 1 ≤ pages → pages ≤ 4096 → MatchOption found (HasNone (HasEnough needs pages)) (IsLeastQuantum (HasEnough needs pages)) → found ≡ least_quantum_of needs pages
-least_value needs pages None some few none = sym (least_from-none (is_enough_with needs pages) (suc quantum_overhead) (1000000 - quantum_overhead) (λ k from to. elim (cases_Bool (is_enough_with needs pages k)) [
-  | inl passed ↦ let (config, same, has) = passed_test needs pages k some few from (omega arith) passed in absurd (none config has)
-  | inr missed ↦ missed
-]))
-least_value needs pages (Some quantum) some few least =
-    let (config, same, has) = least.has in
-    let limit = within config in
-    let passed : is_enough_with needs pages quantum ≡ true = subst (λ (k : ℕ). is_enough_with needs pages k ≡ true) same (test_passed needs pages config has) in
-    sym (least_from-some (is_enough_with needs pages) (suc quantum_overhead) (1000000 - quantum_overhead) quantum (omega (arith, has.quantum, same)) (omega (arith, limit.most, same)) passed (λ k from below. elim (cases_Bool (is_enough_with needs pages k)) [
-      | inl also ↦
-          let (other, like, so) = passed_test needs pages k some few from (omega (arith, limit.most, same)) also in
-          let fewer : quantum ≤ k = subst (λ (n : ℕ). quantum ≤ n) like (least.least other so) in
-          absurd (omega (arith, fewer, below))
-      | inr missed ↦ missed
-    ]))
-
--- the same for any test that a quantum passes exactly if it fits
-pub value_by_fits : (test : ℕ → Bool) (units quanta : ℕ) (found : Option ℕ) → ((quantum : ℕ) → (test quantum ≡ true) ↔ (units / (quantum - quantum_overhead) + 1 ≤ quanta)) → MatchOption found (NoneFits units quanta) (IsLeastFit units quanta) → found ≡ least_from test (suc quantum_overhead) (1000000 - quantum_overhead)
-value_by_fits test units quanta None same none = sym (least_from-none test (suc quantum_overhead) (1000000 - quantum_overhead) (λ k from to. elim (cases_Bool (test k)) [
-  | inl passed ↦ absurd (none k (record { some = from; few = omega arith; fits = (same k).0 passed }))
-  | inr missed ↦ missed
-]))
-value_by_fits test units quanta (Some quantum) same least = sym (least_from-some test (suc quantum_overhead) (1000000 - quantum_overhead) quantum least.fit.some (omega (arith, least.fit.few)) ((same quantum).1 least.fit.fits) (λ k from below. elim (cases_Bool (test k)) [
-  | inl also ↦ absurd (omega (arith, below, least.least k (record { some = from; few = omega (arith, least.fit.few); fits = (same k).0 also })))
-  | inr missed ↦ missed
-]))
 
 -- Targets ----------------------------------------------------------------------------------------
 

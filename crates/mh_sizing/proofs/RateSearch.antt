@@ -1,14 +1,8 @@
 -- Heaps that keep a target at rates: a greater quantum asks for no more pages. So those with the greatest quantum for each EVERY are enough to look at.
-use Rattle.std.proofs.Common.{◌≡◌, ◌⊎◌, inl, inr, ℕ, ◌+◌, ◌-◌, ◌*◌, ◌/◌, ◌<◌, ◌≤◌, min, max, nat_lt, Bool, true, false, if◌then◌else◌, Option, Some, None, List, IsSomeAnd, MatchOption, refl, sym, ap, ◌∙◌, subst, arith}
-use Rattle.std.proofs.lemmas.Bool.{cases_lt, ltb-true, ltb-false}
-use Rattle.std.proofs.lemmas.Bool.Decides.{nat_tests}
+use Rattle.std.proofs.Common.{◌≡◌, ◌⊎◌, inl, inr, ℕ, ◌+◌, ◌<◌, ◌≤◌, max, Option, Some, None, List, MatchOption, refl, sym, ◌∙◌, subst, arith}
+use Rattle.std.proofs.lemmas.Bool.{cases_lt}
 use Rattle.mh_model.specs.declared.config.Config.{Config}
-use Rattle.mh_model.specs.declared.needs.Needs.{Needs}
-use Rattle.mh_model.specs.Bound.{most_quanta, most_steps, most_units}
-use Rattle.mh_model.specs.Limits.{is_configuration, least_quantum, quantum_overhead}
-use Rattle.mh_model.specs.Needs.{AreEnoughQuanta, units_needed}
 use Rattle.mh_orders.specs.declared.target_options.Target.{Target}
-use Rattle.mh_sizing_laws.proofs.sharp_needs.SharpNeededRuns.{div-larger}
 use Rattle.mh_sizing.specs.declared.profile.Profile.{Profile}
 use Rattle.mh_sizing.specs.declared.rate.ClassRate.{ClassRate}
 use Rattle.mh_sizing.specs.Choices.{HasNone, IsGreatestQuantum}
@@ -16,68 +10,15 @@ use Rattle.mh_sizing.specs.Enough.{Suffices}
 use Rattle.mh_sizing.specs.Found.{HasNo, IsFewest, PagesAreEnough}
 use Rattle.mh_sizing.specs.Rates.{HasFewestPages, IsBestBefore, KeepsTarget, KeepsTargetAfter, profile_at_rates}
 use Rattle.mh_sizing.specs.Targets.{IsMetBy, MeetsAfter}
-use Rattle.mh_sizing.proofs.FoundLemmas.{its-pages}
+use Rattle.mh_sizing.proofs.GreaterQuanta.{pages-greater}
 use Rattle.mh_sizing.proofs.QuantumLemmas.{within}
 
 -- Greater quanta ---------------------------------------------------------------------------------
 
--- a cycle takes no more quanta if they are greater
-most-fewer : (config other : Config) → other.pages ≡ config.pages → config.quantum ≤ other.quantum → most_quanta other ≤ most_quanta config
-most-fewer config other pages more =
-    go (nat_lt quantum_overhead config.quantum) (nat_lt quantum_overhead other.quantum) refl refl
-  where
-    steps : most_steps other ≡ most_steps config
-    steps = ap (λ n. 144 + 192 * n) pages
-
-    units : most_units other ≡ most_units config
-    units = ap (λ n. 288 + 640 * n) pages
-
-    go : (large larger : Bool) → nat_lt quantum_overhead config.quantum ≡ large → nat_lt quantum_overhead other.quantum ≡ larger
-        → (if larger then min (most_steps other) (most_units other / (other.quantum - quantum_overhead) + 1) else most_steps other)
-        ≤ (if large then min (most_steps config) (most_units config / (config.quantum - quantum_overhead) + 1) else most_steps config)
-    go true true a b =
-        let some : quantum_overhead < config.quantum = ltb-true quantum_overhead config.quantum a in
-        let fewer : most_units config / (other.quantum - quantum_overhead) ≤ most_units config / (config.quantum - quantum_overhead) =
-        div-larger (most_units config) (other.quantum - quantum_overhead) (config.quantum - quantum_overhead) (omega (arith, some)) (omega (arith, more)) in
-        omega (arith, steps, ap (λ n. n / (other.quantum - quantum_overhead)) units, fewer)
-    go true false a b = absurd (omega (arith, ltb-true quantum_overhead config.quantum a, ltb-false quantum_overhead other.quantum b, more))
-    go false true a b = omega (arith, steps)
-    go false false a b = omega (arith, steps)
-
-quanta-greater : (needs : Needs) (config other : Config) (quanta : ℕ) → other.pages ≡ config.pages → config.quantum ≤ other.quantum → AreEnoughQuanta needs config quanta → AreEnoughQuanta needs other quanta
-quanta-greater needs config other quanta pages more (inl bound) = inl (omega (arith, bound, most-fewer config other pages more))
-quanta-greater needs config other quanta pages more (inr (large, few)) =
-    let units : units_needed needs other.pages ≡ units_needed needs config.pages = ap (units_needed needs) pages in
-    let fewer : units_needed needs config.pages / (other.quantum - quantum_overhead) ≤ units_needed needs config.pages / (config.quantum - quantum_overhead) =
-    div-larger (units_needed needs config.pages) (other.quantum - quantum_overhead) (config.quantum - quantum_overhead) (omega (arith, large)) (omega (arith, more)) in
-    inr (omega (arith, large, more), omega (arith, few, fewer, ap (λ n. n / (other.quantum - quantum_overhead)) units))
-
--- what is enough is so with a greater quantum
-suffices-greater : (profile : Profile) (config other : Config) → other.pages ≡ config.pages → config.quantum ≤ other.quantum → other.trigger ≡ config.trigger → Suffices profile config → Suffices profile other
-suffices-greater profile config other pages more trigger (inl all) = inl (subst (λ n. IsSomeAnd profile.demand (λ demand. demand ≤ n)) (sym pages) all)
-suffices-greater profile config other pages more trigger (inr (quanta, inl has)) =
-    inr (quanta, inl (record { bound = quanta-greater profile.needs config other quanta pages more has.bound; pages = omega (arith, has.pages, pages); trigger = omega (arith, has.trigger, trigger) }))
-suffices-greater profile config other pages more trigger (inr (quanta, inr has)) =
-    inr (quanta, inr (record { bound = quanta-greater profile.needs config other quanta pages more has.bound; pages = omega (arith, has.pages, pages); trigger = omega (arith, has.trigger, trigger) }))
-
--- a configuration with other numbers within the limits
-limits : (pages quantum trigger every : ℕ) → 1 ≤ pages → pages ≤ 4096 → least_quantum ≤ quantum → quantum ≤ 1000000 → trigger ≤ pages → every ≤ 1000000 → is_configuration pages quantum trigger every ≡ true
-limits pages quantum trigger every a b c d e f = grind (arith, nat_tests)
-
 enough-greater : (target : Target) (profile : Profile) (every quantum : ℕ) (config : Config) → IsGreatestQuantum (MeetsAfter target every) quantum → MeetsAfter target every config → Suffices profile config → PagesAreEnough profile quantum config.pages
 enough-greater target profile every quantum config greatest meets enough =
     let (of, same, has) = greatest.has in
-    let its = its-pages config in
-    let limit = within config in
-    let other : Config = record {
-      pages = config.pages;
-      quantum = quantum;
-      trigger = config.trigger;
-      every = config.every;
-      rules = config.rules;
-      in_limits = limits config.pages quantum config.trigger config.every its.some its.few (omega (arith, same, (within of).least)) (omega (arith, same, (within of).most)) its.trigger limit.every;
-    } in
-    (other, refl, refl, suffices-greater profile config other refl (greatest.greatest config meets) refl enough)
+    pages-greater profile config.pages config.quantum quantum (greatest.greatest config meets) (omega (arith, same, (within of).most)) (config, refl, refl, enough)
 
 -- Searches ---------------------------------------------------------------------------------------
 

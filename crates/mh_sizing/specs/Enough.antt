@@ -1,14 +1,15 @@
 -- What is enough for what sessions ask of a heap. There are three laws: each new part may keep a page, small parts share pages, or the pages are as many as
 -- all classes take at most.
-use Rattle.std.specs.Prelude.{◌⊎◌, ℕ, ◌≤◌, min, nat_le, Bool, false, ◌&&◌, ◌||◌, nat_lt, if◌then◌else◌, Option, None, Some, IsSomeAnd}
+use Rattle.std.specs.Prelude.{◌⊎◌, ℕ, ◌+◌, ◌-◌, ◌*◌, ◌/◌, ◌≤◌, min, nat_le, Bool, false, ◌&&◌, ◌||◌, nat_lt, if◌then◌else◌, Option, None, Some, IsSomeAnd}
 use Rattle.mh_model.specs.declared.config.Config.{Config}
 use Rattle.mh_model.specs.declared.needs.Needs.{Needs}
-use Rattle.mh_model.specs.Bound.{most_quanta, most_units}
+use Rattle.mh_model.specs.Bound.{most_quanta, most_units, page_steps, page_units}
 use Rattle.mh_model.specs.Needs.{HasEnoughFor, quanta_needed, units_needed}
-use Rattle.mh_model.specs.Limits.{least_quantum, quantum_overhead}
+use Rattle.mh_model.specs.Limits.{least_quantum, quantum_overhead, root_slots}
 use Rattle.mh_sizing_laws.specs.SharpNeeds.{HasSharpEnoughFor}
-use Rattle.mh_sizing.specs.Needs.{enough_pages, enough_trigger, least_quantum_of}
-use Rattle.mh_sizing.specs.Shared.{enough_shared_pages, least_quantum_shared_of}
+use Rattle.mh_sizing.specs.Choices.{least_from}
+use Rattle.mh_sizing.specs.Needs.{enough_pages, enough_trigger}
+use Rattle.mh_sizing.specs.Shared.{enough_shared_pages}
 use Rattle.mh_sizing.specs.declared.profile.Profile.{Profile}
 
 -- Cycles -----------------------------------------------------------------------------------------
@@ -46,12 +47,20 @@ Suffices profile config = IsSomeAnd profile.demand (λ demand. demand ≤ config
 
 -- Quanta -----------------------------------------------------------------------------------------
 
--- the lesser of two quanta, of which there may be none
-abbrev pub lesser_quantum : Option ℕ → Option ℕ → Option ℕ
-lesser_quantum None other = other
-lesser_quantum (Some quantum) None = Some quantum
-lesser_quantum (Some quantum) (Some other) = Some (min quantum other)
+-- the most quanta of any cycle, by the numbers of a configuration
+abbrev pub most_quanta_of : ℕ → ℕ → ℕ
+most_quanta_of pages quantum =
+    let steps = root_slots + page_steps * pages in
+    if nat_lt quantum_overhead quantum then min steps ((2 * root_slots + page_units * pages) / (quantum - quantum_overhead) + 1) else steps
 
--- the least quantum with which so many pages are enough: any, if they are for all intervals together; otherwise the least from 353 on
+-- the most quanta of a cycle by what is needed, by these numbers
+abbrev pub cycle_quanta_of : Needs → ℕ → ℕ → ℕ
+cycle_quanta_of needs pages quantum = if nat_lt quantum_overhead quantum then min (most_quanta_of pages quantum) (units_needed needs pages / (quantum - quantum_overhead) + 1) else most_quanta_of pages quantum
+
+-- so many pages are enough with such a quantum, if a cycle starts as soon as it may
+abbrev pub pages_pass : Profile → ℕ → ℕ → Bool
+pages_pass profile pages quantum = meets_demand profile.demand pages || (nat_le (pages_needed profile (cycle_quanta_of profile.needs pages quantum)) pages && nat_le (enough_trigger profile.needs (cycle_quanta_of profile.needs pages quantum)) pages)
+
+-- the least quantum with which they are
 abbrev pub quantum_needed : Profile → ℕ → Option ℕ
-quantum_needed profile pages = if meets_demand profile.demand pages then Some least_quantum else lesser_quantum (least_quantum_of profile.needs pages) (least_quantum_shared_of profile.needs profile.kinds pages)
+quantum_needed profile pages = least_from (λ quantum. pages_pass profile pages quantum) least_quantum (1000001 - least_quantum)

@@ -1,10 +1,9 @@
 -- The trigger and the pages that are enough for what sessions need, and what they need by counts.
-use Rattle.std.specs.Prelude.{◌≡◌, ℕ, ◌+◌, ◌-◌, ◌*◌, ◌/◌, ◌≤◌, ◌<◌, suc, nat_le, Bool, Option, List}
+use Rattle.std.specs.Prelude.{◌≡◌, ℕ, ◌+◌, ◌-◌, ◌*◌, ◌≤◌, ◌<◌, List}
 use Rattle.mh_model.specs.declared.config.Config.{Config}
 use Rattle.mh_model.specs.declared.needs.Needs.{Needs}
-use Rattle.mh_model.specs.Needs.{quanta_needed, units_needed}
+use Rattle.mh_model.specs.Needs.{quanta_needed}
 use Rattle.mh_model.specs.Limits.{quantum_overhead}
-use Rattle.mh_sizing.specs.Choices.{least_from}
 use Rattle.mh_sizing.specs.declared.openings.ClassParts.{ClassParts}
 use Rattle.mh_sizing.specs.Openings.{counted_classes, pages_of_counts, parts_of_counts}
 use Rattle.mh_sizing.specs.PageUnits.{page_units_of}
@@ -16,14 +15,6 @@ enough_trigger needs quanta = quanta * needs.opened - 1
 -- the pages that are enough: for live parts, for parts that come between the first and the last quantum of a cycle, and for the free pages that it leaves
 abbrev pub enough_pages : Needs → ℕ → ℕ
 enough_pages needs quanta = needs.live + (quanta * needs.asked + quanta * needs.opened) - needs.asked
-
--- so many pages are enough with such a quantum
-abbrev pub is_enough_with : Needs → ℕ → ℕ → Bool
-is_enough_with needs pages quantum = nat_le (enough_pages needs (units_needed needs pages / (quantum - quantum_overhead) + 1)) pages
-
--- the least quantum with which they are: they are with none below 353, nor with one past the limit
-abbrev pub least_quantum_of : Needs → ℕ → Option ℕ
-least_quantum_of needs pages = least_from (is_enough_with needs pages) (suc quantum_overhead) (1000000 - quantum_overhead)
 
 -- A configuration of so many pages has enough of them, and room for a trigger that is enough
 pub record HasEnough (needs : Needs) (pages : ℕ) (config : Config) : Type 0 where

@@ -1,5 +1,5 @@
-//! Whether a configuration is enough for what sessions ask of a heap, by any of three laws, and the least quantum with
-//! which so many pages are.
+//! Whether a configuration is enough for what sessions ask of a heap, by any of three laws, and whether so many pages
+//! are with a quantum.
 //!
 //! By one law each new part may keep a page, by the next small new parts share pages. The lesser of their two numbers
 //! of pages is enough, and neither is always the lesser. By the third, pages for all that the intervals of a run open
@@ -7,16 +7,17 @@
 //!
 //! A cycle is given two bounds on its quanta, that of any cycle and that of what it marks, and takes the lesser. The
 //! second wants quanta of more units than may go to charges and to what is left over.
-ghost use Rattle.std.specs.Prelude.{◌≡◌, ◌≤◌, ◌↔◌, ◌<◌, IfSome, IsSomeAnd, IsTrue};
-ghost use Rattle.mh_sizing.specs.Enough.{Suffices, cycle_quanta, cycle_units, meets_demand, is_enough, lesser_quantum, pages_needed, quantum_needed};
-ghost use Rattle.mh_model.specs.Limits.{least_quantum, quantum_overhead};
+ghost use Rattle.std.specs.Prelude.{◌≡◌, ◌≤◌, ◌↔◌, IsSomeAnd, IsTrue};
+ghost use Rattle.mh_sizing.specs.Enough.{Suffices, cycle_quanta, cycle_units, meets_demand, is_enough, pages_needed, pages_pass};
+ghost use Rattle.mh_sizing.specs.Found.{PagesAreEnough};
+ghost use Rattle.mh_model.specs.Limits.{least_quantum};
 
 use crate::cycles::{quanta_needed, units_needed};
-use crate::needs::{enough_pages, enough_trigger, least_quantum};
+use crate::needs::{enough_pages, enough_trigger};
 use crate::profile::Profile;
-use crate::shared::{enough_shared_pages, least_quantum_shared};
-use mh_model::config::Config;
-use mh_model::limits::{LEAST_QUANTUM, QUANTUM_OVERHEAD};
+use crate::shared::enough_shared_pages;
+use mh_model::config::{Config, Rules};
+use mh_model::limits::QUANTUM_OVERHEAD;
 use mh_model::needs::Needs;
 
 /// What a cycle spends at most, without the charge for slots.
@@ -77,31 +78,19 @@ pub fn is_enough(config: &Config, profile: &Profile) -> bool
     passes(config, profile)
 }
 
-/// The lesser of two quanta, of which there may be none.
-fn lesser_quantum(one: Option<u32>, other: Option<u32>) -> Option<u32>
-    requires one { IfSome one (λ quantum. (quantum_overhead < quantum) × (quantum ≤ 1000000)) }
-    requires other { IfSome other (λ quantum. (quantum_overhead < quantum) × (quantum ≤ 1000000)) }
-    ensures value { result ≡ lesser_quantum one other }
-    ensures within { IfSome result (λ quantum. (quantum_overhead < quantum) × (quantum ≤ 1000000)) }
+/// Whether so many pages are enough with a quantum. The greatest trigger starts a cycle soonest.
+pub(crate) fn pages_suffice(pages: u32, quantum: u32, profile: &Profile) -> bool
+    requires pages { (1 ≤ pages) × (pages ≤ 4096) }
+    requires quantum { (least_quantum ≤ quantum) × (quantum ≤ 1000000) }
+    ensures value { result ≡ pages_pass profile.now pages quantum }
+    ensures enough { IsTrue result ↔ PagesAreEnough profile.now quantum pages }
 {
-    match (one, other) {
-        (Some(one), Some(other)) => Some(one.min(other)),
-        (Some(one), None) => Some(one),
-        (None, other) => other,
-    }
-}
-
-/// The least quantum with which so many pages are enough.
-pub fn quantum_needed(pages: u32, profile: &Profile) -> Option<u32>
-    requires some { 1 ≤ pages }
-    requires few { pages ≤ 4096 }
-    ensures value { result ≡ quantum_needed profile.now pages }
-    ensures within { IfSome result (λ quantum. (least_quantum ≤ quantum) × (quantum ≤ 1000000)) }
-{
-    if meets_demand(profile, pages) {
-        return Some(LEAST_QUANTUM);
-    }
-    let alone = least_quantum(pages, &profile.needs);
-    let shared = least_quantum_shared(pages, &profile.needs, &profile.kinds);
-    lesser_quantum(alone, shared)
+    let config = Config {
+        pages,
+        quantum,
+        trigger: pages,
+        every: 0,
+        rules: Rules::Second,
+    };
+    is_enough(&config, profile)
 }

@@ -3,11 +3,11 @@
 //! Pages that are enough needn't stay so as they grow: one more may cost each cycle a quantum more, for which the pages
 //! are then too few. So numbers are tried from the least on, but for those that are fewer than the cycles of a lesser one
 //! need. The number is found from which on all are enough.
-ghost use Rattle.std.specs.Prelude.{◌≡◌, ◌+◌, ◌^◌, ◌≤◌, ◌<◌, ◌↔◌, ℕ, IfSome, IsTrue, MatchOption};
+ghost use Rattle.std.specs.Prelude.{◌≡◌, ◌+◌, ◌^◌, ◌≤◌, ◌<◌, ℕ, IfSome, MatchOption};
 ghost use Rattle.mh_model.specs.Limits.{least_quantum};
 ghost use Rattle.mh_sizing.specs.Found.{HasNo, IsChosen, IsEnoughHeap, IsFewest, IsLeast, IsSearched, IsSoFrom, IsTriggered, PagesAreEnough, law_of, trigger_by};
 
-use crate::enough::{cycle_quanta, is_enough, meets_demand, pages_needed};
+use crate::enough::{cycle_quanta, meets_demand, pages_needed, pages_suffice};
 use crate::needs::{enough_pages, enough_trigger};
 use crate::profile::Profile;
 use mh_model::config::Config;
@@ -52,14 +52,6 @@ fn with_pages(config: &Config, pages: u32, trigger: u32) -> Config
     }
 }
 
-/// Whether so many pages are enough with the quantum of a configuration. The greatest trigger starts a cycle soonest.
-fn pages_suffice(pages: u32, config: &Config, profile: &Profile) -> bool
-    requires { (1 ≤ pages) × (pages ≤ 4096) }
-    ensures { IsTrue result ↔ PagesAreEnough profile.now config.now.quantum pages }
-{
-    is_enough(&with_pages(config, pages, pages), profile)
-}
-
 /// The next number of pages to try after one: what cycles in a heap of that need, if it is more. Those between are fewer than
 /// their own cycles need, which take no fewer quanta.
 fn pages_to_try(pages: u32, config: &Config, profile: &Profile) -> u32
@@ -84,7 +76,7 @@ fn fewest_pages(config: &Config, profile: &Profile) -> Option<u32>
 {
     let mut pages = 1;
     while pages <= MOST_PAGES {
-        if pages_suffice(pages, config, profile) {
+        if pages_suffice(pages, config.quantum, profile) {
             return Some(pages);
         }
         pages = pages_to_try(pages, config, profile);
@@ -110,7 +102,7 @@ fn enough_from(config: &Config, profile: &Profile) -> Option<u32>
 {
     for above in 0..MOST_PAGES {
         let pages = MOST_PAGES - above;
-        if !pages_suffice(pages, config, profile) {
+        if !pages_suffice(pages, config.quantum, profile) {
             return next_pages(pages);
         }
     }
@@ -190,7 +182,7 @@ pub fn find(config: &Config, profile: &Profile) -> Option<Found>
 pub fn choose(config: &Config, profile: &Profile) -> Option<Found>
     ensures { IsChosen profile.now config.now result }
 {
-    if pages_suffice(config.pages, config, profile) {
+    if pages_suffice(config.pages, config.quantum, profile) {
         return Some(of_its_pages(config, profile));
     }
     find(config, profile)

@@ -5,9 +5,10 @@
 //!
 //! Two numbers of pages are enough for cycles: that of the law by which each new part may keep a page (`needs`), and
 //! that of the law by which small new parts share pages (`shared`). The lesser of them is enough, and neither is always
-//! the lesser. So are pages for the demand of a run, by class, whatever its cycles. `enough` says
-//! whether a configuration is enough by any of these, and `found` searches for the fewest pages. The laws of this crate
-//! say of such numbers what those of `mh_sizing_laws` say of any.
+//! the lesser. So are pages for the demand of a run, by class, whatever its cycles. `enough` says whether a
+//! configuration is enough by any of these. `found` searches for the fewest pages, and `quantum` for the least quantum.
+//! `after` does the same of runs whose startup stays. The laws of this crate say of such numbers what those of
+//! `mh_sizing_laws` say of any.
 #![tactic(auto)]
 
 pub use mh_classes;
@@ -30,6 +31,7 @@ pub mod needs;
 pub mod openings;
 pub mod pages;
 pub mod profile;
+pub mod quantum;
 pub mod rate;
 pub mod rates;
 mod reach;

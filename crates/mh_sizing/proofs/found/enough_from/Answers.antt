@@ -16,12 +16,12 @@ after-last P found (Some next) each none is = subst (IsLeast (IsSoFrom P 4096)) 
 pub returns-then-not-pages_suffice : goal.returns-then-not-pages_suffice
 returns-then-not-pages_suffice c =
     after-last (PagesAreEnough c.args.profile.now c.args.config.now.quantum) (4096 - c.loop-above.above) c.next_pages.result (λ number above few. c.loop-above.invariant number (omega (arith, above)) few)
-    (λ has. false≢true (sym c.if-not-pages_suffice.true ∙ c.pages_suffice.ensures.1 has)) c.next_pages.ensures
+    (λ has. false≢true (sym c.if-not-pages_suffice.true ∙ c.pages_suffice.ensures.enough.1 has)) c.next_pages.ensures
 
 pub loop-above-preserved : goal.loop-above-preserved
 loop-above-preserved c = λ number above few. elim (cases_lt 4096 (number + c.loop-above.above)) [
   | inl more ↦ c.loop-above.invariant number more few
-  | inr less ↦ subst (PagesAreEnough c.args.profile.now c.args.config.now.quantum) (omega (arith, above, less, few)) (c.pages_suffice.ensures.0 c.if-not-pages_suffice.false)
+  | inr less ↦ subst (PagesAreEnough c.args.profile.now c.args.config.now.quantum) (omega (arith, above, less, few)) (c.pages_suffice.ensures.enough.0 c.if-not-pages_suffice.false)
 ]
 
 pub returns : goal.returns

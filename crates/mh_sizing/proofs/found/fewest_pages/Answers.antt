@@ -9,7 +9,7 @@ loop-pages-init c = record { some = omega arith; none = λ number few has. absur
 
 pub returns-then-pages_suffice-clause-least : goal.returns-then-pages_suffice-clause-least
 returns-then-pages_suffice-clause-least c = record {
-  has = c.pages_suffice.ensures.0 c.if-pages_suffice.true;
+  has = c.pages_suffice.ensures.enough.0 c.if-pages_suffice.true;
   least = λ other has. elim (cases_lt other c.loop-pages.pages) [ inl less ↦ absurd (c.loop-pages.invariant.none other less has) | inr more ↦ more ];
 }
 
@@ -20,7 +20,7 @@ loop-pages-preserved c = record {
     | inl less ↦ c.loop-pages.invariant.none number less has
     | inr more ↦ elim (cases_lt c.loop-pages.pages number) [
       | inl above ↦ c.pages_to_try-pages.ensures.between number above few has
-      | inr here ↦ absurd (false≢true (sym c.if-pages_suffice.false ∙ c.pages_suffice.ensures.1 (subst (PagesAreEnough c.args.profile.now c.args.config.now.quantum) (omega (arith, here, more)) has)))
+      | inr here ↦ absurd (false≢true (sym c.if-pages_suffice.false ∙ c.pages_suffice.ensures.enough.1 (subst (PagesAreEnough c.args.profile.now c.args.config.now.quantum) (omega (arith, here, more)) has)))
     ]
   ];
 }
