@@ -1,7 +1,6 @@
-use Rattle.std.proofs.Common.{◌≡◌, inl, inr, sym, subst, ◌∙◌, arith}
+use Rattle.std.proofs.Common.{◌≡◌, inl, inr, sym, ◌∙◌, arith}
 use Rattle.std.proofs.lemmas.Bool.{cases_lt, false≢true}
 use Rattle.mh_sizing.specs.After.{PagesAreEnoughAfter}
-use Rattle.mh_sizing.specs.Found.{IsLeast}
 use Rattle.mh_sizing.proofs.AfterLemmas.{after-within, after-other, least-trigger}
 use Rattle.mh_sizing.proofs.after.find_after.Goals as goal
 
