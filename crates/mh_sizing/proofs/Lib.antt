@@ -31,3 +31,4 @@ pub mod RateLemmas
 pub mod GreaterQuanta
 pub mod LeastQuantum
 pub mod RateSearch
+pub mod AfterLemmas

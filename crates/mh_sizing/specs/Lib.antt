@@ -8,6 +8,7 @@ pub mod Targets
 pub mod Enough
 pub mod Found
 pub mod Rates
+pub mod After
 pub mod Sized
 pub mod Asked
 pub mod Births

@@ -14,6 +14,7 @@
 pub use mh_classes;
 pub use mh_report;
 
+pub mod after;
 mod asked;
 mod births;
 mod classes;
