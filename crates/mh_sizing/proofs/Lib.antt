@@ -1,3 +1,5 @@
+pub mod HeapLemmas
+pub mod AlikeLemmas
 pub mod OpeningLemmas
 pub mod QuantumLemmas
 pub mod FloorLemmas

@@ -1,5 +1,5 @@
 -- What is logged, name by name.
-use Rattle.std.proofs.Common.{◌≡◌, Result, Ok, Err, OnErr, inl, inr, ℕ, zero, suc, ◌+◌, ◌-◌, ◌≤◌, Option, None, List, [], ◌∷◌, ◌++◌, refl, sym, ap, ◌∙◌, arith}
+use Rattle.std.proofs.Common.{◌≡◌, Result, Ok, Err, OnErr, inl, inr, ℕ, zero, suc, ◌+◌, ◌-◌, ◌≤◌, Option, None, List, [], ◌∷◌, ◌++◌, length, get_or, refl, sym, ap, ap₂, ◌∙◌, arith}
 use Rattle.std.proofs.lemmas.Bool.{cases_lt}
 use Rattle.std.proofs.lemmas.List.{append_assoc}
 use Rattle.std.proofs.lemmas.Option.{none-some}
@@ -9,8 +9,10 @@ use Rattle.mh_model.specs.declared.command.Command.TheVariants as command
 use Rattle.mh_model.specs.Classes.{tabulate}
 use Rattle.mh_model.specs.Paths.{Reachable}
 use Rattle.mh_model.specs.World.{World, births, slot_at}
+use Rattle.mh_shadow.specs.Outline.{Outline, Outlines, slot_in}
+use Rattle.mh_shadow.specs.OutlineSteps as steps
 use Rattle.mh_sizing.specs.declared.cuts.Cut.{Cut}
-use Rattle.mh_sizing.specs.Cuts.{cuts_of, overwritten, overwritten_name, HasLogged}
+use Rattle.mh_sizing.specs.Cuts.{cuts_of, overwritten, HasLogged}
 use Rattle.mh_sizing.proofs.CutLemmas.{cuts-now, cuts_of-append}
 use Rattle.mh_sizing.proofs.FollowLemmas.{IsName, slot-reached}
 
@@ -42,20 +44,24 @@ slots-logged world first count cuts new grown = record {
 }
 
 -- one more slot
-pub slots-more : (world : World) (first slot : ℕ) (cuts old : List Cut) (name : Option ℕ) (new : List Cut) → first ≤ slot → old ≡ cuts ++ cuts_of (births world) (tabulate (slot_at world) first (slot - first)) → name ≡ slot_at world slot
-    → new ≡ old ++ cuts_of (births world) (name ∷ []) → new ≡ cuts ++ cuts_of (births world) (tabulate (slot_at world) first (slot + 1 - first))
-slots-more world first slot cuts old name new from before named after =
+pub slots-more : (made : ℕ) (slots : ℕ → Option ℕ) (first slot : ℕ) (cuts old : List Cut) (name : Option ℕ) (new : List Cut) → first ≤ slot → old ≡ cuts ++ cuts_of made (tabulate slots first (slot - first)) → name ≡ slots slot
+    → new ≡ old ++ cuts_of made (name ∷ []) → new ≡ cuts ++ cuts_of made (tabulate slots first (slot + 1 - first))
+slots-more made slots first slot cuts old name new from before named after =
     let at : slot ≡ first + (slot - first) = omega (arith, from) in
     let next : (slot - first) + 1 ≡ slot + 1 - first = omega (arith, from) in
-    let made = births world in
-    after ∙ ap (λ (l : List Cut). l ++ cuts_of made (name ∷ [])) before ∙ append_assoc cuts (cuts_of made (tabulate (slot_at world) first (slot - first))) (cuts_of made (name ∷ []))
-    ∙ ap (λ (l : List Cut). cuts ++ l) (sym (cuts_of-append made (tabulate (slot_at world) first (slot - first)) (name ∷ []))
-    ∙ ap (λ (o : Option ℕ). cuts_of made (tabulate (slot_at world) first (slot - first) ++ o ∷ [])) (named ∙ ap (slot_at world) at)
-    ∙ ap (cuts_of made) (sym (tabulate-push (slot_at world) first (slot - first))) ∙ ap (λ n. cuts_of made (tabulate (slot_at world) first n)) next)
+    after ∙ ap (λ (l : List Cut). l ++ cuts_of made (name ∷ [])) before ∙ append_assoc cuts (cuts_of made (tabulate slots first (slot - first))) (cuts_of made (name ∷ []))
+    ∙ ap (λ (l : List Cut). cuts ++ l) (sym (cuts_of-append made (tabulate slots first (slot - first)) (name ∷ []))
+    ∙ ap (λ (o : Option ℕ). cuts_of made (tabulate slots first (slot - first) ++ o ∷ [])) (named ∙ ap slots at)
+    ∙ ap (cuts_of made) (sym (tabulate-push slots first (slot - first))) ∙ ap (λ n. cuts_of made (tabulate slots first n)) next)
+
+-- the slots of an outline are those of each of its worlds
+pub slots-outlined : (outline : Outline) (world : World) → Outlines outline world → (first count : ℕ) (cuts : List Cut)
+    → cuts ++ cuts_of (length outline.shapes) (tabulate (slot_in outline) first count) ≡ cuts ++ cuts_of (births world) (tabulate (slot_at world) first count)
+slots-outlined outline world is first count cuts = ap₂ (λ (n : ℕ) (slots : List (Option ℕ)). cuts ++ cuts_of n (tabulate (λ slot. get_or slots slot None) first count)) (sym is.births) (sym is.slots)
 
 -- Commands ---------------------------------------------------------------------------------------
 
 -- a command other than `end` overwrites one name
-pub one-overwritten : (world : World) (who : ℕ) (c : Command) → (c ≡ command.End → ⊥) → overwritten world who c ≡ overwritten_name world who c ∷ []
+pub one-overwritten : (world : World) (who : ℕ) (c : Command) → (c ≡ command.End → ⊥) → overwritten world who c ≡ steps.overwritten world who c ∷ []
 one-overwritten world who command.End other = absurd (other refl)
 one-overwritten world who _ other = refl

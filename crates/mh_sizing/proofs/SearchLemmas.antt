@@ -1,5 +1,5 @@
 -- A search that begins with what the slots name, and looks through the references of all that it finds, finds what is reached.
-use Rattle.std.proofs.Common.{◌≡◌, ℕ, zero, suc, ◌+◌, ◌==◌, ◌<◌, ◌≤◌, ◌||◌, Bool, true, false, if◌then◌else◌, Option, Some, None, option_map, List, [], ◌∷◌, ◌++◌, length, get_or, take, inl, inr, refl, sym, ap, ap₂, ◌∙◌, subst, arith}
+use Rattle.std.proofs.Common.{◌≡◌, ℕ, zero, suc, ◌+◌, ◌==◌, ◌<◌, ◌≤◌, ◌||◌, Bool, true, false, if◌then◌else◌, Option, Some, None, List, [], ◌∷◌, ◌++◌, length, get_or, take, inl, inr, refl, sym, ap, ap₂, ◌∙◌, subst, arith}
 use Rattle.std.specs.List.{AllByRecursion, fold}
 use Rattle.std.proofs.Math.ListN.{get_or-append}
 use Rattle.std.proofs.lemmas.Bool.{cases_lt, eq-eqb, eqb-true}
@@ -13,7 +13,7 @@ use Rattle.mh_table_laws.proofs.Lists.{there_below}
 use Rattle.mh_sizing.specs.declared.cuts.Cut.{Cut}
 use Rattle.mh_sizing.specs.Births.{InOrder, is_among, with_birth, with_birth_named}
 use Rattle.mh_sizing.specs.Cuts.{IsRoot, ReachedFrom}
-use Rattle.mh_sizing.specs.Reached.{IsSearch, NamesBelow}
+use Rattle.mh_sizing.specs.Reached.{references_of, IsSearch, NamesBelow}
 use Rattle.mh_sizing.proofs.BirthLemmas.{in-push}
 use Rattle.mh_sizing.proofs.ListLemmas.{all-more, all-push}
 use Rattle.mh_sizing.proofs.PathLemmas.{from-in, from-begin, from-step}
@@ -107,19 +107,14 @@ names-take list names count few = let (more, is) = names-more list names in ap (
 
 -- Searches ---------------------------------------------------------------------------------------
 
--- the references of an object that is read
-object-references : (object : Option Object) (references : List (Option ℕ)) → option_map (λ (object : Object). object.references) object ≡ Some references
-    → (field : ℕ) → reference_of object field ≡ get_or references field None
-object-references None references is field = absurd (none-some references is)
-object-references (Some object) references is field = ap (λ (list : List (Option ℕ)). get_or list field None) (same_Some object.references references is)
+-- what a reference of an object names is read from its references
+reference-read : (object : Option Object) (field : ℕ) → reference_of object field ≡ get_or (references_of object) field None
+reference-read None field = refl
+reference-read (Some object) field = refl
 
 module _ (world : World) where
   pub slots-below : (room : ℕ) → IsClosed world → births world ≤ room → NamesBelow room world.slots
   slots-below room closed few slot birth is = omega (arith, few, there_below world.objects birth (closed.slots slot birth is))
-
-  pub references-below : (room birth : ℕ) (references : List (Option ℕ)) → IsClosed world → births world ≤ room → option_map (λ (object : Object). object.references) (object_at world birth) ≡ Some references → NamesBelow room references
-  references-below room birth references closed few is field target at =
-      omega (arith, few, there_below world.objects target (closed.references birth field target (object-references (object_at world birth) references is field ∙ at)))
 
   -- it begins with what the slots name
   pub search-begins : IsSearch world [] (fold with_birth_named [] world.slots) 0
@@ -156,16 +151,19 @@ module _ (world : World) where
       ]
 
   -- and with the references of the next birth
-  pub search-more : (cuts : List Cut) (list : List ℕ) (next birth : ℕ) (references : List (Option ℕ)) → IsSearch world cuts list next → next < length list → birth ≡ get_or list next 0
-      → option_map (λ (object : Object). object.references) (object_at world birth) ≡ Some references → IsSearch world cuts (fold with_birth_named list references) (next + 1)
-  search-more cuts list next birth references search inside at is = record {
+  pub search-more : (cuts : List Cut) (list : List ℕ) (next birth : ℕ) → IsSearch world cuts list next → next < length list → birth ≡ get_or list next 0
+      → IsSearch world cuts (fold with_birth_named list (references_of (object_at world birth))) (next + 1)
+  search-more cuts list next birth search inside at = record {
     reached = names-all (ReachedFrom world (IsRoot world cuts)) list references search.reached each;
     roots = λ other root. names-keep list references other (search.roots other root);
     looked = looked;
   }
     where
+      references : List (Option ℕ)
+      references = references_of (object_at world birth)
+
       read : (field : ℕ) → reference_of (object_at world birth) field ≡ get_or references field None
-      read = object-references (object_at world birth) references is
+      read = reference-read (object_at world birth)
 
       each : (field target : ℕ) → get_or references field None ≡ Some target → ReachedFrom world (IsRoot world cuts) target
       each field target named =

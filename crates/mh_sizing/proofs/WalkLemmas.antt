@@ -21,8 +21,10 @@ use Rattle.mh_model.specs.LiveParts.{object_parts}
 use Rattle.mh_model.specs.Machine.{new_units, command_units}
 use Rattle.mh_model.specs.Needs.{WorldRun, first_run, half_run, runs_quantum, next_run, run_worlds}
 use Rattle.mh_model.specs.Openings.{asked_parts, pages_of_parts}
-use Rattle.mh_model.specs.World.{Object, World, Answer, blank, refusal, with_change, effect, says, unless_refused, sight_of, never_full, heap_step, slot_at, own_slot, with_reference, with_number, Performs}
+use Rattle.mh_model.specs.World.{Object, World, Answer, blank, refusal, with_change, effect, says, unless_refused, sight_of, never_full, heap_step, slot_at, own_slot, with_reference, with_number, world_step, Performs}
 use Rattle.mh_table_laws.proofs.objects.Parts.{some_parts}
+use Rattle.mh_shadow.specs.ShadowHeap.{outline_of}
+use Rattle.mh_shadow.proofs.WorldLemmas.{closed-world}
 use Rattle.mh_sizing_laws.specs.Made.{demand, intervals_made, made_parts, parts_made}
 use Rattle.mh_sizing.specs.declared.asked.Asked.{Asked}
 use Rattle.mh_sizing.specs.declared.counts.Counts.{Counts}
@@ -35,7 +37,7 @@ use Rattle.mh_sizing.specs.Runs.{run_after, ended_in, running_in, most_of}
 use Rattle.mh_sizing.specs.Steps.{made}
 use Rattle.mh_sizing.specs.Units.{units_made}
 use Rattle.mh_sizing.specs.Walk.{HasWalked}
-use Rattle.mh_sizing.specs.Worlds.{world_in, AreMostOf, HasLogOf, Performed}
+use Rattle.mh_sizing.specs.Worlds.{AreMostOf, HasLogOf, Performed}
 use Rattle.mh_sizing.specs.Demands.{demand_of}
 use Rattle.mh_sizing.proofs.DemandLemmas.{demand-is}
 use Rattle.mh_sizing.proofs.RunLemmas.{most_of-enough, most_of-few, after-push, worlds-push, made-push, intervals-cut, ended-push, running-push}
@@ -168,17 +170,17 @@ module _ (new : Walk) (config : Config) (events : List Event) (event : Event) (q
   abbrev pub ended_before : List (List Part)
   ended_before = ended_in [] (first_run config) events
 
-  pub walked-on : new.config ≡ config → (world_in new.world).config ≡ config → runs_quantum run event ≡ quantum → world_in new.world ≡ (half_run run event).world
+  pub walked-on : new.config ≡ config → (world : World) → world.config ≡ config → runs_quantum run event ≡ quantum → world ≡ (half_run run event).world
       → ((config.every ≡ 0 → ⊥) → new.units ≡ (if quantum then 0 else (half_run run event).units))
-      → HasLogOf new.world (run_worlds (first_run config) events ++ world_in new.world ∷ [])
+      → HasLogOf new.world (run_worlds (first_run config) events ++ world ∷ []) world
       → HasAsked new.asked (parts_made config events ++ now) (if quantum then [] else running_now ++ now) (if quantum then ended_before ++ (running_now ++ now) ∷ [] else ended_before)
       → HasWalked new config (events ++ event ∷ [])
-  walked-on configured at_config is world units log asks = record {
+  walked-on configured world at_config is half units log asks = record {
     configured = configured;
-    at_config = at_config;
-    at_world = world ∙ sym next;
+    at_config = ap (λ (w : World). w.config) (next ∙ sym half) ∙ at_config;
     at_units = λ some. units some ∙ sym (ap (λ (r : WorldRun). r.units) after ∙ next-units run event quantum);
-    log = subst (HasLogOf new.world) (ap (λ (w : World). run_worlds (first_run config) events ++ w ∷ []) (world ∙ sym last) ∙ sym (worlds-push (first_run config) events event)) log;
+    log = subst (HasLogOf new.world (run_worlds (first_run config) (events ++ event ∷ []))) (half ∙ sym next)
+        (subst (λ (worlds : List World). HasLogOf new.world worlds world) (ap (λ (w : World). run_worlds (first_run config) events ++ w ∷ []) (half ∙ sym last) ∙ sym (worlds-push (first_run config) events event)) log);
     asks = subst (λ (all : List Part). HasAsked new.asked all (running_in [] (first_run config) (events ++ event ∷ [])) (ended_in [] (first_run config) (events ++ event ∷ []))) (sym (made-push (first_run config) events event))
         (subst (λ (list : List Part). HasAsked new.asked (parts_made config events ++ now) list (ended_in [] (first_run config) (events ++ event ∷ []))) (sym (running-push quantum [] (first_run config) events event is))
         (subst (HasAsked new.asked (parts_made config events ++ now) (if quantum then [] else running_now ++ now)) (sym (ended-push quantum [] (first_run config) events event is)) asks));
@@ -200,21 +202,20 @@ made-nothing asked all running ended has = subst (λ (list : List Part). HasAske
 -- Sessions ---------------------------------------------------------------------------------------
 
 -- what a command has made of the parts that it asks for
-pub made-list : (old : Walk) (config : Config) (before : List Event) → HasWalked old config before → (who : ℕ) (c : Command) (count : ℕ) (new : World) → Performed (world_in old.world) new who c count → (list : List Part) → list ≡ asked_parts config (event.Session who c)
-    → (if nat_lt 0 count then list else []) ≡ made_parts (run_after (first_run config) before) (event.Session who c)
-made-list old config before walked who c count new performed list is =
-    made-are (run_after (first_run config) before) config who c new count list (ap (λ (w : World). w.config) (sym walked.at_world) ∙ walked.at_config) (subst (λ (w : World). Performed w new who c count) walked.at_world performed) is
+pub made-list : (old : Walk) (config : Config) (before : List Event) → HasWalked old config before → (who : ℕ) (c : Command) (count : ℕ) → Performed (run_after (first_run config) before).world (world_step (run_after (first_run config) before).world who c).state who c count
+    → (list : List Part) → list ≡ asked_parts config (event.Session who c) → (if nat_lt 0 count then list else []) ≡ made_parts (run_after (first_run config) before) (event.Session who c)
+made-list old config before walked who c count performed list is =
+    let run = run_after (first_run config) before in
+    made-are run config who c (world_step run.world who c).state count list walked.at_config performed is
 
 module _ (old new : Walk) (config : Config) (before : List Event) (walked : HasWalked old config before) (who : ℕ) (c : Command) (count : ℕ) (configured : new.config ≡ old.config)
-    (performed : Performed (world_in old.world) (world_in new.world) who c count) (log : HasLogOf new.world (run_worlds (first_run config) before ++ world_in new.world ∷ [])) where
+    (did : Performed (run_after (first_run config) before).world (world_step (run_after (first_run config) before).world who c).state who c count)
+    (log : HasLogOf new.world (run_worlds (first_run config) before ++ (world_step (run_after (first_run config) before).world who c).state ∷ []) (world_step (run_after (first_run config) before).world who c).state) where
   abbrev at : WorldRun
   at = run_after (first_run config) before
 
-  at-config : at.world.config ≡ config
-  at-config = ap (λ (w : World). w.config) (sym walked.at_world) ∙ walked.at_config
-
-  did : Performed at.world (world_in new.world) who c count
-  did = subst (λ (w : World). Performed w (world_in new.world) who c count) walked.at_world performed
+  abbrev next : World
+  next = (world_step (run_after (first_run config) before).world who c).state
 
   abbrev pub made_now : List Part
   made_now = made_parts (run_after (first_run config) before) (event.Session who c)
@@ -226,8 +227,8 @@ module _ (old new : Walk) (config : Config) (before : List Event) (walked : HasW
       → HasWalked new config (before ++ event.Session who c ∷ [])
   unscheduled none asks =
       let never : config.every ≡ 0 = sym every-same ∙ none in
-      walked-on new config before (event.Session who c) false (configured ∙ walked.configured) (half-config at config who c (world_in new.world) count at-config did) (quantum-never at config who c (world_in new.world) count at-config did never)
-      (sym (half-world at config who c (world_in new.world) count at-config did)) (λ some. absurd (some never)) log asks
+      walked-on new config before (event.Session who c) false (configured ∙ walked.configured) next (half-config at config who c next count walked.at_config did) (quantum-never at config who c next count walked.at_config did never)
+      (sym (half-world at config who c next count walked.at_config did)) (λ some. absurd (some never)) log asks
 
   module _ (some : old.config.every ≡ 0 → ⊥) (units : ℕ) (units_is : units ≡ units_made old.config.rules count) where
     sum-is : old.units + units ≡ at.units + units_made config.rules count
@@ -236,33 +237,37 @@ module _ (old new : Walk) (config : Config) (before : List Event) (walked : HasW
     pub scheduled-on : new.units ≡ old.units + units → new.units < old.config.every → HasAsked new.asked (parts_made config before ++ made_now) (running_in [] (first_run config) before ++ made_now) (ended_in [] (first_run config) before)
         → HasWalked new config (before ++ event.Session who c ∷ [])
     scheduled-on sum few asks =
-        walked-on new config before (event.Session who c) false (configured ∙ walked.configured) (half-config at config who c (world_in new.world) count at-config did)
-        (quantum-is at config who c (world_in new.world) count at-config did false (λ none. some (every-same ∙ none)) (lt-leb config.every (at.units + units_made config.rules count) (omega (arith, few, sum, sum-is, every-same))))
-        (sym (half-world at config who c (world_in new.world) count at-config did)) (λ _. sum ∙ sum-is ∙ sym (half-units at config who c (world_in new.world) count at-config did)) log asks
+        walked-on new config before (event.Session who c) false (configured ∙ walked.configured) next (half-config at config who c next count walked.at_config did)
+        (quantum-is at config who c next count walked.at_config did false (λ none. some (every-same ∙ none)) (lt-leb config.every (at.units + units_made config.rules count) (omega (arith, few, sum, sum-is, every-same))))
+        (sym (half-world at config who c next count walked.at_config did)) (λ _. sum ∙ sum-is ∙ sym (half-units at config who c next count walked.at_config did)) log asks
 
     pub scheduled-due : new.units ≡ 0 → old.config.every ≤ old.units + units
         → HasAsked new.asked (parts_made config before ++ made_now) [] (ended_in [] (first_run config) before ++ (running_in [] (first_run config) before ++ made_now) ∷ [])
         → HasWalked new config (before ++ event.Session who c ∷ [])
     scheduled-due none due asks =
-        walked-on new config before (event.Session who c) true (configured ∙ walked.configured) (half-config at config who c (world_in new.world) count at-config did)
-        (quantum-is at config who c (world_in new.world) count at-config did true (λ never. some (every-same ∙ never)) (le-leb config.every (at.units + units_made config.rules count) (omega (arith, due, sum-is, every-same))))
-        (sym (half-world at config who c (world_in new.world) count at-config did)) (λ _. none) log asks
+        walked-on new config before (event.Session who c) true (configured ∙ walked.configured) next (half-config at config who c next count walked.at_config did)
+        (quantum-is at config who c next count walked.at_config did true (λ never. some (every-same ∙ never)) (le-leb config.every (at.units + units_made config.rules count) (omega (arith, due, sum-is, every-same))))
+        (sym (half-world at config who c next count walked.at_config did)) (λ _. none) log asks
 
 -- Controls ---------------------------------------------------------------------------------------
 
 module _ (old new : Walk) (config : Config) (before : List Event) (walked : HasWalked old config before) (control : Control) (configured : new.config ≡ old.config) (same : new.world ≡ old.world) where
   run-config : (run_after (first_run config) before).world.config ≡ old.config
-  run-config = ap (λ (w : World). w.config) (sym walked.at_world) ∙ walked.at_config ∙ sym walked.configured
+  run-config = walked.at_config ∙ sym walked.configured
 
   -- the same world once more
-  log-same : HasLogOf new.world (run_worlds (first_run config) before ++ world_in new.world ∷ [])
-  log-same = subst (λ (w : RunWorld). HasLogOf w (run_worlds (first_run config) before ++ world_in w ∷ [])) (sym same) (log-again (run_worlds (first_run config) before) old.world.cuts.items (world_in old.world) old.world.heap.closed walked.log)
+  log-same : HasLogOf new.world (run_worlds (first_run config) before ++ (run_after (first_run config) before).world ∷ []) (run_after (first_run config) before).world
+  log-same =
+      let world = (run_after (first_run config) before).world in
+      let outlines = walked.log.outlines in
+      subst (λ (w : RunWorld). HasLogOf w (run_worlds (first_run config) before ++ world ∷ []) world) (sym same)
+      (record { outlines = outlines; log = log-again (run_worlds (first_run config) before) old.world.cuts.items world (closed-world (outline_of old.world.heap) world outlines old.world.heap.sound) walked.log.log })
 
   pub control-on : (quantum : Bool) → runs_quantum (run_after (first_run config) before) (event.Control control) ≡ quantum → new.units ≡ (if quantum then 0 else old.units)
       → HasAsked new.asked (parts_made config before ++ []) (if quantum then [] else running_in [] (first_run config) before ++ []) (if quantum then ended_in [] (first_run config) before ++ (running_in [] (first_run config) before ++ []) ∷ [] else ended_in [] (first_run config) before)
       → HasWalked new config (before ++ event.Control control ∷ [])
   control-on quantum is units asks =
-      walked-on new config before (event.Control control) quantum (configured ∙ walked.configured) (ap (λ (w : RunWorld). (world_in w).config) same ∙ walked.at_config) is (ap world_in same ∙ walked.at_world) (λ some. units ∙ ap (λ n. if quantum then 0 else n) (walked.at_units some)) log-same asks
+      walked-on new config before (event.Control control) quantum (configured ∙ walked.configured) (run_after (first_run config) before).world walked.at_config is refl (λ some. units ∙ ap (λ n. if quantum then 0 else n) (walked.at_units some)) log-same asks
 
   -- whether it has a quantum run
   pub control-quantum : (asks : Bool) → runs_quantum (run_after (first_run config) before) (event.Control control) ≡ (asks && ((run_after (first_run config) before).world.config.every == 0)) → (due : Bool) → (asks && (old.config.every == 0)) ≡ due

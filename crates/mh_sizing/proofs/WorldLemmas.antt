@@ -1,5 +1,5 @@
 -- Logs of runs, and the most that their worlds reach.
-use Rattle.std.proofs.Common.{◌≡◌, ℕ, ◌+◌, ◌<◌, ◌≤◌, ◌^◌, Option, Some, None, option_map, List, [], ◌∷◌, ◌++◌, length, drop, refl, sym, ap, ◌∙◌, subst, lit<, arith}
+use Rattle.std.proofs.Common.{◌≡◌, ℕ, ◌+◌, ◌<◌, ◌≤◌, ◌^◌, Option, Some, None, option_map, List, [], ◌∷◌, ◌++◌, length, drop, refl, sym, ap, ◌∙◌, subst, arith}
 use Rattle.std.specs.List.{All, AllByRecursion, sum_by}
 use Rattle.std.proofs.lemmas.List.Elements.{All-from_recursion, recursion_from_All}
 use Rattle.std.proofs.lemmas.List.Sums.{sum_by-cons}
@@ -27,7 +27,7 @@ use Rattle.mh_sizing.proofs.ListLemmas.{all-append, all-more, any-more}
 use Rattle.mh_sizing.proofs.CountLemmas.{by-shape}
 use Rattle.mh_sizing.proofs.CutLemmas.{cuts-now, log-cuts, log-step, name-cut, now-in}
 use Rattle.mh_sizing.proofs.FollowLemmas.{overwritten-reached, step-follows}
-use Rattle.mh_sizing.proofs.StepLemmas.{IsByShape, same-number, most-grows, step-births, step-sized, made-small, first-sized, first-most, parts-by_shape, units-by_shape}
+use Rattle.mh_sizing.proofs.StepLemmas.{IsByShape, same-number, most-grows, step-births, made-small, first-most, parts-by_shape, units-by_shape}
 
 -- The most of worlds -----------------------------------------------------------------------------
 
@@ -73,8 +73,6 @@ logged-names world who c cuts new grown = record {
 
 pub within-logged : (world : World) (cuts new : List Cut) (all : Counts) → IsClosed world → HasLogged world cuts new → IsWithin world cuts all → IsWithin world new all
 within-logged world cuts new all closed logged within = record {
-  births_few = within.births_few;
-  sized = within.sized;
   cuts_in = subst (All (IsCutIn world)) (sym logged.grown) (All-from_recursion (IsCutIn world) (cuts ++ logged.now) (all-append (IsCutIn world) cuts logged.now (recursion_from_All (IsCutIn world) cuts within.cuts_in) (now-in world closed logged.now logged.are_now)));
   parts = within.parts;
   units = within.units;
@@ -107,11 +105,9 @@ module _ (old new : World) (who : ℕ) (command : Command) (answer : Reply) (per
       are_now = cuts-now old (overwritten old who command) (overwritten-reached old who command)
 
   -- what is always so, with what was made counted
-  pub within-on : (cuts : List Cut) (all counted : Counts) → IsWithin old cuts all → HasRoomToMake old all command → counted.parts ≡ all.parts + object_parts (made command answer) → counted.units ≡ all.units + object_units (made command answer)
+  pub within-on : (cuts : List Cut) (all counted : Counts) → IsWithin old cuts all → counted.parts ≡ all.parts + object_parts (made command answer) → counted.units ≡ all.units + object_units (made command answer)
       → counted.parts ≤ 2 ^ 63 → counted.units ≤ 2 ^ 63 → IsWithin new cuts counted
-  within-on cuts all counted within room parts_are units_are parts_few units_few = record {
-    births_few = omega (arith, step-births old who command answer new performs, room.births_few answer);
-    sized = step-sized old who command answer new performs within.sized;
+  within-on cuts all counted within parts_are units_are parts_few units_few = record {
     cuts_in = λ index cut inside. let is = within.cuts_in index cut inside in record { birth = omega (arith, is.birth, step-births old who command answer new performs); births_few = omega (arith, is.births_few, step-births old who command answer new performs) };
     parts = λ list once. omega (arith, parts_are, most-grows object_parts parts-by_shape old new (overwritten old who command) (made command answer) (step-follows old who command answer new performs) all.parts within.parts list once);
     units = λ list once. omega (arith, units_are, most-grows object_units units-by_shape old new (overwritten old who command) (made command answer) (step-follows old who command answer new performs) all.units within.units list once);
@@ -120,9 +116,9 @@ module _ (old new : World) (who : ℕ) (command : Command) (answer : Reply) (per
   }
 
   -- nothing was made
-  pub within-none : (cuts : List Cut) (all : Counts) → IsWithin old cuts all → HasRoomToMake old all command → made command answer ≡ None → IsWithin new cuts all
-  within-none cuts all within room none =
-      within-on cuts all all within room (omega (arith, ap object_parts none)) (omega (arith, ap object_units none)) within.parts_few within.units_few
+  pub within-none : (cuts : List Cut) (all : Counts) → IsWithin old cuts all → made command answer ≡ None → IsWithin new cuts all
+  within-none cuts all within none =
+      within-on cuts all all within (omega (arith, ap object_parts none)) (omega (arith, ap object_units none)) within.parts_few within.units_few
 
   -- an object was made
   module _ (shape : Shape) (some : option_map shape_of (made command answer) ≡ Some shape) where
@@ -135,18 +131,16 @@ module _ (old new : World) (who : ℕ) (command : Command) (answer : Reply) (per
     pub made-units : object_units (made command answer) ≡ sum_by part_units (parts shape.references shape.numbers)
     made-units = by-shape (λ r n. sum_by part_units (parts r n)) object_units (λ o. refl) (made command answer) shape some
 
-    pub parts-few : (all : Counts) → HasRoomToMake old all command → all.parts < LIFE
+    pub parts-few : (all : Counts) → HasRoomToMake all command → all.parts < LIFE
     parts-few all room = let (object, is) = made-some (made command answer) shape some in room.parts answer object is
 
-    pub units-few : (all : Counts) → HasRoomToMake old all command → all.units < LIFE
+    pub units-few : (all : Counts) → HasRoomToMake all command → all.units < LIFE
     units-few all room = let (object, is) = made-some (made command answer) shape some in room.units answer object is
 
 -- The first world --------------------------------------------------------------------------------
 
 pub first-within : (config : Config) (all : Counts) → all.parts ≡ 0 → all.units ≡ 0 → IsWithin (first_world config) [] all
 first-within config all parts units = record {
-  births_few = lit< tt;
-  sized = first-sized config;
   cuts_in = λ index cut inside. absurd (omega (arith, inside));
   parts = λ list once. omega (arith, parts, first-most object_parts parts-by_shape config list once);
   units = λ list once. omega (arith, units, first-most object_units units-by_shape config list once);

@@ -5,30 +5,16 @@ use Rattle.mh_model.specs.declared.command.Command.{Command}
 use Rattle.mh_model.specs.declared.command.Command.TheVariants as command
 use Rattle.mh_model.specs.Classes.{tabulate}
 use Rattle.mh_model.specs.Paths.{IsNamed, Reachable, Refers}
-use Rattle.mh_model.specs.World.{World, births, board_slot, object_at, object_in, own_slot, reference_of, shape_of, slot_at}
+use Rattle.mh_model.specs.World.{World, births, object_at, own_slot, shape_of, slot_at}
+use Rattle.mh_shadow.specs.OutlineSteps as steps
 use Rattle.mh_sizing.specs.declared.cuts.Cut.{Cut}
 
 -- What a command overwrites ----------------------------------------------------------------------
 
--- what a slot or a reference names that a command may overwrite, before it is performed
-abbrev pub overwritten_name : World → ℕ → Command → Option ℕ
-overwritten_name world who (command.New slot references numbers) = slot_at world (own_slot who slot)
-overwritten_name world who (command.Get slot source field) = slot_at world (own_slot who slot)
-overwritten_name world who (command.Put slot field value) = reference_of (object_in world (own_slot who slot)) field
-overwritten_name world who (command.Copy slot source) = slot_at world (own_slot who slot)
-overwritten_name world who (command.Clear slot) = slot_at world (own_slot who slot)
-overwritten_name world who (command.Post board slot) = slot_at world (board_slot board)
-overwritten_name world who (command.Take slot board) = slot_at world (own_slot who slot)
-overwritten_name world who (command.Read slot index) = None
-overwritten_name world who (command.Write slot index number) = None
-overwritten_name world who (command.Same left right) = None
-overwritten_name world who (command.Shape slot) = None
-overwritten_name world who command.End = None
-
--- `end` overwrites all slots of its session
+-- what slots or a reference name that a command may overwrite, before it is performed: `end` overwrites all slots of its session
 abbrev pub overwritten : World → ℕ → Command → List (Option ℕ)
 overwritten world who command.End = tabulate (slot_at world) (own_slot who 0) 16
-overwritten world who other = overwritten_name world who other ∷ []
+overwritten world who other = steps.overwritten world who other ∷ []
 
 -- the cuts of these names, when so many objects had been made
 abbrev pub cuts_of : ℕ → List (Option ℕ) → List Cut

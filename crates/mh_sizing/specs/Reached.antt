@@ -1,5 +1,5 @@
 -- The births that a search finds, those that a world reaches, and how much their objects count.
-use Rattle.std.specs.Prelude.{◌≡◌, ℕ, ◌<◌, ◌≤◌, true, Option, Some, None, List, get_or}
+use Rattle.std.specs.Prelude.{◌≡◌, ℕ, ◌<◌, ◌≤◌, true, Option, Some, None, List, [], get_or}
 use Rattle.std.specs.List.{AllByRecursion, sum_by}
 use Rattle.mh_model.specs.Batches.{NoneTwice}
 use Rattle.mh_model.specs.Paths.{Reachable}
@@ -7,6 +7,11 @@ use Rattle.mh_model.specs.World.{Object, World, object_at, reference_of}
 use Rattle.mh_sizing.specs.declared.cuts.Cut.{Cut}
 use Rattle.mh_sizing.specs.Births.{is_among}
 use Rattle.mh_sizing.specs.Cuts.{IsRoot, ReachedFrom}
+
+-- the references of an object, if one is there
+abbrev pub references_of : Option Object → List (Option ℕ)
+references_of None = []
+references_of (Some object) = object.references
 
 -- what these slots or references name is below a number
 abbrev pub NamesBelow : ℕ → List (Option ℕ) → Type 0

@@ -1,23 +1,20 @@
 -- What is always so of the world of a run, of its log, and of what is counted of it.
-use Rattle.std.specs.Prelude.{◌≡◌, ◌+◌, ◌≤◌, ◌<◌, ◌^◌, Some, List}
+use Rattle.std.specs.Prelude.{◌≡◌, ◌≤◌, ◌<◌, ◌^◌, Some, List}
 use Rattle.std.specs.List.{All}
 use Rattle.mh_model.specs.declared.birth.TheConstants.{LIFE}
 use Rattle.mh_model.specs.declared.command.Command.{Command}
 use Rattle.mh_model.specs.declared.reply.Reply.{Reply}
 use Rattle.mh_model.specs.CycleUnits.{object_units}
 use Rattle.mh_model.specs.LiveParts.{object_parts}
-use Rattle.mh_model.specs.World.{Object, World, births}
+use Rattle.mh_model.specs.World.{Object, World}
 use Rattle.mh_sizing.specs.declared.counts.Counts.{Counts}
 use Rattle.mh_sizing.specs.declared.cuts.Cut.{Cut}
 use Rattle.mh_sizing.specs.Cuts.{IsCutIn}
-use Rattle.mh_sizing.specs.Objects.{IsWellSized}
 use Rattle.mh_sizing.specs.Reached.{AreAtMost}
-use Rattle.mh_sizing.specs.Steps.{made, made_count}
+use Rattle.mh_sizing.specs.Steps.{made}
 
 -- Each cut is of an object of the world, and all objects together count no more than this, which is in bounds
 pub record IsWithin (world : World) (cuts : List Cut) (all : Counts) : Type 0 where
-  pub births_few : births world < LIFE
-  pub sized : IsWellSized world
   pub cuts_in : All (IsCutIn world) cuts
   pub parts : AreAtMost object_parts all.parts world
   pub units : AreAtMost object_units all.units world
@@ -25,7 +22,6 @@ pub record IsWithin (world : World) (cuts : List Cut) (all : Counts) : Type 0 wh
   pub units_few : all.units ≤ 2 ^ 63
 
 -- There is room to count what a command makes, whatever it is answered
-pub record HasRoomToMake (world : World) (all : Counts) (command : Command) : Type 0 where
-  pub births_few : (answer : Reply) → births world + made_count (made command answer) < LIFE
+pub record HasRoomToMake (all : Counts) (command : Command) : Type 0 where
   pub parts : (answer : Reply) (object : Object) → made command answer ≡ Some object → all.parts < LIFE
   pub units : (answer : Reply) (object : Object) → made command answer ≡ Some object → all.units < LIFE

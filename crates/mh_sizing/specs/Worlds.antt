@@ -1,12 +1,13 @@
 -- The most that the worlds of a run reach.
 use Rattle.std.specs.Prelude.{◌≡◌, ℕ, Option, List}
 use Rattle.std.specs.List.{AllByRecursion, Any}
-use Rattle.mh_heap.specs.PlainHeap.{world_of}
 use Rattle.mh_model.specs.declared.command.Command.{Command}
 use Rattle.mh_model.specs.declared.reply.Reply.{Reply}
 use Rattle.mh_model.specs.CycleUnits.{object_units}
 use Rattle.mh_model.specs.LiveParts.{object_parts}
 use Rattle.mh_model.specs.World.{Object, World, never_full, Performs}
+use Rattle.mh_shadow.specs.Outline.{Outlines}
+use Rattle.mh_shadow.specs.ShadowHeap.{outline_of}
 use Rattle.mh_sizing.specs.declared.counts.Counts.{Counts}
 use Rattle.mh_sizing.specs.declared.world.RunWorld.{RunWorld}
 use Rattle.mh_sizing.specs.Cuts.{IsLogOf}
@@ -23,13 +24,10 @@ pub record AreMostOf (most : Counts) (worlds : List World) : Type 0 where
   pub parts : IsMostOf object_parts most.parts worlds
   pub units : IsMostOf object_units most.units worlds
 
--- the world that a walk is in
-abbrev pub world_in : RunWorld → World
-world_in run = world_of run.heap
-
--- the walk has a log of these worlds
-abbrev pub HasLogOf : RunWorld → List World → Type 0
-HasLogOf run worlds = IsLogOf worlds run.cuts.items (world_in run)
+-- A run has a log of these worlds, the last of which its heap outlines
+pub record HasLogOf (run : RunWorld) (worlds : List World) (last : World) : Type 0 where
+  pub outlines : Outlines (outline_of run.heap) last
+  pub log : IsLogOf worlds run.cuts.items last
 
 -- A command was performed in a world, and what it made has so many parts
 pub record Performed (old new : World) (who : ℕ) (command : Command) (parts : ℕ) : Type 0 where

@@ -7,32 +7,29 @@
 //! count no longer. Each object is found once, and each reference is looked at once.
 ghost use Rattle.std.specs.Prelude.{◌≡◌, ◌+◌, ◌<◌, ◌≤◌, ◌^◌, if◌then◌else◌, min, max, ℕ, List, [], ◌∷◌, IfOk, length};
 ghost use Rattle.std.specs.List.{All};
-ghost use Rattle.mh_heap.specs.PlainHeap.{world_of};
 ghost use Rattle.mh_model.specs.Batches.{NoneTwice};
 ghost use Rattle.mh_model.specs.CycleUnits.{object_units};
 ghost use Rattle.mh_model.specs.LiveParts.{object_parts};
 ghost use Rattle.mh_model.specs.World.{births, object_at};
+ghost use Rattle.mh_shadow.specs.ShadowHeap.{world_of};
 ghost use Rattle.mh_sizing.specs.declared.cuts.Cut.{Cut};
 ghost use Rattle.mh_sizing.specs.Births.{with_birth};
 ghost use Rattle.mh_sizing.specs.Cuts.{IsCutIn};
 ghost use Rattle.mh_sizing.specs.Moments.{HasMostFrom, IsCounted, IsMoment};
-ghost use Rattle.mh_sizing.specs.Objects.{IsWellSized};
 ghost use Rattle.mh_sizing.specs.Reached.{AreAtMost, IsSearch};
 
 use crate::births::BirthSet;
 use crate::counts::{Counts, count_object};
 use crate::cuts::Cut;
 use crate::reach::{insert_all, insert_roots};
-use mh_heap::heap::Heap;
-use mh_heap::plain::PlainHeap;
 use mh_model::birth::Birth;
 use mh_model::memory::NoMemory;
+use mh_shadow::shadow::ShadowHeap;
 use std::alloc::Global;
 
 /// What an object counts that is to be counted, and otherwise nothing.
-fn count_if(heap: &PlainHeap, birth: Birth, is_counted: bool) -> Counts
-    requires sized { IsWellSized (world_of heap.now) }
-    requires there { birth < births (world_of heap.now) }
+fn count_if(heap: &ShadowHeap, birth: Birth, is_counted: bool) -> Counts
+    requires { birth < births (world_of heap.now) }
     ensures parts { result.parts ≡ if is_counted then object_parts (object_at (world_of heap.now) birth) else 0 }
     ensures units { result.units ≡ if is_counted then object_units (object_at (world_of heap.now) birth) else 0 }
 {
@@ -57,9 +54,8 @@ struct Moment {
 
 impl Moment {
     /// Counts what was inserted in the set, and all that it leads to.
-    fn look_through(&mut self, heap: &PlainHeap)
+    fn look_through(&mut self, heap: &ShadowHeap)
         requires counted { IsCounted (world_of heap.now) self.old }
-        requires sized { IsWellSized (world_of heap.now) }
         requires few_parts { AreAtMost object_parts (2 ^ 63) (world_of heap.now) }
         requires few_units { AreAtMost object_units (2 ^ 63) (world_of heap.now) }
         ensures counted { IsCounted (world_of heap.now) self.new }
@@ -74,14 +70,13 @@ impl Moment {
             let object = count_if(heap, birth, birth.0 < self.births);
             self.held.parts += object.parts;
             self.held.units += object.units;
-            insert_all(&mut self.set, heap.references(birth));
+            insert_all(&mut self.set, heap, birth);
             self.looked += 1;
         }
     }
 
     /// The last moment of a log.
-    fn last(alloc: Global, heap: &PlainHeap) -> Result<Moment, NoMemory>
-        requires sized { IsWellSized (world_of heap.now) }
+    fn last(alloc: Global, heap: &ShadowHeap) -> Result<Moment, NoMemory>
         requires few_parts { AreAtMost object_parts (2 ^ 63) (world_of heap.now) }
         requires few_units { AreAtMost object_units (2 ^ 63) (world_of heap.now) }
         ensures counted { IfOk result (IsCounted (world_of heap.now)) }
@@ -105,9 +100,8 @@ impl Moment {
     }
 
     /// Counts no longer what was made when there were so many births or more.
-    fn go_back(&mut self, heap: &PlainHeap, births: u64)
+    fn go_back(&mut self, heap: &ShadowHeap, births: u64)
         requires counted { IsCounted (world_of heap.now) self.old }
-        requires sized { IsWellSized (world_of heap.now) }
         requires all { self.old.looked ≡ length self.old.set.births }
         requires once { NoneTwice self.old.set.births }
         ensures counted { IsCounted (world_of heap.now) self.new }
@@ -126,9 +120,8 @@ impl Moment {
     }
 
     /// Goes back to before a cut.
-    fn undo(&mut self, heap: &PlainHeap, cut: Cut)
+    fn undo(&mut self, heap: &ShadowHeap, cut: Cut)
         requires counted { IsCounted (world_of heap.now) self.old }
-        requires sized { IsWellSized (world_of heap.now) }
         requires few_parts { AreAtMost object_parts (2 ^ 63) (world_of heap.now) }
         requires few_units { AreAtMost object_units (2 ^ 63) (world_of heap.now) }
         requires all { self.old.looked ≡ length self.old.set.births }
@@ -149,8 +142,7 @@ impl Moment {
 }
 
 /// The most that was held at a moment of a log.
-pub(crate) fn most_held(alloc: Global, heap: &PlainHeap, cuts: &[Cut]) -> Result<Counts, NoMemory>
-    requires sized { IsWellSized (world_of heap.now) }
+pub(crate) fn most_held(alloc: Global, heap: &ShadowHeap, cuts: &[Cut]) -> Result<Counts, NoMemory>
     requires few_parts { AreAtMost object_parts (2 ^ 63) (world_of heap.now) }
     requires few_units { AreAtMost object_units (2 ^ 63) (world_of heap.now) }
     requires cuts { All (IsCutIn (world_of heap.now)) cuts.now }

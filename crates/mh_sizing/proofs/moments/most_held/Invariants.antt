@@ -1,8 +1,8 @@
 use Rattle.std.proofs.Common.{drop}
-use Rattle.mh_heap.specs.PlainHeap.{world_of}
 use Rattle.mh_model.specs.Batches.{NoneTwice}
 use Rattle.mh_model.specs.CycleUnits.{object_units}
 use Rattle.mh_model.specs.LiveParts.{object_parts}
+use Rattle.mh_shadow.specs.ShadowHeap.{world_of}
 use Rattle.mh_sizing.specs.Moments.{HasMostFrom, IsCounted, IsMoment}
 use Rattle.mh_sizing.proofs.moments.most_held.Given as goal
 

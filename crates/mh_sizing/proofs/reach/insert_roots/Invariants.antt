@@ -1,6 +1,6 @@
 use Rattle.std.proofs.Common.{◌≡◌, take}
 use Rattle.std.specs.List.{fold}
-use Rattle.mh_heap.specs.PlainHeap.{world_of}
+use Rattle.mh_shadow.specs.ShadowHeap.{world_of}
 use Rattle.mh_sizing.specs.Births.{with_birth_named}
 use Rattle.mh_sizing.proofs.reach.insert_roots.Given as goal
 

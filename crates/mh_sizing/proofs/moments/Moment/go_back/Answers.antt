@@ -1,9 +1,9 @@
 use Rattle.std.proofs.Common.{◌≡◌, ℕ, ◌+◌, ◌-◌, ◌<◌, Bool, if◌then◌else◌, Option, length, take, sym, ap, ◌∙◌, subst, arith}
-use Rattle.mh_heap.specs.PlainHeap.{world_of}
 use Rattle.mh_model.specs.Batches.{NoneTwice}
 use Rattle.mh_model.specs.CycleUnits.{object_units}
 use Rattle.mh_model.specs.LiveParts.{object_parts}
 use Rattle.mh_model.specs.World.{Object, World, object_at}
+use Rattle.mh_shadow.specs.ShadowHeap.{world_of}
 use Rattle.mh_sizing.specs.declared.moments.Moment.{Moment}
 use Rattle.mh_sizing.specs.Births.{InOrder, is_among}
 use Rattle.mh_sizing.specs.Moments.{sum_before}

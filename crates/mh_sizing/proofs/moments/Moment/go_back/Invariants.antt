@@ -1,5 +1,5 @@
 use Rattle.std.proofs.Common.{◌≡◌, min}
-use Rattle.mh_heap.specs.PlainHeap.{world_of}
+use Rattle.mh_shadow.specs.ShadowHeap.{world_of}
 use Rattle.mh_sizing.specs.Moments.{IsCounted}
 use Rattle.mh_sizing.proofs.moments.Moment.go_back.Given as goal
 

@@ -1,13 +1,13 @@
 use Rattle.std.proofs.Common.{◌≡◌, ◌+◌, ◌<◌, ◌≤◌, ◌^◌, nat_lt, if◌then◌else◌, length, take, sym, ap, ◌∙◌, subst, arith}
-use Rattle.mh_heap.specs.PlainHeap.{world_of}
 use Rattle.mh_model.specs.CycleUnits.{object_units}
 use Rattle.mh_model.specs.LiveParts.{object_parts}
 use Rattle.mh_model.specs.World.{object_at}
+use Rattle.mh_shadow.specs.ShadowHeap.{world_of}
 use Rattle.mh_sizing.specs.Births.{InOrder}
 use Rattle.mh_sizing.specs.Moments.{sum_before}
-use Rattle.mh_sizing.specs.Reached.{IsSearch}
+use Rattle.mh_sizing.specs.Reached.{references_of, IsSearch}
 use Rattle.mh_sizing.proofs.MomentLemmas.{before-few, before-more}
-use Rattle.mh_sizing.proofs.SearchLemmas.{names-length, names-take, references-below, search-more}
+use Rattle.mh_sizing.proofs.SearchLemmas.{names-length, names-take, search-more}
 use Rattle.mh_sizing.proofs.moments.Moment.look_through.Goals as goal
 
 pub overflow_add-self : goal.overflow_add-self
@@ -30,29 +30,26 @@ overflow_add-self-in-loop-self c =
     let few : self.held.units + c.count_if-object.result.units ≤ 2 ^ 63 = omega (arith, more, c.loop-self.invariant.counted.units, before-few object_units world self.births self.set.births (self.looked + 1) (2 ^ 63) c.len.ensures.once c.requires.few_units) in
     omega (arith, few)
 
-pub insert_all-requires : goal.insert_all-requires
-insert_all-requires c =
-    references-below (world_of c.args.heap.now) c.loop-self.self.set.room c.get-birth.result c.references.result.now c.args.heap.now.closed (omega (arith, c.loop-self.invariant.counted.room)) c.references.ensures
-
 pub loop-self-preserved : goal.loop-self-preserved
 loop-self-preserved c =
     let world = world_of c.args.heap.now in
     let self = c.loop-self.self in
     let inside : self.looked < length self.set.births = omega (arith, c.loop-self-test.true, c.len.ensures.count) in
+    let references = references_of (object_at world c.get-birth.result) in
     let list = ap (λ (set : InOrder). set.births) c.insert_all.ensures in
     let parts = c.count_if-object.ensures.parts ∙ ap (λ n. if nat_lt n self.births then object_parts (object_at world c.get-birth.result) else 0) c.birth.view_is in
     let units = c.count_if-object.ensures.units ∙ ap (λ n. if nat_lt n self.births then object_units (object_at world c.get-birth.result) else 0) c.birth.view_is in
-    let looked : take (self.looked + 1) c.insert_all.new.set.births ≡ take (self.looked + 1) self.set.births = ap (λ l. take (self.looked + 1) l) list ∙ names-take self.set.births c.references.result.now (self.looked + 1) (omega (arith, inside)) in
+    let looked : take (self.looked + 1) c.insert_all.new.set.births ≡ take (self.looked + 1) self.set.births = ap (λ l. take (self.looked + 1) l) list ∙ names-take self.set.births references (self.looked + 1) (omega (arith, inside)) in
     record {
       counted = record {
         room = ap (λ (set : InOrder). set.room) c.insert_all.ensures ∙ c.loop-self.invariant.counted.room;
         births_few = c.loop-self.invariant.counted.births_few;
-        looked_few = omega (arith, inside, ap (λ l. length l) list, names-length self.set.births c.references.result.now);
+        looked_few = omega (arith, inside, ap (λ l. length l) list, names-length self.set.births references);
         parts = omega (arith, c.loop-self.invariant.counted.parts, before-more object_parts world self.births self.set.births self.looked c.get-birth.result c.count_if-object.result.parts inside c.get-birth.ensures.value parts, ap (λ l. sum_before object_parts world self.births l) looked);
         units = omega (arith, c.loop-self.invariant.counted.units, before-more object_units world self.births self.set.births self.looked c.get-birth.result c.count_if-object.result.units inside c.get-birth.ensures.value units, ap (λ l. sum_before object_units world self.births l) looked);
       };
       search = λ cuts search. subst (λ list. IsSearch world cuts list (self.looked + 1)) (sym list)
-          (search-more world cuts self.set.births self.looked c.get-birth.result c.references.result.now (c.loop-self.invariant.search cuts search) inside c.get-birth.ensures.value c.references.ensures);
+          (search-more world cuts self.set.births self.looked c.get-birth.result (c.loop-self.invariant.search cuts search) inside c.get-birth.ensures.value);
       births = c.loop-self.invariant.births;
       most = c.loop-self.invariant.most;
     }

@@ -1,5 +1,5 @@
 use Rattle.std.proofs.Common.{ℕ, min, List, ◌∷◌, length, sym, ap, ◌∙◌, subst}
-use Rattle.mh_heap.specs.PlainHeap.{world_of}
+use Rattle.mh_shadow.specs.ShadowHeap.{world_of}
 use Rattle.mh_sizing.specs.Births.{InOrder, with_birth}
 use Rattle.mh_sizing.specs.Reached.{IsSearch}
 use Rattle.mh_sizing.proofs.SearchLemmas.{search-cut}

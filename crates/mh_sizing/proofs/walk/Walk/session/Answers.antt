@@ -11,29 +11,32 @@ use Rattle.mh_sizing.proofs.walk.Walk.session.Goals as goal
 pub returns-then-self-eq0-clause-walked : goal.returns-then-self-eq0-clause-walked
 returns-then-self-eq0-clause-walked c = λ config before walked.
     let old = c.args.self.now in
-    let log = c.in_ok-made.ensures.log (run_worlds (first_run config) before) walked.log in
+    let log = c.in_ok-made.ensures.log (run_worlds (first_run config) before) _ walked.log in
+    let step = c.in_ok-made.ensures.step (run_worlds (first_run config) before) _ walked.log in
     let parts = c.parts_asked-parts.ensures.parts config c.args.who (ap (λ (k : Config). k.rules) (sym walked.configured)) in
-    let list = made-list old config before walked c.args.who c.args.command.now c.in_ok-made.made _ c.in_ok-made.ensures.step _ parts in
+    let list = made-list old config before walked c.args.who c.args.command.now c.in_ok-made.made step _ parts in
     let asks = subst (λ (list : List Part). HasAsked c.ask.new.self (parts_made config before ++ list) (running_in [] (first_run config) before ++ list) (ended_in [] (first_run config) before)) list (c.ask.ensures _ _ _ walked.asks) in
-    unscheduled old _ config before walked c.args.who c.args.command.now c.in_ok-made.made refl c.in_ok-made.ensures.step log c.if-self-eq0.true asks
+    unscheduled old _ config before walked c.args.who c.args.command.now c.in_ok-made.made refl step log c.if-self-eq0.true asks
 
 pub returns-then-units-from-clause-walked : goal.returns-then-units-from-clause-walked
 returns-then-units-from-clause-walked c = λ config before walked.
     let old = c.args.self.now in
-    let log = c.in_ok-made.ensures.log (run_worlds (first_run config) before) walked.log in
+    let log = c.in_ok-made.ensures.log (run_worlds (first_run config) before) _ walked.log in
+    let step = c.in_ok-made.ensures.step (run_worlds (first_run config) before) _ walked.log in
     let parts = c.parts_asked-parts.ensures.parts config c.args.who (ap (λ (k : Config). k.rules) (sym walked.configured)) in
-    let list = made-list old config before walked c.args.who c.args.command.now c.in_ok-made.made _ c.in_ok-made.ensures.step _ parts in
+    let list = made-list old config before walked c.args.who c.args.command.now c.in_ok-made.made step _ parts in
     let asks = subst (λ (list : List Part). HasAsked c.ask.new.self (parts_made config before ++ list) (running_in [] (first_run config) before ++ list) (ended_in [] (first_run config) before)) list (c.ask.ensures _ _ _ walked.asks) in
     let few : old.units + c.mutator_units.result < old.config.every = omega (arith, c.from.ensures, c.if-units-from.true) in
-    scheduled-on old _ config before walked c.args.who c.args.command.now c.in_ok-made.made refl c.in_ok-made.ensures.step log c.if-self-eq0.false c.mutator_units.result c.mutator_units.ensures.value refl few asks
+    scheduled-on old _ config before walked c.args.who c.args.command.now c.in_ok-made.made refl step log c.if-self-eq0.false c.mutator_units.result c.mutator_units.ensures.value refl few asks
 
 pub returns-clause-walked : goal.returns-clause-walked
 returns-clause-walked c = λ config before walked.
     let old = c.args.self.now in
-    let log = c.in_ok-made.ensures.log (run_worlds (first_run config) before) walked.log in
+    let log = c.in_ok-made.ensures.log (run_worlds (first_run config) before) _ walked.log in
+    let step = c.in_ok-made.ensures.step (run_worlds (first_run config) before) _ walked.log in
     let parts = c.parts_asked-parts.ensures.parts config c.args.who (ap (λ (k : Config). k.rules) (sym walked.configured)) in
-    let list = made-list old config before walked c.args.who c.args.command.now c.in_ok-made.made _ c.in_ok-made.ensures.step _ parts in
+    let list = made-list old config before walked c.args.who c.args.command.now c.in_ok-made.made step _ parts in
     let asks = subst (λ (list : List Part). HasAsked c.ask.new.self (parts_made config before ++ list) (running_in [] (first_run config) before ++ list) (ended_in [] (first_run config) before)) list (c.ask.ensures _ _ _ walked.asks) in
     let due : old.config.every ≤ old.units + c.mutator_units.result = omega (arith, c.from.ensures, c.if-units-from.false) in
-    scheduled-due old _ config before walked c.args.who c.args.command.now c.in_ok-made.made refl c.in_ok-made.ensures.step log c.if-self-eq0.false c.mutator_units.result c.mutator_units.ensures.value refl due
+    scheduled-due old _ config before walked c.args.who c.args.command.now c.in_ok-made.made refl step log c.if-self-eq0.false c.mutator_units.result c.mutator_units.ensures.value refl due
     (c.end_interval.ensures _ _ _ asks)

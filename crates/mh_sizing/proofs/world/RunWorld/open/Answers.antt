@@ -1,13 +1,22 @@
-use Rattle.std.proofs.Common.{subst, refl}
-use Rattle.mh_model.specs.World.{first_world, IsClosed}
+use Rattle.std.proofs.Common.{refl}
+use Rattle.mh_model.specs.World.{first_world}
+use Rattle.mh_shadow.specs.ShadowHeap.{outline_of, world_of}
+use Rattle.mh_shadow.proofs.WorldLemmas.{closed-world}
+use Rattle.mh_sizing.proofs.AlikeLemmas.{within-alike}
 use Rattle.mh_sizing.proofs.CutLemmas.{log-first}
+use Rattle.mh_sizing.proofs.HeapLemmas.{outlines-world}
 use Rattle.mh_sizing.proofs.WorldLemmas.{first-within}
 use Rattle.mh_sizing.proofs.world.RunWorld.open.Goals as goal
 
 pub invariant_of-result : goal.invariant_of-result
-invariant_of-result c = record { within = rw c.open.ensures (rw c.new.ensures.items (first-within c.args.config _ refl refl)) }
+invariant_of-result c =
+    let heap = c.open.result in
+    record { within = rw c.new.ensures.items (within-alike (outline_of heap) (first_world c.args.config) (world_of heap) c.open.ensures (outlines-world heap) _ _ (first-within c.args.config _ refl refl)) }
 
-pub returns-clause-log : goal.returns-clause-log
-returns-clause-log c =
-    let closed = subst IsClosed c.open.ensures c.open.result.closed in
-    rw c.open.ensures (rw c.new.ensures.items (log-first (first_world c.args.config) closed))
+pub returns : goal.returns
+returns c =
+    let heap = c.open.result in
+    record {
+      outlines = c.open.ensures;
+      log = rw c.new.ensures.items (log-first (first_world c.args.config) (closed-world (outline_of heap) (first_world c.args.config) c.open.ensures heap.sound));
+    }
