@@ -1,4 +1,6 @@
-use Rattle.std.proofs.Common.{◌≡◌, ap, sym, ◌∙◌, subst, inl}
+use Rattle.std.proofs.Common.{◌≡◌, false, ap, sym, ◌∙◌, subst, inl, arith}
+use Rattle.std.specs.Prelude.{OnOk, Result, Ok, Err, is_err}
+use Rattle.std.proofs.lemmas.Bool.{true≢false}
 use Rattle.std.proofs.lemmas.Result.{err_from_is_err_and}
 use Rattle.mh_lock.specs.Seats.{LockSeatView}
 use Rattle.mh_model.specs.declared.history.Entry.{Entry}
@@ -48,3 +50,11 @@ returns-clause-served g c =
     (subst (λ (seat : LockSeatView Entry). seat.log ≡ owned_by (λ entry. owner_of entry.event) seat.number alone.found.history) c.seat.view_is alone.log_found)
     alone.log_left
     (subst (λ (reply : Reply). IsDone c.args.event alone.found reply alone.left) (sym (ap (λ both. both.0) c.both-given.ensures)) alone.done.2))
+
+-- what holds if a call went well
+if-well : {T E : Type 0} {P : Type 0} (given : Result T E) → is_err given ≡ false → OnOk given P → P
+if-well (Ok value) well holds = holds
+if-well (Err error) well holds = absurd (true≢false well)
+
+pub push_reserved-requires : goal.push_reserved-requires
+push_reserved-requires g c = omega (arith, if-well c.reserve.result (sym c.is_err.ensures.value ∙ c.if-is_err.false) c.reserve.ensures.ok)
