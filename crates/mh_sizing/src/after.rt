@@ -1,8 +1,8 @@
 //! Heaps that are enough after a startup whose objects stay. A page that these anchor counts once, and not once for each
 //! live part in it.
 //!
-//! No cycle begins in the startup, so its parts have to leave more pages free than the trigger. So a greater trigger isn't
-//! safer, unlike that of a heap with no startup, and the search takes the least that starts a cycle in time.
+//! No cycle begins in the startup if its parts leave more pages free than the trigger. A greater trigger asks for more
+//! pages then, and isn't safer as it is without a startup. The search takes the least that starts a cycle in time.
 ghost use Rattle.std.specs.Prelude.{◌≡◌, ◌≤◌, ◌↔◌, min, nat_le, IsTrue, MatchOption};
 ghost use Rattle.mh_sizing.specs.After.{IsEnoughAfter, IsFewestAfter, PagesAreEnoughAfter, StartedHeapsAreNeverFull, is_enough_after, pages_needed_after};
 ghost use Rattle.mh_sizing.specs.Enough.{cycle_quanta};
@@ -29,11 +29,12 @@ pub struct Startup {
     pub pages: u32,
     /// How many of these the objects that stay anchor at most.
     pub anchored: u32,
-    /// What the sessions need after it. Live parts are those beside the parts that stay in anchored pages.
+    /// What the sessions need. Live parts, and what intervals make and open, are those after it, and the parts that stay in
+    /// anchored pages are no part of the live ones. What cycles mark, and what a page costs them, is that of the whole run.
     pub needs: Needs,
 }
 
-/// Whether pages are enough for cycles of so many quanta: those beside the anchored ones are for what the sessions need.
+/// Whether the pages beside the anchored ones are enough for cycles of so many quanta.
 fn has_pages(config: &Config, startup: &Startup, kinds: &Kinds, quanta: u64) -> bool
     requires { 1 ≤ quanta }
     ensures { result ≡ nat_le (pages_needed_after startup.now kinds.now quanta) config.now.pages }
@@ -97,8 +98,8 @@ fn triggered(config: &Config, pages: u32, startup: &Startup) -> Config
     with_pages(config, pages, trigger)
 }
 
-/// The heap with the fewest pages that is enough with the quantum of a configuration. It keeps what that has besides pages and
-/// trigger. None if no number of pages is enough.
+/// The heap with the fewest pages that is enough after a startup with the quantum of a configuration. It keeps what that has
+/// besides pages and trigger. None if no number of pages is enough.
 pub fn find_after(config: &Config, startup: &Startup, kinds: &Kinds) -> Option<Config>
     ensures { MatchOption result (HasNo (PagesAreEnoughAfter startup.now kinds.now config.now.quantum)) (IsFewestAfter startup.now kinds.now config.now) }
 {
