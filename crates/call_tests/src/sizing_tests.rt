@@ -7,16 +7,17 @@ use mh_model::needs::Needs;
 use mh_orders::target_options::Target;
 use mh_sizing::counted::{profile_of_counts, profile_of_every};
 use mh_sizing::cycles::quanta_needed;
-use mh_sizing::enough::{is_enough, quantum_needed};
+use mh_sizing::enough::is_enough;
 use mh_sizing::found::{Found, Law, choose, find};
 use mh_sizing::kinds::{Kinds, kinds_of};
-use mh_sizing::needs::{enough_pages, enough_trigger, least_quantum, needs_of};
+use mh_sizing::needs::{enough_pages, enough_trigger, needs_of};
 use mh_sizing::openings::{ClassParts, pages_opened, pages_opened_at_most};
 use mh_sizing::pages::page_units;
 use mh_sizing::profile::Profile;
+use mh_sizing::quantum::quantum_needed;
 use mh_sizing::rate::ClassRate;
 use mh_sizing::rates::{find_at_rates, greatest_share, profile_at_rates};
-use mh_sizing::shared::{enough_shared_pages, least_quantum_shared};
+use mh_sizing::shared::enough_shared_pages;
 use mh_sizing::targets::{greatest_quantum_for, least_every_for};
 use std::test::Fail;
 
@@ -106,24 +107,17 @@ fn counts_are_needs(rt: HostRuntime) -> Result<(), Fail> {
         ..needs()
     };
     let quanta = quanta_needed(&config, &counted);
-    let least = least_quantum(4096, &counted);
-    assert_eq!(rt; (counted, quanta, least), (expected, 72, Some(43_256)));
+    assert_eq!(rt; (counted, quanta), (expected, 72));
     Ok(())
 }
 
-/// Thirteen quanta have pages enough, and so 791,220 units are to be at most 12 times the quantum's less 352, and a rest.
+/// Each interval asks for 207 pages, and cycles of 13 quanta for no more than a heap has.
 #[test]
 fn a_heap_has_enough(rt: HostRuntime) -> Result<(), Fail> {
     let needs = needs();
     let trigger = enough_trigger(&needs, 72);
     let pages = [enough_pages(&needs, 13), enough_pages(&needs, 14)];
-    let quanta = [
-        least_quantum(4096, &needs),
-        least_quantum(1507, &needs),
-        least_quantum(1506, &needs),
-    ];
     assert_eq!(rt; (trigger, pages), (503, [3991, 4198]));
-    assert_eq!(rt; quanta, [Some(61_216), Some(294_485), None]);
     Ok(())
 }
 
@@ -138,8 +132,7 @@ fn small_parts_share_pages(rt: HostRuntime) -> Result<(), Fail> {
         enough_shared_pages(&counted, &kinds, 106),
         enough_shared_pages(&counted, &kinds, 107),
     ];
-    let quantum = least_quantum_shared(4096, &counted, &kinds);
-    assert_eq!(rt; (pages, quantum), ([4075, 4099], Some(5614)));
+    assert_eq!(rt; pages, [4075, 4099]);
     Ok(())
 }
 
@@ -209,6 +202,45 @@ fn heaps_are_found(rt: HostRuntime) -> Result<(), Fail> {
         (quanta, is_enough(&config, &steady)),
         ([Some(4609), Some(209)], true)
     );
+    Ok(())
+}
+
+/// What sessions ask of a heap that hold one part with 3,660 references, and whose intervals ask for so many parts on a page each.
+fn referring(asked: u32) -> Profile {
+    Profile {
+        needs: Needs {
+            live: 1,
+            marking_units: 3661,
+            asked,
+            opened: asked,
+            page_units: 192,
+        },
+        kinds: Kinds {
+            kinds: 1,
+            fewest_slots: 64,
+        },
+        demand: None,
+    }
+}
+
+/// Of 106 quanta that are enough, 557,748 units are to be at most 105 times the quantum's less 352, and a rest. Such references cost
+/// more than any cycle of four pages spends: 2,848 units are to be fewer than two quanta have without 352 each. If nothing is made,
+/// any quantum will do.
+#[test]
+fn the_least_quantum_is_found(rt: HostRuntime) -> Result<(), Fail> {
+    let counted = profile_of_counts(&two_counts(two_classes().ok_or("classes")?), 1500, 3000);
+    let of_counts = [
+        quantum_needed(4096, &counted),
+        quantum_needed(1507, &counted),
+        quantum_needed(1506, &counted),
+    ];
+    let of_references = [
+        quantum_needed(4, &referring(1)),
+        quantum_needed(1, &referring(1)),
+        quantum_needed(1, &referring(0)),
+    ];
+    assert_eq!(rt; of_counts, [Some(5614), Some(208_586), None]);
+    assert_eq!(rt; of_references, [Some(1777), None, Some(209)]);
     Ok(())
 }
 
