@@ -1,46 +1,16 @@
 -- Whether a configuration is enough after a startup, which is tested for the fewest quanta that its cycles may take, and the least trigger for it.
-use Rattle.std.proofs.Common.{◌≡◌, inl, inr, ℕ, ◌+◌, ◌*◌, ◌≤◌, ◌<◌, ◌&&◌, min, nat_le, nat_lt, Bool, true, false, if◌then◌else◌, refl, sym, subst, arith}
+use Rattle.std.proofs.Common.{◌≡◌, inl, inr, ℕ, ◌+◌, ◌*◌, ◌≤◌, ◌<◌, ◌&&◌, min, nat_le, true, refl, subst, arith}
 use Rattle.std.proofs.Math.Nat.{mul-le-mul_right}
 use Rattle.std.proofs.lemmas.Bool.{and_parts, and_from, cases_lt, leb-true, le-leb, lt-ltb, ltb-true}
 use Rattle.mh_model.specs.declared.config.Config.{Config}
-use Rattle.mh_model.specs.declared.needs.Needs.{Needs}
-use Rattle.mh_model.specs.Bound.{most_quanta}
-use Rattle.mh_model.specs.Needs.{AreEnoughQuanta, quanta_needed}
-use Rattle.mh_model.specs.Limits.{quantum_overhead}
 use Rattle.mh_sizing.specs.After.{HasEnoughAfterByEither, IsEnoughAfter, PagesAreEnoughAfter, is_enough_after, pages_needed_after}
 use Rattle.mh_sizing.specs.Enough.{cycle_quanta}
 use Rattle.mh_sizing.specs.Needs.{enough_pages, enough_trigger}
 use Rattle.mh_sizing.specs.Shared.{enough_shared_pages}
 use Rattle.mh_sizing.specs.declared.after.Startup.{Startup}
 use Rattle.mh_sizing.specs.declared.kinds.Kinds.{Kinds}
-use Rattle.mh_sizing.proofs.EnoughLemmas.{takes-some}
+use Rattle.mh_sizing.proofs.EnoughLemmas.{are-enough, fewest, takes-some}
 use Rattle.mh_sizing.proofs.FoundLemmas.{its-pages}
-
--- Quanta -----------------------------------------------------------------------------------------
-
-module _ (needs : Needs) (config : Config) where
-  abbrev lesser : Bool → ℕ
-  lesser large = if large then min (most_quanta config) (quanta_needed needs config) else most_quanta config
-
-  -- a cycle takes no more quanta than any number that is enough
-  no-more : (quanta : ℕ) → AreEnoughQuanta needs config quanta → cycle_quanta needs config ≤ quanta
-  no-more quanta (inl bound) = go (nat_lt quantum_overhead config.quantum)
-    where
-      go : (large : Bool) → lesser large ≤ quanta
-      go true = omega (arith, bound)
-      go false = bound
-  no-more quanta (inr (large, few)) = subst (λ (b : Bool). lesser b ≤ quanta) (sym (lt-ltb quantum_overhead config.quantum large)) (omega (arith, few))
-
-  -- and these are enough
-  as-many : AreEnoughQuanta needs config (cycle_quanta needs config)
-  as-many = go (nat_lt quantum_overhead config.quantum) refl
-    where
-      go : (large : Bool) → nat_lt quantum_overhead config.quantum ≡ large → AreEnoughQuanta needs config (lesser large)
-      go true is = elim (cases_lt (most_quanta config) (quanta_needed needs config)) [
-        | inl less ↦ inl (omega (arith, less))
-        | inr more ↦ inr (ltb-true quantum_overhead config.quantum is, omega (arith, more))
-      ]
-      go false is = inl (omega arith)
 
 -- Tests ------------------------------------------------------------------------------------------
 
@@ -58,22 +28,22 @@ module _ (startup : Startup) (kinds : Kinds) (config : Config) where
   are-after are = (
     quanta,
     elim (cases_lt (enough_pages startup.needs quanta) (enough_shared_pages startup.needs kinds quanta)) [
-      | inl less ↦ inl (record { bound = as-many startup.needs config; startup = omega (arith, are.leaves); pages = omega (arith, are.pages, less); trigger = omega (arith, are.trigger) })
-      | inr more ↦ inr (record { bound = as-many startup.needs config; startup = omega (arith, are.leaves); pages = omega (arith, are.pages, more); trigger = omega (arith, are.trigger) })
+      | inl less ↦ inl (record { bound = are-enough startup.needs config; startup = omega (arith, are.leaves); pages = omega (arith, are.pages, less); trigger = omega (arith, are.trigger) })
+      | inr more ↦ inr (record { bound = are-enough startup.needs config; startup = omega (arith, are.leaves); pages = omega (arith, are.pages, more); trigger = omega (arith, are.trigger) })
     ],
   )
 
   pub after-are : (many : ℕ) → HasEnoughAfterByEither startup kinds config many → AreEnoughAfter
   after-are many (inl has) =
       let needs = startup.needs in
-      let few = no-more needs config many has.bound in
+      let few = fewest needs config many has.bound in
       let some : 1 * needs.asked ≤ quanta * needs.asked = mul-le-mul_right needs.asked (takes-some needs config) in
       let asked : quanta * needs.asked ≤ many * needs.asked = mul-le-mul_right needs.asked few in
       let opened : quanta * needs.opened ≤ many * needs.opened = mul-le-mul_right needs.opened few in
       record { pages = omega (arith, some, asked, opened, has.pages); trigger = omega (arith, opened, has.trigger); leaves = omega (arith, has.startup) }
   after-are many (inr has) =
       let needs = startup.needs in
-      let few = no-more needs config many has.bound in
+      let few = fewest needs config many has.bound in
       let classes : ℕ = min needs.opened kinds.kinds in
       let one : 1 * needs.opened ≤ quanta * needs.opened = mul-le-mul_right needs.opened (takes-some needs config) in
       let each : 1 * classes ≤ quanta * classes = mul-le-mul_right classes (takes-some needs config) in

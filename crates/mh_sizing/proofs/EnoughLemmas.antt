@@ -17,7 +17,7 @@ use Rattle.mh_sizing.specs.declared.profile.Profile.{Profile}
 
 module _ (needs : Needs) (config : Config) where
   -- a cycle takes no more quanta than any number that is enough
-  fewest : (quanta : ℕ) → AreEnoughQuanta needs config quanta → cycle_quanta needs config ≤ quanta
+  pub fewest : (quanta : ℕ) → AreEnoughQuanta needs config quanta → cycle_quanta needs config ≤ quanta
   fewest quanta (inl bound) = go (nat_lt quantum_overhead config.quantum)
     where
       go : (large : Bool) → (if large then min (most_quanta config) (quanta_needed needs config) else most_quanta config) ≤ quanta
@@ -27,7 +27,7 @@ module _ (needs : Needs) (config : Config) where
       subst (λ (large : Bool). (if large then min (most_quanta config) (quanta_needed needs config) else most_quanta config) ≤ quanta) (sym (lt-ltb quantum_overhead config.quantum sharp.0)) (omega (arith, sharp.1))
 
   -- and these are enough
-  are-enough : AreEnoughQuanta needs config (cycle_quanta needs config)
+  pub are-enough : AreEnoughQuanta needs config (cycle_quanta needs config)
   are-enough = go (nat_lt quantum_overhead config.quantum) refl
     where
       go : (large : Bool) → nat_lt quantum_overhead config.quantum ≡ large → AreEnoughQuanta needs config (if large then min (most_quanta config) (quanta_needed needs config) else most_quanta config)

@@ -10,6 +10,7 @@ ghost use Rattle.mh_sizing.specs.Found.{HasNo};
 ghost use Rattle.mh_sizing.specs.Needs.{enough_trigger};
 
 use crate::enough::cycle_quanta;
+use crate::found::with_pages;
 use crate::kinds::Kinds;
 use crate::needs::{enough_pages, enough_trigger};
 use crate::shared::enough_shared_pages;
@@ -63,25 +64,6 @@ pub fn is_enough_after(config: &Config, startup: &Startup, kinds: &Kinds) -> boo
     ensures { IsTrue result ↔ IsEnoughAfter startup.now kinds.now config.now }
 {
     passes(config, startup, kinds)
-}
-
-/// A configuration of so many pages with a trigger, and with what another has besides.
-fn with_pages(config: &Config, pages: u32, trigger: u32) -> Config
-    requires pages { (1 ≤ pages) × (pages ≤ 4096) }
-    requires trigger { trigger ≤ pages }
-    ensures pages { result.pages ≡ pages }
-    ensures trigger { result.trigger ≡ trigger }
-    ensures quantum { result.quantum ≡ config.now.quantum }
-    ensures every { result.every ≡ config.now.every }
-    ensures rules { result.rules ≡ config.now.rules }
-{
-    Config {
-        pages,
-        quantum: config.quantum,
-        trigger,
-        every: config.every,
-        rules: config.rules,
-    }
 }
 
 /// The heap of so many pages with the least trigger that starts a cycle in time. One greater than the pages is cut to these.

@@ -33,8 +33,8 @@ pub struct Found {
     pub law: Law,
 }
 
-/// A configuration of so many pages, with the quantum of another.
-fn with_pages(config: &Config, pages: u32, trigger: u32) -> Config
+/// A configuration of so many pages with a trigger, and with what another has besides.
+pub(crate) fn with_pages(config: &Config, pages: u32, trigger: u32) -> Config
     requires pages { (1 ≤ pages) × (pages ≤ 4096) }
     requires trigger { trigger ≤ pages }
     ensures pages { result.pages ≡ pages }

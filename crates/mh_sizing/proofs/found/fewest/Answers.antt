@@ -1,4 +1,4 @@
-use Rattle.std.proofs.Common.{◌≡◌, ◌∙◌, sym, subst}
+use Rattle.std.proofs.Common.{◌∙◌, sym, subst}
 use Rattle.mh_sizing.specs.Found.{IsLeast, PagesAreEnough}
 use Rattle.mh_sizing.proofs.found.fewest.Goals as goal
 

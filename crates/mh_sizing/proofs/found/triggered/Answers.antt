@@ -1,4 +1,4 @@
-use Rattle.std.proofs.Common.{◌≡◌, ◌∙◌, ap, sym, subst}
+use Rattle.std.proofs.Common.{◌∙◌, ap, sym, subst}
 use Rattle.mh_sizing.specs.Found.{trigger_by}
 use Rattle.mh_sizing.specs.declared.found.Law.{Law}
 use Rattle.mh_sizing.proofs.FoundLemmas.{IsEnoughByLaw, by-law, law-other, trigger-other}
