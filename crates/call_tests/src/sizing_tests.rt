@@ -5,6 +5,7 @@ use mh_classes::class::{Class, class_of};
 use mh_model::config::Config;
 use mh_model::needs::Needs;
 use mh_orders::target_options::Target;
+use mh_sizing::after::{Startup, find_after, is_enough_after};
 use mh_sizing::counted::{profile_of_counts, profile_of_every};
 use mh_sizing::cycles::quanta_needed;
 use mh_sizing::enough::is_enough;
@@ -345,5 +346,54 @@ fn a_rate_bounds_the_share(rt: HostRuntime) -> Result<(), Fail> {
         greatest_share(500, &rates, 1, 30, 30),
     ];
     assert_eq!(rt; shares, [Some(13), None]);
+    Ok(())
+}
+
+/// A startup of so many pages, of which four are anchored.
+fn startup(pages: u32) -> Startup {
+    Startup {
+        pages,
+        anchored: 4,
+        needs: Needs {
+            live: 3,
+            marking_units: 5,
+            asked: 2,
+            opened: 1,
+            page_units: 100,
+        },
+    }
+}
+
+/// The pages and the trigger of the heap with the fewest pages after such a startup, if quanta have so many units.
+fn numbers_after(pages: u32, quantum: u32) -> Option<[u32; 2]> {
+    let config = Config::new(1, quantum, 0, 100)?;
+    let kinds = kinds_of(&[class_of(4)?]);
+    let heap = find_after(&config, &startup(pages), &kinds)?;
+    Some([heap.pages, heap.trigger])
+}
+
+/// Cycles of three quanta want 4 + 3 + 2 * 2 + 3 pages; a startup of 40 pages wants these, the trigger of eight quanta and one.
+#[test]
+fn a_startup_that_stays_counts_by_the_page(rt: HostRuntime) -> Result<(), Fail> {
+    let heaps = [
+        numbers_after(10, 1000),
+        numbers_after(40, 1000),
+        numbers_after(10, 352),
+    ];
+    assert_eq!(rt; heaps, [Some([14, 2]), Some([48, 7]), None]);
+    Ok(())
+}
+
+/// A greater trigger is no safer: the startup has to leave more pages free.
+#[test]
+fn a_trigger_leaves_pages_to_the_startup(rt: HostRuntime) -> Result<(), Fail> {
+    let kinds = kinds_of(&[class_of(4).ok_or("a class")?]);
+    let low = Config::new(14, 1000, 2, 100).ok_or("a configuration")?;
+    let high = Config::new(14, 1000, 4, 100).ok_or("a configuration")?;
+    let enough = [
+        is_enough_after(&low, &startup(10), &kinds),
+        is_enough_after(&high, &startup(10), &kinds),
+    ];
+    assert_eq!(rt; enough, [true, false]);
     Ok(())
 }
