@@ -119,7 +119,7 @@ impl Walk {
     }
 
     /// Goes on with the next event. If memory is refused, or there is no room to count on, the walk is as it was. There is
-    /// none once 2^62 objects were born, or all parts, the units to mark them, or an interval's parts have come to 2^62.
+    /// none once 2^44 objects were born, or all parts, the units to mark them, or an interval's parts have come to 2^62.
     pub fn event(&mut self, event: &Event) -> Result<(), NoMemory>
         ensures walked { OnOk result ((config : Config) (before : List Event) → HasWalked self.old config before → HasWalked self.new config (before ++ event.now ∷ [])) }
         ensures stopped { OnErr result ((config : Config) (before : List Event) → HasWalked self.old config before → HasWalked self.new config before) }
