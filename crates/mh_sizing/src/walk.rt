@@ -57,7 +57,8 @@ fn in_32_bits(number: u64) -> Option<u32>
     u32::try_from(number).ok()
 }
 
-/// The events of a run so far, as far as they bear on what its sessions need. It keeps every object that they make.
+/// The events of a run so far, as far as they bear on what its sessions need. It keeps the shape of every
+/// object that they make, and which references are set.
 #[derive(Drop)]
 pub struct Walk {
     config: Config,
