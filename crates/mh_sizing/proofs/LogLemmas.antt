@@ -1,18 +1,15 @@
 -- What is logged, name by name.
-use Rattle.std.proofs.Common.{◌≡◌, Result, Ok, Err, OnErr, inl, inr, ℕ, zero, suc, ◌+◌, ◌-◌, ◌≤◌, Option, None, List, [], ◌∷◌, ◌++◌, length, get_or, refl, sym, ap, ap₂, ◌∙◌, arith}
+use Rattle.std.proofs.Common.{◌≡◌, Result, Ok, Err, OnErr, inl, inr, ℕ, zero, suc, ◌+◌, ◌-◌, ◌≤◌, Option, None, List, [], ◌∷◌, ◌++◌, length, get_or, sym, ap, ap₂, ◌∙◌, arith}
 use Rattle.std.proofs.lemmas.Bool.{cases_lt}
 use Rattle.std.proofs.lemmas.List.{append_assoc}
 use Rattle.std.proofs.lemmas.Option.{none-some}
 use Rattle.mh_model.proofs.TabulateLemmas.{get_or-tabulate, get_or-tabulate_past}
-use Rattle.mh_model.specs.declared.command.Command.{Command}
-use Rattle.mh_model.specs.declared.command.Command.TheVariants as command
 use Rattle.mh_model.specs.Classes.{tabulate}
 use Rattle.mh_model.specs.Paths.{Reachable}
 use Rattle.mh_model.specs.World.{World, births, slot_at}
 use Rattle.mh_shadow.specs.Outline.{Outline, Outlines, slot_in}
-use Rattle.mh_shadow.specs.OutlineSteps as steps
 use Rattle.mh_sizing.specs.declared.cuts.Cut.{Cut}
-use Rattle.mh_sizing.specs.Cuts.{cuts_of, overwritten, HasLogged}
+use Rattle.mh_sizing.specs.Cuts.{cuts_of, HasLogged}
 use Rattle.mh_sizing.proofs.CutLemmas.{cuts-now, cuts_of-append}
 use Rattle.mh_sizing.proofs.FollowLemmas.{IsName, slot-reached}
 
@@ -58,10 +55,3 @@ slots-more made slots first slot cuts old name new from before named after =
 pub slots-outlined : (outline : Outline) (world : World) → Outlines outline world → (first count : ℕ) (cuts : List Cut)
     → cuts ++ cuts_of (length outline.shapes) (tabulate (slot_in outline) first count) ≡ cuts ++ cuts_of (births world) (tabulate (slot_at world) first count)
 slots-outlined outline world is first count cuts = ap₂ (λ (n : ℕ) (slots : List (Option ℕ)). cuts ++ cuts_of n (tabulate (λ slot. get_or slots slot None) first count)) (sym is.births) (sym is.slots)
-
--- Commands ---------------------------------------------------------------------------------------
-
--- a command other than `end` overwrites one name
-pub one-overwritten : (world : World) (who : ℕ) (c : Command) → (c ≡ command.End → ⊥) → overwritten world who c ≡ steps.overwritten world who c ∷ []
-one-overwritten world who command.End other = absurd (other refl)
-one-overwritten world who _ other = refl

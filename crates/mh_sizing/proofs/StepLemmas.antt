@@ -1,8 +1,8 @@
 -- What a command leaves of what objects count: all count as before, but for the one that it makes.
-use Rattle.std.proofs.Common.{◌≡◌, inl, inr, ℕ, zero, suc, ◌+◌, ◌≤◌, nat_le, nat_lt, Bool, true, false, Option, Some, None, option_map, List, [], ◌∷◌, length, get_or, set, refl, sym, ap, ap₂, ◌∙◌, subst, arith}
+use Rattle.std.proofs.Common.{◌≡◌, ℕ, ◌+◌, ◌≤◌, nat_le, nat_lt, Bool, true, false, Option, Some, None, option_map, List, [], ◌∷◌, length, get_or, refl, sym, ap, ap₂, subst, arith}
 use Rattle.std.specs.List.{AllByRecursion, sum_by}
-use Rattle.std.proofs.lemmas.Bool.{cases_eq, ltb-false}
-use Rattle.std.proofs.lemmas.List.{length-replicate, length-set}
+use Rattle.std.proofs.lemmas.Bool.{ltb-false}
+use Rattle.std.proofs.lemmas.List.{length-replicate}
 use Rattle.std.proofs.lemmas.List.Sums.{sum_by-cons}
 use Rattle.std.proofs.lemmas.Option.{none-some, same_Some}
 use Rattle.mh_model.specs.declared.command.Command.{Command}
@@ -17,10 +17,8 @@ use Rattle.mh_model.specs.declared.shape.Shape.{Shape}
 use Rattle.mh_model.specs.Classes.{parts}
 use Rattle.mh_model.specs.CycleUnits.{part_units, object_units}
 use Rattle.mh_model.specs.LiveParts.{object_parts}
-use Rattle.mh_model.specs.World.{Object, World, Answer, first_world, births, object_at, object_in, slot_at, own_slot, board_slot, reference_of, most_fields_under, most_fields, is_bad, first_refusal, refusal, shape_of, with_reference, with_number, with_change, cleared, says, effect, unless_refused, sight_of, never_full, heap_step, Performs}
-use Rattle.mh_model.specs.Limits.{root_slots}
-use Rattle.mh_sizing.specs.Cuts.{overwritten}
-use Rattle.mh_sizing.specs.Objects.{field_count, IsWellSized}
+use Rattle.mh_model.specs.World.{Object, World, Answer, first_world, births, object_at, most_fields_under, most_fields, is_bad, first_refusal, refusal, shape_of, says, effect, unless_refused, sight_of, never_full, heap_step, Performs}
+use Rattle.mh_sizing.specs.Objects.{field_count}
 use Rattle.mh_sizing.specs.Reached.{sum_of, AreAtMost}
 use Rattle.mh_sizing.specs.Steps.{made, made_count}
 use Rattle.mh_sizing.proofs.CountLemmas.{without, without-all, without-once, without-sum}
@@ -71,9 +69,6 @@ step-births world who c answer new performs = (step-follows world who c answer n
 
 -- Sizes ------------------------------------------------------------------------------------------
 
-field_count-by_shape : IsByShape field_count
-field_count-by_shape = record { none = refl; shape = λ one two references numbers. ap₂ (λ r n. r + n) references numbers }
-
 -- an object that was made is no larger than the rules allow
 pub made-small : (world : World) (who : ℕ) (c : Command) (answer : Reply) (new : World) → Performs never_full world who c answer new → field_count (made c answer) ≤ 216000
 unfolding heap_step
@@ -100,52 +95,6 @@ made-small world who (command.New slot references numbers) answer new performs =
         few = ltb-false (most_fields world.config) (references + numbers) (refused-not (nat_le 8 who) (get_or world.ended who false) (is_bad slot) (nat_lt (most_fields world.config) (references + numbers)) TooManySessions Ended BadSlot TooLarge ((false, HeapFull) ∷ []) allowed)
     go (Some refused) allowed is = subst (λ (a : Answer World). field_count (made (command.New slot references numbers) a.reply) ≤ 216000) is (omega arith)
 made-small world who c answer new performs = omega arith
-
-length-cleared : (slots : List (Option ℕ)) (slot n : ℕ) → length (cleared slots slot n) ≡ length slots
-length-cleared slots slot zero = refl
-length-cleared slots slot (suc n) = length-cleared (set slots slot None) (suc slot) n ∙ length-set slots slot None
-
-change-slots : (world : World) (name : Option ℕ) (change : Object → Object) → length (with_change world name change).slots ≡ length world.slots
-change-slots world None change = refl
-change-slots world (Some birth) change = refl
-
-effect-slots : (world : World) (who : ℕ) (c : Command) → length (effect world who c).state.slots ≡ length world.slots
-effect-slots world who (command.New slot references numbers) = length-set world.slots (own_slot who slot) (Some (births world))
-effect-slots world who (command.Get slot source field) = length-set world.slots (own_slot who slot) (reference_of (object_in world (own_slot who source)) field)
-effect-slots world who (command.Put slot field value) = change-slots world (slot_at world (own_slot who slot)) (with_reference field (slot_at world (own_slot who value)))
-effect-slots world who (command.Copy slot source) = length-set world.slots (own_slot who slot) (slot_at world (own_slot who source))
-effect-slots world who (command.Clear slot) = length-set world.slots (own_slot who slot) None
-effect-slots world who (command.Read slot index) = refl
-effect-slots world who (command.Write slot index value) = change-slots world (slot_at world (own_slot who slot)) (with_number index value)
-effect-slots world who (command.Same left right) = refl
-effect-slots world who (command.Shape slot) = refl
-effect-slots world who (command.Post board slot) = length-set world.slots (board_slot board) (slot_at world (own_slot who slot))
-effect-slots world who (command.Take slot board) = length-set world.slots (own_slot who slot) (slot_at world (board_slot board))
-effect-slots world who command.End = length-cleared world.slots (own_slot who 0) 16
-
-step-slots : (world : World) (who : ℕ) (c : Command) (answer : Reply) (new : World) → Performs never_full world who c answer new → length new.slots ≡ length world.slots
-unfolding heap_step
-step-slots world who c answer new performs = go (refusal (sight_of never_full world) who c) performs
-  where
-    go : (refused : Option Refusal) → unless_refused refused world (effect world who c) ≡ says answer new → length new.slots ≡ length world.slots
-    go None is = subst (λ (a : Answer World). length a.state.slots ≡ length world.slots) is (effect-slots world who c)
-    go (Some refused) is = subst (λ (a : Answer World). length a.state.slots ≡ length world.slots) is refl
-
-pub step-sized : (world : World) (who : ℕ) (c : Command) (answer : Reply) (new : World) → Performs never_full world who c answer new → IsWellSized world → IsWellSized new
-step-sized world who c answer new performs sized = record { slots = step-slots world who c answer new performs ∙ sized.slots; small = small }
-  where
-    follows : Follows world new (overwritten world who c) (made c answer)
-    follows = step-follows world who c answer new performs
-
-    small : (birth : ℕ) → field_count (object_at new birth) ≤ 216000
-    small birth = elim (cases_eq (births world) birth) [
-      | inl same ↦
-          omega (arith, ap (λ (b : ℕ). field_count (object_at new b)) same, newborn-same field_count field_count-by_shape world new (overwritten world who c) (made c answer) follows, made-small world who c answer new performs)
-      | inr other ↦ omega (arith, other-same field_count field_count-by_shape world new (overwritten world who c) (made c answer) follows birth other, sized.small birth)
-    ]
-
-pub first-sized : (config : Config) → IsWellSized (first_world config)
-first-sized config = record { slots = length-replicate {A = Option ℕ} root_slots None; small = λ birth. omega arith }
 
 -- Parts and units --------------------------------------------------------------------------------
 

@@ -57,7 +57,8 @@ fn in_32_bits(number: u64) -> Option<u32>
     u32::try_from(number).ok()
 }
 
-/// The events of a run so far, as far as they bear on what its sessions need. It keeps every object that they make.
+/// The events of a run so far, as far as they bear on what its sessions need. It keeps the shape of every
+/// object that they make, and which references are set.
 #[derive(Drop)]
 pub struct Walk {
     config: Config,
@@ -119,7 +120,7 @@ impl Walk {
     }
 
     /// Goes on with the next event. If memory is refused, or there is no room to count on, the walk is as it was. There is
-    /// none once 2^62 objects were born, or all parts, the units to mark them, or an interval's parts have come to 2^62.
+    /// none once 2^44 objects were born, or all parts, the units to mark them, or an interval's parts have come to 2^62.
     pub fn event(&mut self, event: &Event) -> Result<(), NoMemory>
         ensures walked { OnOk result ((config : Config) (before : List Event) → HasWalked self.old config before → HasWalked self.new config (before ++ event.now ∷ [])) }
         ensures stopped { OnErr result ((config : Config) (before : List Event) → HasWalked self.old config before → HasWalked self.new config before) }

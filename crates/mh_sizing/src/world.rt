@@ -1,5 +1,5 @@
-//! The ever-growing world of a run, and the most that its worlds have reached. The names that commands overwrite are
-//! logged as it goes on, and the most is found from the last world back.
+//! The ever-growing world of a run, as an outline of it, and the most that its worlds have reached. The names that
+//! commands overwrite are logged as it goes on, and the most is found from the last world back.
 ghost use Rattle.std.specs.Prelude.{◌≡◌, ◌≤◌, IsTrue, OnOk, OnErr, IfOk, List, [], ◌∷◌, ◌++◌};
 ghost use Rattle.mh_model.specs.World.{World, births, first_world, world_step};
 ghost use Rattle.mh_shadow.specs.Outline.{Outlines};
@@ -35,7 +35,7 @@ fn perform_logged(
     heap.perform(who, command)
 }
 
-/// The world of a run, which keeps every object, and the log of what its commands overwrote.
+/// The outline of a run's world, in which every object stays, and the log of what its commands overwrote.
 #[derive(Drop)]
 pub(crate) struct RunWorld {
     alloc: Global,
