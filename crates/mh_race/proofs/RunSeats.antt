@@ -2,12 +2,13 @@
 use Rattle.std.proofs.Common.{arith, ◌≡◌, ◌≢◌, ◌+◌, ◌<◌, ◌==◌, ◌⊎◌, inl, inr, ⊎_elim, ℕ, List, [], ◌∷◌, ◌++◌, Option, Some, None, All, Contains, get_or, length, map, replicate, take, drop, refl, sym, ap, ◌∙◌, subst, cond}
 use Rattle.std.proofs.lemmas.Bool.{eq-eqb}
 use Rattle.std.proofs.lemmas.Bool.Decides.{eqb_tells, leb_tells}
-use Rattle.std.proofs.lemmas.List.{take-append-drop, drop_more, get_or-map, get_or-replicate, get_or_past, length-map, length-replicate}
+use Rattle.std.proofs.lemmas.List.{take-append-drop, take_more, map-append, drop_more, get_or-map, get_or-replicate, get_or_past, length-map, length-replicate}
 use Rattle.std.proofs.lemmas.List.Elements.{All-append, All-contains, All-map, All-push, Contains-append_left, Contains-append_right, Contains-push, filter-append}
 use Rattle.std.proofs.lemmas.Option.{none-some}
 use Rattle.mh_service.specs.OfLock.Seats.{LockSeatView}
 use Rattle.mh_model.specs.declared.command.Event.{Event}
 use Rattle.mh_model.specs.declared.history.Entry.{Entry}
+use Rattle.mh_model.specs.declared.reply.Reply.{Reply}
 use Rattle.mh_model.specs.History.{owner_of, owned_by, events_of}
 use Rattle.mh_service.specs.OfState.Stop.{Stop}
 use Rattle.mh_race.specs.Racing.{AreNoted, AreRun, HasMadeItsCalls, HasRunIn}
@@ -26,6 +27,17 @@ pub refused-at : (seat : LockSeatView Entry) (events : List Event) (i : ℕ) (d 
     → HasMadeItsCalls events (Some stop) seat
 refused-at seat events i d stop within own made =
     (get_or events i d, owned_by owner_of seat.number (drop (i + 1) events), ap (λ es. es ++ get_or events i d ∷ owned_by owner_of seat.number (drop (i + 1) events)) made ∙ sym (owned-from seat.number events i d within own))
+
+-- a seat that has run those before an event and then runs it
+pub ran-one : (old new : LockSeatView Entry) (events : List Event) (i : ℕ) (d : Event) (reply : Reply) → i < length events → owner_of (get_or events i d) ≡ old.number → new.number ≡ old.number → new.log ≡ old.log ++ record { event = get_or events i d; reply = reply } ∷ []
+    → events_of old.log ≡ owned_by owner_of old.number (take i events) → events_of new.log ≡ owned_by owner_of new.number (take (i + 1) events)
+ran-one old new events i d reply within own same log made =
+    let event = get_or events i d in
+    let before : List Event = owned_by owner_of old.number (take i events) in
+    let entry : Entry = record { event = event; reply = reply } in
+    let owned : owned_by owner_of old.number (take (i + 1) events) ≡ before ++ event ∷ [] =
+            ap (owned_by owner_of old.number) (take_more events i d within) ∙ filter-append (λ e. owner_of e == old.number) (take i events) (event ∷ []) ∙ ap (λ b. before ++ cond b (event ∷ []) []) (eq-eqb (owner_of event) old.number own) in
+    ap events_of log ∙ map-append (λ e. e.event) old.log (entry ∷ []) ∙ ap (λ es. es ++ event ∷ []) made ∙ sym owned ∙ ap (λ n. owned_by owner_of n (take (i + 1) events)) (sym same)
 
 -- Noted ------------------------------------------------------------------------------------------
 
