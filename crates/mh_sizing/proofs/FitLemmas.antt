@@ -1,4 +1,4 @@
--- Pages that are enough where small parts share pages, and the quanta for which they are.
+-- Pages that are enough where small parts share pages: what the law asks for, and the trigger.
 use Rattle.std.specs.Prelude.{◌-◌}
 use Rattle.std.proofs.Common.{ℕ, ◌+◌, ◌-◌, ◌*◌, ◌≤◌, inr, arith}
 use Rattle.std.proofs.lemmas.Nat.{mul-le}
