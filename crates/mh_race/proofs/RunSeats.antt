@@ -36,7 +36,7 @@ ran-one old new events i d reply within own same log made =
     let before : List Event = owned_by owner_of old.number (take i events) in
     let entry : Entry = record { event = event; reply = reply } in
     let owned : owned_by owner_of old.number (take (i + 1) events) ≡ before ++ event ∷ [] =
-            ap (owned_by owner_of old.number) (take_more events i d within) ∙ filter-append (λ e. owner_of e == old.number) (take i events) (event ∷ []) ∙ ap (λ b. before ++ cond b (event ∷ []) []) (eq-eqb (owner_of event) old.number own) in
+    ap (owned_by owner_of old.number) (take_more events i d within) ∙ filter-append (λ e. owner_of e == old.number) (take i events) (event ∷ []) ∙ ap (λ b. before ++ cond b (event ∷ []) []) (eq-eqb (owner_of event) old.number own) in
     ap events_of log ∙ map-append (λ e. e.event) old.log (entry ∷ []) ∙ ap (λ es. es ++ event ∷ []) made ∙ sym owned ∙ ap (λ n. owned_by owner_of n (take (i + 1) events)) (sym same)
 
 -- Noted ------------------------------------------------------------------------------------------
