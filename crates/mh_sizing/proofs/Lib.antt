@@ -31,3 +31,4 @@ pub mod CountedLemmas
 pub mod EveryLemmas
 pub mod RateLemmas
 pub mod RateSearch
+pub mod WholeLemmas
