@@ -1,16 +1,15 @@
 -- Parts counted by class, and the classes that occur.
-use Rattle.std.proofs.Common.{◌≡◌, inl, inr, ℕ, zero, suc, ◌+◌, ◌-◌, ◌*◌, ◌==◌, ◌<◌, ◌≤◌, ◌||◌, ◌&&◌, not, max, Bool, true, false, cond, if◌then◌else◌, Option, Some, option_map, unwrap_or, List, [], ◌∷◌, ◌++◌, length, get_or, slice_get, set, take, drop, map, sum, refl, sym, ap, ap₂, ◌∙◌, subst, arith, add-one}
+use Rattle.std.proofs.Common.{◌≡◌, inl, inr, ℕ, zero, suc, ◌+◌, ◌-◌, ◌*◌, ◌==◌, ◌<◌, ◌≤◌, ◌||◌, ◌&&◌, not, max, Bool, true, false, cond, if◌then◌else◌, Option, Some, option_map, unwrap_or, List, [], ◌∷◌, ◌++◌, length, get_or, set, take, drop, map, sum, refl, sym, ap, ap₂, ◌∙◌, subst, arith, add-one}
 use Rattle.std.specs.Int.{div_ceil}
-use Rattle.std.specs.List.{list_any}
+use Rattle.std.specs.List.{AllByRecursion, list_any}
 use Rattle.std.proofs.Math.Nat.{mul-le-mul_right}
-use Rattle.std.proofs.Math.Seq.{drop-cons}
+use Rattle.std.proofs.Math.Seq.{drop-cons, take-add}
 use Rattle.std.proofs.lemmas.Bool.{and_parts, cases_lt, eqb-true, ne_eqb, false≢true}
 use Rattle.std.proofs.lemmas.Cmp.{nat_eq_equiv}
 use Rattle.std.proofs.lemmas.Grind.{div_ceil_times}
-use Rattle.std.proofs.lemmas.List.{append_assoc, take_more}
+use Rattle.std.proofs.lemmas.List.{append-nil, append_assoc}
 use Rattle.std.proofs.lemmas.List.Sums.{sum_by_push, sum_by_more, sum_by-take-le}
 use Rattle.std.proofs.lemmas.Nat.{mul-le}
-use Rattle.std.proofs.lemmas.Option.{none-some, same_Some, slice_get_within}
 use Rattle.mh_model.specs.Classes.{Part, class_sizes, class_of, is_class_size, slots_in, part_words}
 use Rattle.mh_model.specs.CycleUnits.{occurs, greatest_of}
 use Rattle.mh_model.specs.Openings.{is_of_class, class_parts, pages_for}
@@ -82,35 +81,35 @@ part-other list part class size is other = omega (arith, part-more list part cla
 part-same : (list : List Part) (part : Part) (class : ℕ) → class_of (part_words part) ≡ Some class → class_parts class (list ++ part ∷ []) ≡ class_parts class list + 1
 part-same list part class is = omega (arith, part-more list part class class is, ap {B = ℕ} (λ (b : Bool). if b then 1 else 0) (nat_eq_equiv.refl class))
 
-pub counts-more : (counts : List ℕ) (list : List Part) (part : Part) (class number : ℕ) → class_of (part_words part) ≡ Some class → is_class_size class ≡ true → number ≡ class_number class
-    → counts ≡ map (λ size. class_parts size list) class_sizes → set counts number (get_or counts number 0 + 1) ≡ map (λ size. class_parts size (list ++ part ∷ [])) class_sizes
+-- more parts, all of one class
+parts-other : (list more : List Part) (class size : ℕ) → AllByRecursion (λ part. class_of (part_words part) ≡ Some class) more → (class == size) ≡ false → class_parts size (list ++ more) ≡ class_parts size list
+parts-other list [] class size all other = ap (class_parts size) (append-nil list)
+parts-other list (part ∷ more) class size all other = ap (class_parts size) (sym (append_assoc list (part ∷ []) more)) ∙ parts-other (list ++ part ∷ []) more class size all.1 other ∙ part-other list part class size all.0 other
+
+parts-same : (list more : List Part) (class : ℕ) → AllByRecursion (λ part. class_of (part_words part) ≡ Some class) more → class_parts class (list ++ more) ≡ class_parts class list + length more
+parts-same list [] class all = omega (arith, ap (class_parts class) (append-nil list))
+parts-same list (part ∷ more) class all = omega (arith, ap (class_parts class) (sym (append_assoc list (part ∷ []) more)), parts-same (list ++ part ∷ []) more class all.1, part-same list part class all.0)
+
+pub counts-more : (counts : List ℕ) (list more : List Part) (class number count : ℕ) → length more ≡ count → AllByRecursion (λ part. class_of (part_words part) ≡ Some class) more → is_class_size class ≡ true → number ≡ class_number class
+    → counts ≡ map (λ size. class_parts size list) class_sizes → set counts number (get_or counts number 0 + count) ≡ map (λ size. class_parts size (list ++ more)) class_sizes
 unfolding is_class_size class_number apart-all
-counts-more counts list part class number is sized at counted =
-    ap₂ (λ (cs : List ℕ) n. set cs n (get_or cs n 0 + 1)) counted at
-    ∙ ap (set (map (λ size. class_parts size list) class_sizes) (index_in class_sizes class)) (ap (λ n. n + 1) (get-counted (λ size. class_parts size list) class 0 class_sizes sized) ∙ sym (part-same list part class is))
-    ∙ set-counted (λ size. class_parts size list) (λ size. class_parts size (list ++ part ∷ [])) class (λ other apart. part-other list part class other is apart) class_sizes refl
+counts-more counts list more class number count long is sized at counted =
+    ap₂ (λ (cs : List ℕ) n. set cs n (get_or cs n 0 + count)) counted at
+    ∙ ap (set (map (λ size. class_parts size list) class_sizes) (index_in class_sizes class))
+    (ap₂ (λ n m. n + m) (get-counted (λ size. class_parts size list) class 0 class_sizes sized) (sym long) ∙ sym (parts-same list more class is))
+    ∙ set-counted (λ size. class_parts size list) (λ size. class_parts size (list ++ more)) class (λ other apart. parts-other list more class other is apart) class_sizes refl
 
-pub occurs-more : (marks : List Bool) (list : List Part) (part : Part) (class number : ℕ) → class_of (part_words part) ≡ Some class → number ≡ class_number class
-    → marks ≡ map (occurs list) class_sizes → set marks number true ≡ map (occurs (list ++ part ∷ [])) class_sizes
+pub occurs-more : (marks : List Bool) (list more : List Part) (class number : ℕ) → 1 ≤ length more → AllByRecursion (λ part. class_of (part_words part) ≡ Some class) more → number ≡ class_number class
+    → marks ≡ map (occurs list) class_sizes → set marks number true ≡ map (occurs (list ++ more)) class_sizes
 unfolding class_number apart-all
-occurs-more marks list part class number is at marked =
+occurs-more marks list more class number some is at marked =
     ap₂ (λ (ms : List Bool) n. set ms n true) marked at
-    ∙ ap (set (map (occurs list) class_sizes) (index_in class_sizes class)) (sym (ap not (ne_eqb (class_parts class (list ++ part ∷ [])) 0 (λ none. omega (arith, none, part-same list part class is)))))
-    ∙ set-counted (occurs list) (occurs (list ++ part ∷ [])) class (λ other apart. ap (λ n. not (n == 0)) (part-other list part class other is apart)) class_sizes refl
+    ∙ ap (set (map (occurs list) class_sizes) (index_in class_sizes class)) (sym (ap not (ne_eqb (class_parts class (list ++ more)) 0 (λ none. omega (arith, none, some, parts-same list more class is)))))
+    ∙ set-counted (occurs list) (occurs (list ++ more)) class (λ other apart. ap (λ n. not (n == 0)) (parts-other list more class other is apart)) class_sizes refl
 
-read : (list : List Part) (index : ℕ) (part : Part) → slice_get list index ≡ Some part → get_or list index part ≡ part
-read [] index part at = absurd (none-some part at)
-read (first ∷ list) zero part at = same_Some first part at
-read (first ∷ list) (suc index) part at = read list index part at
-
--- the parts of an object one by one
-pub taken-more : (first parts : List Part) (index : ℕ) (part : Part) → Some part ≡ slice_get parts index → (first ++ take index parts) ++ part ∷ [] ≡ first ++ take (index + 1) parts
-taken-more first parts index part is =
-    append_assoc first (take index parts) (part ∷ [])
-    ∙ ap (λ (list : List Part). first ++ list) (sym (take_more parts index part inside ∙ ap (λ (p : Part). take index parts ++ p ∷ []) (read parts index part (sym is))))
-  where
-    inside : index < length parts
-    inside = slice_get_within parts index part (sym is)
+-- the parts of an object, some at a time
+pub taken-more : (first parts : List Part) (index count : ℕ) → (first ++ take index parts) ++ take count (drop index parts) ≡ first ++ take (index + count) parts
+taken-more first parts index count = append_assoc first (take index parts) (take count (drop index parts)) ∙ ap (λ (list : List Part). first ++ list) (sym (take-add index count parts))
 
 -- Pages ------------------------------------------------------------------------------------------
 

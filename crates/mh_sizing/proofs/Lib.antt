@@ -34,3 +34,4 @@ pub mod GreaterQuanta
 pub mod LeastQuantum
 pub mod RateSearch
 pub mod AfterLemmas
+pub mod WholeLemmas

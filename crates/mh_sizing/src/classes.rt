@@ -1,6 +1,7 @@
 //! How many parts of each class are asked for, and which classes occur. Both are kept in arrays of a fixed size, so
 //! counting takes no memory.
-ghost use Rattle.std.specs.Prelude.{◌≡◌, ◌+◌, ◌<◌, ◌^◌, [], ◌∷◌, ◌++◌, List, Some, get_or, length, sum};
+ghost use Rattle.std.specs.Prelude.{◌≡◌, ◌+◌, ◌<◌, ◌≤◌, ◌^◌, ℕ, [], ◌++◌, List, Some, drop, get_or, length, slice_get, sum, take};
+ghost use Rattle.std.specs.List.{AllByRecursion};
 ghost use Rattle.mh_model.specs.Classes.{Part, class_of, class_sizes, part_words};
 ghost use Rattle.mh_model.specs.CycleUnits.{most_slots, most_moves};
 ghost use Rattle.mh_model.specs.Openings.{pages_of_parts};
@@ -16,6 +17,25 @@ pub(crate) fn class_at(number: usize) -> Class
     ensures { result ≡ get_or class_sizes number 0 }
 {
     Class::all()[number]
+}
+
+/// The first part that is neither a spine nor one of the 60 middle spines that an object has at most.
+const FIRST_ARRAYLET: usize = 61;
+
+/// How many parts of an object, from this one on, are known to be of one class: all arraylets but the last are whole.
+fn alike_from(parts: &Parts, index: usize) -> usize
+    requires { index < length parts.now }
+    ensures some { 1 ≤ result }
+    ensures within { index + result ≤ length parts.now }
+    ensures few { result ≤ 3661 }
+    ensures alike { (part : Part) (class : ℕ) → slice_get parts.now index ≡ Some part → class_of (part_words part) ≡ Some class → AllByRecursion (λ part. class_of (part_words part) ≡ Some class) (take result (drop index parts.now)) }
+{
+    let last = parts.count() - 1;
+    if index >= FIRST_ARRAYLET && index < last {
+        last - index
+    } else {
+        1
+    }
 }
 
 /// How many parts of each class an interval has asked for, and which classes have occurred until now.
@@ -55,15 +75,16 @@ impl ClassCounts {
         self.counts[number]
     }
 
-    /// Counts a part of a class.
-    fn ask_part(&mut self, class: Class)
-        requires { self.old.total < 2 ^ 63 }
-        ensures asked { (all running : List Part) (part : Part) → class_of (part_words part) ≡ Some class → HasClassCounts self.old all running → HasClassCounts self.new (all ++ part ∷ []) (running ++ part ∷ []) }
-        ensures total { self.new.total ≡ self.old.total + 1 }
+    /// Counts parts of a class, one at least.
+    fn ask_alike(&mut self, class: Class, count: u64)
+        requires few { self.old.total + count < 2 ^ 63 }
+        requires some { 1 ≤ count }
+        ensures asked { (all running parts : List Part) → length parts ≡ count → AllByRecursion (λ part. class_of (part_words part) ≡ Some class) parts → HasClassCounts self.old all running → HasClassCounts self.new (all ++ parts) (running ++ parts) }
+        ensures total { self.new.total ≡ self.old.total + count }
     {
         let number = class.number();
-        self.counts[number] += 1;
-        self.total += 1;
+        self.counts[number] += count;
+        self.total += count;
         self.occurs[number] = true;
     }
 
@@ -72,8 +93,11 @@ impl ClassCounts {
         requires { self.old.total < 2 ^ 62 }
         ensures asked { (all running : List Part) → HasClassCounts self.old all running → HasClassCounts self.new (all ++ parts.now) (running ++ parts.now) }
     {
-        for index in 0..parts.count() {
-            self.ask_part(parts.get(index).class());
+        let mut index = 0;
+        while index < parts.count() {
+            let count = alike_from(parts, index);
+            self.ask_alike(parts.get(index).class(), count as u64);
+            index += count;
         }
     }
 
