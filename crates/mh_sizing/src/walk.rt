@@ -69,7 +69,7 @@ pub struct Walk {
 }
 
 impl Walk {
-    ghost use Rattle.mh_sizing.specs.Walk.{HasWalked};
+    ghost use Rattle.mh_sizing.specs.Walk.{HasWalked, HasWalkedFrom};
 
     /// The walk of no events, which takes no memory.
     pub fn open(alloc: Global, config: Config) -> Walk
@@ -85,8 +85,8 @@ impl Walk {
 
     /// Does a command of the session `who`, with the quantum that it makes due.
     fn session(&mut self, who: u8, command: &Command) -> Result<(), NoMemory>
-        ensures walked { OnOk result ((config : Config) (before : List Event) → HasWalked self.old config before → HasWalked self.new config (before ++ events.Session who command.now ∷ [])) }
-        ensures stopped { OnErr result ((config : Config) (before : List Event) → HasWalked self.old config before → HasWalked self.new config before) }
+        ensures walked { OnOk result ((config : Config) (from : WorldRun) (before : List Event) → HasWalkedFrom self.old config from before → HasWalkedFrom self.new config from (before ++ events.Session who command.now ∷ [])) }
+        ensures stopped { OnErr result ((config : Config) (from : WorldRun) (before : List Event) → HasWalkedFrom self.old config from before → HasWalkedFrom self.new config from before) }
     {
         let parts = parts_asked(self.config.rules, command);
         if !self.asked.has_room(&parts) {
@@ -109,7 +109,7 @@ impl Walk {
 
     /// Does a control, of which only a quantum bears on what is needed.
     fn control(&mut self, control: Control)
-        ensures { (config : Config) (before : List Event) → HasWalked self.old config before → HasWalked self.new config (before ++ events.Control control ∷ []) }
+        ensures { (config : Config) (from : WorldRun) (before : List Event) → HasWalkedFrom self.old config from before → HasWalkedFrom self.new config from (before ++ events.Control control ∷ []) }
     {
         if !asks_for_quantum(control) || self.config.every != 0 {
             return;
@@ -121,8 +121,8 @@ impl Walk {
     /// Goes on with the next event. If memory is refused, or there is no room to count on, the walk is as it was. There is
     /// none once 2^62 objects were born, or all parts, the units to mark them, or an interval's parts have come to 2^62.
     pub fn event(&mut self, event: &Event) -> Result<(), NoMemory>
-        ensures walked { OnOk result ((config : Config) (before : List Event) → HasWalked self.old config before → HasWalked self.new config (before ++ event.now ∷ [])) }
-        ensures stopped { OnErr result ((config : Config) (before : List Event) → HasWalked self.old config before → HasWalked self.new config before) }
+        ensures walked { OnOk result ((config : Config) (from : WorldRun) (before : List Event) → HasWalkedFrom self.old config from before → HasWalkedFrom self.new config from (before ++ event.now ∷ [])) }
+        ensures stopped { OnErr result ((config : Config) (from : WorldRun) (before : List Event) → HasWalkedFrom self.old config from before → HasWalkedFrom self.new config from before) }
         ensures memory { OnErr result (IsCommand event.now) }
     {
         match *event {
