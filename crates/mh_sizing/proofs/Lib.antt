@@ -34,3 +34,7 @@ pub mod GreaterQuanta
 pub mod LeastQuantum
 pub mod RateSearch
 pub mod AfterLemmas
+pub mod ReachedLemmas
+pub mod PartBirthLemmas
+pub mod PageBirthLemmas
+pub mod StartupLemmas

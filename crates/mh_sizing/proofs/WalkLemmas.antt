@@ -106,7 +106,7 @@ unrefused-makes config world who _ count list counted is = go (nat_lt 0 count)
     go false = refl
 
 -- A command that has made so many parts has made those that it asks for, and otherwise none
-made-are : (run : WorldRun) (config : Config) (who : ℕ) (c : Command) (new : World) (count : ℕ) (list : List Part) → run.world.config ≡ config → Performed run.world new who c count → list ≡ asked_parts config (event.Session who c)
+pub made-are : (run : WorldRun) (config : Config) (who : ℕ) (c : Command) (new : World) (count : ℕ) (list : List Part) → run.world.config ≡ config → Performed run.world new who c count → list ≡ asked_parts config (event.Session who c)
     → (if nat_lt 0 count then list else []) ≡ made_parts run (event.Session who c)
 unfolding heap_step
 made-are run config who c new count list at_config did is = go (refusal (sight_of never_full run.world) who c) did.performs
@@ -145,10 +145,10 @@ module _ (run : WorldRun) (config : Config) (who : ℕ) (c : Command) (new : Wor
 
 -- Steps ------------------------------------------------------------------------------------------
 
-next-is : (run : WorldRun) (event : Event) (quantum : Bool) → runs_quantum run event ≡ quantum → next_run run event ≡ (if quantum then record { world = (half_run run event).world; units = 0 } else half_run run event)
+pub next-is : (run : WorldRun) (event : Event) (quantum : Bool) → runs_quantum run event ≡ quantum → next_run run event ≡ (if quantum then record { world = (half_run run event).world; units = 0 } else half_run run event)
 next-is run event quantum is = ap (λ (b : Bool). if b then record { world = (half_run run event).world; units = 0 } else half_run run event) is
 
-next-world : (run : WorldRun) (event : Event) (quantum : Bool) → (if quantum then record { world = (half_run run event).world; units = 0 } else half_run run event).world ≡ (half_run run event).world
+pub next-world : (run : WorldRun) (event : Event) (quantum : Bool) → (if quantum then record { world = (half_run run event).world; units = 0 } else half_run run event).world ≡ (half_run run event).world
 next-world run event true = refl
 next-world run event false = refl
 

@@ -28,3 +28,5 @@ pub mod Worlds
 pub mod OfSizingLaws
 pub mod OfClasses
 pub mod OfReport
+pub mod PartBirths
+pub mod Anchored

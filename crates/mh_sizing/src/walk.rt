@@ -9,19 +9,23 @@
 //!
 //! A command that the world refuses makes nothing, and counts nothing. Only a command may be refused memory, since the
 //! walk logs what it overwrites. A walk that is refused memory is as it was, but for names in its log that do no harm.
-ghost use Rattle.std.specs.Prelude.{◌≡◌, ◌+◌, ◌≤◌, ℕ, [], ◌∷◌, ◌++◌, not, ◌&&◌, ◌==◌, List, ◌^◌, IfOk, IfSome, IsNone, MatchOption, OnErr, OnOk, length};
+ghost use Rattle.std.specs.Prelude.{◌≡◌, ◌+◌, ◌≤◌, ℕ, true, [], ◌∷◌, ◌++◌, not, ◌&&◌, ◌==◌, List, ◌^◌, IfOk, IfSome, IsNone, MatchOption, OnErr, OnOk, length};
 ghost use Rattle.mh_model.specs.declared.command.Event.{Event};
 ghost use Rattle.mh_model.specs.declared.command.Event.TheVariants as events;
 ghost use Rattle.mh_model.specs.declared.config.Config.{Config};
 ghost use Rattle.mh_model.specs.declared.needs.Needs.{Needs};
 ghost use Rattle.mh_model.specs.Needs.{WorldRun, first_run, run_worlds, runs_quantum};
-ghost use Rattle.mh_sizing_laws.specs.Made.{MakeNoMore, MakeOfClasses, demand, parts_made};
+ghost use Rattle.mh_model.specs.Paths.{Reachable};
+ghost use Rattle.mh_model.specs.World.{births};
+ghost use Rattle.mh_sizing_laws.specs.Made.{MakeNoMore, MakeOfClasses, demand, parts_made, run_after};
 ghost use Rattle.mh_sizing_laws.specs.SharpPages.{fewest_slots, occurring};
+ghost use Rattle.mh_sizing.specs.Births.{is_among};
 ghost use Rattle.mh_sizing.specs.Needed.{AreTheNeeds, IsCommand, IsTooLarge};
 ghost use Rattle.mh_sizing.specs.Units.{units_made};
 ghost use Rattle.mh_sizing.specs.Worlds.{AreMostOf};
 
 use crate::asked::{Asked, parts_asked};
+use crate::births::BirthSet;
 use crate::counts::Counts;
 use crate::kinds::Kinds;
 use crate::world::RunWorld;
@@ -132,6 +136,29 @@ impl Walk {
                 Ok(())
             }
         }
+    }
+
+    /// How many objects the events so far have made.
+    pub(crate) fn births(&self) -> u64
+        ensures { (config : Config) (from : WorldRun) (events : List Event) → HasWalkedFrom self.now config from events → result ≡ births (run_after from events).world }
+    {
+        self.world.births()
+    }
+
+    /// What the world after these events reaches.
+    pub(crate) fn reached(&self) -> Result<BirthSet, NoMemory>
+        ensures reached { IfOk result (λ set. (config : Config) (from : WorldRun) (events : List Event) → HasWalkedFrom self.now config from events → (birth : ℕ) → is_among set.births birth ≡ true → Reachable (run_after from events).world birth) }
+        ensures room { IfOk result (λ set. (config : Config) (from : WorldRun) (events : List Event) → HasWalkedFrom self.now config from events → set.room ≡ births (run_after from events).world) }
+    {
+        self.world.reached()
+    }
+
+    /// Forgets what came before. What it finds from then on is of what follows, from the world as it is.
+    pub(crate) fn begin_anew(&mut self)
+        ensures { (config : Config) (from : WorldRun) (before : List Event) → HasWalkedFrom self.old config from before → HasWalkedFrom self.new config (run_after from before) [] }
+    {
+        self.world.forget();
+        self.asked = Asked::new();
     }
 
     /// What the sessions of the events so far need, if so much is reached at most. None if a number has more than 32 bits.
