@@ -14,8 +14,11 @@ use Rattle.mh_model.specs.World.{Object, World, births, world_step}
 use Rattle.mh_table_laws.proofs.objects.Parts.{some_parts}
 use Rattle.mh_sizing_laws.specs.Made.{made_parts, run_after}
 use Rattle.mh_sizing_laws.specs.Startup.{births_made, births_made_in}
+use Rattle.mh_sizing.specs.declared.part_births.PartBirth.{PartBirth}
+use Rattle.mh_sizing.specs.PartBirths.{AreBorn, births_of}
 use Rattle.mh_sizing.specs.Steps.{made, made_count}
 use Rattle.mh_sizing.specs.Worlds.{Performed}
+use Rattle.mh_sizing.proofs.RunLemmas.{after-push}
 use Rattle.mh_sizing.proofs.StepLemmas.{step-births}
 use Rattle.mh_sizing.proofs.WalkLemmas.{made-are, next-is, next-world}
 
@@ -66,3 +69,25 @@ module _ (run : WorldRun) (config : Config) (at_config : run.world.config ≡ co
       let some = none-made (made c answer) (λ same. other (next-births (event.Session who c) ∙ more ∙ same)) in
       sym (sym (ap (λ (b : Bool). if b then asked_parts config (event.Session who c) else []) (lt-ltb 0 count some))
         ∙ made-are run config who c new count (asked_parts config (event.Session who c)) at_config (record { answer = answer; performs = refl; count = refl }) refl)
+
+-- Lists of parts ---------------------------------------------------------------------------------
+
+module _ (config : Config) (before : List Event) (event : Event) (at_config : (run_after (first_run config) before).world.config ≡ config) where
+  abbrev run : WorldRun
+  run = run_after (first_run config) before
+
+  after : births (run_after (first_run config) (before ++ event ∷ [])).world ≡ births (next_run run event).world
+  after = ap (λ (r : WorldRun). births r.world) (after-push (first_run config) before event)
+
+  pub born-none : (list : List PartBirth) → AreBorn list config before → births (run_after (first_run config) (before ++ event ∷ [])).world ≡ births run.world → AreBorn list config (before ++ event ∷ [])
+  born-none list born same size =
+      born size
+      ∙ sym (born-push size (first_run config) before event ∙ ap (λ (all : List Part). births_made size config before ++ replicate (class_parts size all) (births run.world)) (made-none run config at_config event (sym after ∙ same))
+        ∙ append-nil (births_made size config before))
+
+  pub born-some : (old new : List PartBirth) (parts : List Part) (birth : ℕ) → AreBorn old config before → parts ≡ asked_parts config event → birth ≡ births run.world → (births (run_after (first_run config) (before ++ event ∷ [])).world ≡ births run.world → ⊥)
+      → ((size : ℕ) → births_of size new ≡ births_of size old ++ replicate (class_parts size parts) birth) → AreBorn new config (before ++ event ∷ [])
+  born-some old new parts birth born is at other grown size =
+      grown size
+      ∙ ap₂ (λ (all : List ℕ) (more : List ℕ). all ++ more) (born size) (ap₂ (λ (all : List Part) b. replicate (class_parts size all) b) (is ∙ sym (made-some run config at_config event (λ same. other (after ∙ same)))) at)
+      ∙ sym (born-push size (first_run config) before event)

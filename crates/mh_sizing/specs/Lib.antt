@@ -30,3 +30,4 @@ pub mod OfClasses
 pub mod OfReport
 pub mod PartBirths
 pub mod Anchored
+pub mod Later

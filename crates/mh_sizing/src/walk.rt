@@ -61,6 +61,17 @@ fn in_32_bits(number: u64) -> Option<u32>
     u32::try_from(number).ok()
 }
 
+/// The most that the sessions of a run hold and make from some event on.
+#[derive(Clone, Copy)]
+pub(crate) struct Later {
+    /// Live parts at a time.
+    pub(crate) live: u64,
+    /// Parts that an interval makes.
+    pub(crate) asked: u64,
+    /// Pages that these open.
+    pub(crate) opened: u64,
+}
+
 /// The events of a run so far, as far as they bear on what its sessions need. It keeps every object that they make.
 #[derive(Drop)]
 pub struct Walk {
@@ -73,6 +84,7 @@ pub struct Walk {
 }
 
 impl Walk {
+    ghost use Rattle.mh_sizing.specs.Later.{HoldNoMore};
     ghost use Rattle.mh_sizing.specs.Walk.{HasWalked, HasWalkedFrom};
 
     /// The walk of no events, which takes no memory.
@@ -159,6 +171,18 @@ impl Walk {
     {
         self.world.forget();
         self.asked = Asked::new();
+    }
+
+    /// What the sessions of the events so far hold and make at most.
+    pub(crate) fn later(&self) -> Result<Later, NoMemory>
+        ensures { IfOk result (λ later. (config : Config) (from : WorldRun) (events : List Event) → HasWalkedFrom self.now config from events → HoldNoMore later from events) }
+    {
+        let most = self.world.most()?;
+        Ok(Later {
+            live: most.parts,
+            asked: self.asked.parts(),
+            opened: self.asked.pages(),
+        })
     }
 
     /// What the sessions of the events so far need, if so much is reached at most. None if a number has more than 32 bits.
