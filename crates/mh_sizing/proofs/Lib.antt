@@ -38,3 +38,4 @@ pub mod ReachedLemmas
 pub mod PartBirthLemmas
 pub mod PageBirthLemmas
 pub mod StartupLemmas
+pub mod KeptLemmas

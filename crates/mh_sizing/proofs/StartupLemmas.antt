@@ -33,7 +33,7 @@ born-push size run (first ∷ events) event =
 
 -- An event makes the parts that it asks for if it makes an object, and otherwise none
 module _ (run : WorldRun) (config : Config) (at_config : run.world.config ≡ config) where
-  next-births : (event : Event) → births (next_run run event).world ≡ births (half_run run event).world
+  pub next-births : (event : Event) → births (next_run run event).world ≡ births (half_run run event).world
   next-births event = ap (λ (w : World). births w) (ap (λ (r : WorldRun). r.world) (next-is run event (runs_quantum run event) refl) ∙ next-world run event (runs_quantum run event))
 
   some-made : (object : Option Object) → births run.world + made_count object ≡ births run.world → (0 < object_parts object → ⊥)
