@@ -71,7 +71,7 @@ get-counted f size d (other ∷ sizes) is = go (other == size) refl is (get-coun
     go false e there rest = rest there
 
 -- one more part
-part-more : (list : List Part) (part : Part) (class size : ℕ) → class_of (part_words part) ≡ Some class → class_parts size (list ++ part ∷ []) ≡ class_parts size list + (if class == size then 1 else 0)
+pub part-more : (list : List Part) (part : Part) (class size : ℕ) → class_of (part_words part) ≡ Some class → class_parts size (list ++ part ∷ []) ≡ class_parts size list + (if class == size then 1 else 0)
 part-more list part class size is =
     sum_by_push (λ p. cond (is_of_class size p) 1 0) list part ∙ ap (λ (o : Option ℕ). class_parts size list + cond (unwrap_or (option_map (λ c. c == size) o) false) 1 0) is
 

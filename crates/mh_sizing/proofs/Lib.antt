@@ -35,3 +35,8 @@ pub mod LeastQuantum
 pub mod RateSearch
 pub mod AfterLemmas
 pub mod WholeLemmas
+pub mod ReachedLemmas
+pub mod PartBirthLemmas
+pub mod PageBirthLemmas
+pub mod StartupLemmas
+pub mod KeptLemmas

@@ -25,7 +25,7 @@ use Rattle.mh_model.specs.World.{Object, World, Answer, blank, refusal, with_cha
 use Rattle.mh_table_laws.proofs.objects.Parts.{some_parts}
 use Rattle.mh_shadow.specs.ShadowHeap.{outline_of}
 use Rattle.mh_shadow.proofs.WorldLemmas.{closed-world}
-use Rattle.mh_sizing_laws.specs.Made.{demand, intervals_made, made_parts, parts_made}
+use Rattle.mh_sizing_laws.specs.Made.{demand, intervals_made, made_parts, parts_made, parts_made_in}
 use Rattle.mh_sizing.specs.declared.asked.Asked.{Asked}
 use Rattle.mh_sizing.specs.declared.counts.Counts.{Counts}
 use Rattle.mh_sizing.specs.declared.world.RunWorld.{RunWorld}
@@ -36,7 +36,7 @@ use Rattle.mh_sizing.specs.Reached.{HasAtMost, HasJust}
 use Rattle.mh_sizing.specs.Runs.{run_after, ended_in, running_in, most_of}
 use Rattle.mh_sizing.specs.Steps.{made}
 use Rattle.mh_sizing.specs.Units.{units_made}
-use Rattle.mh_sizing.specs.Walk.{HasWalked}
+use Rattle.mh_sizing.specs.Walk.{HasWalked, HasWalkedFrom}
 use Rattle.mh_sizing.specs.Worlds.{AreMostOf, HasLogOf, Performed}
 use Rattle.mh_sizing.specs.Demands.{demand_of}
 use Rattle.mh_sizing.proofs.DemandLemmas.{demand-is}
@@ -106,7 +106,7 @@ unrefused-makes config world who _ count list counted is = go (nat_lt 0 count)
     go false = refl
 
 -- A command that has made so many parts has made those that it asks for, and otherwise none
-made-are : (run : WorldRun) (config : Config) (who : ℕ) (c : Command) (new : World) (count : ℕ) (list : List Part) → run.world.config ≡ config → Performed run.world new who c count → list ≡ asked_parts config (event.Session who c)
+pub made-are : (run : WorldRun) (config : Config) (who : ℕ) (c : Command) (new : World) (count : ℕ) (list : List Part) → run.world.config ≡ config → Performed run.world new who c count → list ≡ asked_parts config (event.Session who c)
     → (if nat_lt 0 count then list else []) ≡ made_parts run (event.Session who c)
 unfolding heap_step
 made-are run config who c new count list at_config did is = go (refusal (sight_of never_full run.world) who c) did.performs
@@ -145,10 +145,10 @@ module _ (run : WorldRun) (config : Config) (who : ℕ) (c : Command) (new : Wor
 
 -- Steps ------------------------------------------------------------------------------------------
 
-next-is : (run : WorldRun) (event : Event) (quantum : Bool) → runs_quantum run event ≡ quantum → next_run run event ≡ (if quantum then record { world = (half_run run event).world; units = 0 } else half_run run event)
+pub next-is : (run : WorldRun) (event : Event) (quantum : Bool) → runs_quantum run event ≡ quantum → next_run run event ≡ (if quantum then record { world = (half_run run event).world; units = 0 } else half_run run event)
 next-is run event quantum is = ap (λ (b : Bool). if b then record { world = (half_run run event).world; units = 0 } else half_run run event) is
 
-next-world : (run : WorldRun) (event : Event) (quantum : Bool) → (if quantum then record { world = (half_run run event).world; units = 0 } else half_run run event).world ≡ (half_run run event).world
+pub next-world : (run : WorldRun) (event : Event) (quantum : Bool) → (if quantum then record { world = (half_run run event).world; units = 0 } else half_run run event).world ≡ (half_run run event).world
 next-world run event true = refl
 next-world run event false = refl
 
@@ -157,43 +157,43 @@ next-units run event true = refl
 next-units run event false = refl
 
 -- One more event walked
-module _ (new : Walk) (config : Config) (events : List Event) (event : Event) (quantum : Bool) where
+module _ (new : Walk) (config : Config) (from : WorldRun) (events : List Event) (event : Event) (quantum : Bool) where
   abbrev pub run : WorldRun
-  run = run_after (first_run config) events
+  run = run_after from events
 
   abbrev pub now : List Part
-  now = made_parts (run_after (first_run config) events) event
+  now = made_parts (run_after from events) event
 
   abbrev pub running_now : List Part
-  running_now = running_in [] (first_run config) events
+  running_now = running_in [] from events
 
   abbrev pub ended_before : List (List Part)
-  ended_before = ended_in [] (first_run config) events
+  ended_before = ended_in [] from events
 
   pub walked-on : new.config ≡ config → (world : World) → world.config ≡ config → runs_quantum run event ≡ quantum → world ≡ (half_run run event).world
       → ((config.every ≡ 0 → ⊥) → new.units ≡ (if quantum then 0 else (half_run run event).units))
-      → HasLogOf new.world (run_worlds (first_run config) events ++ world ∷ []) world
-      → HasAsked new.asked (parts_made config events ++ now) (if quantum then [] else running_now ++ now) (if quantum then ended_before ++ (running_now ++ now) ∷ [] else ended_before)
-      → HasWalked new config (events ++ event ∷ [])
+      → HasLogOf new.world (run_worlds from events ++ world ∷ []) world
+      → HasAsked new.asked (parts_made_in from events ++ now) (if quantum then [] else running_now ++ now) (if quantum then ended_before ++ (running_now ++ now) ∷ [] else ended_before)
+      → HasWalkedFrom new config from (events ++ event ∷ [])
   walked-on configured world at_config is half units log asks = record {
     configured = configured;
     at_config = ap (λ (w : World). w.config) (next ∙ sym half) ∙ at_config;
     at_units = λ some. units some ∙ sym (ap (λ (r : WorldRun). r.units) after ∙ next-units run event quantum);
-    log = subst (HasLogOf new.world (run_worlds (first_run config) (events ++ event ∷ []))) (half ∙ sym next)
-        (subst (λ (worlds : List World). HasLogOf new.world worlds world) (ap (λ (w : World). run_worlds (first_run config) events ++ w ∷ []) (half ∙ sym last) ∙ sym (worlds-push (first_run config) events event)) log);
-    asks = subst (λ (all : List Part). HasAsked new.asked all (running_in [] (first_run config) (events ++ event ∷ [])) (ended_in [] (first_run config) (events ++ event ∷ []))) (sym (made-push (first_run config) events event))
-        (subst (λ (list : List Part). HasAsked new.asked (parts_made config events ++ now) list (ended_in [] (first_run config) (events ++ event ∷ []))) (sym (running-push quantum [] (first_run config) events event is))
-        (subst (HasAsked new.asked (parts_made config events ++ now) (if quantum then [] else running_now ++ now)) (sym (ended-push quantum [] (first_run config) events event is)) asks));
+    log = subst (HasLogOf new.world (run_worlds from (events ++ event ∷ []))) (half ∙ sym next)
+        (subst (λ (worlds : List World). HasLogOf new.world worlds world) (ap (λ (w : World). run_worlds from events ++ w ∷ []) (half ∙ sym last) ∙ sym (worlds-push from events event)) log);
+    asks = subst (λ (all : List Part). HasAsked new.asked all (running_in [] from (events ++ event ∷ [])) (ended_in [] from (events ++ event ∷ []))) (sym (made-push from events event))
+        (subst (λ (list : List Part). HasAsked new.asked (parts_made_in from events ++ now) list (ended_in [] from (events ++ event ∷ []))) (sym (running-push quantum [] from events event is))
+        (subst (HasAsked new.asked (parts_made_in from events ++ now) (if quantum then [] else running_now ++ now)) (sym (ended-push quantum [] from events event is)) asks));
   }
     where
-      after : run_after (first_run config) (events ++ event ∷ []) ≡ (if quantum then record { world = (half_run run event).world; units = 0 } else half_run run event)
-      after = after-push (first_run config) events event ∙ next-is run event quantum is
+      after : run_after from (events ++ event ∷ []) ≡ (if quantum then record { world = (half_run run event).world; units = 0 } else half_run run event)
+      after = after-push from events event ∙ next-is run event quantum is
 
       last : (next_run run event).world ≡ (half_run run event).world
       last = ap (λ (r : WorldRun). r.world) (next-is run event quantum is) ∙ next-world run event quantum
 
-      next : (run_after (first_run config) (events ++ event ∷ [])).world ≡ (half_run run event).world
-      next = ap (λ (r : WorldRun). r.world) (after-push (first_run config) events event) ∙ last
+      next : (run_after from (events ++ event ∷ [])).world ≡ (half_run run event).world
+      next = ap (λ (r : WorldRun). r.world) (after-push from events event) ∙ last
 
 -- an event that makes nothing
 pub made-nothing : (asked : Asked) (all running : List Part) (ended : List (List Part)) → HasAsked asked all running ended → HasAsked asked (all ++ []) (running ++ []) ended
@@ -202,76 +202,76 @@ made-nothing asked all running ended has = subst (λ (list : List Part). HasAske
 -- Sessions ---------------------------------------------------------------------------------------
 
 -- what a command has made of the parts that it asks for
-pub made-list : (old : Walk) (config : Config) (before : List Event) → HasWalked old config before → (who : ℕ) (c : Command) (count : ℕ) → Performed (run_after (first_run config) before).world (world_step (run_after (first_run config) before).world who c).state who c count
-    → (list : List Part) → list ≡ asked_parts config (event.Session who c) → (if nat_lt 0 count then list else []) ≡ made_parts (run_after (first_run config) before) (event.Session who c)
-made-list old config before walked who c count performed list is =
-    let run = run_after (first_run config) before in
+pub made-list : (old : Walk) (config : Config) (from : WorldRun) (before : List Event) → HasWalkedFrom old config from before → (who : ℕ) (c : Command) (count : ℕ) → Performed (run_after from before).world (world_step (run_after from before).world who c).state who c count
+    → (list : List Part) → list ≡ asked_parts config (event.Session who c) → (if nat_lt 0 count then list else []) ≡ made_parts (run_after from before) (event.Session who c)
+made-list old config from before walked who c count performed list is =
+    let run = run_after from before in
     made-are run config who c (world_step run.world who c).state count list walked.at_config performed is
 
-module _ (old new : Walk) (config : Config) (before : List Event) (walked : HasWalked old config before) (who : ℕ) (c : Command) (count : ℕ) (configured : new.config ≡ old.config)
-    (did : Performed (run_after (first_run config) before).world (world_step (run_after (first_run config) before).world who c).state who c count)
-    (log : HasLogOf new.world (run_worlds (first_run config) before ++ (world_step (run_after (first_run config) before).world who c).state ∷ []) (world_step (run_after (first_run config) before).world who c).state) where
+module _ (old new : Walk) (config : Config) (from : WorldRun) (before : List Event) (walked : HasWalkedFrom old config from before) (who : ℕ) (c : Command) (count : ℕ) (configured : new.config ≡ old.config)
+    (did : Performed (run_after from before).world (world_step (run_after from before).world who c).state who c count)
+    (log : HasLogOf new.world (run_worlds from before ++ (world_step (run_after from before).world who c).state ∷ []) (world_step (run_after from before).world who c).state) where
   abbrev at : WorldRun
-  at = run_after (first_run config) before
+  at = run_after from before
 
   abbrev next : World
-  next = (world_step (run_after (first_run config) before).world who c).state
+  next = (world_step (run_after from before).world who c).state
 
   abbrev pub made_now : List Part
-  made_now = made_parts (run_after (first_run config) before) (event.Session who c)
+  made_now = made_parts (run_after from before) (event.Session who c)
 
   every-same : old.config.every ≡ config.every
   every-same = ap (λ (k : Config). k.every) walked.configured
 
-  pub unscheduled : old.config.every ≡ 0 → HasAsked new.asked (parts_made config before ++ made_now) (running_in [] (first_run config) before ++ made_now) (ended_in [] (first_run config) before)
-      → HasWalked new config (before ++ event.Session who c ∷ [])
+  pub unscheduled : old.config.every ≡ 0 → HasAsked new.asked (parts_made_in from before ++ made_now) (running_in [] from before ++ made_now) (ended_in [] from before)
+      → HasWalkedFrom new config from (before ++ event.Session who c ∷ [])
   unscheduled none asks =
       let never : config.every ≡ 0 = sym every-same ∙ none in
-      walked-on new config before (event.Session who c) false (configured ∙ walked.configured) next (half-config at config who c next count walked.at_config did) (quantum-never at config who c next count walked.at_config did never)
+      walked-on new config from before (event.Session who c) false (configured ∙ walked.configured) next (half-config at config who c next count walked.at_config did) (quantum-never at config who c next count walked.at_config did never)
       (sym (half-world at config who c next count walked.at_config did)) (λ some. absurd (some never)) log asks
 
   module _ (some : old.config.every ≡ 0 → ⊥) (units : ℕ) (units_is : units ≡ units_made old.config.rules count) where
     sum-is : old.units + units ≡ at.units + units_made config.rules count
     sum-is = ap₂ (λ a b. a + b) (walked.at_units (λ none. some (every-same ∙ none))) (units_is ∙ ap (λ (k : Config). units_made k.rules count) walked.configured)
 
-    pub scheduled-on : new.units ≡ old.units + units → new.units < old.config.every → HasAsked new.asked (parts_made config before ++ made_now) (running_in [] (first_run config) before ++ made_now) (ended_in [] (first_run config) before)
-        → HasWalked new config (before ++ event.Session who c ∷ [])
+    pub scheduled-on : new.units ≡ old.units + units → new.units < old.config.every → HasAsked new.asked (parts_made_in from before ++ made_now) (running_in [] from before ++ made_now) (ended_in [] from before)
+        → HasWalkedFrom new config from (before ++ event.Session who c ∷ [])
     scheduled-on sum few asks =
-        walked-on new config before (event.Session who c) false (configured ∙ walked.configured) next (half-config at config who c next count walked.at_config did)
+        walked-on new config from before (event.Session who c) false (configured ∙ walked.configured) next (half-config at config who c next count walked.at_config did)
         (quantum-is at config who c next count walked.at_config did false (λ none. some (every-same ∙ none)) (lt-leb config.every (at.units + units_made config.rules count) (omega (arith, few, sum, sum-is, every-same))))
         (sym (half-world at config who c next count walked.at_config did)) (λ _. sum ∙ sum-is ∙ sym (half-units at config who c next count walked.at_config did)) log asks
 
     pub scheduled-due : new.units ≡ 0 → old.config.every ≤ old.units + units
-        → HasAsked new.asked (parts_made config before ++ made_now) [] (ended_in [] (first_run config) before ++ (running_in [] (first_run config) before ++ made_now) ∷ [])
-        → HasWalked new config (before ++ event.Session who c ∷ [])
+        → HasAsked new.asked (parts_made_in from before ++ made_now) [] (ended_in [] from before ++ (running_in [] from before ++ made_now) ∷ [])
+        → HasWalkedFrom new config from (before ++ event.Session who c ∷ [])
     scheduled-due none due asks =
-        walked-on new config before (event.Session who c) true (configured ∙ walked.configured) next (half-config at config who c next count walked.at_config did)
+        walked-on new config from before (event.Session who c) true (configured ∙ walked.configured) next (half-config at config who c next count walked.at_config did)
         (quantum-is at config who c next count walked.at_config did true (λ never. some (every-same ∙ never)) (le-leb config.every (at.units + units_made config.rules count) (omega (arith, due, sum-is, every-same))))
         (sym (half-world at config who c next count walked.at_config did)) (λ _. none) log asks
 
 -- Controls ---------------------------------------------------------------------------------------
 
-module _ (old new : Walk) (config : Config) (before : List Event) (walked : HasWalked old config before) (control : Control) (configured : new.config ≡ old.config) (same : new.world ≡ old.world) where
-  run-config : (run_after (first_run config) before).world.config ≡ old.config
+module _ (old new : Walk) (config : Config) (from : WorldRun) (before : List Event) (walked : HasWalkedFrom old config from before) (control : Control) (configured : new.config ≡ old.config) (same : new.world ≡ old.world) where
+  run-config : (run_after from before).world.config ≡ old.config
   run-config = walked.at_config ∙ sym walked.configured
 
   -- the same world once more
-  log-same : HasLogOf new.world (run_worlds (first_run config) before ++ (run_after (first_run config) before).world ∷ []) (run_after (first_run config) before).world
+  log-same : HasLogOf new.world (run_worlds from before ++ (run_after from before).world ∷ []) (run_after from before).world
   log-same =
-      let world = (run_after (first_run config) before).world in
+      let world = (run_after from before).world in
       let outlines = walked.log.outlines in
-      subst (λ (w : RunWorld). HasLogOf w (run_worlds (first_run config) before ++ world ∷ []) world) (sym same)
-      (record { outlines = outlines; log = log-again (run_worlds (first_run config) before) old.world.cuts.items world (closed-world (outline_of old.world.heap) world outlines old.world.heap.sound) walked.log.log })
+      subst (λ (w : RunWorld). HasLogOf w (run_worlds from before ++ world ∷ []) world) (sym same)
+      (record { outlines = outlines; log = log-again (run_worlds from before) old.world.cuts.items world (closed-world (outline_of old.world.heap) world outlines old.world.heap.sound) walked.log.log })
 
-  pub control-on : (quantum : Bool) → runs_quantum (run_after (first_run config) before) (event.Control control) ≡ quantum → new.units ≡ (if quantum then 0 else old.units)
-      → HasAsked new.asked (parts_made config before ++ []) (if quantum then [] else running_in [] (first_run config) before ++ []) (if quantum then ended_in [] (first_run config) before ++ (running_in [] (first_run config) before ++ []) ∷ [] else ended_in [] (first_run config) before)
-      → HasWalked new config (before ++ event.Control control ∷ [])
+  pub control-on : (quantum : Bool) → runs_quantum (run_after from before) (event.Control control) ≡ quantum → new.units ≡ (if quantum then 0 else old.units)
+      → HasAsked new.asked (parts_made_in from before ++ []) (if quantum then [] else running_in [] from before ++ []) (if quantum then ended_in [] from before ++ (running_in [] from before ++ []) ∷ [] else ended_in [] from before)
+      → HasWalkedFrom new config from (before ++ event.Control control ∷ [])
   control-on quantum is units asks =
-      walked-on new config before (event.Control control) quantum (configured ∙ walked.configured) (run_after (first_run config) before).world walked.at_config is refl (λ some. units ∙ ap (λ n. if quantum then 0 else n) (walked.at_units some)) log-same asks
+      walked-on new config from before (event.Control control) quantum (configured ∙ walked.configured) (run_after from before).world walked.at_config is refl (λ some. units ∙ ap (λ n. if quantum then 0 else n) (walked.at_units some)) log-same asks
 
   -- whether it has a quantum run
-  pub control-quantum : (asks : Bool) → runs_quantum (run_after (first_run config) before) (event.Control control) ≡ (asks && ((run_after (first_run config) before).world.config.every == 0)) → (due : Bool) → (asks && (old.config.every == 0)) ≡ due
-      → runs_quantum (run_after (first_run config) before) (event.Control control) ≡ due
+  pub control-quantum : (asks : Bool) → runs_quantum (run_after from before) (event.Control control) ≡ (asks && ((run_after from before).world.config.every == 0)) → (due : Bool) → (asks && (old.config.every == 0)) ≡ due
+      → runs_quantum (run_after from before) (event.Control control) ≡ due
   control-quantum asks is due e = is ∙ ap (λ (k : Config). asks && (k.every == 0)) run-config ∙ e
 
 -- Needs ------------------------------------------------------------------------------------------

@@ -28,3 +28,6 @@ pub mod Worlds
 pub mod OfSizingLaws
 pub mod OfClasses
 pub mod OfReport
+pub mod PartBirths
+pub mod Anchored
+pub mod Later

@@ -155,3 +155,14 @@ pub(crate) fn most_held(alloc: Global, heap: &ShadowHeap, cuts: &[Cut]) -> Resul
     }
     Ok(moment.most)
 }
+
+/// What is held at the last moment of a log.
+pub(crate) fn held_last(alloc: Global, heap: &ShadowHeap) -> Result<BirthSet, NoMemory>
+    requires few_parts { AreAtMost object_parts (2 ^ 63) (world_of heap.now) }
+    requires few_units { AreAtMost object_units (2 ^ 63) (world_of heap.now) }
+    ensures search { IfOk result (λ set. IsSearch (world_of heap.now) [] set.births (length set.births)) }
+    ensures room { IfOk result (λ set. set.room ≡ births (world_of heap.now)) }
+{
+    let moment = Moment::last(alloc, heap)?;
+    Ok(moment.set)
+}

@@ -9,19 +9,23 @@
 //!
 //! A command that the world refuses makes nothing, and counts nothing. Only a command may be refused memory, since the
 //! walk logs what it overwrites. A walk that is refused memory is as it was, but for names in its log that do no harm.
-ghost use Rattle.std.specs.Prelude.{◌≡◌, ◌+◌, ◌≤◌, ℕ, [], ◌∷◌, ◌++◌, not, ◌&&◌, ◌==◌, List, ◌^◌, IfOk, IfSome, IsNone, MatchOption, OnErr, OnOk, length};
+ghost use Rattle.std.specs.Prelude.{◌≡◌, ◌+◌, ◌≤◌, ℕ, true, [], ◌∷◌, ◌++◌, not, ◌&&◌, ◌==◌, List, ◌^◌, IfOk, IfSome, IsNone, MatchOption, OnErr, OnOk, length};
 ghost use Rattle.mh_model.specs.declared.command.Event.{Event};
 ghost use Rattle.mh_model.specs.declared.command.Event.TheVariants as events;
 ghost use Rattle.mh_model.specs.declared.config.Config.{Config};
 ghost use Rattle.mh_model.specs.declared.needs.Needs.{Needs};
 ghost use Rattle.mh_model.specs.Needs.{WorldRun, first_run, run_worlds, runs_quantum};
-ghost use Rattle.mh_sizing_laws.specs.Made.{MakeNoMore, MakeOfClasses, demand, parts_made};
+ghost use Rattle.mh_model.specs.Paths.{Reachable};
+ghost use Rattle.mh_model.specs.World.{births};
+ghost use Rattle.mh_sizing_laws.specs.Made.{MakeNoMore, MakeOfClasses, demand, parts_made, run_after};
 ghost use Rattle.mh_sizing_laws.specs.SharpPages.{fewest_slots, occurring};
+ghost use Rattle.mh_sizing.specs.Births.{is_among};
 ghost use Rattle.mh_sizing.specs.Needed.{AreTheNeeds, IsCommand, IsTooLarge};
 ghost use Rattle.mh_sizing.specs.Units.{units_made};
 ghost use Rattle.mh_sizing.specs.Worlds.{AreMostOf};
 
 use crate::asked::{Asked, parts_asked};
+use crate::births::BirthSet;
 use crate::counts::Counts;
 use crate::kinds::Kinds;
 use crate::world::RunWorld;
@@ -57,6 +61,17 @@ fn in_32_bits(number: u64) -> Option<u32>
     u32::try_from(number).ok()
 }
 
+/// The most that the sessions of a run hold and make from some event on.
+#[derive(Clone, Copy)]
+pub(crate) struct Later {
+    /// Live parts at a time.
+    pub(crate) live: u64,
+    /// Parts that an interval makes.
+    pub(crate) asked: u64,
+    /// Pages that these open.
+    pub(crate) opened: u64,
+}
+
 /// The events of a run so far, as far as they bear on what its sessions need. It keeps the shape of every
 /// object that they make, and which references are set.
 #[derive(Drop)]
@@ -70,7 +85,8 @@ pub struct Walk {
 }
 
 impl Walk {
-    ghost use Rattle.mh_sizing.specs.Walk.{HasWalked};
+    ghost use Rattle.mh_sizing.specs.Later.{HoldNoMore};
+    ghost use Rattle.mh_sizing.specs.Walk.{HasWalked, HasWalkedFrom};
 
     /// The walk of no events, which takes no memory.
     pub fn open(alloc: Global, config: Config) -> Walk
@@ -86,8 +102,8 @@ impl Walk {
 
     /// Does a command of the session `who`, with the quantum that it makes due.
     fn session(&mut self, who: u8, command: &Command) -> Result<(), NoMemory>
-        ensures walked { OnOk result ((config : Config) (before : List Event) → HasWalked self.old config before → HasWalked self.new config (before ++ events.Session who command.now ∷ [])) }
-        ensures stopped { OnErr result ((config : Config) (before : List Event) → HasWalked self.old config before → HasWalked self.new config before) }
+        ensures walked { OnOk result ((config : Config) (from : WorldRun) (before : List Event) → HasWalkedFrom self.old config from before → HasWalkedFrom self.new config from (before ++ events.Session who command.now ∷ [])) }
+        ensures stopped { OnErr result ((config : Config) (from : WorldRun) (before : List Event) → HasWalkedFrom self.old config from before → HasWalkedFrom self.new config from before) }
     {
         let parts = parts_asked(self.config.rules, command);
         if !self.asked.has_room(&parts) {
@@ -110,7 +126,7 @@ impl Walk {
 
     /// Does a control, of which only a quantum bears on what is needed.
     fn control(&mut self, control: Control)
-        ensures { (config : Config) (before : List Event) → HasWalked self.old config before → HasWalked self.new config (before ++ events.Control control ∷ []) }
+        ensures { (config : Config) (from : WorldRun) (before : List Event) → HasWalkedFrom self.old config from before → HasWalkedFrom self.new config from (before ++ events.Control control ∷ []) }
     {
         if !asks_for_quantum(control) || self.config.every != 0 {
             return;
@@ -122,8 +138,8 @@ impl Walk {
     /// Goes on with the next event. If memory is refused, or there is no room to count on, the walk is as it was. There is
     /// none once 2^44 objects were born, or all parts, the units to mark them, or an interval's parts have come to 2^62.
     pub fn event(&mut self, event: &Event) -> Result<(), NoMemory>
-        ensures walked { OnOk result ((config : Config) (before : List Event) → HasWalked self.old config before → HasWalked self.new config (before ++ event.now ∷ [])) }
-        ensures stopped { OnErr result ((config : Config) (before : List Event) → HasWalked self.old config before → HasWalked self.new config before) }
+        ensures walked { OnOk result ((config : Config) (from : WorldRun) (before : List Event) → HasWalkedFrom self.old config from before → HasWalkedFrom self.new config from (before ++ event.now ∷ [])) }
+        ensures stopped { OnErr result ((config : Config) (from : WorldRun) (before : List Event) → HasWalkedFrom self.old config from before → HasWalkedFrom self.new config from before) }
         ensures memory { OnErr result (IsCommand event.now) }
     {
         match *event {
@@ -133,6 +149,41 @@ impl Walk {
                 Ok(())
             }
         }
+    }
+
+    /// How many objects the events so far have made.
+    pub(crate) fn births(&self) -> u64
+        ensures { (config : Config) (from : WorldRun) (events : List Event) → HasWalkedFrom self.now config from events → result ≡ births (run_after from events).world }
+    {
+        self.world.births()
+    }
+
+    /// What the world after these events reaches.
+    pub(crate) fn reached(&self) -> Result<BirthSet, NoMemory>
+        ensures reached { IfOk result (λ set. (config : Config) (from : WorldRun) (events : List Event) → HasWalkedFrom self.now config from events → (birth : ℕ) → is_among set.births birth ≡ true → Reachable (run_after from events).world birth) }
+        ensures room { IfOk result (λ set. (config : Config) (from : WorldRun) (events : List Event) → HasWalkedFrom self.now config from events → set.room ≡ births (run_after from events).world) }
+    {
+        self.world.reached()
+    }
+
+    /// Forgets what came before. What it finds from then on is of what follows, from the world as it is.
+    pub(crate) fn begin_anew(&mut self)
+        ensures { (config : Config) (from : WorldRun) (before : List Event) → HasWalkedFrom self.old config from before → HasWalkedFrom self.new config (run_after from before) [] }
+    {
+        self.world.forget();
+        self.asked = Asked::new();
+    }
+
+    /// What the sessions of the events so far hold and make at most.
+    pub(crate) fn later(&self) -> Result<Later, NoMemory>
+        ensures { IfOk result (λ later. (config : Config) (from : WorldRun) (events : List Event) → HasWalkedFrom self.now config from events → HoldNoMore later from events) }
+    {
+        let most = self.world.most()?;
+        Ok(Later {
+            live: most.parts,
+            asked: self.asked.parts(),
+            opened: self.asked.pages(),
+        })
     }
 
     /// What the sessions of the events so far need, if so much is reached at most. None if a number has more than 32 bits.

@@ -1,16 +1,19 @@
 //! The ever-growing world of a run, as an outline of it, and the most that its worlds have reached. The names that
 //! commands overwrite are logged as it goes on, and the most is found from the last world back.
-ghost use Rattle.std.specs.Prelude.{◌≡◌, ◌≤◌, IsTrue, OnOk, OnErr, IfOk, List, [], ◌∷◌, ◌++◌};
+ghost use Rattle.std.specs.Prelude.{◌≡◌, ◌≤◌, ℕ, true, IsTrue, OnOk, OnErr, IfOk, List, [], ◌∷◌, ◌++◌};
+ghost use Rattle.mh_model.specs.Paths.{Reachable};
 ghost use Rattle.mh_model.specs.World.{World, births, first_world, world_step};
 ghost use Rattle.mh_shadow.specs.Outline.{Outlines};
 ghost use Rattle.mh_shadow.specs.OutlineSteps.{Follows};
 ghost use Rattle.mh_shadow.specs.ShadowHeap.{outline_of, world_of};
+ghost use Rattle.mh_sizing.specs.Births.{is_among};
 ghost use Rattle.mh_sizing.specs.Cuts.{cuts_of, overwritten, HasLogged};
 ghost use Rattle.mh_sizing.specs.Within.{HasRoomToMake, IsWithin};
 
+use crate::births::BirthSet;
 use crate::counts::{Counts, count_object};
 use crate::cuts::{Cut, log_overwritten};
-use crate::moments::most_held;
+use crate::moments::{held_last, most_held};
 use mh_model::birth::LIFE;
 use mh_model::command::Command;
 use mh_model::config::Config;
@@ -66,6 +69,28 @@ impl RunWorld {
         ensures { IfOk result (λ most. (worlds : List World) (last : World) → HasLogOf self.now worlds last → AreMostOf most worlds) }
     {
         most_held(self.alloc, &self.heap, &self.cuts)
+    }
+
+    /// How many objects were made.
+    pub(crate) fn births(&self) -> u64
+        ensures { (worlds : List World) (last : World) → HasLogOf self.now worlds last → result ≡ births last }
+    {
+        self.heap.births()
+    }
+
+    /// What the last world reaches.
+    pub(crate) fn reached(&self) -> Result<BirthSet, NoMemory>
+        ensures reached { IfOk result (λ set. (worlds : List World) (last : World) → HasLogOf self.now worlds last → (birth : ℕ) → is_among set.births birth ≡ true → Reachable last birth) }
+        ensures room { IfOk result (λ set. (worlds : List World) (last : World) → HasLogOf self.now worlds last → set.room ≡ births last) }
+    {
+        held_last(self.alloc, &self.heap)
+    }
+
+    /// Forgets the log, so that the run begins with its last world.
+    pub(crate) fn forget(&mut self)
+        ensures { (worlds : List World) (last : World) → HasLogOf self.old worlds last → HasLogOf self.new (last ∷ []) last }
+    {
+        self.cuts.clear();
     }
 
     /// Whether there is room to count what a command may make.

@@ -2,6 +2,7 @@ use Rattle.std.proofs.Common.{◌≡◌, Option, IfSome, IsNone, length, take, a
 use Rattle.std.proofs.Math.Seq.{take-length}
 use Rattle.std.proofs.lemmas.List.{take_more}
 use Rattle.mh_model.specs.declared.needs.Needs.{Needs}
+use Rattle.mh_model.specs.Needs.{first_run}
 use Rattle.mh_sizing.specs.Needed.{AreTheNeeds}
 use Rattle.mh_sizing.specs.Walk.{HasWalked}
 use Rattle.mh_sizing.proofs.profile.profile_of.Goals as goal
@@ -10,7 +11,7 @@ pub loop-event-preserved : goal.loop-event-preserved
 loop-event-preserved c =
     let events = c.args.events.now in
     let index = c.loop-event.event-index in
-    let walked = c.in_ok-event.ensures.walked c.args.config (take index events) c.loop-event.invariant in
+    let walked = c.in_ok-event.ensures.walked c.args.config (first_run c.args.config) (take index events) c.loop-event.invariant in
     subst (HasWalked c.event.new.self c.args.config) (sym (take_more events index _ c.loop-event-test.true)) walked
 
 pub returns-clause-profile : goal.returns-clause-profile
