@@ -72,7 +72,7 @@ module _ (config : Config) (start : List Event) (list : List PartBirth) (born : 
   pages-born =
       sum-born (λ size births. div_ceil (length births) (slots_in size))
       ∙ sum-same (λ size. div_ceil (length (births_made size config start)) (slots_in size)) (λ size. div_ceil (class_parts size (parts_made config start)) (slots_in size)) class_sizes
-        (λ size among. ap (λ n. div_ceil n (slots_in size)) (length-born size (first_run config) start))
+      (λ size among. ap (λ n. div_ceil n (slots_in size)) (length-born size (first_run config) start))
 
 module _ (config : Config) (events start rest : List Event) (whole : start ++ rest ≡ events) (stays : Stays) (list : List PartBirth) (needs : Needs) (anchors : Anchors) (later : Later) where
   pub kept : AllByRecursion (λ event. asks_for_cycle event ≡ false) start → AreTheNeeds needs config events

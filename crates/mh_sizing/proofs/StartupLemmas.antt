@@ -29,7 +29,7 @@ born-push size run [] event = append-nil (replicate (class_parts size (made_part
 born-push size run (first ∷ events) event =
     ap (λ (list : List ℕ). replicate (class_parts size (made_parts run first)) (births run.world) ++ list) (born-push size (next_run run first) events event)
     ∙ sym (append_assoc (replicate (class_parts size (made_parts run first)) (births run.world)) (births_made_in size (next_run run first) events)
-      (replicate (class_parts size (made_parts (run_after (next_run run first) events) event)) (births (run_after (next_run run first) events).world)))
+    (replicate (class_parts size (made_parts (run_after (next_run run first) events) event)) (births (run_after (next_run run first) events).world)))
 
 -- An event makes the parts that it asks for if it makes an object, and otherwise none
 module _ (run : WorldRun) (config : Config) (at_config : run.world.config ≡ config) where
@@ -53,7 +53,7 @@ module _ (run : WorldRun) (config : Config) (at_config : run.world.config ≡ co
       let more = step-births run.world who c answer new refl in
       let none = some-made (made c answer) (sym more ∙ sym (next-births (event.Session who c)) ∙ same) in
       sym (sym (ap (λ (b : Bool). if b then asked_parts config (event.Session who c) else []) (le-ltb 0 count (few count none)))
-        ∙ made-are run config who c new count (asked_parts config (event.Session who c)) at_config (record { answer = answer; performs = refl; count = refl }) refl)
+      ∙ made-are run config who c new count (asked_parts config (event.Session who c)) at_config (record { answer = answer; performs = refl; count = refl }) refl)
     where
       few : (n : ℕ) → (0 < n → ⊥) → n ≤ 0
       few zero none = omega arith
@@ -68,7 +68,7 @@ module _ (run : WorldRun) (config : Config) (at_config : run.world.config ≡ co
       let more = step-births run.world who c answer new refl in
       let some = none-made (made c answer) (λ same. other (next-births (event.Session who c) ∙ more ∙ same)) in
       sym (sym (ap (λ (b : Bool). if b then asked_parts config (event.Session who c) else []) (lt-ltb 0 count some))
-        ∙ made-are run config who c new count (asked_parts config (event.Session who c)) at_config (record { answer = answer; performs = refl; count = refl }) refl)
+      ∙ made-are run config who c new count (asked_parts config (event.Session who c)) at_config (record { answer = answer; performs = refl; count = refl }) refl)
 
 -- Lists of parts ---------------------------------------------------------------------------------
 
@@ -83,7 +83,7 @@ module _ (config : Config) (before : List Event) (event : Event) (at_config : (r
   born-none list born same size =
       born size
       ∙ sym (born-push size (first_run config) before event ∙ ap (λ (all : List Part). births_made size config before ++ replicate (class_parts size all) (births run.world)) (made-none run config at_config event (sym after ∙ same))
-        ∙ append-nil (births_made size config before))
+      ∙ append-nil (births_made size config before))
 
   pub born-some : (old new : List PartBirth) (parts : List Part) (birth : ℕ) → AreBorn old config before → parts ≡ asked_parts config event → birth ≡ births run.world → (births (run_after (first_run config) (before ++ event ∷ [])).world ≡ births run.world → ⊥)
       → ((size : ℕ) → births_of size new ≡ births_of size old ++ replicate (class_parts size parts) birth) → AreBorn new config (before ++ event ∷ [])

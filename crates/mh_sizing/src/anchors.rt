@@ -69,7 +69,11 @@ fn class_anchors(stays: &Stays, births: &[Birth], slots: usize) -> Anchors
 }
 
 /// The pages that parts fill in order, if each class has pages of its own.
-pub(crate) fn all_anchors(alloc: Global, stays: &Stays, parts: &[PartBirth]) -> Result<Anchors, NoMemory>
+pub(crate) fn all_anchors(
+    alloc: Global,
+    stays: &Stays,
+    parts: &[PartBirth],
+) -> Result<Anchors, NoMemory>
     ensures pages { IfOk result (λ anchors. anchors.pages ≡ sum_by (λ size. div_ceil (length (births_of size parts.now)) (slots_in size)) class_sizes) }
     ensures anchored { IfOk result (λ anchors. anchors.anchored ≡ sum_by (λ size. anchored_by (stay stays.now) (slots_in size) (births_of size parts.now)) class_sizes) }
     ensures staying { IfOk result (λ anchors. anchors.staying ≡ sum_by (λ size. staying_by (stay stays.now) (slots_in size) (births_of size parts.now)) class_sizes) }

@@ -18,17 +18,28 @@ pub(crate) struct PartBirth {
 }
 
 /// Lists the parts of an object.
-pub(crate) fn list_parts(list: &mut Vec<PartBirth>, parts: &Parts, birth: Birth) -> Result<(), NoMemory>
+pub(crate) fn list_parts(
+    list: &mut Vec<PartBirth>,
+    parts: &Parts,
+    birth: Birth,
+) -> Result<(), NoMemory>
     ensures { OnOk result ((size : ℕ) → births_of size list.new.items ≡ births_of size list.old.items ++ replicate (class_parts size parts.now) birth) }
 {
     for index in 0..parts.count() {
-        list.push(PartBirth { class: parts.get(index).class(), birth })?;
+        list.push(PartBirth {
+            class: parts.get(index).class(),
+            birth,
+        })?;
     }
     Ok(())
 }
 
 /// The births of the parts of a class, in their order.
-pub(crate) fn births_of_class(alloc: Global, list: &[PartBirth], class: Class) -> Result<Vec<Birth>, NoMemory>
+pub(crate) fn births_of_class(
+    alloc: Global,
+    list: &[PartBirth],
+    class: Class,
+) -> Result<Vec<Birth>, NoMemory>
     ensures { IfOk result (λ births. births.items ≡ births_of class list.now) }
 {
     let mut births = Vec::new(alloc);

@@ -38,7 +38,12 @@ fn parts_of_event(rules: Rules, event: &Event) -> Option<Parts>
 }
 
 /// Goes on with the next event of a startup, and lists the parts that it makes.
-fn walk_startup(walk: &mut Walk, list: &mut Vec<PartBirth>, config: Config, event: &Event) -> Result<(), NoMemory>
+fn walk_startup(
+    walk: &mut Walk,
+    list: &mut Vec<PartBirth>,
+    config: Config,
+    event: &Event,
+) -> Result<(), NoMemory>
     ensures { OnOk result ((before : List Event) → HasWalked walk.old config before → AreBorn list.old.items config before → HasWalked walk.new config (before ++ event.now ∷ []) × AreBorn list.new.items config (before ++ event.now ∷ [])) }
 {
     let birth = walk.births();
@@ -53,7 +58,12 @@ fn walk_startup(walk: &mut Walk, list: &mut Vec<PartBirth>, config: Config, even
 }
 
 /// Goes through the events of a startup, and lists the parts that they make.
-fn walk_start(walk: &mut Walk, alloc: Global, config: Config, events: &[Event]) -> Result<Vec<PartBirth>, NoMemory>
+fn walk_start(
+    walk: &mut Walk,
+    alloc: Global,
+    config: Config,
+    events: &[Event],
+) -> Result<Vec<PartBirth>, NoMemory>
     ensures { IfOk result (λ list. HasWalked walk.old config [] → HasWalked walk.new config events.now × AreBorn list.items config events.now) }
 {
     let mut list = Vec::new(alloc);
@@ -107,7 +117,12 @@ fn startup_with(needs: &Needs, anchors: Anchors, later: Later) -> Option<Startup
 /// What the first `first` events of a run leave to the rest, if they ask for no cycle. The objects that stay are those that
 /// the run's last world reaches, and the numbers are the least. None if one of the events asks for a cycle, or if a
 /// number has more than 32 bits.
-pub fn startup_of(alloc: Global, config: Config, events: &[Event], first: usize) -> Result<Option<Startup>, NoMemory>
+pub fn startup_of(
+    alloc: Global,
+    config: Config,
+    events: &[Event],
+    first: usize,
+) -> Result<Option<Startup>, NoMemory>
     ensures kept { IfOk result (λ found. IfSome found (λ startup. (kinds : Kinds) → MakeOfClasses kinds.fewest_slots kinds.kinds config events.now → KeepAfter startup kinds config events.now)) }
 {
     let first = first.min(events.len());

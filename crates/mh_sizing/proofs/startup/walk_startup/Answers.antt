@@ -25,9 +25,11 @@ returns-in-Some c = on-ok c.list_parts.result (λ grown before walked born.
     let event = c.args.event.now in
     let on = c.in_ok-event.ensures.walked config (first_run config) before walked in
     let at = c.births-birth.ensures config (first_run config) before walked in
-    let parts = sym (ap (λ (found : Option (List Part)). unwrap_or found []) c.in-Some.is) ∙ c.parts_of_event.ensures config refl in
-    (on, born-some config before event walked.at_config c.args.list.now.items c.list_parts.new.list.items c.in-Some.parts c.births-birth.result born parts at
-      (λ same. c.if-births-birth.false (c.births.ensures config (first_run config) (before ++ event ∷ []) on ∙ same ∙ sym at)) grown)) c.list_parts.ensures
+    let parts = sym (ap (λ (found : Option (List Part)). unwrap_or found []) c.in-Some.is) ∙ c.parts_of_event.ensures config refl in (
+      on,
+      born-some config before event walked.at_config c.args.list.now.items c.list_parts.new.list.items c.in-Some.parts c.births-birth.result born parts at
+          (λ same. c.if-births-birth.false (c.births.ensures config (first_run config) (before ++ event ∷ []) on ∙ same ∙ sym at)) grown,
+    )) c.list_parts.ensures
 
 pub returns-in-None : goal.returns-in-None
 returns-in-None c = λ before walked born.
@@ -35,6 +37,8 @@ returns-in-None c = λ before walked born.
     let event = c.args.event.now in
     let on = c.in_ok-event.ensures.walked config (first_run config) before walked in
     let at = c.births-birth.ensures config (first_run config) before walked in
-    let parts = sym (ap (λ (found : Option (List Part)). unwrap_or found []) c.in-None.is) ∙ c.parts_of_event.ensures config refl in
-    (on, born-some config before event walked.at_config c.args.list.now.items c.args.list.now.items [] c.births-birth.result born parts at
-      (λ same. c.if-births-birth.false (c.births.ensures config (first_run config) (before ++ event ∷ []) on ∙ same ∙ sym at)) (λ size. sym (append-nil (births_of size c.args.list.now.items))))
+    let parts = sym (ap (λ (found : Option (List Part)). unwrap_or found []) c.in-None.is) ∙ c.parts_of_event.ensures config refl in (
+      on,
+      born-some config before event walked.at_config c.args.list.now.items c.args.list.now.items [] c.births-birth.result born parts at
+          (λ same. c.if-births-birth.false (c.births.ensures config (first_run config) (before ++ event ∷ []) on ∙ same ∙ sym at)) (λ size. sym (append-nil (births_of size c.args.list.now.items))),
+    )
