@@ -1,11 +1,12 @@
 -- Births of parts by class, one more at a time.
 use Rattle.std.proofs.Common.{◌≡◌, ℕ, zero, suc, ◌+◌, ◌==◌, ◌<◌, Bool, true, false, if◌then◌else◌, Option, Some, List, [], ◌∷◌, ◌++◌, length, get_or, take, replicate, slice_get, refl, sym, ap, ap₂, ◌∙◌, subst, arith, append-nil}
 use Rattle.std.proofs.lemmas.List.{append_assoc, take_more}
+use Rattle.std.proofs.lemmas.Option.{none-some, same_Some, slice_get_within}
 use Rattle.mh_model.specs.Classes.{Part, class_of, part_words}
 use Rattle.mh_model.specs.Openings.{class_parts}
 use Rattle.mh_sizing.specs.declared.part_births.PartBirth.{PartBirth}
 use Rattle.mh_sizing.specs.PartBirths.{births_of}
-use Rattle.mh_sizing.proofs.ClassLemmas.{part-more, taken-more}
+use Rattle.mh_sizing.proofs.ClassLemmas.{part-more}
 
 pub births-push : (size : ℕ) (list : List PartBirth) (part : PartBirth) → births_of size (list ++ part ∷ []) ≡ births_of size list ++ (if part.class == size then part.birth ∷ [] else [])
 births-push size [] part = refl
@@ -26,6 +27,14 @@ replicate-more (suc count) birth = ap (λ (all : List ℕ). birth ∷ all) (repl
     next : (n : ℕ) → suc (n + 1) ≡ suc n + 1
     next n = omega arith
 
+read : (list : List Part) (index : ℕ) (part : Part) → slice_get list index ≡ Some part → get_or list index part ≡ part
+read [] index part at = absurd (none-some part at)
+read (first ∷ list) zero part at = same_Some first part at
+read (first ∷ list) (suc index) part at = read list index part at
+
+taken-more : (parts : List Part) (index : ℕ) (part : Part) → Some part ≡ slice_get parts index → take index parts ++ part ∷ [] ≡ take (index + 1) parts
+taken-more parts index part is = sym (take_more parts index part (slice_get_within parts index part (sym is)) ∙ ap (λ (p : Part). take index parts ++ p ∷ []) (read parts index part (sym is)))
+
 -- a part of an object is listed
 pub listed-more : (size : ℕ) (old list : List PartBirth) (parts : List Part) (index birth class : ℕ) (part : Part) → Some part ≡ slice_get parts index → class_of (part_words part) ≡ Some class
     → births_of size list ≡ births_of size old ++ replicate (class_parts size (take index parts)) birth
@@ -34,7 +43,7 @@ listed-more size old list parts index birth class part at is before =
     births-push size list (record { class = class; birth = birth })
     ∙ ap (λ (all : List ℕ). all ++ (if class == size then birth ∷ [] else [])) before
     ∙ append_assoc (births_of size old) (replicate count birth) (if class == size then birth ∷ [] else [])
-    ∙ ap (λ (all : List ℕ). births_of size old ++ all) (go (class == size) ∙ ap (λ n. replicate n birth) (sym (part-more (take index parts) part class size is) ∙ ap (class_parts size) (taken-more [] parts index part at)))
+    ∙ ap (λ (all : List ℕ). births_of size old ++ all) (go (class == size) ∙ ap (λ n. replicate n birth) (sym (part-more (take index parts) part class size is) ∙ ap (class_parts size) (taken-more parts index part at)))
   where
     count : ℕ
     count = class_parts size (take index parts)
