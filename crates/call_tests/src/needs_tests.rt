@@ -1,8 +1,10 @@
 use mh_model::command::{Command, Control, Event};
 use mh_model::config::Config;
 use mh_model::needs::Needs;
+use mh_sizing::after::Startup;
 use mh_sizing::kinds::Kinds;
 use mh_sizing::profile::{Profile, profile_of};
+use mh_sizing::startup::startup_of;
 use std::test::Fail;
 
 fn new(slot: u32, references: u32, numbers: u32) -> Command {
@@ -63,5 +65,53 @@ fn sessions_need_what_they_reach_and_make(rt: HostRuntime) -> Result<(), Fail> {
     } = kinds;
     assert_eq!(rt; (kinds, fewest_slots), (4, 4));
     assert_eq!(rt; demand, Some(4));
+    Ok(())
+}
+
+/// Three objects of 64 words, of which a page has four, and then two of 4 words, each in place of the one before.
+fn events_with_a_startup() -> [Event; 5] {
+    [
+        Event::Session(0, new(0, 60, 0)),
+        Event::Session(0, new(1, 60, 0)),
+        Event::Session(0, new(2, 60, 0)),
+        Event::Session(0, new(1, 0, 0)),
+        Event::Session(0, new(1, 0, 0)),
+    ]
+}
+
+/// The first three fill a page. Two of them stay and anchor it, so one of the three that live counts beside them. All three cost
+/// 183 units to mark, and the two that follow open a page of 64 slots, of which 16 move at most.
+#[test]
+fn a_startup_leaves_the_page_that_it_anchors(rt: HostRuntime) -> Result<(), Fail> {
+    let config = Config::new(100, 1000, 10, 1000).ok_or("a configuration")?;
+    let startup = startup_of(rt.alloc(), config, &events_with_a_startup(), 3)?;
+    let expected = Startup {
+        pages: 1,
+        anchored: 1,
+        needs: Needs {
+            live: 1,
+            marking_units: 183,
+            asked: 2,
+            opened: 1,
+            page_units: 192,
+        },
+    };
+    assert_eq!(rt; startup, Some(expected));
+    Ok(())
+}
+
+/// A startup that asks for a cycle has no such numbers.
+#[test]
+fn no_cycle_is_asked_for_in_a_startup(rt: HostRuntime) -> Result<(), Fail> {
+    let config = Config::new(100, 1000, 10, 1000).ok_or("a configuration")?;
+    let events = [
+        Event::Session(0, new(0, 60, 0)),
+        Event::Control(Control::Start),
+    ];
+    let startups = [
+        startup_of(rt.alloc(), config, &events, 1)?.is_some(),
+        startup_of(rt.alloc(), config, &events, 2)?.is_some(),
+    ];
+    assert_eq!(rt; startups, [true, false]);
     Ok(())
 }
