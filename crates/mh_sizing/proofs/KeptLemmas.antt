@@ -1,5 +1,5 @@
 -- What a startup leaves to the rest of a run, of the numbers that were found.
-use Rattle.std.proofs.Common.{◌≡◌, ℕ, ◌+◌, ◌-◌, ◌<◌, ◌≤◌, nat_lt, Bool, true, false, List, [], ◌∷◌, ◌++◌, length, replicate, refl, sym, ap, ap₂, ◌∙◌, subst, arith, length-append}
+use Rattle.std.proofs.Common.{◌≡◌, ℕ, ◌+◌, ◌≤◌, nat_lt, true, false, List, [], ◌∷◌, ◌++◌, length, replicate, refl, sym, ap, ap₂, ◌∙◌, subst, arith, length-append}
 use Rattle.std.specs.Int.{div_ceil}
 use Rattle.std.specs.List.{AllByRecursion, sum_by}
 use Rattle.std.proofs.lemmas.Bool.{and_parts, ltb-true}
@@ -14,9 +14,9 @@ use Rattle.mh_model.specs.LiveParts.{HasAtMostLive, object_parts}
 use Rattle.mh_model.specs.Needs.{WorldRun, first_run, next_run, run_worlds}
 use Rattle.mh_model.specs.Openings.{class_parts, pages_of_parts}
 use Rattle.mh_model.specs.Paths.{Reachable}
-use Rattle.mh_model.specs.World.{World, births, world_step}
-use Rattle.mh_sizing_laws.specs.Made.{MakeNoMore, MakeOfClasses, intervals_made_in, made_parts, parts_made, parts_made_in, run_after}
-use Rattle.mh_sizing_laws.specs.Startup.{anchored_by, anchored_of, asks_for_cycle, births_made, births_made_in, staying_by, staying_of}
+use Rattle.mh_model.specs.World.{births, world_step}
+use Rattle.mh_sizing_laws.specs.Made.{MakeOfClasses, intervals_made_in, made_parts, parts_made, parts_made_in, run_after}
+use Rattle.mh_sizing_laws.specs.Startup.{anchored_by, asks_for_cycle, births_made, births_made_in, staying_by, staying_of}
 use Rattle.mh_sizing_laws.proofs.ClassWeights.{sum-same}
 use Rattle.mh_sizing.specs.declared.after.Startup.{Startup}
 use Rattle.mh_sizing.specs.declared.anchors.Anchors.{Anchors}

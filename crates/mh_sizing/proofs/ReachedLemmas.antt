@@ -1,8 +1,8 @@
 -- What the last world of a run reaches, by a search.
-use Rattle.std.proofs.Common.{◌≡◌, zero, suc, inl, inr, ℕ, true, List, [], ◌∷◌, length, sym, subst, arith}
+use Rattle.std.proofs.Common.{◌≡◌, zero, suc, inl, inr, ℕ, true, List, [], ◌∷◌, sym, subst, arith}
 use Rattle.std.specs.List.{Any}
 use Rattle.mh_model.specs.Paths.{Reachable}
-use Rattle.mh_model.specs.World.{World, births, IsClosed}
+use Rattle.mh_model.specs.World.{World, IsClosed}
 use Rattle.mh_shadow.specs.Outline.{Outline, Outlines}
 use Rattle.mh_sizing.specs.Births.{is_among}
 use Rattle.mh_sizing.specs.Cuts.{HoldsAll, IsLogOf, IsRoot, ReachedFrom}

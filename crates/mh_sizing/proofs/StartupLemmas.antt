@@ -1,8 +1,7 @@
 -- The parts that the events of a startup make, one event at a time.
-use Rattle.std.proofs.Common.{◌≡◌, inl, inr, ℕ, zero, suc, ◌+◌, ◌==◌, ◌<◌, ◌≤◌, nat_lt, Bool, true, false, if◌then◌else◌, Option, Some, None, is_none, List, [], ◌∷◌, ◌++◌, length, replicate, refl, sym, ap, ap₂, ◌∙◌, subst, arith, append-nil}
+use Rattle.std.proofs.Common.{◌≡◌, ℕ, zero, suc, ◌+◌, ◌<◌, ◌≤◌, Bool, if◌then◌else◌, Option, Some, None, List, [], ◌∷◌, ◌++◌, length, replicate, refl, sym, ap, ap₂, ◌∙◌, arith, append-nil}
 use Rattle.std.proofs.lemmas.Bool.{lt-ltb, le-ltb}
 use Rattle.std.proofs.lemmas.List.{append_assoc}
-use Rattle.mh_model.specs.declared.command.Command.{Command}
 use Rattle.mh_model.specs.declared.command.Event.{Event}
 use Rattle.mh_model.specs.declared.command.Event.TheVariants as event
 use Rattle.mh_model.specs.declared.config.Config.{Config}
@@ -17,7 +16,6 @@ use Rattle.mh_sizing_laws.specs.Startup.{births_made, births_made_in}
 use Rattle.mh_sizing.specs.declared.part_births.PartBirth.{PartBirth}
 use Rattle.mh_sizing.specs.PartBirths.{AreBorn, births_of}
 use Rattle.mh_sizing.specs.Steps.{made, made_count}
-use Rattle.mh_sizing.specs.Worlds.{Performed}
 use Rattle.mh_sizing.proofs.RunLemmas.{after-push}
 use Rattle.mh_sizing.proofs.StepLemmas.{step-births}
 use Rattle.mh_sizing.proofs.WalkLemmas.{made-are, next-is, next-world}

@@ -1,7 +1,4 @@
-use Rattle.std.proofs.Common.{◌==◌, if◌then◌else◌, [], ◌∷◌, ◌++◌, ◌≡◌, ℕ, Bool, List, ap, ap₂, sym, ◌∙◌, arith, append-nil, rules}
-use Rattle.std.proofs.lemmas.Bool.{eq-eqb, ne_eqb}
-use Rattle.mh_sizing.specs.declared.part_births.PartBirth.{PartBirth}
-use Rattle.mh_sizing.specs.PartBirths.{births_of}
+use Rattle.std.proofs.Common.{◌≡◌, sym, arith, rules}
 use Rattle.mh_sizing.proofs.PartBirthLemmas.{births-more}
 use Rattle.mh_sizing.proofs.part_births.births_of_class.Goals as goal
 use Rattle.mh_sizing.proofs.part_births.births_of_class.Goals.{then-size+in_ok-push, else-size}

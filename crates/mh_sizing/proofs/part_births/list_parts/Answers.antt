@@ -1,5 +1,4 @@
-use Rattle.std.proofs.Common.{[], ◌∷◌, ◌++◌, ◌≡◌, List, ap, ◌∙◌}
-use Rattle.mh_sizing.specs.declared.part_births.PartBirth.{PartBirth}
+use Rattle.std.proofs.Common.{ap, ◌∙◌}
 use Rattle.mh_sizing.specs.PartBirths.{births_of}
 use Rattle.mh_sizing.proofs.PartBirthLemmas.{listed-more}
 use Rattle.mh_sizing.proofs.part_births.list_parts.Goals as goal

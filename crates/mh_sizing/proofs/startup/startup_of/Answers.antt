@@ -1,4 +1,4 @@
-use Rattle.std.proofs.Common.{Option, Some, None, IfSome, List, ℕ, ◌≡◌, ◌-◌, ◌≤◌, ◌++◌, length, take, drop, take_all, sym, ap, subst, ◌∙◌, arith}
+use Rattle.std.proofs.Common.{Option, Some, None, IfSome, List, ◌≡◌, ◌-◌, ◌≤◌, ◌++◌, length, take, drop, take_all, ap, subst, ◌∙◌, arith}
 use Rattle.std.proofs.lemmas.List.{length-drop, take-append-drop}
 use Rattle.mh_model.specs.declared.command.Event.{Event}
 use Rattle.mh_model.specs.declared.needs.Needs.{Needs}

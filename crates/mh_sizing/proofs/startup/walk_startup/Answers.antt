@@ -1,9 +1,7 @@
-use Rattle.std.proofs.Common.{◌≡◌, ◌++◌, ◌∷◌, [], ℕ, Result, Ok, Err, List, Option, Some, None, OnOk, unwrap_or, replicate, ap, refl, sym, ◌∙◌, arith, append-nil}
+use Rattle.std.proofs.Common.{◌++◌, ◌∷◌, [], Result, Ok, Err, List, Option, OnOk, unwrap_or, ap, refl, sym, ◌∙◌, append-nil}
 use Rattle.mh_model.specs.Classes.{Part}
-use Rattle.mh_model.specs.declared.command.Event.{Event}
 use Rattle.mh_model.specs.Needs.{first_run}
-use Rattle.mh_sizing.specs.PartBirths.{AreBorn, births_of}
-use Rattle.mh_sizing.specs.Walk.{HasWalked}
+use Rattle.mh_sizing.specs.PartBirths.{births_of}
 use Rattle.mh_sizing.proofs.StartupLemmas.{born-none, born-some}
 use Rattle.mh_sizing.proofs.startup.walk_startup.Goals as goal
 

@@ -1,4 +1,4 @@
-use Rattle.std.proofs.Common.{Result, Ok, Err, List, [], ◌∷◌, ◌++◌, OnOk, sym, subst}
+use Rattle.std.proofs.Common.{List, [], ◌∷◌, ◌++◌, OnOk, sym, subst}
 use Rattle.mh_model.specs.declared.command.Event.{Event}
 use Rattle.mh_model.specs.declared.config.Config.{Config}
 use Rattle.mh_model.specs.Needs.{WorldRun}

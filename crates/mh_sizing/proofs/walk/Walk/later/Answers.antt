@@ -1,8 +1,8 @@
-use Rattle.std.proofs.Common.{◌∷◌, [], ◌++◌, length, ap, sym, ◌∙◌, subst, arith}
+use Rattle.std.proofs.Common.{[], length, ap, arith}
 use Rattle.mh_model.specs.Needs.{run_worlds}
 use Rattle.mh_model.specs.Openings.{pages_of_parts}
 use Rattle.mh_sizing_laws.specs.Made.{intervals_made_in}
-use Rattle.mh_sizing.specs.Runs.{ended_in, running_in, most_of}
+use Rattle.mh_sizing.specs.Runs.{most_of}
 use Rattle.mh_sizing.proofs.RunLemmas.{intervals-cut, most_of-enough}
 use Rattle.mh_sizing.proofs.walk.Walk.later.Goals as goal
 
