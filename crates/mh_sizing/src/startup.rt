@@ -114,9 +114,8 @@ fn startup_with(needs: &Needs, anchors: Anchors, later: Later) -> Option<Startup
     })
 }
 
-/// What the first `first` events of a run leave to the rest, if they ask for no cycle. The objects that stay are those that
-/// the run's last world reaches, and the numbers are the least. None if one of the events asks for a cycle, or if a
-/// number has more than 32 bits.
+/// What the first `first` events of a run leave to the rest. The objects that stay are those that the run's last world
+/// reaches. None if one of the first events asks for a cycle, or if a number has more than 32 bits.
 pub fn startup_of(
     alloc: Global,
     config: Config,
