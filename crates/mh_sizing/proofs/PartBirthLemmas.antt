@@ -1,7 +1,7 @@
 -- Births of parts by class, one more at a time.
-use Rattle.std.proofs.Common.{◌≡◌, ℕ, zero, suc, ◌+◌, ◌==◌, ◌<◌, Bool, true, false, if◌then◌else◌, Some, List, [], ◌∷◌, ◌++◌, length, get_or, take, replicate, slice_get, refl, sym, ap, ◌∙◌, arith, append-nil}
-use Rattle.std.proofs.lemmas.List.{append_assoc, take_more}
-use Rattle.std.proofs.lemmas.Option.{none-some, same_Some, slice_get_within}
+use Rattle.std.proofs.Common.{◌≡◌, ℕ, ◌+◌, ◌==◌, ◌<◌, Bool, true, false, if◌then◌else◌, Some, List, [], ◌∷◌, ◌++◌, length, get_or, take, replicate, slice_get, refl, sym, ap, ◌∙◌, arith, append-nil}
+use Rattle.std.proofs.lemmas.List.{append_assoc, replicate-append-replicate, take_more}
+use Rattle.std.proofs.lemmas.Option.{get_or_from_slice_get, slice_get_within}
 use Rattle.mh_model.specs.Classes.{Part, class_of, part_words}
 use Rattle.mh_model.specs.Openings.{class_parts}
 use Rattle.mh_sizing.specs.declared.part_births.PartBirth.{PartBirth}
@@ -20,20 +20,8 @@ births-push size (first ∷ list) part = go (first.class == size) (births-push s
     go true rest = ap (λ (all : List ℕ). first.birth ∷ all) rest
     go false rest = rest
 
-replicate-more : (count birth : ℕ) → replicate count birth ++ birth ∷ [] ≡ replicate (count + 1) birth
-replicate-more zero birth = refl
-replicate-more (suc count) birth = ap (λ (all : List ℕ). birth ∷ all) (replicate-more count birth) ∙ ap (λ n. replicate n birth) (next count)
-  where
-    next : (n : ℕ) → suc (n + 1) ≡ suc n + 1
-    next n = omega arith
-
-read : (list : List Part) (index : ℕ) (part : Part) → slice_get list index ≡ Some part → get_or list index part ≡ part
-read [] index part at = absurd (none-some part at)
-read (first ∷ list) zero part at = same_Some first part at
-read (first ∷ list) (suc index) part at = read list index part at
-
 taken-more : (parts : List Part) (index : ℕ) (part : Part) → Some part ≡ slice_get parts index → take index parts ++ part ∷ [] ≡ take (index + 1) parts
-taken-more parts index part is = sym (take_more parts index part (slice_get_within parts index part (sym is)) ∙ ap (λ (p : Part). take index parts ++ p ∷ []) (read parts index part (sym is)))
+taken-more parts index part is = sym (take_more parts index part (slice_get_within parts index part (sym is)) ∙ ap (λ (p : Part). take index parts ++ p ∷ []) (get_or_from_slice_get parts index part part (sym is)))
 
 -- a part of an object is listed
 pub listed-more : (size : ℕ) (old list : List PartBirth) (parts : List Part) (index birth class : ℕ) (part : Part) → Some part ≡ slice_get parts index → class_of (part_words part) ≡ Some class
@@ -49,7 +37,7 @@ listed-more size old list parts index birth class part at is before =
     count = class_parts size (take index parts)
 
     go : (same : Bool) → replicate count birth ++ (if same then birth ∷ [] else []) ≡ replicate (count + (if same then 1 else 0)) birth
-    go true = replicate-more count birth
+    go true = replicate-append-replicate count 1 birth
     go false = append-nil (replicate count birth) ∙ ap (λ n. replicate n birth) (omega arith)
 
 -- those of a class are looked through

@@ -7,8 +7,8 @@
 //! that of the law by which small new parts share pages (`shared`). The lesser of them is enough, and neither is always
 //! the lesser. So are pages for the demand of a run, by class, whatever its cycles. `enough` says whether a
 //! configuration is enough by any of these. `found` searches for the fewest pages, and `quantum` for the least quantum.
-//! `after` does the same of runs whose startup stays. The laws of this crate say of such numbers what those of
-//! `mh_sizing_laws` say of any.
+//! `after` does the same of runs whose startup stays, and `startup` reads what it leaves off their events. The laws of
+//! this crate say of such numbers what those of `mh_sizing_laws` say of any.
 #![tactic(auto)]
 
 pub use mh_classes;

@@ -116,6 +116,8 @@ fn startup_with(needs: &Needs, anchors: Anchors, later: Later) -> Option<Startup
 
 /// What the first `first` events of a run leave to the rest. The objects that stay are those that the run's last world
 /// reaches. None if one of the first events asks for a cycle, or if a number has more than 32 bits.
+///
+/// The clause says that the numbers are enough. None says that they are the least, or when there are none.
 pub fn startup_of(
     alloc: Global,
     config: Config,

@@ -213,7 +213,7 @@ impl Walk {
         Ok(self.needs_with(most))
     }
 
-    /// The most pages that the intervals of the events so far open, all together. None if they are 2^32 or more.
+    /// The pages that the classes of the events so far take at most, all together. None if they are 2^32 or more.
     pub fn demand(&self) -> Option<u32>
         ensures { (config : Config) (events : List Event) → HasWalked self.now config events → MatchOption result (2 ^ 32 ≤ demand config events) (λ pages. pages ≡ demand config events) }
     {
