@@ -60,6 +60,8 @@ mod scripts;
 #[cfg(test)]
 mod seat_tests;
 #[cfg(test)]
+mod seen_tests;
+#[cfg(test)]
 mod service_tests;
 #[cfg(test)]
 mod shadow_tests;

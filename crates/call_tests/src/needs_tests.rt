@@ -4,7 +4,6 @@ use mh_model::needs::Needs;
 use mh_sizing::after::Startup;
 use mh_sizing::kinds::Kinds;
 use mh_sizing::profile::{Profile, profile_of};
-use mh_sizing::startup::startup_of;
 use std::test::Fail;
 
 fn new(slot: u32, references: u32, numbers: u32) -> Command {
@@ -45,7 +44,7 @@ fn events() -> [Event; 10] {
 #[test]
 fn sessions_need_what_they_reach_and_make(rt: HostRuntime) -> Result<(), Fail> {
     let config = Config::new(100, 1000, 10, 4).ok_or("a configuration")?;
-    let profile = profile_of(rt.alloc(), config, &events())?.ok_or("needs of 32 bits")?;
+    let profile = profile_of(rt.alloc(), config, &events(), None)?.ok_or("needs of 32 bits")?;
     let expected = Needs {
         live: 5,
         marking_units: 79,
@@ -56,7 +55,9 @@ fn sessions_need_what_they_reach_and_make(rt: HostRuntime) -> Result<(), Fail> {
     let Profile {
         needs,
         kinds,
-        demand,
+        filled,
+        footprint,
+        startup,
     } = profile;
     assert_eq!(rt; needs, expected);
     let Kinds {
@@ -64,7 +65,7 @@ fn sessions_need_what_they_reach_and_make(rt: HostRuntime) -> Result<(), Fail> {
         fewest_slots,
     } = kinds;
     assert_eq!(rt; (kinds, fewest_slots), (4, 4));
-    assert_eq!(rt; demand, Some(4));
+    assert_eq!(rt; (filled, footprint, startup), (0, Some(4), None));
     Ok(())
 }
 
@@ -84,7 +85,8 @@ fn events_with_a_startup() -> [Event; 5] {
 #[test]
 fn a_startup_leaves_the_page_that_it_anchors(rt: HostRuntime) -> Result<(), Fail> {
     let config = Config::new(100, 1000, 10, 1000).ok_or("a configuration")?;
-    let startup = startup_of(rt.alloc(), config, &events_with_a_startup(), 3)?;
+    let profile = profile_of(rt.alloc(), config, &events_with_a_startup(), Some(3))?;
+    let startup = profile.ok_or("needs of 32 bits")?.startup;
     let expected = Startup {
         pages: 1,
         anchored: 1,
@@ -95,6 +97,7 @@ fn a_startup_leaves_the_page_that_it_anchors(rt: HostRuntime) -> Result<(), Fail
             opened: 1,
             page_units: 192,
         },
+        filled: 0,
     };
     assert_eq!(rt; startup, Some(expected));
     Ok(())
@@ -108,10 +111,8 @@ fn no_cycle_is_asked_for_in_a_startup(rt: HostRuntime) -> Result<(), Fail> {
         Event::Session(0, new(0, 60, 0)),
         Event::Control(Control::Start),
     ];
-    let startups = [
-        startup_of(rt.alloc(), config, &events, 1)?.is_some(),
-        startup_of(rt.alloc(), config, &events, 2)?.is_some(),
-    ];
-    assert_eq!(rt; startups, [true, false]);
+    let before = profile_of(rt.alloc(), config, &events, Some(1))?.ok_or("needs of 32 bits")?;
+    let beside = profile_of(rt.alloc(), config, &events, Some(2))?.ok_or("needs of 32 bits")?;
+    assert_eq!(rt; (before.startup.is_some(), beside.startup), (true, None));
     Ok(())
 }

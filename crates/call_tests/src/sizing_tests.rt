@@ -5,7 +5,7 @@ use mh_classes::class::{Class, class_of};
 use mh_model::config::Config;
 use mh_model::needs::Needs;
 use mh_orders::target_options::Target;
-use mh_sizing::after::{Startup, find_after, is_enough_after};
+use mh_sizing::after::{Startup, is_enough_after};
 use mh_sizing::counted::{profile_of_counts, profile_of_every};
 use mh_sizing::cycles::quanta_needed;
 use mh_sizing::enough::is_enough;
@@ -130,8 +130,8 @@ fn small_parts_share_pages(rt: HostRuntime) -> Result<(), Fail> {
     let counted = needs_of(&two_counts(classes), 1500, 3000);
     let kinds = kinds_of(&classes);
     let pages = [
-        enough_shared_pages(&counted, &kinds, 106),
-        enough_shared_pages(&counted, &kinds, 107),
+        enough_shared_pages(&counted, 46, &kinds, 106),
+        enough_shared_pages(&counted, 46, &kinds, 107),
     ];
     assert_eq!(rt; pages, [4075, 4099]);
     Ok(())
@@ -158,7 +158,7 @@ fn targets_are_met(rt: HostRuntime) -> Result<(), Fail> {
 }
 
 /// 300 live blocks of 8 words with a reference each, and 200 more in each interval.
-fn profile(demand: Option<u32>) -> Profile {
+fn profile(footprint: Option<u32>) -> Profile {
     Profile {
         needs: Needs {
             live: 300,
@@ -171,7 +171,9 @@ fn profile(demand: Option<u32>) -> Profile {
             kinds: 1,
             fewest_slots: 32,
         },
-        demand,
+        filled: 9,
+        footprint,
+        startup: None,
     }
 }
 
@@ -195,7 +197,7 @@ fn heaps_are_found(rt: HostRuntime) -> Result<(), Fail> {
     let expected = [
         Some((685, 118, Some(708), Law::Sharp)),
         Some((1024, 174, Some(708), Law::Sharp)),
-        Some((20, 0, Some(20), Law::Demand)),
+        Some((20, 0, Some(20), Law::Footprint)),
     ];
     assert_eq!(rt; found, expected);
     let quanta = [quantum_needed(1024, &steady), quantum_needed(20, &short)];
@@ -220,7 +222,9 @@ fn referring(asked: u32) -> Profile {
             kinds: 1,
             fewest_slots: 64,
         },
-        demand: None,
+        filled: 0,
+        footprint: None,
+        startup: None,
     }
 }
 
@@ -361,14 +365,27 @@ fn startup(pages: u32) -> Startup {
             opened: 1,
             page_units: 100,
         },
+        filled: 0,
     }
 }
 
 /// The pages and the trigger of the heap with the fewest pages after such a startup, if quanta have so many units.
 fn numbers_after(pages: u32, quantum: u32) -> Option<[u32; 2]> {
     let config = Config::new(1, quantum, 0, 100)?;
-    let kinds = kinds_of(&[class_of(4)?]);
-    let heap = find_after(&config, &startup(pages), &kinds)?;
+    let profile = Profile {
+        needs: Needs {
+            live: 4000,
+            marking_units: 5,
+            asked: 2,
+            opened: 100,
+            page_units: 100,
+        },
+        kinds: kinds_of(&[class_of(4)?]),
+        filled: 62,
+        footprint: None,
+        startup: Some(startup(pages)),
+    };
+    let heap = find(&config, &profile)?.config;
     Some([heap.pages, heap.trigger])
 }
 

@@ -5,7 +5,6 @@ use Rattle.std.specs.Str.{bytes_eq}
 use Rattle.clap.proofs.WalkLemmas.{first_value-rows}
 use Rattle.clap.specs.Matches.{first_value}
 use Rattle.clap.specs.declared.parser.matches.Found.{Found}
-use Rattle.mh_model.specs.declared.config.Rules.{Rules}
 use Rattle.std.specs.Str.Parse.{IsNumeral, ParsesUnsigned, without_leading_plus}
 use Rattle.clap.specs.Matches.{ReadsOne}
 use Rattle.clap.specs.Values.{IsUnsignedIn, read_as}
@@ -90,6 +89,11 @@ is_some-given f name = go (first_value f name) refl where
   go : (read : Option Text) → first_value f name ≡ read → is_some read ≡ is_some (one_of name (rows_of f))
   go None e = sym (ap is_some (not_given f name e))
   go (Some text) e = let given = is_given f name text e in sym (some_is (one_of name (rows_of f)) given.0 given.1)
+
+-- a flag that is given has a text
+pub flagged-given : (found : Option Text) → option_map_or (λ text. bytes_eq text (codes "true")) found false ≡ true → IsSome found
+flagged-given None flagged = absurd (false≢true flagged)
+flagged-given (Some text) flagged = refl
 
 -- Options of `generate` ----------------------------------------------------------------------------
 

@@ -29,7 +29,7 @@ use Rattle.mh_command_line.specs.declared.options.OptionFault.{OptionFault}
 use Rattle.mh_command_line.specs.declared.options.OptionFault.TheVariants.{NoNumber, NoProfile, NoBlocks, Missing, Lacking, Unwanted, Beside, Outside}
 use Rattle.clap.specs.declared.error.kind.ErrorKind.{ErrorKind}
 use Rattle.mh_command_line.specs.Orders.{AreAmiss, AreNoBlocks, AskAmiss, AsksOutside, AsksVersion, GivesOrder, HasFewWorkers, HasFirstRules, HasOptionFault, IsBeside, IsFault, IsLacking, IsMissing, IsNoNumber, IsNoProfile, IsOrder, IsOutside, IsUnwanted, Named, NotMet, NotTaken, IsSaidOfRefusal, RefusesOptions, kind_of_fault}
-use Rattle.mh_command_line.specs.Line.{AsksForFew, AsksForRules, Checks, Generates, HasFlag, IsSubcommand, NamesOne, Nothing, Runs, Shows, TakesWorkers, Tells, Workers, any_text, check_app, event_numbers, every_numbers, flag_rule, generate_app, metroheap, page_numbers, quantum_numbers, rules_numbers, run_app, seeds, session_numbers, show_app, steps_app, step_numbers, worker_numbers, workers_app, Curves, curve_app, Sizes, block_numbers, part_numbers, percents, scheduled_numbers, size_app, window_numbers}
+use Rattle.mh_command_line.specs.Line.{AsksForFew, AsksForRules, Checks, Generates, HasFlag, IsSubcommand, NamesOne, Nothing, Runs, Shows, TakesWorkers, Tells, Workers, any_text, check_app, event_numbers, every_numbers, flag_rule, generate_app, metroheap, page_numbers, quantum_numbers, rules_numbers, run_app, seeds, session_numbers, show_app, steps_app, step_numbers, worker_numbers, workers_app, Curves, curve_app, Sizes, block_numbers, part_numbers, percents, scheduled_numbers, size_app, startup_numbers, window_numbers}
 use Rattle.mh_command_line.proofs.OptionLemmas.{AreRead, IsSafe, level-read, never, none-missing, none_first, none_next, safe-flag, safe-given, safe-help, safe-value, value-given, value-may, value_rule}
 
 -- Options ----------------------------------------------------------------------------------------
@@ -212,24 +212,28 @@ abbrev size_parser : Text → ValueParser
 size_parser name =
     if bytes_eq name (codes "pages") then page_numbers else (if bytes_eq name (codes "every") then scheduled_numbers else (if bytes_eq name (codes "quantum") then quantum_numbers
     else (if bytes_eq name (codes "live") then block_numbers else (if bytes_eq name (codes "references") then block_numbers
-    else (if bytes_eq name (codes "target") then percents else (if bytes_eq name (codes "window") then window_numbers else (if bytes_eq name (codes "rules") then rules_numbers else (if bytes_eq name (codes "parts") then part_numbers else any_text))))))))
+    else (if bytes_eq name (codes "target") then percents else (if bytes_eq name (codes "window") then window_numbers else (if bytes_eq name (codes "rules") then rules_numbers else (if bytes_eq name (codes "parts") then part_numbers
+    else (if bytes_eq name (codes "startup") then startup_numbers else (if bytes_eq name (codes "run") then vp.Bool else any_text))))))))))
 
 size_plain : (name : Text) → reading_of (size_parser name) ≡ AsWritten
 size_plain name =
-    go (bytes_eq name (codes "pages")) (bytes_eq name (codes "every")) (bytes_eq name (codes "quantum")) (bytes_eq name (codes "live")) (bytes_eq name (codes "references")) (bytes_eq name (codes "target")) (bytes_eq name (codes "window")) (bytes_eq name (codes "rules")) (bytes_eq name (codes "parts"))
+    go (bytes_eq name (codes "pages")) (bytes_eq name (codes "every")) (bytes_eq name (codes "quantum")) (bytes_eq name (codes "live")) (bytes_eq name (codes "references")) (bytes_eq name (codes "target")) (bytes_eq name (codes "window")) (bytes_eq name (codes "rules")) (bytes_eq name (codes "parts")) (bytes_eq name (codes "startup")) (bytes_eq name (codes "run"))
   where
-    go : (a b c d e f g h i : Bool)
-        → reading_of (if a then page_numbers else (if b then scheduled_numbers else (if c then quantum_numbers else (if d then block_numbers else (if e then block_numbers else (if f then percents else (if g then window_numbers else (if h then rules_numbers else (if i then part_numbers else any_text))))))))) ≡ AsWritten
-    go true b c d e f g h i = refl
-    go false true c d e f g h i = refl
-    go false false true d e f g h i = refl
-    go false false false true e f g h i = refl
-    go false false false false true f g h i = refl
-    go false false false false false true g h i = refl
-    go false false false false false false true h i = refl
-    go false false false false false false false true i = refl
-    go false false false false false false false false true = refl
-    go false false false false false false false false false = refl
+    go : (a b c d e f g h i j k : Bool)
+        → reading_of (if a then page_numbers else (if b then scheduled_numbers else (if c then quantum_numbers else (if d then block_numbers else (if e then block_numbers else (if f then percents else (if g then window_numbers else (if h then rules_numbers else (if i then part_numbers
+        else (if j then startup_numbers else (if k then vp.Bool else any_text))))))))))) ≡ AsWritten
+    go true b c d e f g h i j k = refl
+    go false true c d e f g h i j k = refl
+    go false false true d e f g h i j k = refl
+    go false false false true e f g h i j k = refl
+    go false false false false true f g h i j k = refl
+    go false false false false false true g h i j k = refl
+    go false false false false false false true h i j k = refl
+    go false false false false false false false true i j k = refl
+    go false false false false false false false false true j k = refl
+    go false false false false false false false false false true k = refl
+    go false false false false false false false false false false true = refl
+    go false false false false false false false false false false false = refl
 
 sound-size : IsSound (built_leaf size_app.top)
 sound-size words e =
@@ -249,7 +253,7 @@ sound-size words e =
               value (codes "live"),
               (
                 value (codes "references"),
-                (value (codes "rate"), (value (codes "classes"), (value (codes "parts"), (value (codes "target"), (value (codes "window"), (value (codes "rules"), (safe-help size_parser size_plain 1, tt))))))),
+                (value (codes "rate"), (value (codes "classes"), (value (codes "parts"), (value (codes "target"), (value (codes "window"), (value (codes "rules"), (value (codes "startup"), (safe-flag size_parser size_plain (codes "run") 1 refl, (safe-help size_parser size_plain 1, tt))))))))),
               ),
             ),
           ),
@@ -267,6 +271,8 @@ sound-size words e =
       target = may (codes "target");
       window = may (codes "window");
       rules = may (codes "rules");
+      startup = may (codes "startup");
+      run = flag-may (one_of (codes "run") rows) (may (codes "run"));
     })
 
 AreSound-find : (test : Shape → Bool) (shapes : List Shape) → AreSound shapes → IfSome (find test shapes) IsSound

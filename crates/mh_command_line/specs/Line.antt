@@ -60,6 +60,10 @@ percents = Unsigned 1 100
 abbrev pub window_numbers : ValueParser
 window_numbers = Unsigned 1 18446744073709551615
 
+-- the numbers of events of a startup
+abbrev pub startup_numbers : ValueParser
+startup_numbers = Unsigned 0 1000000
+
 -- the numbers of parts of an object
 abbrev pub part_numbers : ValueParser
 part_numbers = Unsigned 1 3661
@@ -142,7 +146,7 @@ generate_app =
 abbrev pub curve_app : App
 curve_app = with_rule (with_rule (with_rule (new_app (codes "curve")) rules_rule) (flag_rule (codes "history"))) (flag_rule (codes "svg"))
 
--- `size`, with the numbers of a configuration, with how mutators make objects, and with a share of the mutator; or of a script with rules
+-- `size`, with the numbers of a configuration, with how mutators make objects, and with a share of the mutator. A script has rules, may have a startup, and may be run too
 abbrev pub sized_app : App
 sized_app = with_rule (with_rule (with_rule (new_app (codes "size")) (parsed_rule (codes "pages") page_numbers)) (parsed_rule (codes "every") scheduled_numbers)) (parsed_rule (codes "quantum") quantum_numbers)
 
@@ -156,7 +160,7 @@ abbrev pub share_app : App
 share_app = with_rule (with_rule rates_app (parsed_rule (codes "target") percents)) (parsed_rule (codes "window") window_numbers)
 
 abbrev pub size_app : App
-size_app = with_rule share_app rules_rule
+size_app = with_rule (with_rule (with_rule share_app rules_rule) (parsed_rule (codes "startup") startup_numbers)) (flag_rule (codes "run"))
 
 -- the eleven subcommands
 abbrev pub optional_app : App
@@ -298,6 +302,8 @@ pub record AsksToSize (rows : List Row) : Type 0 where
   pub target : IfSome (one_of (codes "target") rows) (IsUnsignedIn 1 100)
   pub window : IfSome (one_of (codes "window") rows) (IsUnsignedIn 1 18446744073709551615)
   pub rules : AsksForRules rows
+  pub startup : IfSome (one_of (codes "startup") rows) (IsUnsignedIn 0 1000000)
+  pub run : HasFlag (codes "run") rows
 
 -- a subcommand that has workers and no other option
 abbrev pub TakesWorkers : Text → Type 0

@@ -29,7 +29,7 @@ use Rattle.mh_orders.specs.declared.order.ConfigOption.{ConfigOption}
 use Rattle.mh_orders.specs.declared.order.ConfigOption.TheVariants.{Pages, Quantum, Trigger, Every}
 use Rattle.mh_command_line.specs.declared.options.OptionFault.{OptionFault}
 use Rattle.mh_command_line.specs.declared.options.OptionFault.TheVariants.{NoNumber, NoProfile, NoBlocks, Missing, Lacking, Unwanted, Beside, Outside}
-use Rattle.mh_command_line.specs.Sizes.{AreHeapOptions, AreRateOptions, AreTargetOptions, IsAlone, IsWanted, LacksBlocks, has_size}
+use Rattle.mh_command_line.specs.Sizes.{AreHeapOptions, AreRateOptions, AreScriptOptions, AreTargetOptions, HasNoScript, IsAlone, IsWanted, LacksBlocks, has_size}
 use Rattle.mh_command_line.specs.Line.{HasNumber, IsConfigOption, LacksNumber, WantsConfig, is_flagged, metroheap, number_or, rules_given, rules_chosen, workers_of}
 
 -- Orders -----------------------------------------------------------------------------------------
@@ -125,10 +125,10 @@ IsOrder name rows (Migrate config) = (name ≡ codes "migrate") × MakesConfig F
 IsOrder name rows (Curve options) = (name ≡ codes "curve") × (is_flagged (codes "history") rows ≡ false) × AreCurveOptions rows options
 IsOrder name rows (CurveHistory form) = (name ≡ codes "curve") × (is_flagged (codes "history") rows ≡ true) × (form ≡ curve_form_of rows)
 IsOrder name rows (Generate options) = (name ≡ codes "generate") × AreGenerateOptions rows options
-IsOrder name rows (Size options) = (name ≡ codes "size") × AreHeapOptions rows options
-IsOrder name rows (SizeRate options) = (name ≡ codes "size") × AreRateOptions rows options
-IsOrder name rows (SizeTarget options) = (name ≡ codes "size") × AreTargetOptions rows options
-IsOrder name rows (SizeScript rules) = (name ≡ codes "size") × (has_size rows ≡ false) × (rules ≡ rules_chosen Second rows)
+IsOrder name rows (Size options) = (name ≡ codes "size") × HasNoScript rows × AreHeapOptions rows options
+IsOrder name rows (SizeRate options) = (name ≡ codes "size") × HasNoScript rows × AreRateOptions rows options
+IsOrder name rows (SizeTarget options) = (name ≡ codes "size") × HasNoScript rows × AreTargetOptions rows options
+IsOrder name rows (SizeScript options) = (name ≡ codes "size") × (has_size rows ≡ false) × AreScriptOptions rows options
 IsOrder name rows Version = ⊥
 
 -- an option of a configuration is outside its limits: that of the trigger if it is above that of the pages

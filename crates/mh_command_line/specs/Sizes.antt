@@ -2,6 +2,7 @@
 use Rattle.std.specs.Prelude.{◌≡◌, ◌⊎◌, ◌||◌, ◌&&◌, not, Bool, true, false, List, Some, None, codes, is_some, IsSome, IsSomeAnd, MatchOption}
 use Rattle.clap.specs.Words.{Row, Text, one_of}
 use Rattle.mh_command_line.specs.Blocks.{all_listed, allocations_in, classes_in, counted_of, listed_of, rated_of, rates_in}
+use Rattle.mh_model.specs.declared.config.Rules.TheVariants.{Second}
 use Rattle.mh_orders.specs.declared.allocation.Allocation.{Allocation}
 use Rattle.mh_orders.specs.declared.allocation.Allocation.TheVariants as known
 use Rattle.mh_orders.specs.declared.allocations.Allocations.{Allocations}
@@ -9,13 +10,14 @@ use Rattle.mh_orders.specs.declared.classes.Classes.{Classes}
 use Rattle.mh_orders.specs.declared.heap_options.HeapOptions.{HeapOptions}
 use Rattle.mh_orders.specs.declared.heap_options.HeapQuantum.{HeapQuantum}
 use Rattle.mh_orders.specs.declared.heap_options.HeapQuantum.TheVariants as chosen
+use Rattle.mh_orders.specs.declared.order.SizeOptions.{SizeOptions}
 use Rattle.mh_orders.specs.declared.rate_options.RateOptions.{RateOptions}
 use Rattle.mh_orders.specs.declared.rates.Rates.{Rates}
 use Rattle.mh_orders.specs.declared.target_options.Given.{Given}
 use Rattle.mh_orders.specs.declared.target_options.Given.TheVariants.{Every, Nothing, Quantum}
 use Rattle.mh_orders.specs.declared.target_options.Target.{Target}
 use Rattle.mh_orders.specs.declared.target_options.TargetOptions.{TargetOptions}
-use Rattle.mh_command_line.specs.Line.{HasNumber, number_or, optional_number}
+use Rattle.mh_command_line.specs.Line.{HasNumber, is_flagged, number_or, optional_number, rules_chosen}
 
 -- Forms ------------------------------------------------------------------------------------------
 
@@ -32,6 +34,18 @@ abbrev pub has_size : List Row → Bool
 has_size rows =
     is_given rows (codes "pages") || (is_given rows (codes "every") || (is_given rows (codes "quantum") || (is_given rows (codes "target") || (is_given rows (codes "window") || has_blocks rows))))
 
+-- the names of these, and of all options of a heap or of a share
+abbrev pub IsBlockOption : Text → Type 0
+IsBlockOption name = (name ≡ codes "allocates") ⊎ (name ≡ codes "rate") ⊎ (name ≡ codes "classes") ⊎ (name ≡ codes "parts") ⊎ (name ≡ codes "live") ⊎ (name ≡ codes "references")
+
+abbrev pub IsSizeOption : Text → Type 0
+IsSizeOption name = (name ≡ codes "pages") ⊎ (name ≡ codes "every") ⊎ (name ≡ codes "quantum") ⊎ (name ≡ codes "target") ⊎ (name ≡ codes "window") ⊎ IsBlockOption name
+
+-- neither option is given that only a script has
+pub record HasNoScript (rows : List Row) : Type 0 where
+  pub startup : one_of (codes "startup") rows ≡ None
+  pub run : is_flagged (codes "run") rows ≡ false
+
 -- a heap is asked for, and no share alone
 abbrev pub is_of_heap : List Row → Bool
 is_of_heap rows = has_size rows && (not (is_given rows (codes "target")) || has_blocks rows)
@@ -41,6 +55,12 @@ abbrev pub is_of_any : List Row → Bool
 is_of_any rows = is_given rows (codes "target") && (is_given rows (codes "rate") && (not (is_given rows (codes "every")) && not (is_given rows (codes "pages"))))
 
 -- Orders -----------------------------------------------------------------------------------------
+
+-- the options of a script: under the second rules if the matches don't say
+pub record AreScriptOptions (rows : List Row) (options : SizeOptions) : Type 0 where
+  pub rules : options.rules ≡ rules_chosen Second rows
+  pub startup : options.startup ≡ optional_number (codes "startup") rows
+  pub run : options.is_run ≡ is_flagged (codes "run") rows
 
 -- what an interval asks for is given, and read so
 abbrev pub AsksAllocations : List Row → Allocations → Type 0
@@ -117,12 +137,18 @@ pub data IsWanted (rows : List Row) (name : Text) : Type 0 where
   ForScheduler : name ≡ codes "every" → is_of_heap rows ≡ true → is_of_any rows ≡ false → IsWanted rows name
   ForPages : name ≡ codes "pages" → one_of (codes "quantum") rows ≡ None → one_of (codes "target") rows ≡ None → has_size rows ≡ true → IsWanted rows name
 
--- an option that is not to stand beside another: nothing that settles a quantum beside another such, and of what is known of how objects are made one kind
+-- the name is that of an option that only a script has; of its flag, if it is given
+abbrev pub IsScriptOption : List Row → Text → Type 0
+IsScriptOption rows name = (name ≡ codes "startup") ⊎ ((name ≡ codes "run") × (is_flagged (codes "run") rows ≡ true))
+
+-- an option that is not to stand beside another: nothing that settles a quantum beside another such, and of what is known of how objects are made one kind.
+-- Nor is one of a script, beside one of a heap or of a share
 pub data IsAlone (rows : List Row) (name other : Text) : Type 0 where
   FromTarget : name ≡ codes "quantum" → other ≡ codes "target" → is_of_heap rows ≡ true → IsAlone rows name other
   FromQuantum : name ≡ codes "every" → other ≡ codes "quantum" → IsSome (one_of (codes "target") rows) → IsAlone rows name other
   FromRate : (name ≡ codes "allocates") ⊎ (name ≡ codes "classes") → other ≡ codes "rate" → IsAlone rows name other
   FromCounts : (name ≡ codes "classes") ⊎ (name ≡ codes "parts") → other ≡ codes "allocates" → IsAlone rows name other
+  FromSize : IsScriptOption rows name → IsSizeOption other → IsAlone rows name other
 
 -- the text of an option has no blocks
 pub data LacksBlocks (rows : List Row) (name : Text) : Type 0 where

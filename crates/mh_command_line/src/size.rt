@@ -6,17 +6,19 @@ ghost use Rattle.clap.specs.declared.builder.command.Command.TheViews.{out-Comma
 ghost use Rattle.mh_command_line.specs.Line.{any_text, blocks_app, parsed_rule, rates_app, share_app, size_app, sized_app};
 
 use crate::command::{
-    RULES_OF_A_RUN, bounded, every, option, pages, parsed, quantum, rules, subcommand, with_option,
+    RULES_OF_A_RUN, bounded, every, flag, option, pages, parsed, quantum, rules, subcommand,
+    with_option,
 };
 use clap::builder::ValueParser;
 use clap::{Arg, Command};
+use mh_model::limits::MOST_EVENTS;
 use std::alloc::{AllocError, Global};
 
 const ABOUT_SIZE: &str =
     "Print how many pages, and which trigger and quantum, are enough for a script, or for how mutators make objects; or which quantum leaves the mutator a share of each window";
 
 const SIZE_USAGE: &str =
-    "metroheap size [--rules <R>] < SCRIPT\n       metroheap size [--pages <P>] [--quantum <K> | --target <U> --window <D>] --every <M> [--allocates <WORDS:COUNT,..>] --live <L> [--references <R>]\n       metroheap size .. [--rate <WORDS:PARTS/UNITS,..> | --classes <WORDS,..>] [--parts <N>] ..\n       metroheap size --target <U> --window <D> --rate <WORDS:PARTS/UNITS,..> [--parts <N>] --live <L> [--references <R>]\n       metroheap size --target <U> --window <D> [--every <M> | --quantum <K>] [--pages <P>]";
+    "metroheap size [--rules <R>] [--startup <EVENTS>] [--run] < SCRIPT\n       metroheap size [--pages <P>] [--quantum <K> | --target <U> --window <D>] --every <M> [--allocates <WORDS:COUNT,..>] --live <L> [--references <R>]\n       metroheap size .. [--rate <WORDS:PARTS/UNITS,..> | --classes <WORDS,..>] [--parts <N>] ..\n       metroheap size --target <U> --window <D> --rate <WORDS:PARTS/UNITS,..> [--parts <N>] --live <L> [--references <R>]\n       metroheap size --target <U> --window <D> [--every <M> | --quantum <K>] [--pages <P>]";
 
 const SIZE_STATUSES: &str =
     "Exit status: 0 if the size was printed, 1 if the script was refused, 2 if the command line was, 3 if memory was refused, a device failed or the history was full";
@@ -104,5 +106,11 @@ pub(crate) fn size<'a>(alloc: Global) -> Result<Command<'a>, AllocError>
     ensures app { IfOk result (λ command. app_of command ≡ size_app) }
     ensures local { IfOk result (λ command. (out-Command command).has_globals ≡ false) }
 {
-    with_option(with_share(alloc), rules(alloc, RULES_OF_A_RUN))
+    let command = with_option(with_share(alloc), rules(alloc, RULES_OF_A_RUN));
+    let help =
+        "How many of the first events of the script are a startup, whose objects stay, from 0 to 1000000";
+    let startup = bounded(alloc, "startup", "EVENTS", 0, MOST_EVENTS, help);
+    let command = with_option(command, startup);
+    let help = "Run the script too, in heaps of the sizes that were found, and print what was seen";
+    with_option(command, flag(alloc, "run", help))
 }

@@ -2,24 +2,26 @@
 //! between them. So which options go together is looked at here, and a refusal names the option that is missing or too
 //! many.
 //!
+//! A script has options of its own, and each is refused beside one of a heap or of a share.
+//!
 //! A target alone asks for a quantum. Beside what describes objects it asks for a heap with that quantum. With rates
 //! and neither pages nor a scheduler any heap will do, and the one with the fewest pages is looked for.
 ghost use Rattle.std.specs.Prelude.{◌≡◌, ◌≤◌, ◌||◌, IfErr, IfOk, IfSome, IsSome, IsTrue, OnOk, None, false, true, codes, is_some};
 ghost use Rattle.clap.specs.Words.{IsUnsignedIn, found_of, one_of, rows_of};
 ghost use Rattle.mh_command_line.specs.Line.{AsksToSize, HasNumber, number_or, optional_number};
 ghost use Rattle.mh_command_line.specs.Orders.{HasFewWorkers, HasFirstRules, HasOptionFault, IsOrder};
-ghost use Rattle.mh_command_line.specs.Sizes.{AreHeapOptions, AreRateOptions, AreTargetOptions, AsksAllocation, AsksAllocations, AsksClasses, AsksQuantum, AsksRates, AsksShare, IsAlone, IsGivenBesideTarget, IsWanted, has_blocks, has_size, is_given, is_of_any, is_of_heap};
+ghost use Rattle.mh_command_line.specs.Sizes.{AreHeapOptions, AreRateOptions, AreScriptOptions, AreTargetOptions, AsksAllocation, AsksAllocations, AsksClasses, AsksQuantum, AsksRates, AsksShare, HasNoScript, IsAlone, IsBlockOption, IsGivenBesideTarget, IsSizeOption, IsWanted, has_blocks, has_size, is_given, is_of_any, is_of_heap};
 ghost use Rattle.mh_orders.specs.Given.{is_given_within, is_quantum_chosen, is_quantum_within};
 
 use crate::blocks::{AskedAllocations, AskedClasses, AskedRates, all_listed};
-use crate::options::{OptionFault, rules_asked};
+use crate::options::{OptionFault, is_flagged, rules_asked};
 use clap::ArgMatches;
 use mh_model::config::Rules;
 use mh_orders::allocation::Allocation;
 use mh_orders::allocations::Allocations;
 use mh_orders::classes::Classes;
 use mh_orders::heap_options::{HeapOptions, HeapQuantum};
-use mh_orders::order::Order;
+use mh_orders::order::{Order, SizeOptions};
 use mh_orders::rate_options::RateOptions;
 use mh_orders::rates::Rates;
 use mh_orders::target_options::{Given, Target, TargetOptions};
@@ -350,28 +352,62 @@ fn target_asked<'a>(
     })
 }
 
+/// The first option that is given of how mutators make objects, or of what they hold.
+fn block_option(matches: &ArgMatches<'_>) -> Option<&'static str>
+    ensures has { is_some result ≡ has_blocks (rows_of (found_of matches.now)) }
+    ensures named { IfSome result (λ name. IsBlockOption name.now) }
+    ensures given { IfSome result (λ name. IsSome (one_of name.now (rows_of (found_of matches.now)))) }
+{
+    if is_given(matches, "allocates") {
+        Some("allocates")
+    } else if is_given(matches, "rate") {
+        Some("rate")
+    } else if is_given(matches, "classes") {
+        Some("classes")
+    } else if is_given(matches, "parts") {
+        Some("parts")
+    } else if is_given(matches, "live") {
+        Some("live")
+    } else if is_given(matches, "references") {
+        Some("references")
+    } else {
+        None
+    }
+}
+
+/// The first option that is given of a heap or of a share.
+fn size_option(matches: &ArgMatches<'_>) -> Option<&'static str>
+    ensures has { is_some result ≡ has_size (rows_of (found_of matches.now)) }
+    ensures named { IfSome result (λ name. IsSizeOption name.now) }
+    ensures given { IfSome result (λ name. IsSome (one_of name.now (rows_of (found_of matches.now)))) }
+{
+    if is_given(matches, "pages") {
+        Some("pages")
+    } else if is_given(matches, "every") {
+        Some("every")
+    } else if is_given(matches, "quantum") {
+        Some("quantum")
+    } else if is_given(matches, "target") {
+        Some("target")
+    } else if is_given(matches, "window") {
+        Some("window")
+    } else {
+        block_option(matches)
+    }
+}
+
 /// Whether it is described how mutators make objects, or what they hold.
 fn has_blocks(matches: &ArgMatches<'_>) -> bool
     ensures { result ≡ has_blocks (rows_of (found_of matches.now)) }
 {
-    is_given(matches, "allocates")
-        || is_given(matches, "rate")
-        || is_given(matches, "classes")
-        || is_given(matches, "parts")
-        || is_given(matches, "live")
-        || is_given(matches, "references")
+    block_option(matches).is_some()
 }
 
 /// Whether an option of a heap or of a share is given.
 fn has_size(matches: &ArgMatches<'_>) -> bool
     ensures { result ≡ has_size (rows_of (found_of matches.now)) }
 {
-    is_given(matches, "pages")
-        || is_given(matches, "every")
-        || is_given(matches, "quantum")
-        || is_given(matches, "target")
-        || is_given(matches, "window")
-        || has_blocks(matches)
+    size_option(matches).is_some()
 }
 
 /// Whether a heap is asked for, and no share alone.
@@ -396,6 +432,7 @@ fn kind_asked<'a>(matches: &ArgMatches<'a>) -> Result<Order, OptionFault<'a>>
     requires asks { AsksToSize (rows_of (found_of matches.now)) }
     requires sized { has_size (rows_of (found_of matches.now)) ≡ true }
     requires heap { is_of_heap (rows_of (found_of matches.now)) ≡ true }
+    requires alone { HasNoScript (rows_of (found_of matches.now)) }
     ensures order { IfOk result (IsOrder (codes "size") (rows_of (found_of matches.now))) }
     ensures few { IfOk result HasFewWorkers }
     ensures rules { IfOk result HasFirstRules }
@@ -410,6 +447,33 @@ fn kind_asked<'a>(matches: &ArgMatches<'a>) -> Result<Order, OptionFault<'a>>
     }
 }
 
+/// How a script is to be sized.
+fn script_asked(matches: &ArgMatches<'_>) -> SizeOptions
+    requires { AsksToSize (rows_of (found_of matches.now)) }
+    ensures { AreScriptOptions (rows_of (found_of matches.now)) result }
+{
+    SizeOptions {
+        rules: rules_asked(matches, Rules::Second),
+        startup: number(matches, "startup"),
+        is_run: is_flagged(matches, "run"),
+    }
+}
+
+/// No option of a script is to stand beside this one of a heap or of a share.
+fn no_script<'a>(matches: &ArgMatches<'a>, other: &'static str) -> Result<(), OptionFault<'a>>
+    requires asks { AsksToSize (rows_of (found_of matches.now)) }
+    requires named { IsSizeOption other.now }
+    requires given { IsSome (one_of other.now (rows_of (found_of matches.now))) }
+    ensures none { OnOk result (HasNoScript (rows_of (found_of matches.now))) }
+    ensures fault { IfErr result (HasOptionFault (codes "size") (rows_of (found_of matches.now))) }
+{
+    not_beside(matches, "startup", other)?;
+    if is_flagged(matches, "run") {
+        return Err(OptionFault::Beside("run", other));
+    }
+    Ok(())
+}
+
 /// Which size is asked for.
 pub(crate) fn size_asked<'a>(matches: &ArgMatches<'a>) -> Result<Order, OptionFault<'a>>
     requires { AsksToSize (rows_of (found_of matches.now)) }
@@ -418,9 +482,10 @@ pub(crate) fn size_asked<'a>(matches: &ArgMatches<'a>) -> Result<Order, OptionFa
     ensures rules { IfOk result HasFirstRules }
     ensures fault { IfErr result (HasOptionFault (codes "size") (rows_of (found_of matches.now))) }
 {
-    if !has_size(matches) {
-        return Ok(Order::SizeScript(rules_asked(matches, Rules::Second)));
-    }
+    let Some(other) = size_option(matches) else {
+        return Ok(Order::SizeScript(script_asked(matches)));
+    };
+    no_script(matches, other)?;
     if is_of_heap(matches) {
         return kind_asked(matches);
     }

@@ -35,6 +35,16 @@ pub struct StepsOptions {
     pub rules: Rules,
 }
 
+/// How a script is sized.
+#[derive(Clone, Copy, Debug, PartialEq, Eq)]
+pub struct SizeOptions {
+    pub rules: Rules,
+    /// How many of its first events make what stays, if some do.
+    pub startup: Option<u32>,
+    /// Whether it is run too, in heaps of the sizes that were found.
+    pub is_run: bool,
+}
+
 /// What the program is to do.
 #[derive(Clone, Copy, Debug, PartialEq, Eq)]
 pub enum Order {
@@ -69,8 +79,8 @@ pub enum Order {
     SizeRate(RateOptions),
     /// Write which quantum keeps a share of the mutator.
     SizeTarget(TargetOptions),
-    /// Write what the sessions of the script on standard input need under these rules.
-    SizeScript(Rules),
+    /// Write what the sessions of the script on standard input need.
+    SizeScript(SizeOptions),
     /// Write the version of the program.
     Version,
 }

@@ -100,6 +100,6 @@ Serves (Ok (Generate options)) source source' sink sink' errors errors' status =
 Serves (Ok (Size options)) source source' sink sink' errors errors' status = (source' ≡ source) × Obeys (WritesSize (IsHeapText options) sink sink') SaysFault status_of errors errors' status
 Serves (Ok (SizeRate options)) source source' sink sink' errors errors' status = (source' ≡ source) × Obeys (WritesSize (IsRateText options) sink sink') SaysFault status_of errors errors' status
 Serves (Ok (SizeTarget options)) source source' sink sink' errors errors' status = (source' ≡ source) × Obeys (WritesSize (IsTargetText options) sink sink') SaysFault status_of errors errors' status
-Serves (Ok (SizeScript rules)) source source' sink sink' errors errors' status = Obeys (IsSizing rules source source' sink sink') (SaysRun SaysEnd) status_of errors errors' status
+Serves (Ok (SizeScript options)) source source' sink sink' errors errors' status = Obeys (IsSizing options source source' sink sink') (SaysRun SaysEnd) status_of errors errors' status
 Serves (Ok Version) source source' sink sink' errors errors' status = (source' ≡ source) × Obeys (WritesVersion sink sink') SaysFault status_of errors errors' status
 Serves (Err fault) source source' sink sink' errors errors' status = Declines source source' sink sink' errors errors' fault status

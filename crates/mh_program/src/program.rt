@@ -370,7 +370,7 @@ pub fn serve<R: Threads + Wait + Sync, S: Source, W: Sink, E: Sink, G: CrewGate 
         Ok(Order::Size(options)) => size_heap(alloc, options, sink, errors),
         Ok(Order::SizeRate(options)) => size_rate(alloc, options, sink, errors),
         Ok(Order::SizeTarget(options)) => size_target(alloc, options, sink, errors),
-        Ok(Order::SizeScript(rules)) => size_needs(alloc, rules, source, sink, errors),
+        Ok(Order::SizeScript(options)) => size_needs(alloc, options, source, sink, errors),
         Ok(Order::Version) => version(sink, errors),
         Err(fault) => {
             errors.say_line(&fault);

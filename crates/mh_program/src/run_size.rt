@@ -16,9 +16,9 @@ use crate::errors::Errors;
 use crate::status::status;
 use mh_live::mh_script::end::End;
 use mh_live::mh_script::fault::ScriptFault;
-use mh_model::config::Rules;
 use mh_model::memory::NoMemory;
 use mh_orders::heap_options::HeapOptions;
+use mh_orders::order::SizeOptions;
 use mh_orders::rate_options::RateOptions;
 use mh_orders::target_options::TargetOptions;
 use mh_size_text::heap::heap_text;
@@ -130,35 +130,35 @@ pub(crate) fn size_target<W: Sink, E: Sink>(
 /// The sizing of a script.
 fn written_needs<S: Source, W: Sink>(
     alloc: Global,
-    rules: Rules,
+    options: SizeOptions,
     source: &mut S,
     sink: &mut W,
 ) -> Result<End, ScriptFault>
     requires source_count { S.failures source.old < 2 ^ 62 }
     requires sink_count { W.failures sink.old < 2 ^ 62 }
-    ensures { IsSizing rules
+    ensures { IsSizing options
         (device (S.rest source.old) (S.failures source.old)) (device (S.rest source.new) (S.failures source.new))
         (device (W.written sink.old) (W.failures sink.old)) (device (W.written sink.new) (W.failures sink.new)) result }
 {
-    size_script(alloc, source, sink, rules)
+    size_script(alloc, source, sink, &options)
 }
 
 /// Writes what the sessions of a script need, and reports how that ended if not well.
 pub(crate) fn size_needs<S: Source, W: Sink, E: Sink>(
     alloc: Global,
-    rules: Rules,
+    options: SizeOptions,
     source: &mut S,
     sink: &mut W,
     errors: &mut Errors<E>,
 ) -> u8
     requires source_count { S.failures source.old < 2 ^ 62 }
     requires sink_count { W.failures sink.old < 2 ^ 62 }
-    ensures { Obeys (IsSizing rules
+    ensures { Obeys (IsSizing options
         (device (S.rest source.old) (S.failures source.old)) (device (S.rest source.new) (S.failures source.new))
         (device (W.written sink.old) (W.failures sink.old)) (device (W.written sink.new) (W.failures sink.new))) (SaysRun SaysEnd) status_of
         errors.old errors.new result }
 {
-    let ended = written_needs(alloc, rules, source, sink);
+    let ended = written_needs(alloc, options, source, sink);
     errors.say_end(&ended);
     status(&ended)
 }

@@ -27,9 +27,10 @@ use Rattle.mh_model.specs.Needs.{HasEnoughFor}
 use Rattle.mh_model.specs.Openings.{free_of}
 use Rattle.mh_run_laws.specs.BesideTheWorld.{IsFaithful, IsInCycle}
 use Rattle.mh_laws.specs.Bounds.{HasEnded, HasRunQuanta}
-use Rattle.mh_sizing_laws.specs.Made.{MakeNoMore, MakeOfClasses, demand}
+use Rattle.mh_sizing_laws.specs.Filled.{FillNoMore}
+use Rattle.mh_sizing_laws.specs.Made.{MakeNoMore, MakeOfKinds, footprint}
 use Rattle.mh_sizing_laws.specs.SharpNeeds.{HasSharpEnoughFor}
-use Rattle.mh_sizing_laws.specs.Started.{HasEnoughBeside, HasSharpEnoughBeside, IsStartupWithin, MakeNoMoreAfter}
+use Rattle.mh_sizing_laws.specs.Started.{FillNoMoreAfter, HasEnoughBeside, HasSharpEnoughBeside, IsStartupWithin, MakeNoMoreAfter}
 use Rattle.mh_run_laws.specs.Forwarders.{AreOfItsCycle}
 use Rattle.mh_run_laws.specs.Replays.{machine_at, moment_at}
 use Rattle.mh_promise.specs.Runs.{Outcome, outcome_of, IsAnswered, IsTheMachines, AreAnsweredSoFar}
@@ -155,12 +156,12 @@ pub record RoomIsEnough (config : Config) (events : List Event) (replies : List 
   pub bound : CyclesTakeAtMost (most_quanta config) config events
   pub room : (quanta opened : ℕ) → 1 ≤ quanta → CyclesTakeAtMost quanta config events → HasRoomFor config events quanta opened → NeverAnswersFull config events replies
   pub needs : (needs : Needs) (quanta : ℕ) → MakeNoMore needs config events → HasEnoughFor needs config quanta → HasRoom config events replies quanta needs.opened
-  pub shared : (needs : Needs) (least kinds quanta : ℕ) → MakeNoMore needs config events → MakeOfClasses least kinds config events → HasSharpEnoughFor needs least kinds config quanta → HasRoom config events replies quanta needs.opened
+  pub shared : (needs : Needs) (filled kinds quanta : ℕ) → MakeNoMore needs config events → FillNoMore filled config events → MakeOfKinds kinds config events → HasSharpEnoughFor needs filled kinds config quanta → HasRoom config events replies quanta needs.opened
   pub started : (needs : Needs) (anchored startup_pages quanta : ℕ) (start rest : List Event) (stays : ℕ → Bool) → events ≡ start ++ rest → MakeNoMoreAfter needs config start rest stays → IsStartupWithin anchored startup_pages config start stays
       → HasEnoughBeside needs anchored startup_pages config quanta → HasRoom config events replies quanta needs.opened
-  pub started_shared : (needs : Needs) (least kinds anchored startup_pages quanta : ℕ) (start rest : List Event) (stays : ℕ → Bool) → events ≡ start ++ rest → MakeNoMoreAfter needs config start rest stays → MakeOfClasses least kinds config events → IsStartupWithin anchored startup_pages config start stays
-      → HasSharpEnoughBeside needs least kinds anchored startup_pages config quanta → HasRoom config events replies quanta needs.opened
-  pub demanded : demand config events ≤ config.pages → NeverAnswersFull config events replies
+  pub started_shared : (needs : Needs) (filled kinds anchored startup_pages quanta : ℕ) (start rest : List Event) (stays : ℕ → Bool) → events ≡ start ++ rest → MakeNoMoreAfter needs config start rest stays → FillNoMoreAfter filled config start rest stays → MakeOfKinds kinds config events
+      → IsStartupWithin anchored startup_pages config start stays → HasSharpEnoughBeside needs filled kinds anchored startup_pages config quanta → HasRoom config events replies quanta needs.opened
+  pub fits : footprint config events ≤ config.pages → NeverAnswersFull config events replies
 
 -- The promise ------------------------------------------------------------------------------------
 

@@ -12,7 +12,7 @@ use mh_run_laws::forwarders::finished_cycles_made_their_forwarders;
 use mh_run_laws::utilisation::{mutator_has_its_share, quanta_stay_within_their_bound};
 use mh_run_laws::worlds::{moment_has_the_machine, moment_has_the_world};
 use mh_sizing_laws::needs::{
-    cycles_take_the_bound, enough_for_needs_suffices, pages_for_demand_suffice,
+    cycles_take_the_bound, enough_for_needs_suffices, pages_for_footprint_suffice,
 };
 use mh_sizing_laws::sharp_needs::sharp_enough_for_needs_suffices;
 use mh_sizing_laws::started::{enough_after_startup_suffices, sharp_enough_after_startup_suffices};
@@ -43,7 +43,7 @@ pub fn runs_keep_their_promise()
     sharp_enough_for_needs_suffices();
     enough_after_startup_suffices();
     sharp_enough_after_startup_suffices();
-    pages_for_demand_suffice();
+    pages_for_footprint_suffice();
     never_full_is_the_world();
 }
 

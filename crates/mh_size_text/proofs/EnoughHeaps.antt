@@ -1,5 +1,5 @@
 -- Heaps that are enough for all whose sessions keep to what is known of them.
-use Rattle.std.proofs.Common.{◌≡◌, true, Option, None, Some, List, inl, inr, subst, arith}
+use Rattle.std.proofs.Common.{◌≡◌, true, Option, None, Some, List, inl, inr, refl, subst, arith}
 use Rattle.std.specs.Prelude.{IfSome}
 use Rattle.mh_model.specs.declared.command.Event.{Event}
 use Rattle.mh_model.specs.declared.config.Config.{Config}
@@ -10,15 +10,27 @@ use Rattle.mh_sizing.specs.Enough.{Suffices, is_enough}
 use Rattle.mh_sizing.specs.Found.{IsChosen, IsSearched}
 use Rattle.mh_sizing.specs.Rates.{profile_at_rates}
 use Rattle.mh_sizing.specs.Sized.{KeepToProfile, SufficientHeapsAreNeverFull}
+use Rattle.mh_orders.specs.declared.allocation.Allocation.{Allocation}
+use Rattle.mh_orders.specs.declared.allocation.Allocation.TheVariants as known
 use Rattle.mh_orders.specs.declared.heap_options.HeapOptions.{HeapOptions}
 use Rattle.mh_orders.specs.declared.rate_options.RateOptions.{RateOptions}
-use Rattle.mh_size_text.specs.Allocation.{AskNoMore, profile_asked}
+use Rattle.mh_size_text.specs.Allocation.{AskNoMore, profile_asked, profile_of}
 use Rattle.mh_size_text.specs.Heaps.{IsEnoughFor}
 use Rattle.mh_size_text.specs.Rates.{IsEnoughAt, KeepsShare, profile_in, rates_asked, references_at}
 
 module _ (law : SufficientHeapsAreNeverFull) (options : HeapOptions) (kept : AskNoMore options (profile_asked options)) where
+  -- no startup is known of them
+  unstarted : (profile_asked options).startup ≡ None
+  unfolding profile_asked
+  unstarted = go options.allocation
+    where
+      go : (allocation : Allocation) → (profile_of options allocation).startup ≡ None
+      go (known.Counts counts) = refl
+      go (known.Rates rates) = refl
+      go (known.Classes classes) = refl
+
   enough-for : (heap : Config) → Suffices (profile_asked options) heap → IsEnoughFor options heap
-  enough-for heap suffices config events pages quantum trigger keep = law.enough (profile_asked options) config events (kept config events keep) (suffices-other (profile_asked options) heap config pages quantum trigger suffices)
+  enough-for heap suffices config events pages quantum trigger keep = law.enough (profile_asked options) config events (kept config events keep) (suffices-other (profile_asked options) heap config unstarted pages quantum trigger suffices)
 
   pub own-enough : (config : Config) → is_enough (profile_asked options) config ≡ true → IsEnoughFor options config
   own-enough config passes = enough-for config (tested-suffices (profile_asked options) config passes)
@@ -38,4 +50,4 @@ enough-at law options heap keeps config events pages quantum trigger every secon
     let kept = rates-keep (rates_asked options) options.most_parts options.live (references_at options) config events second (omega (arith, every, keeps.meets.scheduled)) keep in
     law.enough (profile_in options heap) config events
     (subst (λ n. KeepToProfile (profile_at_rates (rates_asked options) options.most_parts options.live (references_at options) n) config events) every kept)
-    (suffices-other (profile_in options heap) heap config pages quantum trigger keeps.suffices)
+    (suffices-other (profile_in options heap) heap config refl pages quantum trigger keeps.suffices)

@@ -5,7 +5,8 @@ use Rattle.mh_model.specs.declared.command.Event.{Event}
 use Rattle.mh_model.specs.declared.config.Config.{Config}
 use Rattle.mh_model.specs.Intervals.{IsNeverFull}
 use Rattle.mh_sizing.specs.Choices.{HasNone, IsGreatestQuantum, least_from}
-use Rattle.mh_sizing.specs.Enough.{cycle_quanta, is_enough, quantum_needed}
+use Rattle.mh_sizing.specs.Cycles.{cycle_quanta}
+use Rattle.mh_sizing.specs.Enough.{is_enough, quantum_needed}
 use Rattle.mh_sizing.specs.Found.{IsChosen, IsSearched}
 use Rattle.mh_sizing.specs.Needs.{enough_trigger}
 use Rattle.mh_sizing.specs.Openings.{pages_of_counts, parts_of_counts}

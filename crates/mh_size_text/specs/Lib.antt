@@ -5,4 +5,5 @@ pub mod Allocation
 pub mod Heaps
 pub mod Rates
 pub mod Targets
+pub mod SeenTexts
 pub mod Scripts

@@ -1,12 +1,13 @@
 -- The lines that size a heap.
-use Rattle.std.specs.Prelude.{◌≡◌, ℕ, Bool, true, false, Option, None, Some, List, [], ◌∷◌, ◌++◌, codes, decimal}
+use Rattle.std.specs.Prelude.{ℕ, Bool, true, false, Option, None, Some, List, [], ◌∷◌, ◌++◌, codes, decimal}
 use Rattle.mh_model.specs.Bytes.{Text, joined, lines_text}
 use Rattle.mh_model.specs.Replies.{optional_word}
 use Rattle.mh_model.specs.declared.config.Config.{Config}
-use Rattle.mh_sizing.specs.Enough.{cycle_units, cycle_quanta, is_enough, quantum_needed}
-use Rattle.mh_sizing.specs.Found.{IsSearched}
+use Rattle.mh_sizing.specs.Cycles.{cycle_units, cycle_quanta}
+use Rattle.mh_sizing.specs.Enough.{is_enough, quantum_needed}
+use Rattle.mh_sizing.specs.declared.after.Startup.{Startup}
 use Rattle.mh_sizing.specs.declared.found.Law.{Law}
-use Rattle.mh_sizing.specs.declared.found.Law.TheVariants.{Demand, Easy, Sharp}
+use Rattle.mh_sizing.specs.declared.found.Law.TheVariants.{Footprint, Easy, Sharp, Started}
 use Rattle.mh_sizing.specs.declared.found.Found.{Found}
 use Rattle.mh_sizing.specs.declared.profile.Profile.{Profile}
 
@@ -23,7 +24,7 @@ abbrev pub answer_word : Bool → Text
 answer_word true = codes "yes"
 answer_word false = codes "no"
 
--- what sessions need, how many classes their parts are of, and the fewest slots of a page of these
+-- what sessions need, how many classes their parts are of, and the fewest slots of a page of these; and the pages that live parts fill
 abbrev pub profile_lines : Profile → List Text
 profile_lines profile =
     number_line (codes "live") profile.needs.live
@@ -33,17 +34,31 @@ profile_lines profile =
     ∷ number_line (codes "page") profile.needs.page_units
     ∷ number_line (codes "kinds") profile.kinds.kinds
     ∷ number_line (codes "slots") profile.kinds.fewest_slots
+    ∷ number_line (codes "filled") profile.filled
     ∷ []
 
 -- what the intervals of a run open together
-abbrev pub demand_line : Profile → Text
-demand_line profile = optional_line (codes "demand") profile.demand
+abbrev pub footprint_line : Profile → Text
+footprint_line profile = optional_line (codes "footprint") profile.footprint
+
+-- a startup: the pages that its parts fill, and those that are anchored; and what is needed after it: live parts beside those that stay in these, the parts
+-- that an interval makes and the pages that it opens, and the pages that those live parts fill
+abbrev pub startup_lines : Startup → List Text
+startup_lines startup =
+    joined (codes "startup" ∷ decimal startup.pages ∷ decimal startup.anchored ∷ []) ∷ joined (codes "rest" ∷ decimal startup.needs.live ∷ decimal startup.needs.asked ∷ decimal startup.needs.opened ∷ decimal startup.filled ∷ []) ∷ []
+
+-- the same if some first events are said to be one, or that they are none
+abbrev pub startup_text : Option ℕ → Option Startup → Text
+startup_text None startup = []
+startup_text (Some first) None = lines_text (optional_line (codes "startup") None ∷ [])
+startup_text (Some first) (Some startup) = lines_text (startup_lines startup)
 
 -- the law by which a heap is enough
 abbrev pub law_word : Law → Text
-law_word Demand = codes "demand"
+law_word Footprint = codes "footprint"
 law_word Easy = codes "easy"
 law_word Sharp = codes "sharp"
+law_word Started = codes "startup"
 
 -- Heaps that are found ---------------------------------------------------------------------------
 
@@ -88,10 +103,7 @@ least_line profile pages = optional_line (codes "least") (quantum_needed profile
 abbrev pub own_text : Profile → Config → Text
 own_text profile config = lines_text (enough_line profile config ∷ []) ++ lines_text (least_line profile config.pages ∷ [])
 
--- What is written of a script: what its sessions ask of a heap, the heap that is found for its quantum, and its own configuration
-abbrev pub size_text : Profile → Config → Option Found → Text
-size_text profile config found = lines_text (profile_lines profile) ++ (lines_text (demand_line profile ∷ []) ++ (search_text profile config found ++ own_text profile config))
-
--- and what is found is so
-abbrev pub IsSized : Profile → Config → Text → Type 0
-IsSized profile config text = (found : Option Found) × IsSearched profile config found × (text ≡ size_text profile config found)
+-- What is written of a script: what its sessions ask of a heap, and after a startup if some first events are said to be one; the heap that is found for its quantum, and its own configuration
+abbrev pub size_text : Option ℕ → Profile → Config → Option Found → Text
+size_text first profile config found =
+    lines_text (profile_lines profile) ++ (lines_text (footprint_line profile ∷ []) ++ (startup_text first profile.startup ++ (search_text profile config found ++ own_text profile config)))

@@ -24,7 +24,7 @@ use mh_model::memory::NoMemory;
 use mh_model::needs::Needs;
 use mh_orders::allocation::Allocation;
 use mh_orders::heap_options::{HeapOptions, HeapQuantum};
-use mh_sizing::enough::cycle_quanta;
+use mh_sizing::cycles::cycle_quanta;
 use mh_sizing::found::{Found, choose, find};
 use mh_sizing::laws::sufficient_heaps_are_never_full;
 use mh_sizing::needs::{enough_trigger, parts_counted};

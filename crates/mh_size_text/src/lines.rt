@@ -4,13 +4,15 @@ ghost use Rattle.std.specs.Prelude.{◌≡◌, ◌++◌, ◌∷◌, [], codes, O
 ghost use Rattle.std.specs.String.{string_bytes};
 ghost use Rattle.mh_model.specs.Bytes.{lines_text};
 ghost use Rattle.mh_sizing.specs.Enough.{quantum_needed};
-ghost use Rattle.mh_size_text.specs.Texts.{answer_word, demand_line, enough_line, found_lines, found_text, law_word, no_numbers, none_text, number_line, optional_line, own_text, profile_lines, search_text};
+ghost use Rattle.mh_size_text.specs.Texts.{answer_word, footprint_line, enough_line, found_lines, found_text, law_word, no_numbers, none_text, number_line, optional_line, own_text, profile_lines, search_text, startup_lines, startup_text};
 
 use mh_model::config::Config;
 use mh_model::limits::MOST_PAGES;
 use mh_model::memory::NoMemory;
 use mh_model::needs::Needs;
-use mh_sizing::enough::{cycle_quanta, cycle_units, is_enough};
+use mh_sizing::after::Startup;
+use mh_sizing::cycles::{cycle_quanta, cycle_units};
+use mh_sizing::enough::is_enough;
 use mh_sizing::found::{Found, Law};
 use mh_sizing::profile::Profile;
 use mh_sizing::quantum::quantum_needed;
@@ -35,9 +37,10 @@ pub(crate) fn push_profile(text: &mut String, profile: &Profile) -> Result<(), N
     } = profile.needs;
     let kinds = profile.kinds.kinds;
     let slots = profile.kinds.fewest_slots;
+    let filled = profile.filled;
     write!(
         text,
-        "live {live}\nmarked {marking_units}\nasked {asked}\nopened {opened}\npage {page_units}\nkinds {kinds}\nslots {slots}\n"
+        "live {live}\nmarked {marking_units}\nasked {asked}\nopened {opened}\npage {page_units}\nkinds {kinds}\nslots {slots}\nfilled {filled}\n"
     )?;
     Ok(())
 }
@@ -57,20 +60,59 @@ pub(crate) fn push_optional(
     Ok(())
 }
 
-/// Adds the demand.
-pub(crate) fn push_demand(text: &mut String, profile: &Profile) -> Result<(), NoMemory>
-    ensures { OnOk result (string_bytes text.new ≡ string_bytes text.old ++ lines_text (demand_line profile.now ∷ [])) }
+/// Adds the footprint.
+pub(crate) fn push_footprint(text: &mut String, profile: &Profile) -> Result<(), NoMemory>
+    ensures { OnOk result (string_bytes text.new ≡ string_bytes text.old ++ lines_text (footprint_line profile.now ∷ [])) }
 {
-    push_optional(text, "demand", profile.demand)
+    push_optional(text, "footprint", profile.footprint)
+}
+
+/// Adds the numbers of a startup, and what is needed after it.
+fn push_startup_lines(text: &mut String, startup: &Startup) -> Result<(), NoMemory>
+    ensures { OnOk result (string_bytes text.new ≡ string_bytes text.old ++ lines_text (startup_lines startup.now)) }
+{
+    let Startup {
+        pages,
+        anchored,
+        filled,
+        ..
+    } = *startup;
+    let Needs {
+        live,
+        asked,
+        opened,
+        ..
+    } = startup.needs;
+    write!(
+        text,
+        "startup {pages} {anchored}\nrest {live} {asked} {opened} {filled}\n"
+    )?;
+    Ok(())
+}
+
+/// Adds a startup if some first events are said to be one.
+pub(crate) fn push_startup(
+    text: &mut String,
+    first: Option<u32>,
+    profile: &Profile,
+) -> Result<(), NoMemory>
+    ensures { OnOk result (string_bytes text.new ≡ string_bytes text.old ++ startup_text first profile.now.startup) }
+{
+    match (first, profile.startup) {
+        (None, _) => Ok(()),
+        (Some(_), None) => push_optional(text, "startup", None),
+        (Some(_), Some(startup)) => push_startup_lines(text, &startup),
+    }
 }
 
 fn law_word(law: Law) -> &'static str
     ensures { result.now ≡ law_word law }
 {
     match law {
-        Law::Demand => "demand",
+        Law::Footprint => "footprint",
         Law::Easy => "easy",
         Law::Sharp => "sharp",
+        Law::Started => "startup",
     }
 }
 

@@ -1,16 +1,16 @@
--- Whether a configuration is enough after a startup, which is tested for the fewest quanta that its cycles may take, and the least trigger for it.
-use Rattle.std.proofs.Common.{◌≡◌, inl, inr, ℕ, ◌+◌, ◌*◌, ◌≤◌, ◌<◌, ◌&&◌, min, nat_le, true, refl, subst, arith}
+-- Whether a configuration is enough after a startup, which is tested for the fewest quanta that its cycles may take, and whether its pages are with the least
+-- trigger.
+use Rattle.std.proofs.Common.{◌≡◌, inl, inr, ℕ, ◌+◌, ◌*◌, ◌≤◌, ◌<◌, ◌&&◌, min, nat_le, true, arith}
 use Rattle.std.proofs.Math.Nat.{mul-le-mul_right}
 use Rattle.std.proofs.lemmas.Bool.{and_parts, and_from, cases_lt, leb-true, le-leb, lt-ltb, ltb-true}
 use Rattle.mh_model.specs.declared.config.Config.{Config}
-use Rattle.mh_sizing.specs.After.{HasEnoughAfterByEither, IsEnoughAfter, PagesAreEnoughAfter, is_enough_after, pages_needed_after}
-use Rattle.mh_sizing.specs.Enough.{cycle_quanta}
+use Rattle.mh_sizing.specs.After.{HasEnoughAfterByEither, IsEnoughAfter, is_enough_after, pages_needed_after, pages_pass_after}
+use Rattle.mh_sizing.specs.Cycles.{cycle_quanta}
 use Rattle.mh_sizing.specs.Needs.{enough_pages, enough_trigger}
 use Rattle.mh_sizing.specs.Shared.{enough_shared_pages}
 use Rattle.mh_sizing.specs.declared.after.Startup.{Startup}
 use Rattle.mh_sizing.specs.declared.kinds.Kinds.{Kinds}
-use Rattle.mh_sizing.proofs.EnoughLemmas.{are-enough, fewest, takes-some}
-use Rattle.mh_sizing.proofs.FoundLemmas.{its-pages}
+use Rattle.mh_sizing.proofs.CycleLemmas.{are-enough, fewest, takes-some}
 
 -- Tests ------------------------------------------------------------------------------------------
 
@@ -27,7 +27,7 @@ module _ (startup : Startup) (kinds : Kinds) (config : Config) where
   pub are-after : AreEnoughAfter → IsEnoughAfter startup kinds config
   are-after are = (
     quanta,
-    elim (cases_lt (enough_pages startup.needs quanta) (enough_shared_pages startup.needs kinds quanta)) [
+    elim (cases_lt (enough_pages startup.needs quanta) (enough_shared_pages startup.needs startup.filled kinds quanta)) [
       | inl less ↦ inl (record { bound = are-enough startup.needs config; startup = omega (arith, are.leaves); pages = omega (arith, are.pages, less); trigger = omega (arith, are.trigger) })
       | inr more ↦ inr (record { bound = are-enough startup.needs config; startup = omega (arith, are.leaves); pages = omega (arith, are.pages, more); trigger = omega (arith, are.trigger) })
     ],
@@ -65,20 +65,17 @@ module _ (startup : Startup) (kinds : Kinds) (config : Config) where
 
 -- Pages ------------------------------------------------------------------------------------------
 
--- no number of pages outside the limits is enough
-pub after-within : (startup : Startup) (kinds : Kinds) (quantum pages : ℕ) → PagesAreEnoughAfter startup kinds quantum pages → (1 ≤ pages) × (pages ≤ 4096)
-after-within startup kinds quantum pages has = let its = its-pages has.0 in (omega (arith, its.some, has.1), omega (arith, its.few, has.1))
+-- pages that are enough with some trigger are so with the least
+pub after-passed : (startup : Startup) (kinds : Kinds) (config : Config) → IsEnoughAfter startup kinds config → pages_pass_after startup kinds config.pages config.quantum ≡ true
+after-passed startup kinds config (many, has) =
+    let are = after-are startup kinds config many has in
+    and_from _ _ (le-leb _ _ are.pages) (lt-ltb _ _ (omega (arith, are.trigger, are.leaves)))
 
-module _ (startup : Startup) (kinds : Kinds) (heap : Config) (trigger : heap.trigger ≡ min (enough_trigger startup.needs (cycle_quanta startup.needs heap)) heap.pages) where
-  -- in a heap that is enough the trigger isn't cut
-  pub least-trigger : IsEnoughAfter startup kinds heap → heap.trigger ≡ enough_trigger startup.needs (cycle_quanta startup.needs heap)
-  least-trigger (many, has) = let are = after-are startup kinds heap many has in omega (arith, trigger, are.trigger)
+-- which is no greater than the pages
+pub passed-within : (startup : Startup) (kinds : Kinds) (config : Config) → pages_pass_after startup kinds config.pages config.quantum ≡ true → enough_trigger startup.needs (cycle_quanta startup.needs config) ≤ config.pages
+passed-within startup kinds config is = omega (arith, ltb-true _ _ (and_parts (nat_le (pages_needed_after startup kinds (cycle_quanta startup.needs config)) config.pages) _ is).1)
 
-  -- and with it the heap is enough if one with as many pages and such quanta is
-  pub after-other : PagesAreEnoughAfter startup kinds heap.quantum heap.pages → IsEnoughAfter startup kinds heap
-  after-other (config, pages, quantum, (many, has)) =
-      let are = after-are startup kinds config many has in
-      let same : cycle_quanta startup.needs config ≡ cycle_quanta startup.needs heap = rw (pages, quantum) refl in
-      let needed : pages_needed_after startup kinds (cycle_quanta startup.needs heap) ≤ heap.pages = subst (λ (n : ℕ). pages_needed_after startup kinds n ≤ heap.pages) same (omega (arith, are.pages, pages)) in
-      let starts : enough_trigger startup.needs (cycle_quanta startup.needs heap) ≤ config.trigger = subst (λ (n : ℕ). enough_trigger startup.needs n ≤ config.trigger) same are.trigger in
-      are-after startup kinds heap (record { pages = needed; trigger = omega (arith, trigger, starts, are.leaves, pages); leaves = omega (arith, trigger, starts, are.leaves, pages) })
+pub passed-after : (startup : Startup) (kinds : Kinds) (config : Config) → pages_pass_after startup kinds config.pages config.quantum ≡ true → config.trigger ≡ enough_trigger startup.needs (cycle_quanta startup.needs config) → IsEnoughAfter startup kinds config
+passed-after startup kinds config is trigger =
+    let (few, leaves) = and_parts (nat_le (pages_needed_after startup kinds (cycle_quanta startup.needs config)) config.pages) _ is in
+    are-after startup kinds config (record { pages = leb-true _ _ few; trigger = omega (arith, trigger); leaves = omega (arith, trigger, ltb-true _ _ leaves) })

@@ -18,15 +18,17 @@ use Rattle.mh_model.specs.Openings.{asked_parts, class_parts, pages_for, pages_o
 use Rattle.mh_table_laws.proofs.objects.Parts.{parts_fit}
 use Rattle.mh_table_laws.proofs.tables.PageSlots.{class_of-class_size, slots_in-class_size}
 use Rattle.mh_sizing_laws.specs.SharpPages.{occurring}
-use Rattle.mh_sizing_laws.specs.Made.{intervals_made, intervals_made_in, made_parts, parts_made, parts_made_in}
+use Rattle.mh_sizing_laws.specs.Made.{MakeNoMore, MakeOfClasses, intervals_made, intervals_made_in, made_parts, parts_made, parts_made_in}
+use Rattle.mh_sizing_laws.proofs.sharp_needs.FewPages.{live-fill}
 use Rattle.mh_sizing_laws.proofs.openings.MadeParts.{IsAmong, among-classes, among-is_class, class_parts-cons, one_of, one_of-same, pages_of, pages_of-more}
 use Rattle.mh_sizing_laws.proofs.sharp_pages.ClassSums.{sum-among, sum-below, sum-once}
-use Rattle.mh_sizing_laws.proofs.sharp_pages.ClassesThatOccur.{classes-once, fewest-some, filled-pages, occurring-classes, sum-both}
+use Rattle.mh_sizing_laws.proofs.sharp_pages.ClassesThatOccur.{classes-once, filled-pages, occurring-classes, sum-both}
 use Rattle.mh_sizing.specs.declared.openings.ClassParts.{ClassParts}
+use Rattle.mh_sizing.specs.declared.profile.Profile.{Profile}
 use Rattle.mh_sizing.specs.Counted.{KeepToCounts, kinds_counted, parts_in, profile_of_counts}
 use Rattle.mh_sizing.specs.Openings.{counted_classes, pages_of_counts, parts_of_counts}
 use Rattle.mh_sizing.specs.Sized.{KeepToProfile}
-use Rattle.mh_sizing.proofs.KindLemmas.{occurring-kinds, occurring-slots, occurs-some}
+use Rattle.mh_sizing.proofs.KindLemmas.{fewest-some, occurring-kinds, occurring-slots, occurs-some}
 use Rattle.mh_sizing.proofs.PageLemmas.{page-within}
 
 -- Counts -----------------------------------------------------------------------------------------
@@ -224,18 +226,18 @@ module _ (counts : List ClassParts) (live references : ℕ) (config : Config) (e
   -- Counts are needs
   pub counts-keep : KeepToProfile (profile_of_counts counts live references) config events
   unfolding kinds_counted
-  counts-keep = record {
-    needs = record {
-      live = keep.held;
-      marked = keep.marked;
-      asked = each-both IsCounted (AllByRecursion HasClass) (λ interval. length interval ≤ parts_of_counts counts) (intervals_made config events) interval-parts keep.made (intervals-classed events [] (first_run config) tt);
-      opened = each-more IsCounted (λ interval. pages_of_parts interval ≤ pages_of_counts counts) (intervals_made config events) interval-pages keep.made;
-      page = page-within (counted_classes counts) (parts_made config events) occurs-counted;
-    };
-    kinds = record {
-      some = omega arith;
-      slots = max-le (omega (arith, fewest-some (occurring (parts_made config events)) (occurring-classes (parts_made config events)))) (occurring-slots (counted_classes counts) (parts_made config events) occurs-counted);
-      classes = occurring-kinds (counted_classes counts) (parts_made config events) occurs-counted;
-    };
-    demanded = tt;
-  }
+  counts-keep =
+      let asked : Profile = profile_of_counts counts live references in
+      let needs : MakeNoMore asked.needs config events = record {
+        live = keep.held;
+        marked = keep.marked;
+        asked = each-both IsCounted (AllByRecursion HasClass) (λ interval. length interval ≤ parts_of_counts counts) (intervals_made config events) interval-parts keep.made (intervals-classed events [] (first_run config) tt);
+        opened = each-more IsCounted (λ interval. pages_of_parts interval ≤ pages_of_counts counts) (intervals_made config events) interval-pages keep.made;
+        page = page-within (counted_classes counts) (parts_made config events) occurs-counted;
+      } in
+      let kinds : MakeOfClasses asked.kinds.fewest_slots asked.kinds.kinds config events = record {
+        some = omega arith;
+        slots = max-le (omega (arith, fewest-some (occurring (parts_made config events)) (occurring-classes (parts_made config events)))) (occurring-slots (counted_classes counts) (parts_made config events) occurs-counted);
+        classes = occurring-kinds (counted_classes counts) (parts_made config events) occurs-counted;
+      } in
+      record { needs = needs; kinds = kinds; filled = live-fill asked.needs asked.kinds.fewest_slots asked.kinds.kinds config events needs kinds; footprints = tt; started = tt }

@@ -14,22 +14,24 @@ use Rattle.mh_model.specs.CycleUnits.{occurs}
 use Rattle.mh_model.specs.Needs.{WorldRun, first_run, next_run, runs_quantum}
 use Rattle.mh_model.specs.Openings.{class_parts, pages_for, pages_of_parts}
 use Rattle.mh_model.specs.Trace.{lesser, least_of}
-use Rattle.mh_sizing_laws.specs.Made.{intervals_made, intervals_made_in, made_parts, parts_made, parts_made_in}
+use Rattle.mh_sizing_laws.specs.Made.{MakeNoMore, MakeOfClasses, intervals_made, intervals_made_in, made_parts, parts_made, parts_made_in}
 use Rattle.mh_sizing_laws.specs.SharpPages.{fewest_of, occurring}
 use Rattle.mh_sizing_laws.proofs.needs.ShortIntervals.{few-parts}
+use Rattle.mh_sizing_laws.proofs.sharp_needs.FewPages.{live-fill}
 use Rattle.mh_sizing_laws.proofs.openings.MadeParts.{class_parts-cons, one_of}
 use Rattle.mh_sizing_laws.proofs.pages_left.MarkedPages.{div-more}
-use Rattle.mh_sizing_laws.proofs.sharp_needs.SharpNeededRuns.{div-larger}
 use Rattle.mh_sizing_laws.proofs.sharp_pages.ClassSums.{sum-below, sum-once}
-use Rattle.mh_sizing_laws.proofs.sharp_pages.ClassesThatOccur.{classes-once, fewest-some, occurring-classes, occurring-sum, sum-both}
+use Rattle.mh_sizing_laws.proofs.sharp_pages.ClassesThatOccur.{classes-once, occurring-classes, occurring-sum, sum-both}
 use Rattle.mh_sizing.specs.declared.openings.ClassParts.{ClassParts}
+use Rattle.mh_sizing.specs.declared.profile.Profile.{Profile}
 use Rattle.mh_sizing.specs.Counted.{KeepToClasses, profile_of_every}
 use Rattle.mh_sizing.specs.Openings.{least_slots, pages_at_most, pages_of_counts}
 use Rattle.mh_sizing.specs.Sized.{KeepToProfile}
 use Rattle.mh_sizing.proofs.CountedLemmas.{HasClass, each-both, each-more, intervals-classed, parts-both}
-use Rattle.mh_sizing.proofs.KindLemmas.{occurring-kinds, occurring-slots}
+use Rattle.mh_sizing.proofs.KindLemmas.{fewest-some, occurring-kinds, occurring-slots}
 use Rattle.mh_sizing.proofs.OpeningLemmas.{few_pages, filled, firsts}
 use Rattle.mh_sizing.proofs.PageLemmas.{page-within}
+use Rattle.mh_sizing.proofs.QuantumLemmas.{div-larger}
 
 -- Pages ------------------------------------------------------------------------------------------
 
@@ -159,19 +161,19 @@ module _ (classes : List ℕ) (most live references : ℕ) (config : Config) (ev
 
   -- What the scheduler allows is needs
   pub every-keeps : KeepToProfile (profile_of_every config.every classes most live references) config events
-  every-keeps = record {
-    needs = record {
-      live = keep.held;
-      marked = keep.marked;
-      asked = short;
-      opened = each-both IsShort IsSuch (λ interval. pages_of_parts interval ≤ pages_at_most (config.every - 1 + most) classes) (intervals_made config events)
-          (λ interval few is. interval-opens classes (config.every - 1 + most) interval some is.0 few is.1) short such;
-      page = page-within classes (parts_made config events) keep.classes_are;
-    };
-    kinds = record {
-      some = omega arith;
-      slots = max-le (omega (arith, fewest-some (occurring (parts_made config events)) (occurring-classes (parts_made config events)))) (occurring-slots classes (parts_made config events) keep.classes_are);
-      classes = occurring-kinds classes (parts_made config events) keep.classes_are;
-    };
-    demanded = tt;
-  }
+  every-keeps =
+      let asked : Profile = profile_of_every config.every classes most live references in
+      let needs : MakeNoMore asked.needs config events = record {
+        live = keep.held;
+        marked = keep.marked;
+        asked = short;
+        opened = each-both IsShort IsSuch (λ interval. pages_of_parts interval ≤ pages_at_most (config.every - 1 + most) classes) (intervals_made config events)
+            (λ interval few is. interval-opens classes (config.every - 1 + most) interval some is.0 few is.1) short such;
+        page = page-within classes (parts_made config events) keep.classes_are;
+      } in
+      let kinds : MakeOfClasses asked.kinds.fewest_slots asked.kinds.kinds config events = record {
+        some = omega arith;
+        slots = max-le (omega (arith, fewest-some (occurring (parts_made config events)) (occurring-classes (parts_made config events)))) (occurring-slots classes (parts_made config events) keep.classes_are);
+        classes = occurring-kinds classes (parts_made config events) keep.classes_are;
+      } in
+      record { needs = needs; kinds = kinds; filled = live-fill asked.needs asked.kinds.fewest_slots asked.kinds.kinds config events needs kinds; footprints = tt; started = tt }

@@ -11,8 +11,8 @@ use Rattle.mh_sizing.specs.Needs.{enough_trigger}
 use Rattle.mh_sizing.specs.Shared.{HasEnoughShared}
 
 -- A configuration that has enough has what the law asks for
-pub shared-enough : (needs : Needs) (kinds : Kinds) (config : Config) → HasEnoughShared needs kinds config.pages config → enough_trigger needs (quanta_needed needs config) ≤ config.trigger → HasSharpEnoughFor needs kinds.fewest_slots kinds.kinds config (quanta_needed needs config)
-shared-enough needs kinds config enough trigger = record {
+pub shared-enough : (needs : Needs) (filled : ℕ) (kinds : Kinds) (config : Config) → HasEnoughShared needs filled kinds config.pages config → enough_trigger needs (quanta_needed needs config) ≤ config.trigger → HasSharpEnoughFor needs filled kinds.kinds config (quanta_needed needs config)
+shared-enough needs filled kinds config enough trigger = record {
   bound = inr (enough.quantum, omega arith);
   pages = omega (arith, enough.enough);
   trigger = omega (arith, trigger);

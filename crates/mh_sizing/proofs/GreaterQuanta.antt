@@ -1,5 +1,5 @@
 -- A cycle takes no more quanta if these are greater. So what is enough with a quantum is enough with each greater one.
-use Rattle.std.proofs.Common.{◌≡◌, inl, inr, ℕ, ◌+◌, ◌-◌, ◌*◌, ◌/◌, ◌<◌, ◌≤◌, min, nat_lt, Bool, true, false, if◌then◌else◌, IsSomeAnd, refl, sym, ap, subst, arith}
+use Rattle.std.proofs.Common.{◌≡◌, inl, inr, ℕ, ◌+◌, ◌-◌, ◌*◌, ◌/◌, ◌<◌, ◌≤◌, min, nat_lt, Bool, true, false, if◌then◌else◌, Option, Some, None, IsSomeAnd, refl, sym, ap, subst, arith}
 use Rattle.std.proofs.lemmas.Bool.{ltb-true, ltb-false}
 use Rattle.std.proofs.lemmas.Bool.Decides.{nat_tests}
 use Rattle.mh_model.specs.declared.config.Config.{Config}
@@ -7,12 +7,13 @@ use Rattle.mh_model.specs.declared.needs.Needs.{Needs}
 use Rattle.mh_model.specs.Bound.{most_quanta, most_steps, most_units}
 use Rattle.mh_model.specs.Limits.{is_configuration, least_quantum, quantum_overhead}
 use Rattle.mh_model.specs.Needs.{AreEnoughQuanta, units_needed}
-use Rattle.mh_sizing_laws.proofs.sharp_needs.SharpNeededRuns.{div-larger}
+use Rattle.mh_sizing.specs.declared.after.Startup.{Startup}
 use Rattle.mh_sizing.specs.declared.profile.Profile.{Profile}
+use Rattle.mh_sizing.specs.After.{IsEnoughAfter}
 use Rattle.mh_sizing.specs.Enough.{Suffices}
 use Rattle.mh_sizing.specs.Found.{PagesAreEnough}
 use Rattle.mh_sizing.proofs.FoundLemmas.{its-pages}
-use Rattle.mh_sizing.proofs.QuantumLemmas.{within}
+use Rattle.mh_sizing.proofs.QuantumLemmas.{div-larger, within}
 
 -- a cycle takes no more quanta if they are greater
 most-fewer : (config other : Config) → other.pages ≡ config.pages → config.quantum ≤ other.quantum → most_quanta other ≤ most_quanta config
@@ -47,11 +48,23 @@ quanta-greater needs config other quanta pages more (inr (large, few)) =
 
 -- what is enough is so with a greater quantum
 pub suffices-greater : (profile : Profile) (config other : Config) → other.pages ≡ config.pages → config.quantum ≤ other.quantum → other.trigger ≡ config.trigger → Suffices profile config → Suffices profile other
-suffices-greater profile config other pages more trigger (inl all) = inl (subst (λ n. IsSomeAnd profile.demand (λ demand. demand ≤ n)) (sym pages) all)
-suffices-greater profile config other pages more trigger (inr (quanta, inl has)) =
-    inr (quanta, inl (record { bound = quanta-greater profile.needs config other quanta pages more has.bound; pages = omega (arith, has.pages, pages); trigger = omega (arith, has.trigger, trigger) }))
-suffices-greater profile config other pages more trigger (inr (quanta, inr has)) =
-    inr (quanta, inr (record { bound = quanta-greater profile.needs config other quanta pages more has.bound; pages = omega (arith, has.pages, pages); trigger = omega (arith, has.trigger, trigger) }))
+suffices-greater profile config other pages more trigger (inl all) = inl (subst (λ n. IsSomeAnd profile.footprint (λ footprint. footprint ≤ n)) (sym pages) all)
+suffices-greater profile config other pages more trigger (inr (inl (quanta, inl has))) =
+    inr (inl (quanta, inl (record { bound = quanta-greater profile.needs config other quanta pages more has.bound; pages = omega (arith, has.pages, pages); trigger = omega (arith, has.trigger, trigger) })))
+suffices-greater profile config other pages more trigger (inr (inl (quanta, inr has))) =
+    inr (inl (quanta, inr (record { bound = quanta-greater profile.needs config other quanta pages more has.bound; pages = omega (arith, has.pages, pages); trigger = omega (arith, has.trigger, trigger) })))
+suffices-greater profile config other pages more trigger (inr (inr after)) = inr (inr (go profile.startup after))
+  where
+    go : (known : Option Startup) → IsSomeAnd known (λ startup. IsEnoughAfter startup profile.kinds config) → IsSomeAnd known (λ startup. IsEnoughAfter startup profile.kinds other)
+    go None is = elim is [ ]
+    go (Some startup) (quanta, inl has) = (
+      quanta,
+      inl (record { bound = quanta-greater startup.needs config other quanta pages more has.bound; startup = omega (arith, has.startup, pages, trigger); pages = omega (arith, has.pages, pages); trigger = omega (arith, has.trigger, trigger) }),
+    )
+    go (Some startup) (quanta, inr has) = (
+      quanta,
+      inr (record { bound = quanta-greater startup.needs config other quanta pages more has.bound; startup = omega (arith, has.startup, pages, trigger); pages = omega (arith, has.pages, pages); trigger = omega (arith, has.trigger, trigger) }),
+    )
 
 -- a configuration with other numbers within the limits
 pub limits : (pages quantum trigger every : ℕ) → 1 ≤ pages → pages ≤ 4096 → least_quantum ≤ quantum → quantum ≤ 1000000 → trigger ≤ pages → every ≤ 1000000 → is_configuration pages quantum trigger every ≡ true

@@ -1,14 +1,15 @@
 -- The classes that are listed and those that occur among parts: how many there are, and the fewest slots of a page.
-use Rattle.std.proofs.Common.{◌≡◌, ℕ, ◌==◌, ◌<◌, ◌≤◌, ◌||◌, min, Bool, true, false, not, if◌then◌else◌, Option, Some, None, List, [], ◌∷◌, length, filter, map, refl, sym, ap, ◌∙◌, arith}
+use Rattle.std.proofs.Common.{◌≡◌, ℕ, ◌==◌, ◌<◌, ◌≤◌, ◌||◌, min, Bool, true, false, not, if◌then◌else◌, Option, Some, None, List, [], ◌∷◌, length, filter, map, refl, sym, ap, ◌∙◌, arith, eq-eqb}
 use Rattle.std.specs.List.{list_any}
 use Rattle.std.proofs.lemmas.Bool.{eqb-true, false≢true}
 use Rattle.std.proofs.lemmas.Bool.Decides.{nat_tests}
 use Rattle.std.proofs.lemmas.Cmp.{nat_eq_equiv}
 use Rattle.std.proofs.lemmas.Map.Made.{length-le_from_is_member}
-use Rattle.mh_model.specs.Classes.{Part, class_sizes, slots_in}
+use Rattle.mh_model.specs.Classes.{Part, class_sizes, is_class_size, slots_in}
 use Rattle.mh_model.specs.CycleUnits.{occurs}
 use Rattle.mh_model.specs.Openings.{class_parts}
 use Rattle.mh_model.specs.Trace.{lesser, least_of}
+use Rattle.mh_table_laws.proofs.tables.PageSlots.{slots_in-class_size}
 use Rattle.mh_sizing_laws.proofs.cycles.Occurring.{parts-class}
 use Rattle.mh_sizing_laws.proofs.openings.MadeParts.{IsAmong}
 use Rattle.mh_sizing_laws.specs.SharpPages.{occurring, fewest_of, fewest_slots}
@@ -28,6 +29,20 @@ kept-passes test size (k ∷ sizes) among = go (test k) refl (k == size) refl am
     go true passes true is h rest = ap test (sym (eqb-true k size is)) ∙ passes
     go true passes false is h rest = rest (ap (λ b. b || list_any (λ other. other == size) (filter test sizes)) (sym is) ∙ h)
     go false passes same is h rest = rest h
+
+pub fewest-some : (sizes : List ℕ) → ((size : ℕ) → IsAmong size sizes → is_class_size size ≡ true) → 0 < fewest_of sizes
+fewest-some [] classes = omega arith
+fewest-some (k ∷ sizes) classes = omega (arith, (slots_in-class_size k (classes k first)).0, fewest-some sizes (λ size among. classes size (later size among)))
+  where
+    first : IsAmong k (k ∷ sizes)
+    first = ap (λ b. b || list_any (λ other. other == k) sizes) (eq-eqb k k refl)
+
+    later : (size : ℕ) → IsAmong size sizes → IsAmong size (k ∷ sizes)
+    later size among = go (k == size)
+      where
+        go : (same : Bool) → (same || list_any (λ other. other == size) sizes) ≡ true
+        go true = refl
+        go false = among
 
 pub occurs-some : (list : List Part) (size : ℕ) → occurs list size ≡ true → 0 < class_parts size list
 occurs-some list size is = go (class_parts size list) is

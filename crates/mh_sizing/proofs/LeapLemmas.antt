@@ -8,8 +8,11 @@ use Rattle.mh_model.specs.Bound.{most_quanta, most_steps, most_units}
 use Rattle.mh_model.specs.Needs.{quanta_needed, units_needed}
 use Rattle.mh_model.specs.Limits.{quantum_overhead}
 use Rattle.mh_sizing_laws.proofs.pages_left.MarkedPages.{div-more}
-use Rattle.mh_sizing.specs.Enough.{Suffices, cycle_quanta, pages_needed}
+use Rattle.mh_sizing.specs.Cycles.{cycle_quanta}
+use Rattle.mh_sizing.specs.Enough.{Suffices, pages_needed}
+use Rattle.mh_sizing.specs.After.{IsEnoughAfter}
 use Rattle.mh_sizing.specs.Found.{PagesAreEnough}
+use Rattle.mh_sizing.specs.declared.after.Startup.{Startup}
 use Rattle.mh_sizing.specs.Needs.{enough_pages}
 use Rattle.mh_sizing.specs.Shared.{enough_shared_pages}
 use Rattle.mh_sizing.specs.declared.kinds.Kinds.{Kinds}
@@ -55,28 +58,29 @@ more-quanta needs config other quantum more = go (nat_lt quantum_overhead config
 more-own : (needs : Needs) (quanta more : ℕ) → 1 ≤ quanta → quanta ≤ more → enough_pages needs quanta ≤ enough_pages needs more
 more-own needs quanta more some larger = omega (arith, mul-le-mul_right needs.asked larger, mul-le-mul_right needs.opened larger)
 
-more-shared : (needs : Needs) (kinds : Kinds) (quanta more : ℕ) → quanta ≤ more → enough_shared_pages needs kinds quanta ≤ enough_shared_pages needs kinds more
-more-shared needs kinds quanta more larger = omega (arith, larger, mul-le-mul_right needs.opened larger, mul-le-mul_right (min needs.opened kinds.kinds) larger)
+more-shared : (needs : Needs) (filled : ℕ) (kinds : Kinds) (quanta more : ℕ) → quanta ≤ more → enough_shared_pages needs filled kinds quanta ≤ enough_shared_pages needs filled kinds more
+more-shared needs filled kinds quanta more larger = omega (arith, larger, mul-le-mul_right needs.opened larger, mul-le-mul_right (min needs.opened kinds.kinds) larger)
 
--- pages that are enough are no fewer than what the cycles of a heap with fewer need, or than the demand
-pub needed-few : (profile : Profile) (config other : Config) → other.quantum ≡ config.quantum → config.pages ≤ other.pages → 1 ≤ cycle_quanta profile.needs config → Suffices profile other
-    → IsSomeAnd profile.demand (λ demand. demand ≤ other.pages) ⊎ (pages_needed profile (cycle_quanta profile.needs config) ≤ other.pages)
-needed-few profile config other quantum more some (inl all) = inl all
-needed-few profile config other quantum more some (inr (many, has)) =
+-- without a startup pages that are enough are no fewer than what the cycles of a heap with fewer need, or than the footprint
+pub needed-few : (profile : Profile) (config other : Config) → profile.startup ≡ None → other.quantum ≡ config.quantum → config.pages ≤ other.pages → 1 ≤ cycle_quanta profile.needs config → Suffices profile other
+    → IsSomeAnd profile.footprint (λ footprint. footprint ≤ other.pages) ⊎ (pages_needed profile (cycle_quanta profile.needs config) ≤ other.pages)
+needed-few profile config other none quantum more some (inl all) = inl all
+needed-few profile config other none quantum more some (inr (inr after)) = elim (subst (λ (known : Option Startup). IsSomeAnd known (λ startup. IsEnoughAfter startup profile.kinds other)) none after) [ ]
+needed-few profile config other none quantum more some (inr (inl (many, has))) =
     let quanta = more-quanta profile.needs config other quantum more in
     elim (either-are profile other many has).pages [
       | inl own ↦ inr (omega (arith, own, more-own profile.needs (cycle_quanta profile.needs config) (cycle_quanta profile.needs other) some quanta))
-      | inr shared ↦ inr (omega (arith, shared, more-shared profile.needs profile.kinds (cycle_quanta profile.needs config) (cycle_quanta profile.needs other) quanta))
+      | inr shared ↦ inr (omega (arith, shared, more-shared profile.needs profile.filled profile.kinds (cycle_quanta profile.needs config) (cycle_quanta profile.needs other) quanta))
     ]
 
 -- so none between is enough
-pub none-between : (profile : Profile) (config : Config) (least number : ℕ) → 1 ≤ cycle_quanta profile.needs config → config.pages < number → number < least → least ≤ pages_needed profile (cycle_quanta profile.needs config)
-    → ((demand : ℕ) → profile.demand ≡ Some demand → least ≤ demand) → PagesAreEnough profile config.quantum number → ⊥
-none-between profile config least number some above below needed demanded has = elim (needed-few profile config has.0 has.2 (omega (arith, above, has.1)) some has.3) [
-  | inl all ↦ by_demand profile.demand refl all
+pub none-between : (profile : Profile) (config : Config) (least number : ℕ) → profile.startup ≡ None → 1 ≤ cycle_quanta profile.needs config → config.pages < number → number < least → least ≤ pages_needed profile (cycle_quanta profile.needs config)
+    → ((footprint : ℕ) → profile.footprint ≡ Some footprint → least ≤ footprint) → PagesAreEnough profile config.quantum number → ⊥
+none-between profile config least number none some above below needed footprints has = elim (needed-few profile config has.0 none has.2 (omega (arith, above, has.1)) some has.3) [
+  | inl all ↦ by_footprint profile.footprint refl all
   | inr few ↦ omega (arith, few, needed, below, has.1)
 ]
   where
-    by_demand : (known : Option ℕ) → profile.demand ≡ known → IsSomeAnd known (λ demand. demand ≤ (has.0).pages) → ⊥
-    by_demand None is all = elim all [ ]
-    by_demand (Some demand) is all = omega (arith, all, demanded demand is, below, has.1)
+    by_footprint : (known : Option ℕ) → profile.footprint ≡ known → IsSomeAnd known (λ footprint. footprint ≤ (has.0).pages) → ⊥
+    by_footprint None is all = elim all [ ]
+    by_footprint (Some footprint) is all = omega (arith, all, footprints footprint is, below, has.1)

@@ -6,14 +6,16 @@ use Rattle.std.proofs.lemmas.Bool.{cases_eq, cases_lt, eq-eqb, ne_eqb, lt-ltb, l
 use Rattle.std.proofs.lemmas.List.Sums.{sum_by-cons, sum_by-take-le, sum_by_more}
 use Rattle.mh_model.specs.Batches.{NoneTwice}
 use Rattle.mh_model.specs.World.{Object, World, births, object_at}
+use Rattle.mh_sizing_laws.specs.Filled.{object_class_parts, pages_filled, parts_of_class}
 use Rattle.mh_sizing.specs.declared.cuts.Cut.{Cut}
 use Rattle.mh_sizing.specs.declared.moments.Moment.{Moment}
 use Rattle.mh_sizing.specs.Births.{is_among}
 use Rattle.mh_sizing.specs.Cuts.{IsRoot, ReachedFrom, WasHeld}
 use Rattle.mh_sizing.specs.Moments.{HasMostFrom, HeldAtMost, HeldJust, IsMoment, sum_before}
-use Rattle.mh_sizing.specs.Reached.{AreAtMost, sum_of}
+use Rattle.mh_sizing.specs.Reached.{AreAtMost, pages_beside, sum_of}
 use Rattle.mh_sizing.proofs.ListLemmas.{drop-past}
 use Rattle.mh_sizing.proofs.CountLemmas.{sum-part}
+use Rattle.mh_sizing.proofs.FilledLemmas.{fewer-filled, same-filled}
 use Rattle.mh_sizing.proofs.SearchLemmas.{search-ends}
 
 -- those of a list that are below a number
@@ -116,49 +118,79 @@ module _ (number : Option Object → ℕ) (world : World) where
       let whole : take looked list ≡ list = ap (λ n. take n list) all ∙ take-length list in
       omega (arith, is, ap (λ (l : List ℕ). sum_before number world made l) whole, before-less (made - 1) made list (omega (arith, some)) once, one, ap (λ (l : List ℕ). sum_before number world (made - 1) l) whole)
 
-  -- Moments --------------------------------------------------------------------------------------
+-- Moments ----------------------------------------------------------------------------------------
 
-  module _ (cuts : List Cut) (moment : Moment) (is : IsMoment world cuts moment) (once : NoneTwice moment.set.births) (held : ℕ) (counts : held ≡ sum_before number world moment.births (take moment.looked moment.set.births)) where
-    all-counted : held ≡ sum_before number world moment.births moment.set.births
-    all-counted = counts ∙ ap (λ n. sum_before number world moment.births (take n moment.set.births)) is.all_looked ∙ ap (λ (list : List ℕ). sum_before number world moment.births list) (take-length moment.set.births)
+module _ (world : World) (cuts : List Cut) (moment : Moment) (is : IsMoment world cuts moment) (once : NoneTwice moment.set.births) where
+  all-counted : (number : Option Object → ℕ) (held : ℕ) → held ≡ sum_before number world moment.births (take moment.looked moment.set.births) → held ≡ sum_before number world moment.births moment.set.births
+  all-counted number held counts = counts ∙ ap (λ n. sum_before number world moment.births (take n moment.set.births)) is.all_looked ∙ ap (λ (list : List ℕ). sum_before number world moment.births list) (take-length moment.set.births)
 
+  -- what was held counts no more than all that was found
+  found-most : (number : Option Object → ℕ) → HeldAtMost (sum_of number) (sum_before number world moment.births moment.set.births) world cuts
+  found-most number list distinct all = omega (arith, all-before number world moment.births list (made list all), sum-part (counted number world moment.births) list moment.set.births distinct (found list all))
+    where
+      made : (births : List ℕ) → AllByRecursion (WasHeld world cuts) births → AllByRecursion (λ birth. birth < moment.births) births
+      made [] all = tt
+      made (birth ∷ births) all = (omega (arith, all.0.made, is.births_are), made births all.1)
+
+      found : (births : List ℕ) → AllByRecursion (WasHeld world cuts) births → AllByRecursion (λ birth. is_among moment.set.births birth ≡ true) births
+      found [] all = tt
+      found (birth ∷ births) all = (search-ends world cuts moment.set.births moment.looked is.search (omega (arith, is.all_looked)) birth all.0.reached, found births all.1)
+
+  -- and what was found of it measures just what it does
+  found-just : (measure : World → List ℕ → ℕ) (count : ℕ) → measure world (below moment.births moment.set.births) ≡ count → HeldJust measure count world cuts
+  found-just measure count sum = record {
+    list = below moment.births moment.set.births;
+    once = below-once moment.births moment.set.births once;
+    held = below-all moment.births (ReachedFrom world (IsRoot world cuts)) (WasHeld world cuts) (λ birth few reached. record { made = omega (arith, few, is.births_are); reached = reached }) moment.set.births is.search.reached;
+    sum = sum;
+  }
+
+  module _ (number : Option Object → ℕ) (held : ℕ) (counts : held ≡ sum_before number world moment.births (take moment.looked moment.set.births)) where
     -- what was held counts no more
-    pub held-most : HeldAtMost number held world cuts
-    held-most list distinct all =
-        omega (arith, all-counted, all-before moment.births list (made list all), sum-part (counted moment.births) list moment.set.births distinct (found list all))
-      where
-        made : (births : List ℕ) → AllByRecursion (WasHeld world cuts) births → AllByRecursion (λ birth. birth < moment.births) births
-        made [] all = tt
-        made (birth ∷ births) all = (omega (arith, all.0.made, is.births_are), made births all.1)
-
-        found : (births : List ℕ) → AllByRecursion (WasHeld world cuts) births → AllByRecursion (λ birth. is_among moment.set.births birth ≡ true) births
-        found [] all = tt
-        found (birth ∷ births) all = (search-ends world cuts moment.set.births moment.looked is.search (omega (arith, is.all_looked)) birth all.0.reached, found births all.1)
+    pub held-most : HeldAtMost (sum_of number) held world cuts
+    held-most list distinct all = omega (arith, all-counted number held counts, found-most number list distinct all)
 
     -- and just so much
-    pub held-just : HeldJust number held world cuts
-    held-just = record {
-      list = below moment.births moment.set.births;
-      once = below-once moment.births moment.set.births once;
-      held = below-all moment.births (ReachedFrom world (IsRoot world cuts)) (WasHeld world cuts) (λ birth few reached. record { made = omega (arith, few, is.births_are); reached = reached }) moment.set.births is.search.reached;
-      sum = below-sum moment.births moment.set.births ∙ sym all-counted;
-    }
+    pub held-just : HeldJust (sum_of number) held world cuts
+    held-just = found-just (sum_of number) held (below-sum number world moment.births moment.set.births ∙ sym (all-counted number held counts))
 
-  -- The most -------------------------------------------------------------------------------------
+  module _ (others : ℕ → ℕ) (filled : ℕ) (counts : filled ≡ pages_filled (λ size. sum_before (object_class_parts size) world moment.births (take moment.looked moment.set.births) - others size)) where
+    -- how many parts of a class were found, and how many pages all of them fill
+    abbrev class_found : ℕ → ℕ
+    class_found size = sum_before (object_class_parts size) world moment.births moment.set.births
 
+    all-filled : filled ≡ pages_filled (λ size. class_found size - others size)
+    all-filled =
+        counts
+        ∙ same-filled (λ size. sum_before (object_class_parts size) world moment.births (take moment.looked moment.set.births) - others size) (λ size. class_found size - others size)
+        (λ size. ap (λ n. n - others size) (all-counted (object_class_parts size) (sum_before (object_class_parts size) world moment.births (take moment.looked moment.set.births)) refl))
+
+    -- what was held fills no more pages
+    pub filled-most : HeldAtMost (pages_beside others) filled world cuts
+    filled-most list distinct all = omega (arith, all-filled, fewer-filled (λ size. parts_of_class size world list - others size) (λ size. class_found size - others size) (λ size. omega (arith, found-most (object_class_parts size) list distinct all)))
+
+    -- and just so many
+    pub filled-just : HeldJust (pages_beside others) filled world cuts
+    filled-just =
+        found-just (pages_beside others) filled
+        (same-filled (λ size. parts_of_class size world (below moment.births moment.set.births) - others size) (λ size. class_found size - others size) (λ size. ap (λ n. n - others size) (below-sum (object_class_parts size) world moment.births moment.set.births)) ∙ sym all-filled)
+
+-- The most ---------------------------------------------------------------------------------------
+
+module _ (measure : World → List ℕ → ℕ) (world : World) where
   -- of the last moment
-  pub most-last : (cuts : List Cut) (index most : ℕ) → length cuts ≤ index → HeldAtMost number most world [] → HeldJust number most world [] → HasMostFrom number most world cuts index
+  pub most-last : (cuts : List Cut) (index most : ℕ) → length cuts ≤ index → HeldAtMost measure most world [] → HeldJust measure most world [] → HasMostFrom measure most world cuts index
   most-last cuts index most past enough just = record {
-    enough = λ later after. subst (λ (left : List Cut). HeldAtMost number most world left) (sym (drop-past cuts later (omega (arith, past, after)))) enough;
-    just = (index, subst (λ (left : List Cut). HeldJust number most world left) (sym (drop-past cuts index past)) just);
+    enough = λ later after. subst (λ (left : List Cut). HeldAtMost measure most world left) (sym (drop-past cuts later (omega (arith, past, after)))) enough;
+    just = (index, subst (λ (left : List Cut). HeldJust measure most world left) (sym (drop-past cuts index past)) just);
   }
 
   -- of one more moment
-  pub most-back : (cuts : List Cut) (index next old count most : ℕ) → next ≡ index + 1 → most ≡ max old count → HasMostFrom number old world cuts next → HeldAtMost number count world (drop index cuts) → HeldJust number count world (drop index cuts)
-      → HasMostFrom number most world cuts index
+  pub most-back : (cuts : List Cut) (index next old count most : ℕ) → next ≡ index + 1 → most ≡ max old count → HasMostFrom measure old world cuts next → HeldAtMost measure count world (drop index cuts) → HeldJust measure count world (drop index cuts)
+      → HasMostFrom measure most world cuts index
   most-back cuts index next old count most is greater before enough just = record { enough = all; just = some }
     where
-      all : (later : ℕ) → index ≤ later → HeldAtMost number most world (drop later cuts)
+      all : (later : ℕ) → index ≤ later → HeldAtMost measure most world (drop later cuts)
       all later after list once held = elim (cases_eq later index) [
         | inl same ↦ omega (arith, greater, enough list once (subst (λ (n : ℕ). AllByRecursion (WasHeld world (drop n cuts)) list) same held))
         | inr other ↦ omega (arith, greater, before.enough later (beyond other) list once held)
@@ -167,8 +199,8 @@ module _ (number : Option Object → ℕ) (world : World) where
           beyond : (later ≡ index → ⊥) → next ≤ later
           beyond other = elim (cases_lt index later) [ inl more ↦ omega (arith, more, is) | inr few ↦ absurd (other (omega (arith, few, after))) ]
 
-      some : (later : ℕ) × HeldJust number most world (drop later cuts)
+      some : (later : ℕ) × HeldJust measure most world (drop later cuts)
       some = elim (cases_lt old count) [
-        | inl more ↦ let same : most ≡ count = omega (arith, greater, more) in (index, subst (λ (n : ℕ). HeldJust number n world (drop index cuts)) (sym same) just)
-        | inr few ↦ let same : most ≡ old = omega (arith, greater, few) in (before.just.0, subst (λ (n : ℕ). HeldJust number n world (drop before.just.0 cuts)) (sym same) before.just.1)
+        | inl more ↦ let same : most ≡ count = omega (arith, greater, more) in (index, subst (λ (n : ℕ). HeldJust measure n world (drop index cuts)) (sym same) just)
+        | inr few ↦ let same : most ≡ old = omega (arith, greater, few) in (before.just.0, subst (λ (n : ℕ). HeldJust measure n world (drop before.just.0 cuts)) (sym same) before.just.1)
       ]

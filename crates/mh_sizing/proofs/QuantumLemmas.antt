@@ -1,6 +1,7 @@
 -- The least number that passes a test, and the ends of a search for a quantum that keeps a share or for what lies between two.
 use Rattle.std.specs.Prelude.{◌<◌, ◌-◌, suc}
-use Rattle.std.proofs.Common.{◌≡◌, ℕ, zero, suc, ◌+◌, ◌-◌, ◌*◌, ◌<◌, ◌≤◌, nat_le, Bool, true, false, if◌then◌else◌, Option, Some, None, MatchOption, refl, sym, ap, ◌∙◌, subst, inl, inr, arith}
+use Rattle.std.proofs.Common.{◌≡◌, ℕ, zero, suc, ◌+◌, ◌-◌, ◌*◌, ◌/◌, ◌<◌, ◌≤◌, nat_le, Bool, true, false, if◌then◌else◌, Option, Some, None, MatchOption, refl, sym, ap, ◌∙◌, subst, inl, inr, arith}
+use Rattle.std.proofs.Math.Nat.{div-mul-le_self, le-div_iff_mul-le, mul-le-mul_left}
 use Rattle.std.proofs.lemmas.Nat.{mul-le}
 use Rattle.std.proofs.lemmas.Bool.{and_parts, leb-true, cases_lt}
 use Rattle.std.proofs.lemmas.Bool.Decides.{nat_tests}
@@ -30,6 +31,12 @@ within config =
 
 limits : (pages quantum every : ℕ) → 1 ≤ pages → pages ≤ 4096 → least_quantum ≤ quantum → quantum ≤ 1000000 → every ≤ 1000000 → is_configuration pages quantum 0 every ≡ true
 limits pages quantum every a b c d e = grind (arith, nat_tests)
+
+-- a quotient by more is no larger
+pub div-larger : (count more least : ℕ) → 1 ≤ least → least ≤ more → count / more ≤ count / least
+div-larger count more least some less =
+    let product : count / more * least ≤ count / more * more = mul-le-mul_left (count / more) less in
+    (le-div_iff_mul-le (omega (arith, some))).1 (omega (arith, product, div-mul-le_self count more))
 
 -- Pages ------------------------------------------------------------------------------------------
 

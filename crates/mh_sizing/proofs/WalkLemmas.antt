@@ -25,9 +25,9 @@ use Rattle.mh_model.specs.World.{Object, World, Answer, blank, refusal, with_cha
 use Rattle.mh_table_laws.proofs.objects.Parts.{some_parts}
 use Rattle.mh_shadow.specs.ShadowHeap.{outline_of}
 use Rattle.mh_shadow.proofs.WorldLemmas.{closed-world}
-use Rattle.mh_sizing_laws.specs.Made.{demand, intervals_made, made_parts, parts_made, parts_made_in}
+use Rattle.mh_sizing_laws.specs.Made.{footprint, intervals_made, made_parts, parts_made, parts_made_in}
 use Rattle.mh_sizing.specs.declared.asked.Asked.{Asked}
-use Rattle.mh_sizing.specs.declared.counts.Counts.{Counts}
+use Rattle.mh_sizing.specs.declared.moments.Amounts.{Amounts}
 use Rattle.mh_sizing.specs.declared.world.RunWorld.{RunWorld}
 use Rattle.mh_sizing.specs.declared.walk.Walk.{Walk}
 use Rattle.mh_sizing.specs.Asked.{HasAsked}
@@ -38,8 +38,8 @@ use Rattle.mh_sizing.specs.Steps.{made}
 use Rattle.mh_sizing.specs.Units.{units_made}
 use Rattle.mh_sizing.specs.Walk.{HasWalked, HasWalkedFrom}
 use Rattle.mh_sizing.specs.Worlds.{AreMostOf, HasLogOf, Performed}
-use Rattle.mh_sizing.specs.Demands.{demand_of}
-use Rattle.mh_sizing.proofs.DemandLemmas.{demand-is}
+use Rattle.mh_sizing.specs.Footprints.{footprint_of}
+use Rattle.mh_sizing.proofs.FootprintLemmas.{footprint-is}
 use Rattle.mh_sizing.proofs.RunLemmas.{most_of-enough, most_of-few, after-push, worlds-push, made-push, intervals-cut, ended-push, running-push}
 use Rattle.mh_sizing.proofs.CutLemmas.{log-again}
 
@@ -292,16 +292,16 @@ module _ (walk : Walk) (config : Config) (events : List Event) (walked : HasWalk
       → AllByRecursion (λ interval. number interval ≤ most) (intervals_made config events) → count ≤ most
   interval-few number count most is all = omega (arith, is, most_of-few number (ended_in [] (first_run config) events ++ running_in [] (first_run config) events ∷ []) most (subst (AllByRecursion (λ interval. number interval ≤ most)) cut all))
 
-  -- the demand is that of the intervals that have ended and of the running one
-  pub all-demanded : demand config events ≡ demand_of (ended_in [] (first_run config) events ++ running_in [] (first_run config) events ∷ [])
-  all-demanded = demand-is config events ∙ ap demand_of cut
+  -- the footprint is that of the intervals that have ended and of the running one
+  pub all-footprints : footprint config events ≡ footprint_of (ended_in [] (first_run config) events ++ running_in [] (first_run config) events ∷ [])
+  all-footprints = footprint-is config events ∙ ap footprint_of cut
 
   -- the numbers that were found are the needs
-  pub needs-are : (most : Counts) → AreMostOf most (run_worlds (first_run config) events) → (needs : Needs) → needs.live ≡ most.parts → needs.marking_units ≡ most.units
+  pub needs-are : (others : ℕ → ℕ) (most : Amounts) → AreMostOf others most (run_worlds (first_run config) events) → (needs : Needs) → needs.live ≡ most.parts → needs.marking_units ≡ most.units
       → needs.asked ≡ most_of length (ended_in [] (first_run config) events ++ running_in [] (first_run config) events ∷ [])
       → needs.opened ≡ most_of pages_of_parts (ended_in [] (first_run config) events ++ running_in [] (first_run config) events ∷ [])
       → needs.page_units ≡ most_slots (parts_made config events) + most_moves (parts_made config events) → AreTheNeeds needs config events
-  needs-are most reached needs live marked asked opened page = record {
+  needs-are others most reached needs live marked asked opened page = record {
     enough = record {
       live = subst (λ (n : ℕ). AllByRecursion (HasAtMost object_parts n) (run_worlds (first_run config) events)) (sym live) reached.parts.enough;
       marked = subst (λ (n : ℕ). AllByRecursion (HasAtMost object_units n) (run_worlds (first_run config) events)) (sym marked) reached.units.enough;

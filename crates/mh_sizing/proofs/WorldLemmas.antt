@@ -1,5 +1,5 @@
 -- Logs of runs, and the most that their worlds reach.
-use Rattle.std.proofs.Common.{◌≡◌, ℕ, ◌+◌, ◌<◌, ◌≤◌, ◌^◌, Option, Some, None, option_map, List, [], ◌∷◌, ◌++◌, length, drop, refl, sym, ap, ◌∙◌, subst, arith}
+use Rattle.std.proofs.Common.{◌≡◌, ℕ, ◌+◌, ◌-◌, ◌<◌, ◌≤◌, ◌^◌, Option, Some, None, option_map, List, [], ◌∷◌, ◌++◌, length, drop, refl, sym, ap, ◌∙◌, subst, arith}
 use Rattle.std.specs.List.{All, AllByRecursion, sum_by}
 use Rattle.std.proofs.lemmas.List.Elements.{All-from_recursion, recursion_from_All}
 use Rattle.std.proofs.lemmas.List.Sums.{sum_by-cons}
@@ -14,47 +14,54 @@ use Rattle.mh_model.specs.CycleUnits.{part_units, object_units}
 use Rattle.mh_model.specs.LiveParts.{object_parts}
 use Rattle.mh_model.specs.Paths.{Reachable}
 use Rattle.mh_model.specs.World.{Object, World, first_world, births, object_at, shape_of, never_full, IsClosed, Performs}
+use Rattle.mh_sizing_laws.specs.Filled.{object_class_parts, parts_of_class}
 use Rattle.mh_sizing.specs.declared.counts.Counts.{Counts}
 use Rattle.mh_sizing.specs.declared.cuts.Cut.{Cut}
 use Rattle.mh_sizing.specs.Cuts.{cuts_of, overwritten, HasLogged, HoldsAll, IsCutIn, IsCutNow, IsHeldOnce, IsKept, IsLogOf, WasHeld}
 use Rattle.mh_sizing.specs.Moments.{HasMostFrom}
 use Rattle.mh_sizing.specs.Objects.{field_count}
-use Rattle.mh_sizing.specs.Reached.{sum_of, HasAtMost, HasJust}
+use Rattle.mh_sizing.specs.Reached.{sum_of, pages_beside, ReachesAtMost, ReachesJust}
 use Rattle.mh_sizing.specs.Steps.{made}
 use Rattle.mh_sizing.specs.Within.{HasRoomToMake, IsWithin}
 use Rattle.mh_sizing.specs.Worlds.{IsMostOf}
 use Rattle.mh_sizing.proofs.ListLemmas.{all-append, all-more, any-more}
 use Rattle.mh_sizing.proofs.CountLemmas.{by-shape}
 use Rattle.mh_sizing.proofs.CutLemmas.{cuts-now, log-cuts, log-step, name-cut, now-in}
+use Rattle.mh_sizing.proofs.FilledLemmas.{classes-by_shape, same-filled}
 use Rattle.mh_sizing.proofs.FollowLemmas.{overwritten-reached, step-follows}
 use Rattle.mh_sizing.proofs.StepLemmas.{IsByShape, same-number, most-grows, step-births, made-small, first-most, parts-by_shape, units-by_shape}
 
 -- The most of worlds -----------------------------------------------------------------------------
 
-module _ (number : Option Object → ℕ) (by_shape : IsByShape number) (last : World) where
+module _ (last : World) where
   -- objects that are kept count what they did
-  sum-kept : (world : World) (list : List ℕ) → AllByRecursion (IsKept world last) list → sum_of number world list ≡ sum_of number last list
-  sum-kept world [] all = refl
-  sum-kept world (birth ∷ list) all =
-      omega (arith, sum_by-cons (λ b. number (object_at world b)) birth list, sum_by-cons (λ b. number (object_at last b)) birth list, same-number number by_shape (object_at world birth) (object_at last birth) all.0.shape, sum-kept world list all.1)
+  pub sum-kept : (number : Option Object → ℕ) → IsByShape number → (world : World) (list : List ℕ) → AllByRecursion (IsKept world last) list → sum_of number world list ≡ sum_of number last list
+  sum-kept number by_shape world [] all = refl
+  sum-kept number by_shape world (birth ∷ list) all =
+      omega (arith, sum_by-cons (λ b. number (object_at world b)) birth list, sum_by-cons (λ b. number (object_at last b)) birth list, same-number number by_shape (object_at world birth) (object_at last birth) all.0.shape, sum-kept number by_shape world list all.1)
 
+  -- and fill the pages that they did
+  pub filled-kept : (others : ℕ → ℕ) (world : World) (list : List ℕ) → AllByRecursion (IsKept world last) list → pages_beside others world list ≡ pages_beside others last list
+  filled-kept others world list all = same-filled (λ size. parts_of_class size world list - others size) (λ size. parts_of_class size last list - others size) (λ size. ap (λ n. n - others size) (sum-kept (object_class_parts size) (classes-by_shape size) world list all))
+
+module _ (measure : World → List ℕ → ℕ) (last : World) (kept : (world : World) (list : List ℕ) → AllByRecursion (IsKept world last) list → measure world list ≡ measure last list) where
   -- the most that was held at a moment of a log is the most that a world reached
-  pub log-most : (worlds : List World) (cuts : List Cut) (most : ℕ) → IsLogOf worlds cuts last → HasMostFrom number most last cuts 0 → IsMostOf number most worlds
+  pub log-most : (worlds : List World) (cuts : List Cut) (most : ℕ) → IsLogOf worlds cuts last → HasMostFrom measure most last cuts 0 → IsMostOf measure most worlds
   log-most worlds cuts most log held = record {
-    enough = all-more (IsHeldOnce last cuts) (HasAtMost number most) enough worlds log.worlds_held;
-    just = any-more (HoldsAll last (drop held.just.0 cuts)) (HasJust number most) just worlds (log.moments_reached held.just.0);
+    enough = all-more (IsHeldOnce last cuts) (ReachesAtMost measure most) enough worlds log.worlds_held;
+    just = any-more (HoldsAll last (drop held.just.0 cuts)) (ReachesJust measure most) just worlds (log.moments_reached held.just.0);
   }
     where
-      enough : (world : World) → IsHeldOnce last cuts world → HasAtMost number most world
+      enough : (world : World) → IsHeldOnce last cuts world → ReachesAtMost measure most world
       enough world (index, inside, is) list once reached =
-          omega (arith, sum-kept world list (all-more (Reachable world) (IsKept world last) (λ b r. (is b r).1) list reached), held.enough index (omega arith) list once (all-more (Reachable world) (WasHeld last (drop index cuts)) (λ b r. (is b r).0) list reached))
+          omega (arith, kept world list (all-more (Reachable world) (IsKept world last) (λ b r. (is b r).1) list reached), held.enough index (omega arith) list once (all-more (Reachable world) (WasHeld last (drop index cuts)) (λ b r. (is b r).0) list reached))
 
-      just : (world : World) → HoldsAll last (drop held.just.0 cuts) world → HasJust number most world
+      just : (world : World) → HoldsAll last (drop held.just.0 cuts) world → ReachesJust measure most world
       just world is = record {
         list = held.just.1.list;
         once = held.just.1.once;
         reached = all-more (WasHeld last (drop held.just.0 cuts)) (Reachable world) (λ b was. (is b was).0) held.just.1.list held.just.1.held;
-        sum = sum-kept world held.just.1.list (all-more (WasHeld last (drop held.just.0 cuts)) (IsKept world last) (λ b was. (is b was).1) held.just.1.list held.just.1.held) ∙ held.just.1.sum;
+        sum = kept world held.just.1.list (all-more (WasHeld last (drop held.just.0 cuts)) (IsKept world last) (λ b was. (is b was).1) held.just.1.list held.just.1.held) ∙ held.just.1.sum;
       }
 
 -- Logs that grow ---------------------------------------------------------------------------------

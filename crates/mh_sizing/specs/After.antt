@@ -2,11 +2,9 @@
 use Rattle.std.specs.Prelude.{◌≡◌, ◌⊎◌, ℕ, ◌+◌, min, nat_le, nat_lt, Bool, ◌&&◌, List, ◌++◌}
 use Rattle.mh_model.specs.declared.command.Event.{Event}
 use Rattle.mh_model.specs.declared.config.Config.{Config}
-use Rattle.mh_model.specs.Intervals.{IsNeverFull}
 use Rattle.mh_sizing_laws.specs.Made.{MakeOfClasses}
-use Rattle.mh_sizing_laws.specs.Started.{HasEnoughBeside, HasSharpEnoughBeside, IsStartupWithin, MakeNoMoreAfter}
-use Rattle.mh_sizing.specs.Enough.{cycle_quanta}
-use Rattle.mh_sizing.specs.Found.{IsLeast}
+use Rattle.mh_sizing_laws.specs.Started.{FillNoMoreAfter, HasEnoughBeside, HasSharpEnoughBeside, IsStartupWithin, MakeNoMoreAfter}
+use Rattle.mh_sizing.specs.Cycles.{cycle_quanta, cycle_quanta_of}
 use Rattle.mh_sizing.specs.Needs.{enough_pages, enough_trigger}
 use Rattle.mh_sizing.specs.Shared.{enough_shared_pages}
 use Rattle.mh_sizing.specs.declared.after.Startup.{Startup}
@@ -17,7 +15,7 @@ use Rattle.mh_sizing.specs.declared.kinds.Kinds.{Kinds}
 -- the pages that are enough for cycles of so many quanta: those that are anchored, and as many as if each new part kept a page, or as if small parts shared
 -- pages, if that is less
 abbrev pub pages_needed_after : Startup → Kinds → ℕ → ℕ
-pages_needed_after startup kinds quanta = startup.anchored + min (enough_pages startup.needs quanta) (enough_shared_pages startup.needs kinds quanta)
+pages_needed_after startup kinds quanta = startup.anchored + min (enough_pages startup.needs quanta) (enough_shared_pages startup.needs startup.filled kinds quanta)
 
 -- the pages and the trigger are enough for the cycles, and the startup leaves more pages than the trigger
 abbrev pub is_enough_after : Startup → Kinds → Config → Bool
@@ -28,26 +26,18 @@ is_enough_after startup kinds config =
 -- it has enough for cycles of so many quanta, as new parts keep pages or share them
 abbrev pub HasEnoughAfterByEither : Startup → Kinds → Config → ℕ → Type 0
 HasEnoughAfterByEither startup kinds config quanta =
-    HasEnoughBeside startup.needs startup.anchored startup.pages config quanta ⊎ HasSharpEnoughBeside startup.needs kinds.fewest_slots kinds.kinds startup.anchored startup.pages config quanta
+    HasEnoughBeside startup.needs startup.anchored startup.pages config quanta ⊎ HasSharpEnoughBeside startup.needs startup.filled kinds.kinds startup.anchored startup.pages config quanta
 
 -- A configuration is enough after a startup: it has enough for cycles of some number of quanta
 abbrev pub IsEnoughAfter : Startup → Kinds → Config → Type 0
 IsEnoughAfter startup kinds config = (quanta : ℕ) × HasEnoughAfterByEither startup kinds config quanta
 
--- Pages ------------------------------------------------------------------------------------------
-
--- so many pages are enough with such quanta, with some trigger
-abbrev pub PagesAreEnoughAfter : Startup → Kinds → ℕ → ℕ → Type 0
-PagesAreEnoughAfter startup kinds quantum pages = (config : Config) × (config.pages ≡ pages) × (config.quantum ≡ quantum) × IsEnoughAfter startup kinds config
-
--- A heap with the quantum of a configuration is enough, and none with such quanta and fewer pages is. Its trigger is the least that starts a cycle in time
-pub record IsFewestAfter (startup : Startup) (kinds : Kinds) (config heap : Config) : Type 0 where
-  pub quantum : heap.quantum ≡ config.quantum
-  pub every : heap.every ≡ config.every
-  pub rules : heap.rules ≡ config.rules
-  pub enough : IsEnoughAfter startup kinds heap
-  pub trigger : heap.trigger ≡ enough_trigger startup.needs (cycle_quanta startup.needs heap)
-  pub least : IsLeast (PagesAreEnoughAfter startup kinds config.quantum) heap.pages
+-- so many pages are enough after a startup with such a quantum and the least trigger that starts a cycle in time. A greater one isn't safer: the startup
+-- has to leave more pages than the trigger
+abbrev pub pages_pass_after : Startup → Kinds → ℕ → ℕ → Bool
+pages_pass_after startup kinds pages quantum =
+    let quanta = cycle_quanta_of startup.needs pages quantum in
+    nat_le (pages_needed_after startup kinds quanta) pages && nat_lt (startup.pages + enough_trigger startup.needs quanta) pages
 
 -- Runs -------------------------------------------------------------------------------------------
 
@@ -59,10 +49,5 @@ pub record KeepAfter (startup : Startup) (kinds : Kinds) (config : Config) (even
   pub parts : events ≡ start ++ rest
   pub needs : MakeNoMoreAfter startup.needs config start rest stays
   pub within : IsStartupWithin startup.anchored startup.pages config start stays
+  pub filled : FillNoMoreAfter startup.filled config start rest stays
   pub classes : MakeOfClasses kinds.fewest_slots kinds.kinds config events
-
--- Such a run is never full in a configuration that is enough after the startup, by either law. Nor is it in a heap that was found for the quantum of its
--- own configuration
-pub record StartedHeapsAreNeverFull : Type 0 where
-  pub enough : (startup : Startup) (kinds : Kinds) (config : Config) (events : List Event) → KeepAfter startup kinds config events → IsEnoughAfter startup kinds config → IsNeverFull config events
-  pub found : (startup : Startup) (kinds : Kinds) (config heap : Config) (events : List Event) → KeepAfter startup kinds config events → IsFewestAfter startup kinds config heap → IsNeverFull heap events

@@ -4,7 +4,7 @@ use Rattle.mh_model.specs.Classes.{Part}
 use Rattle.mh_model.specs.Openings.{pages_of_parts}
 use Rattle.mh_sizing.specs.declared.asked.Asked.{Asked}
 use Rattle.mh_sizing.specs.ClassCounts.{HasClassCounts}
-use Rattle.mh_sizing.specs.Demands.{HasDemand}
+use Rattle.mh_sizing.specs.Footprints.{HasFootprint}
 use Rattle.mh_sizing.specs.Runs.{most_of}
 
 -- All parts are counted by class, those of the running interval, the most that an ended one made, and the pages that these take together
@@ -12,4 +12,4 @@ pub record HasAsked (asked : Asked) (all running : List Part) (ended : List (Lis
   pub counted : HasClassCounts asked.running all running
   pub parts : asked.parts ≡ most_of length ended
   pub pages : asked.pages ≡ most_of pages_of_parts ended
-  pub demand : HasDemand asked.demand ended
+  pub footprint : HasFootprint asked.footprint ended

@@ -1,5 +1,5 @@
 -- What sessions ask of a heap of which only counts are known: their live parts and references, and the parts of each class that an interval makes.
-use Rattle.std.specs.Prelude.{◌≡◌, ℕ, ◌+◌, ◌-◌, ◌==◌, ◌≤◌, max, true, if◌then◌else◌, None, List, length}
+use Rattle.std.specs.Prelude.{◌≡◌, ℕ, ◌+◌, ◌-◌, ◌/◌, ◌==◌, ◌≤◌, max, true, if◌then◌else◌, None, List, length}
 use Rattle.std.specs.List.{AllByRecursion, list_any, sum_by}
 use Rattle.std.proofs.Math.Nat.{le-max_left}
 use Rattle.mh_model.specs.declared.command.Event.{Event}
@@ -35,9 +35,10 @@ kinds_of_classes classes = record { kinds = length classes; fewest_slots = max 1
 unfoldable pub kinds_counted : List ClassParts → Kinds
 kinds_counted counts = kinds_of_classes (counted_classes counts)
 
--- what sessions ask of a heap that keep to counts. How many intervals there are isn't known, nor what they open together
+-- what sessions ask of a heap that keep to counts. How many intervals there are isn't known, nor what they open together. Live parts may all be of the class
+-- with the fewest slots
 abbrev pub profile_of_counts : List ClassParts → ℕ → ℕ → Profile
-profile_of_counts counts live references = record { needs = needs_of_counts counts live references; kinds = kinds_counted counts; demand = None }
+profile_of_counts counts live references = record { needs = needs_of_counts counts live references; kinds = kinds_counted counts; filled = live / (kinds_counted counts).fewest_slots; footprint = None; startup = None }
 
 -- The sessions of a run keep to classes: they hold no more than so much, no object has more than so many parts, and all parts are of these classes
 pub record KeepToClasses (classes : List ℕ) (most live references : ℕ) (config : Config) (events : List Event) : Type 0 where
@@ -53,5 +54,7 @@ profile_of_every every classes most live references =
     record {
       needs = record { live = live; marking_units = live + references; asked = asked; opened = pages_at_most asked classes; page_units = page_units_of classes };
       kinds = kinds_of_classes classes;
-      demand = None;
+      filled = live / (kinds_of_classes classes).fewest_slots;
+      footprint = None;
+      startup = None;
     }

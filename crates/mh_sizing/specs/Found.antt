@@ -1,10 +1,13 @@
 -- Heaps that are searched for: the fewest pages that are enough with a quantum.
-use Rattle.std.specs.Prelude.{◌≡◌, ◌⊎◌, ℕ, ◌≤◌, nat_le, if◌then◌else◌, MatchOption, Option}
+use Rattle.std.specs.Prelude.{◌≡◌, ◌⊎◌, ℕ, ◌≤◌, nat_le, if◌then◌else◌, MatchOption, Option, Some, None}
 use Rattle.mh_model.specs.declared.config.Config.{Config}
 use Rattle.mh_sizing.specs.Needs.{enough_pages, enough_trigger}
-use Rattle.mh_sizing.specs.Enough.{Suffices, cycle_quanta, meets_demand}
+use Rattle.mh_sizing.specs.Cycles.{cycle_quanta}
+use Rattle.mh_sizing.specs.Enough.{Suffices, meets_footprint}
+use Rattle.mh_sizing.specs.Shared.{enough_shared_pages}
+use Rattle.mh_sizing.specs.declared.after.Startup.{Startup}
 use Rattle.mh_sizing.specs.declared.found.Law.{Law}
-use Rattle.mh_sizing.specs.declared.found.Law.TheVariants.{Demand, Easy, Sharp}
+use Rattle.mh_sizing.specs.declared.found.Law.TheVariants.{Footprint, Easy, Sharp, Started}
 use Rattle.mh_sizing.specs.declared.found.Found.{Found}
 use Rattle.mh_sizing.specs.declared.profile.Profile.{Profile}
 
@@ -29,15 +32,23 @@ IsSoFrom P last from = (number : ℕ) → from ≤ number → number ≤ last �
 abbrev pub PagesAreEnough : Profile → ℕ → ℕ → Type 0
 PagesAreEnough profile quantum pages = (config : Config) × (config.pages ≡ pages) × (config.quantum ≡ quantum) × Suffices profile config
 
--- the law by which a configuration is enough, if it is: the first of the three
+-- the law by which a configuration is enough, if it is: the first of the four
 abbrev pub law_of : Profile → Config → Law
-law_of profile config = if meets_demand profile.demand config.pages then Demand else (if nat_le (enough_pages profile.needs (cycle_quanta profile.needs config)) config.pages then Easy else Sharp)
+law_of profile config =
+    let quanta = cycle_quanta profile.needs config in
+    if meets_footprint profile.footprint config.pages then Footprint else (if nat_le (enough_pages profile.needs quanta) config.pages then Easy else (if nat_le (enough_shared_pages profile.needs profile.filled profile.kinds quanta) config.pages then Sharp else Started))
+
+-- the trigger that is enough after the startup, if one is known
+abbrev pub trigger_after : Option Startup → Config → ℕ
+trigger_after None config = 0
+trigger_after (Some startup) config = enough_trigger startup.needs (cycle_quanta startup.needs config)
 
 -- the trigger that goes with it: none is needed if pages are for all intervals together
 abbrev pub trigger_by : Law → Profile → Config → ℕ
-trigger_by Demand profile config = 0
+trigger_by Footprint profile config = 0
 trigger_by Easy profile config = enough_trigger profile.needs (cycle_quanta profile.needs config)
 trigger_by Sharp profile config = enough_trigger profile.needs (cycle_quanta profile.needs config)
+trigger_by Started profile config = trigger_after profile.startup config
 
 -- a heap that has all of a configuration but its trigger is enough, with the trigger that goes with its law
 pub record IsTriggered (profile : Profile) (config heap : Config) : Type 0 where

@@ -9,12 +9,13 @@ use Rattle.mh_model.specs.CycleUnits.{object_units, most_slots, most_moves}
 use Rattle.mh_model.specs.LiveParts.{object_parts}
 use Rattle.mh_model.specs.Needs.{first_run, run_worlds}
 use Rattle.mh_model.specs.Openings.{pages_of_parts}
-use Rattle.mh_sizing_laws.specs.Made.{MakeNoMore, MakeOfClasses, demand, intervals_made, parts_made}
+use Rattle.mh_sizing_laws.specs.Made.{MakeNoMore, MakeOfClasses, footprint, intervals_made, parts_made}
 use Rattle.mh_sizing_laws.specs.SharpPages.{fewest_slots, occurring}
 use Rattle.mh_sizing.specs.declared.profile.Profile.{Profile}
 use Rattle.mh_sizing.specs.declared.kinds.Kinds.{Kinds}
-use Rattle.mh_sizing.specs.Reached.{HasJust}
+use Rattle.mh_sizing.specs.Reached.{HasJust, pages_beside}
 use Rattle.mh_sizing.specs.Runs.{most_of}
+use Rattle.mh_sizing.specs.Worlds.{IsMostOf}
 
 -- The sessions of a run make and hold no more than this, and no number is too large: some world has just so many live parts, and some costs just so much
 -- to mark; some interval makes so many parts and some opens so many pages, or nothing is made
@@ -32,11 +33,12 @@ pub record AreTheKinds (kinds : Kinds) (config : Config) (events : List Event) :
   pub least : kinds.fewest_slots ≡ fewest_slots (parts_made config events)
   pub made : MakeOfClasses kinds.fewest_slots kinds.kinds config events
 
--- What the sessions of these events make and hold, the classes of their parts, and their demand
+-- What the sessions of these events make and hold, the classes of their parts and the pages that live ones fill, and their footprint
 pub record IsTheProfile (profile : Profile) (config : Config) (events : List Event) : Type 0 where
   pub needs : AreTheNeeds profile.needs config events
   pub kinds : AreTheKinds profile.kinds config events
-  pub demanded : MatchOption profile.demand (2 ^ 32 ≤ demand config events) (λ pages. pages ≡ demand config events)
+  pub filled : IsMostOf (pages_beside (λ size. 0)) profile.filled (run_worlds (first_run config) events)
+  pub footprints : MatchOption profile.footprint (2 ^ 32 ≤ footprint config events) (λ pages. pages ≡ footprint config events)
 
 -- an event is a command of a session
 abbrev pub IsCommand : Event → Type 0

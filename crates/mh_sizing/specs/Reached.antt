@@ -1,9 +1,10 @@
 -- The births that a search finds, those that a world reaches, and how much their objects count.
-use Rattle.std.specs.Prelude.{◌≡◌, ℕ, ◌<◌, ◌≤◌, true, Option, Some, None, List, [], get_or}
+use Rattle.std.specs.Prelude.{◌≡◌, ℕ, ◌-◌, ◌<◌, ◌≤◌, true, Option, Some, None, List, [], get_or}
 use Rattle.std.specs.List.{AllByRecursion, sum_by}
 use Rattle.mh_model.specs.Batches.{NoneTwice}
 use Rattle.mh_model.specs.Paths.{Reachable}
 use Rattle.mh_model.specs.World.{Object, World, object_at, reference_of}
+use Rattle.mh_sizing_laws.specs.Filled.{pages_filled, parts_of_class}
 use Rattle.mh_sizing.specs.declared.cuts.Cut.{Cut}
 use Rattle.mh_sizing.specs.Births.{is_among}
 use Rattle.mh_sizing.specs.Cuts.{IsRoot, ReachedFrom}
@@ -27,16 +28,32 @@ pub record IsSearch (world : World) (cuts : List Cut) (list : List ℕ) (next : 
 abbrev pub sum_of : (Option Object → ℕ) → World → List ℕ → ℕ
 sum_of number world list = sum_by (λ birth. number (object_at world birth)) list
 
--- the objects that a world reaches count no more than this, each once
-abbrev pub HasAtMost : (Option Object → ℕ) → ℕ → World → Type 0
-HasAtMost number most world = (list : List ℕ) → NoneTwice list → AllByRecursion (Reachable world) list → sum_of number world list ≤ most
+-- the pages that the objects of these births fill, each class by itself, beside so many parts of each class
+abbrev pub pages_beside : (ℕ → ℕ) → World → List ℕ → ℕ
+pages_beside beside world list = pages_filled (λ size. parts_of_class size world list - beside size)
 
--- Some objects that a world reaches count just this, each once
-pub record HasJust (number : Option Object → ℕ) (count : ℕ) (world : World) : Type 0 where
+-- what a world reaches, each once, measures no more than this
+abbrev pub ReachesAtMost : (World → List ℕ → ℕ) → ℕ → World → Type 0
+ReachesAtMost measure most world = (list : List ℕ) → NoneTwice list → AllByRecursion (Reachable world) list → measure world list ≤ most
+
+-- Some of what a world reaches, each once, measures just this
+pub record ReachesJust (measure : World → List ℕ → ℕ) (count : ℕ) (world : World) : Type 0 where
   pub list : List ℕ
   pub once : NoneTwice list
   pub reached : AllByRecursion (Reachable world) list
-  pub sum : sum_of number world list ≡ count
+  pub sum : measure world list ≡ count
+
+-- the objects that a world reaches count no more than this, each once
+abbrev pub HasAtMost : (Option Object → ℕ) → ℕ → World → Type 0
+HasAtMost number most world = ReachesAtMost (sum_of number) most world
+
+-- some objects that a world reaches count just this, each once
+abbrev pub HasJust : (Option Object → ℕ) → ℕ → World → Type 0
+HasJust number count world = ReachesJust (sum_of number) count world
+
+-- some objects that a world reaches fill just so many pages, beside so many parts of each class
+abbrev pub FillsJust : (ℕ → ℕ) → ℕ → World → Type 0
+FillsJust beside count world = ReachesJust (pages_beside beside) count world
 
 -- all objects of a world together count no more than this
 abbrev pub AreAtMost : (Option Object → ℕ) → ℕ → World → Type 0

@@ -1,12 +1,14 @@
 -- Heaps that are sized for what their sessions need.
-use Rattle.std.specs.Prelude.{◌≤◌, List, IfSome}
+use Rattle.std.specs.Prelude.{ℕ, ◌≤◌, List, IfSome}
 use Rattle.mh_model.specs.declared.command.Event.{Event}
 use Rattle.mh_model.specs.declared.config.Config.{Config}
 use Rattle.mh_model.specs.declared.needs.Needs.{Needs}
 use Rattle.mh_model.specs.Intervals.{IsNeverFull}
 use Rattle.mh_model.specs.Needs.{quanta_needed, HasEnoughFor}
-use Rattle.mh_sizing_laws.specs.Made.{MakeNoMore, MakeOfClasses, demand}
+use Rattle.mh_sizing_laws.specs.Filled.{FillNoMore}
+use Rattle.mh_sizing_laws.specs.Made.{MakeNoMore, MakeOfClasses, MakeOfKinds, footprint}
 use Rattle.mh_sizing.specs.declared.kinds.Kinds.{Kinds}
+use Rattle.mh_sizing.specs.After.{KeepAfter}
 use Rattle.mh_sizing.specs.Needs.{enough_trigger, HasEnough}
 use Rattle.mh_sizing.specs.Shared.{HasEnoughShared}
 use Rattle.mh_sizing.specs.Enough.{Suffices}
@@ -26,14 +28,17 @@ SizedRunsAreNeverFull = (needs : Needs) (config : Config) (events : List Event) 
 
 -- And so it is never full where small new parts share pages, if the pages are then enough for the classes of its parts
 abbrev pub SharedRunsAreNeverFull : Type 0
-SharedRunsAreNeverFull = (needs : Needs) (kinds : Kinds) (config : Config) (events : List Event) → MakeNoMore needs config events → MakeOfClasses kinds.fewest_slots kinds.kinds config events → HasEnoughShared needs kinds config.pages config → enough_trigger needs (quanta_needed needs config) ≤ config.trigger
+SharedRunsAreNeverFull = (needs : Needs) (filled : ℕ) (kinds : Kinds) (config : Config) (events : List Event) →
+    MakeNoMore needs config events → FillNoMore filled config events → MakeOfKinds kinds.kinds config events → HasEnoughShared needs filled kinds config.pages config → enough_trigger needs (quanta_needed needs config) ≤ config.trigger
     → IsNeverFull config events
 
--- The sessions of a run make and hold no more than a profile says
+-- The sessions of a run make and hold no more than a profile says, after its startup too
 pub record KeepToProfile (profile : Profile) (config : Config) (events : List Event) : Type 0 where
   pub needs : MakeNoMore profile.needs config events
   pub kinds : MakeOfClasses profile.kinds.fewest_slots profile.kinds.kinds config events
-  pub demanded : IfSome profile.demand (λ pages. demand config events ≤ pages)
+  pub filled : FillNoMore profile.filled config events
+  pub footprints : IfSome profile.footprint (λ pages. footprint config events ≤ pages)
+  pub started : IfSome profile.startup (λ startup. KeepAfter startup profile.kinds config events)
 
 -- Such a run is never full in a configuration that is enough for the profile, by whichever law. Nor is it in a heap that was found for the quantum of
 -- its own configuration

@@ -1,28 +1,29 @@
 -- The most that the worlds of a run reach.
-use Rattle.std.specs.Prelude.{◌≡◌, ℕ, Option, List}
+use Rattle.std.specs.Prelude.{◌≡◌, ℕ, List}
 use Rattle.std.specs.List.{AllByRecursion, Any}
 use Rattle.mh_model.specs.declared.command.Command.{Command}
 use Rattle.mh_model.specs.declared.reply.Reply.{Reply}
 use Rattle.mh_model.specs.CycleUnits.{object_units}
 use Rattle.mh_model.specs.LiveParts.{object_parts}
-use Rattle.mh_model.specs.World.{Object, World, never_full, Performs}
+use Rattle.mh_model.specs.World.{World, never_full, Performs}
 use Rattle.mh_shadow.specs.Outline.{Outlines}
 use Rattle.mh_shadow.specs.ShadowHeap.{outline_of}
-use Rattle.mh_sizing.specs.declared.counts.Counts.{Counts}
+use Rattle.mh_sizing.specs.declared.moments.Amounts.{Amounts}
 use Rattle.mh_sizing.specs.declared.world.RunWorld.{RunWorld}
 use Rattle.mh_sizing.specs.Cuts.{IsLogOf}
-use Rattle.mh_sizing.specs.Reached.{HasAtMost, HasJust}
+use Rattle.mh_sizing.specs.Reached.{ReachesAtMost, ReachesJust, pages_beside, sum_of}
 use Rattle.mh_sizing.specs.Steps.{made}
 
--- None of these worlds reaches objects that count more than this, each once, and one reaches some that count just this
-pub record IsMostOf (number : Option Object → ℕ) (most : ℕ) (worlds : List World) : Type 0 where
-  pub enough : AllByRecursion (HasAtMost number most) worlds
-  pub just : Any (HasJust number most) worlds
+-- None of these worlds reaches what measures more than this, each once, and one reaches some that measures just this
+pub record IsMostOf (measure : World → List ℕ → ℕ) (most : ℕ) (worlds : List World) : Type 0 where
+  pub enough : AllByRecursion (ReachesAtMost measure most) worlds
+  pub just : Any (ReachesJust measure most) worlds
 
--- the most parts and units of these worlds
-pub record AreMostOf (most : Counts) (worlds : List World) : Type 0 where
-  pub parts : IsMostOf object_parts most.parts worlds
-  pub units : IsMostOf object_units most.units worlds
+-- The most parts and units of these worlds, and the most pages that they fill beside so many parts of each class
+pub record AreMostOf (beside : ℕ → ℕ) (most : Amounts) (worlds : List World) : Type 0 where
+  pub parts : IsMostOf (sum_of object_parts) most.parts worlds
+  pub units : IsMostOf (sum_of object_units) most.units worlds
+  pub filled : IsMostOf (pages_beside beside) most.filled worlds
 
 -- A run has a log of these worlds, the last of which its heap outlines
 pub record HasLogOf (run : RunWorld) (worlds : List World) (last : World) : Type 0 where

@@ -5,6 +5,7 @@ ghost use Rattle.std.specs.Int.{div_ceil};
 ghost use Rattle.std.specs.List.{count_by, sum_by};
 ghost use Rattle.mh_model.specs.Classes.{class_sizes, slots_in};
 ghost use Rattle.mh_sizing_laws.specs.Startup.{anchored_by, staying_by};
+ghost use Rattle.mh_sizing.specs.ByClass.{AreByClass};
 ghost use Rattle.mh_sizing.specs.PartBirths.{births_of};
 ghost use Rattle.mh_sizing.specs.Anchored.{stay};
 
@@ -16,12 +17,21 @@ use mh_model::birth::Birth;
 use mh_model::memory::NoMemory;
 use std::alloc::Global;
 
-/// Pages that parts fill, how many of these are anchored, and how many parts that stay these have.
+/// Pages that parts of a class fill, how many of these are anchored, and how many parts that stay these have.
+#[derive(Clone, Copy)]
+struct ClassAnchors {
+    pages: u128,
+    anchored: u128,
+    staying: u128,
+}
+
+/// The same of the parts of all classes, and how many that stay the anchored pages of each class have.
 #[derive(Clone, Copy)]
 pub(crate) struct Anchors {
     pub(crate) pages: u128,
     pub(crate) anchored: u128,
     pub(crate) staying: u128,
+    pub(crate) beside: [u64; CLASSES],
 }
 
 /// How many of these births stay.
@@ -39,7 +49,7 @@ fn count_staying(stays: &Stays, births: &[Birth]) -> usize
 }
 
 /// The pages of so many slots that parts of these births fill in order.
-fn class_anchors(stays: &Stays, births: &[Birth], slots: usize) -> Anchors
+fn class_anchors(stays: &Stays, births: &[Birth], slots: usize) -> ClassAnchors
     requires some { 4 ≤ slots }
     requires few { slots ≤ 64 }
     ensures pages { result.pages ≡ div_ceil (length births.now) slots }
@@ -47,7 +57,7 @@ fn class_anchors(stays: &Stays, births: &[Birth], slots: usize) -> Anchors
     ensures staying { result.staying ≡ staying_by (stay stays.now) slots births.now }
     ensures few_pages { result.pages < 2 ^ 64 }
     ensures few_anchored { result.anchored ≤ result.pages }
-    ensures few_staying { result.staying ≤ result.pages * 64 }
+    ensures few_staying { result.staying < 2 ^ 64 }
 {
     let pages = births.len().div_ceil(slots);
     let mut anchored = 0;
@@ -61,7 +71,7 @@ fn class_anchors(stays: &Stays, births: &[Birth], slots: usize) -> Anchors
             staying += count as u128;
         }
     }
-    Anchors {
+    ClassAnchors {
         pages: pages as u128,
         anchored,
         staying,
@@ -77,11 +87,13 @@ pub(crate) fn all_anchors(
     ensures pages { IfOk result (λ anchors. anchors.pages ≡ sum_by (λ size. div_ceil (length (births_of size parts.now)) (slots_in size)) class_sizes) }
     ensures anchored { IfOk result (λ anchors. anchors.anchored ≡ sum_by (λ size. anchored_by (stay stays.now) (slots_in size) (births_of size parts.now)) class_sizes) }
     ensures staying { IfOk result (λ anchors. anchors.staying ≡ sum_by (λ size. staying_by (stay stays.now) (slots_in size) (births_of size parts.now)) class_sizes) }
+    ensures beside { IfOk result (λ anchors. AreByClass (λ size. staying_by (stay stays.now) (slots_in size) (births_of size parts.now)) anchors.beside) }
 {
     let mut all = Anchors {
         pages: 0,
         anchored: 0,
         staying: 0,
+        beside: [0; CLASSES],
     };
     for number in 0..CLASSES {
         let class = class_at(number);
@@ -90,6 +102,7 @@ pub(crate) fn all_anchors(
         all.pages += more.pages;
         all.anchored += more.anchored;
         all.staying += more.staying;
+        all.beside[number] = more.staying as u64;
     }
     Ok(all)
 }

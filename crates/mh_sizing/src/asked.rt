@@ -7,11 +7,11 @@ ghost use Rattle.mh_model.specs.Classes.{Part};
 ghost use Rattle.mh_model.specs.Openings.{asked_parts, pages_of_parts};
 ghost use Rattle.mh_model.specs.World.{IsNew};
 ghost use Rattle.mh_sizing_laws.specs.SharpPages.{fewest_slots, occurring};
-ghost use Rattle.mh_sizing.specs.Demands.{demand_of};
+ghost use Rattle.mh_sizing.specs.Footprints.{footprint_of};
 ghost use Rattle.mh_sizing.specs.Runs.{most_of};
 
 use crate::classes::ClassCounts;
-use crate::demand::Demand;
+use crate::footprint::Footprint;
 use crate::kinds::Kinds;
 use mh_classes::parts::{Parts, parts};
 use mh_model::birth::LIFE;
@@ -40,7 +40,7 @@ pub(crate) struct Asked {
     running: ClassCounts,
     parts: u64,
     pages: u64,
-    demand: Demand,
+    footprint: Footprint,
 }
 
 impl Asked {
@@ -53,7 +53,7 @@ impl Asked {
             running: ClassCounts::new(),
             parts: 0,
             pages: 0,
-            demand: Demand::new(),
+            footprint: Footprint::new(),
         }
     }
 
@@ -82,7 +82,7 @@ impl Asked {
     {
         self.parts = self.parts.max(self.running.total());
         self.pages = self.pages.max(self.running.pages());
-        self.demand.add(&self.running);
+        self.footprint.add(&self.running);
         self.running.clear();
     }
 
@@ -101,12 +101,12 @@ impl Asked {
     }
 
     /// The pages that the run takes at most, or some number from 2^63 on if they are so many.
-    pub(crate) fn demand(&self) -> u64
-        ensures { (all running : List Part) (ended : List (List Part)) → HasAsked self.now all running ended → min result (2 ^ 63) ≡ min (demand_of (ended ++ running ∷ [])) (2 ^ 63) }
+    pub(crate) fn footprint(&self) -> u64
+        ensures { (all running : List Part) (ended : List (List Part)) → HasAsked self.now all running ended → min result (2 ^ 63) ≡ min (footprint_of (ended ++ running ∷ [])) (2 ^ 63) }
     {
-        let mut demand = self.demand;
-        demand.add(&self.running);
-        demand.pages()
+        let mut footprint = self.footprint;
+        footprint.add(&self.running);
+        footprint.pages()
     }
 
     /// The most units that a cycle spends on a page after marking.

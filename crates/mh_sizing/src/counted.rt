@@ -44,10 +44,13 @@ pub fn profile_of_counts(counts: &[ClassParts], live: u32, references: u32) -> P
     ensures value { result ≡ profile_of_counts counts.now live references }
     ensures kept { (config : Config) (events : List Event) → KeepToCounts counts.now live references config events → KeepToProfile result config events }
 {
+    let kinds = kinds_counted(counts);
     Profile {
         needs: needs_of(counts, live, references),
-        kinds: kinds_counted(counts),
-        demand: None,
+        kinds,
+        filled: u64::from(live / kinds.fewest_slots),
+        footprint: None,
+        startup: None,
     }
 }
 
@@ -76,9 +79,12 @@ pub fn profile_of_every(
         opened: pages_opened_at_most(asked, classes),
         page_units: page_units(classes),
     };
+    let kinds = kinds_of(classes);
     Profile {
         needs,
-        kinds: kinds_of(classes),
-        demand: None,
+        kinds,
+        filled: u64::from(live / kinds.fewest_slots),
+        footprint: None,
+        startup: None,
     }
 }

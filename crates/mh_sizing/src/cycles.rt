@@ -1,10 +1,11 @@
 //! How many quanta a cycle takes at most, in a run with room whose sessions need no more than some numbers.
 //!
-//! One bound is that of any cycle (`Config::most_quanta`). The other, here, is by what the cycles of such a run mark.
-//! Both hold, so the lesser may be taken. The second wants quanta of more units than may be spent on no cycle.
+//! One bound is that of any cycle (`Config::most_quanta`). The other is by what the cycles of such a run mark. Both hold,
+//! so the lesser may be taken. The second wants quanta of more units than may be spent on no cycle.
 ghost use Rattle.std.specs.Prelude.{◌≡◌, ◌+◌, ◌*◌, ◌^◌, ◌<◌, ◌≤◌};
 ghost use Rattle.mh_model.specs.Needs.{quanta_needed, units_needed};
 ghost use Rattle.mh_model.specs.Limits.{quantum_overhead};
+ghost use Rattle.mh_sizing.specs.Cycles.{cycle_quanta, cycle_units};
 
 use mh_model::config::Config;
 use mh_model::limits::{QUANTUM_OVERHEAD, ROOT_SLOTS};
@@ -27,4 +28,24 @@ pub fn quanta_needed(config: &Config, needs: &Needs) -> u64
     ensures { result ≡ quanta_needed needs.now config.now }
 {
     units_needed(config.pages, needs) / u64::from(config.quantum - QUANTUM_OVERHEAD) + 1
+}
+
+/// What a cycle spends at most, without the charge for slots.
+pub fn cycle_units(config: &Config, needs: &Needs) -> u64
+    ensures { result ≡ cycle_units needs.now config.now }
+{
+    let units = config.most_units();
+    units.min(units_needed(config.pages, needs))
+}
+
+/// How many quanta a cycle takes at most.
+pub fn cycle_quanta(config: &Config, needs: &Needs) -> u64
+    ensures value { result ≡ cycle_quanta needs.now config.now }
+    ensures some { 1 ≤ result }
+{
+    let most = config.most_quanta();
+    if config.quantum <= QUANTUM_OVERHEAD {
+        return most;
+    }
+    most.min(quanta_needed(config, needs))
 }

@@ -5,23 +5,27 @@
 //! need. The number is found from which on all are enough.
 ghost use Rattle.std.specs.Prelude.{◌≡◌, ◌+◌, ◌^◌, ◌≤◌, ◌<◌, ℕ, IfSome, MatchOption};
 ghost use Rattle.mh_model.specs.Limits.{least_quantum};
-ghost use Rattle.mh_sizing.specs.Found.{HasNo, IsChosen, IsEnoughHeap, IsFewest, IsLeast, IsSearched, IsSoFrom, IsTriggered, PagesAreEnough, law_of, trigger_by};
+ghost use Rattle.mh_sizing.specs.Found.{HasNo, IsChosen, IsEnoughHeap, IsFewest, IsLeast, IsSearched, IsSoFrom, IsTriggered, PagesAreEnough, law_of, trigger_after, trigger_by};
 
-use crate::enough::{cycle_quanta, meets_demand, pages_needed, pages_suffice};
+use crate::cycles::cycle_quanta;
+use crate::enough::{meets_footprint, pages_needed, pages_suffice};
 use crate::needs::{enough_pages, enough_trigger};
 use crate::profile::Profile;
+use crate::shared::enough_shared_pages;
 use mh_model::config::Config;
 use mh_model::limits::MOST_PAGES;
 
 /// The law by which a heap is enough.
 #[derive(Clone, Copy, Debug, PartialEq, Eq)]
 pub enum Law {
-    /// Its pages are as many as the demand, by class.
-    Demand,
+    /// Its pages are as many as the footprint, by class.
+    Footprint,
     /// Each new part may keep a page.
     Easy,
     /// Small new parts share pages.
     Sharp,
+    /// What a startup made stays, and the rest needs pages beside it.
+    Started,
 }
 
 /// A heap that is enough.
@@ -53,17 +57,20 @@ pub(crate) fn with_pages(config: &Config, pages: u32, trigger: u32) -> Config
 }
 
 /// The next number of pages to try after one: what cycles in a heap of that need, if it is more. Those between are fewer than
-/// their own cycles need, which take no fewer quanta.
+/// their own cycles need, which take no fewer quanta. After a startup each is tried.
 fn pages_to_try(pages: u32, config: &Config, profile: &Profile) -> u32
     requires { (1 ≤ pages) × (pages ≤ 4096) }
     ensures later { pages < result }
     ensures between { (number : ℕ) → pages < number → number < result → PagesAreEnough profile.now config.now.quantum number → ⊥ }
     ensures few { result < 2 ^ 32 }
 {
+    if profile.startup.is_some() {
+        return pages + 1;
+    }
     let quanta = cycle_quanta(&with_pages(config, pages, pages), &profile.needs);
     let needed = pages_needed(profile, quanta).min(u128::from(MOST_PAGES) + 1) as u32;
-    let least = match profile.demand {
-        Some(demand) => demand.min(needed),
+    let least = match profile.footprint {
+        Some(footprint) => footprint.min(needed),
         None => needed,
     };
     least.max(pages + 1)
@@ -113,14 +120,27 @@ fn enough_from(config: &Config, profile: &Profile) -> Option<u32>
 fn law_of(config: &Config, profile: &Profile) -> Law
     ensures { result ≡ law_of profile.now config.now }
 {
-    if meets_demand(profile, config.pages) {
-        return Law::Demand;
+    if meets_footprint(profile, config.pages) {
+        return Law::Footprint;
     }
     let quanta = cycle_quanta(config, &profile.needs);
-    if enough_pages(&profile.needs, quanta) <= u128::from(config.pages) {
+    let pages = u128::from(config.pages);
+    if enough_pages(&profile.needs, quanta) <= pages {
         Law::Easy
-    } else {
+    } else if enough_shared_pages(&profile.needs, profile.filled, &profile.kinds, quanta) <= pages {
         Law::Sharp
+    } else {
+        Law::Started
+    }
+}
+
+/// The trigger that is enough after the startup, if one is known.
+fn trigger_after(config: &Config, profile: &Profile) -> u128
+    ensures { result ≡ trigger_after profile.now.startup config.now }
+{
+    match profile.startup {
+        Some(startup) => enough_trigger(&startup.needs, cycle_quanta(config, &startup.needs)),
+        None => 0,
     }
 }
 
@@ -129,13 +149,14 @@ fn trigger_by(law: Law, config: &Config, profile: &Profile) -> u32
     ensures value { trigger_by law profile.now config.now ≤ config.now.pages → result ≡ trigger_by law profile.now config.now }
     ensures within { result ≤ config.now.pages }
 {
-    let quanta = cycle_quanta(config, &profile.needs);
-    match law {
-        Law::Demand => 0,
+    let trigger = match law {
+        Law::Footprint => 0,
         Law::Easy | Law::Sharp => {
-            enough_trigger(&profile.needs, quanta).min(u128::from(config.pages)) as u32
+            enough_trigger(&profile.needs, cycle_quanta(config, &profile.needs))
         }
-    }
+        Law::Started => trigger_after(config, profile),
+    };
+    trigger.min(u128::from(config.pages)) as u32
 }
 
 /// The configuration with the trigger that goes with its law, if its pages are enough.

@@ -1,5 +1,5 @@
-//! How many classes the parts of a run are of, and how few slots a page of them has. The sharp law of pages asks for no
-//! more of the classes than these two numbers.
+//! How many classes the parts of a run are of, and how few slots a page of them has. The sharp law of pages asks for the
+//! first number alone. By the second, live parts fill few pages.
 ghost use Rattle.std.specs.Prelude.{◌≡◌, ◌≤◌, List, length};
 ghost use Rattle.mh_model.specs.declared.command.Event.{Event};
 ghost use Rattle.mh_model.specs.declared.config.Config.{Config};

@@ -6,9 +6,13 @@
 ghost use Rattle.mh_sizing.specs.Sized.{SizedHeapsHaveEnough, SizedRunsAreNeverFull, SharedRunsAreNeverFull, SufficientHeapsAreNeverFull};
 
 use mh_sizing_laws::needs::{
-    enough_for_needs_suffices, needs_are_of_the_scheduler, pages_for_demand_suffice,
+    enough_for_needs_suffices, needs_are_of_the_scheduler, pages_for_footprint_suffice,
 };
 use mh_sizing_laws::sharp_needs::sharp_enough_for_needs_suffices;
+use mh_sizing_laws::started::{
+    enough_after_startup_suffices, sharp_enough_after_startup_suffices,
+    started_needs_are_of_the_scheduler,
+};
 
 /// A configuration with enough pages, and with a trigger that is enough or more, has enough for what its sessions need.
 pub fn sized_heaps_have_enough()
@@ -35,6 +39,9 @@ pub fn sufficient_heaps_are_never_full()
 {
     enough_for_needs_suffices();
     sharp_enough_for_needs_suffices();
-    pages_for_demand_suffice();
+    pages_for_footprint_suffice();
+    enough_after_startup_suffices();
+    sharp_enough_after_startup_suffices();
     needs_are_of_the_scheduler();
+    started_needs_are_of_the_scheduler();
 }

@@ -5,9 +5,9 @@
 //!
 //! Two numbers of pages are enough for cycles: that of the law by which each new part may keep a page (`needs`), and
 //! that of the law by which small new parts share pages (`shared`). The lesser of them is enough, and neither is always
-//! the lesser. So are pages for the demand of a run, by class, whatever its cycles. `enough` says whether a
+//! the lesser. So are pages for the footprint of a run, by class, whatever its cycles. `enough` says whether a
 //! configuration is enough by any of these. `found` searches for the fewest pages, and `quantum` for the least quantum.
-//! `after` does the same of runs whose startup stays, and `startup` reads what it leaves off their events. The laws of
+//! `after` says so of runs whose startup stays, and `startup` reads what that leaves off their events. The laws of
 //! this crate say of such numbers what those of `mh_sizing_laws` say of any.
 #![tactic(auto)]
 
@@ -23,8 +23,8 @@ pub mod counted;
 mod counts;
 mod cuts;
 pub mod cycles;
-mod demand;
 pub mod enough;
+mod footprint;
 pub mod found;
 pub mod kinds;
 pub mod laws;
@@ -39,7 +39,7 @@ pub mod rate;
 pub mod rates;
 mod reach;
 pub mod shared;
-pub mod startup;
+mod startup;
 mod stays;
 pub mod targets;
 pub mod walk;

@@ -5,23 +5,27 @@
 //! A heap that keeps all objects has the references of those that aren't reached any more as they last were. So what
 //! was held before a cut is what was held after it, with all that the cut name leads to. Objects that were made later
 //! count no longer. Each object is found once, and each reference is looked at once.
-ghost use Rattle.std.specs.Prelude.{◌≡◌, ◌+◌, ◌<◌, ◌≤◌, ◌^◌, if◌then◌else◌, min, max, ℕ, List, [], ◌∷◌, IfOk, length};
+ghost use Rattle.std.specs.Prelude.{◌≡◌, ◌+◌, ◌-◌, ◌<◌, ◌≤◌, ◌^◌, if◌then◌else◌, min, max, ℕ, List, [], ◌∷◌, IfOk, get_or, length};
 ghost use Rattle.std.specs.List.{All};
 ghost use Rattle.mh_model.specs.Batches.{NoneTwice};
 ghost use Rattle.mh_model.specs.CycleUnits.{object_units};
 ghost use Rattle.mh_model.specs.LiveParts.{object_parts};
 ghost use Rattle.mh_model.specs.World.{births, object_at};
 ghost use Rattle.mh_shadow.specs.ShadowHeap.{world_of};
+ghost use Rattle.mh_sizing_laws.specs.Filled.{object_class_parts, pages_filled};
 ghost use Rattle.mh_sizing.specs.declared.cuts.Cut.{Cut};
 ghost use Rattle.mh_sizing.specs.Births.{with_birth};
+ghost use Rattle.mh_sizing.specs.ByClass.{AreByClass};
 ghost use Rattle.mh_sizing.specs.Cuts.{IsCutIn};
 ghost use Rattle.mh_sizing.specs.Moments.{HasMostFrom, IsCounted, IsMoment};
-ghost use Rattle.mh_sizing.specs.Reached.{AreAtMost, IsSearch};
+ghost use Rattle.mh_sizing.specs.Reached.{AreAtMost, IsSearch, pages_beside, sum_of};
 
 use crate::births::BirthSet;
-use crate::counts::{Counts, count_object};
+use crate::classes::ClassCounts;
+use crate::counts::{Counts, HeldClasses, count_classes, count_object};
 use crate::cuts::Cut;
 use crate::reach::{insert_all, insert_roots};
+use mh_classes::class::CLASSES;
 use mh_model::birth::Birth;
 use mh_model::memory::NoMemory;
 use mh_shadow::shadow::ShadowHeap;
@@ -40,7 +44,42 @@ fn count_if(heap: &ShadowHeap, birth: Birth, is_counted: bool) -> Counts
     }
 }
 
-/// What was held at a moment, and the most that was from it on.
+/// How many parts of each class an object has that is to be counted, and otherwise none.
+fn classes_if(heap: &ShadowHeap, birth: Birth, is_counted: bool) -> ClassCounts
+    requires { birth < births (world_of heap.now) }
+    ensures { AreByClass (λ size. if is_counted then object_class_parts size (object_at (world_of heap.now) birth) else 0) result.counts }
+{
+    if is_counted {
+        count_classes(heap.shape_of(birth))
+    } else {
+        ClassCounts::new()
+    }
+}
+
+/// How much is held at once: parts, units of marking these, and the pages that they fill, each class by itself.
+#[derive(Clone, Copy)]
+pub(crate) struct Amounts {
+    pub(crate) parts: u64,
+    pub(crate) units: u64,
+    pub(crate) filled: u64,
+}
+
+impl Amounts {
+    /// The greater of each.
+    fn max(self, other: Amounts) -> Amounts
+        ensures parts { result.parts ≡ max self.parts other.parts }
+        ensures units { result.units ≡ max self.units other.units }
+        ensures filled { result.filled ≡ max self.filled other.filled }
+    {
+        Amounts {
+            parts: self.parts.max(other.parts),
+            units: self.units.max(other.units),
+            filled: self.filled.max(other.filled),
+        }
+    }
+}
+
+/// What was held at a moment.
 #[derive(Drop)]
 struct Moment {
     set: BirthSet,
@@ -49,7 +88,7 @@ struct Moment {
     /// How many objects had been made.
     births: u64,
     held: Counts,
-    most: Counts,
+    classes: HeldClasses,
 }
 
 impl Moment {
@@ -63,13 +102,14 @@ impl Moment {
         ensures all { self.new.looked ≡ length self.new.set.births }
         ensures once { NoneTwice self.new.set.births }
         ensures births { self.new.births ≡ self.old.births }
-        ensures most { self.new.most ≡ self.old.most }
     {
         while self.looked < self.set.len() {
             let birth = self.set.get(self.looked);
-            let object = count_if(heap, birth, birth.0 < self.births);
+            let is_counted = birth.0 < self.births;
+            let object = count_if(heap, birth, is_counted);
             self.held.parts += object.parts;
             self.held.units += object.units;
+            self.classes.add(&classes_if(heap, birth, is_counted));
             insert_all(&mut self.set, heap, birth);
             self.looked += 1;
         }
@@ -82,20 +122,17 @@ impl Moment {
         ensures counted { IfOk result (IsCounted (world_of heap.now)) }
         ensures moment { IfOk result (IsMoment (world_of heap.now) []) }
         ensures once { IfOk result (λ moment. NoneTwice moment.set.births) }
-        ensures most { IfOk result (λ moment. moment.most ≡ moment.held) }
     {
         let mut set = BirthSet::with_room(alloc, heap.births() as usize)?;
         insert_roots(&mut set, heap);
-        let nothing = Counts { parts: 0, units: 0 };
         let mut moment = Moment {
             set,
             looked: 0,
             births: heap.births(),
-            held: nothing,
-            most: nothing,
+            held: Counts { parts: 0, units: 0 },
+            classes: HeldClasses::new(),
         };
         moment.look_through(heap);
-        moment.most = moment.held;
         Ok(moment)
     }
 
@@ -108,14 +145,15 @@ impl Moment {
         ensures births { self.new.births ≡ min births self.old.births }
         ensures set { self.new.set ≡ self.old.set }
         ensures looked { self.new.looked ≡ self.old.looked }
-        ensures most { self.new.most ≡ self.old.most }
     {
         while self.births > births {
             self.births -= 1;
             let birth = Birth(self.births);
-            let object = count_if(heap, birth, self.set.contains(birth));
+            let is_counted = self.set.contains(birth);
+            let object = count_if(heap, birth, is_counted);
             self.held.parts -= object.parts;
             self.held.units -= object.units;
+            self.classes.subtract(&classes_if(heap, birth, is_counted));
         }
     }
 
@@ -130,30 +168,48 @@ impl Moment {
         ensures counted { IsCounted (world_of heap.now) self.new }
         ensures moment { (cuts : List Cut) → IsMoment (world_of heap.now) cuts self.old → IsMoment (world_of heap.now) (cut ∷ cuts) self.new }
         ensures once { NoneTwice self.new.set.births }
-        ensures parts { self.new.most.parts ≡ max self.old.most.parts self.new.held.parts }
-        ensures units { self.new.most.units ≡ max self.old.most.units self.new.held.units }
     {
         self.go_back(heap, cut.births);
         self.set.insert(cut.birth);
         self.look_through(heap);
-        self.most.parts = self.most.parts.max(self.held.parts);
-        self.most.units = self.most.units.max(self.held.units);
+    }
+
+    /// How much is held, beside so many parts of each class.
+    fn amounts(&self, beside: &[u64; CLASSES]) -> Amounts
+        requires { (number : ℕ) → number < 20 → get_or self.now.classes.counts number 0 ≤ 2 ^ 63 }
+        ensures parts { result.parts ≡ self.now.held.parts }
+        ensures units { result.units ≡ self.now.held.units }
+        ensures filled { (held others : ℕ → ℕ) → AreByClass held self.now.classes.counts → AreByClass others beside.now → result.filled ≡ pages_filled (λ size. held size - others size) }
+    {
+        Amounts {
+            parts: self.held.parts,
+            units: self.held.units,
+            filled: self.classes.pages_beside(beside),
+        }
     }
 }
 
-/// The most that was held at a moment of a log.
-pub(crate) fn most_held(alloc: Global, heap: &ShadowHeap, cuts: &[Cut]) -> Result<Counts, NoMemory>
+/// The most that was held at a moment of a log, and the most pages that it filled beside so many parts of each class.
+pub(crate) fn most_held(
+    alloc: Global,
+    heap: &ShadowHeap,
+    cuts: &[Cut],
+    beside: &[u64; CLASSES],
+) -> Result<Amounts, NoMemory>
     requires few_parts { AreAtMost object_parts (2 ^ 63) (world_of heap.now) }
     requires few_units { AreAtMost object_units (2 ^ 63) (world_of heap.now) }
     requires cuts { All (IsCutIn (world_of heap.now)) cuts.now }
-    ensures parts { IfOk result (λ most. HasMostFrom object_parts most.parts (world_of heap.now) cuts.now 0) }
-    ensures units { IfOk result (λ most. HasMostFrom object_units most.units (world_of heap.now) cuts.now 0) }
+    ensures parts { IfOk result (λ most. HasMostFrom (sum_of object_parts) most.parts (world_of heap.now) cuts.now 0) }
+    ensures units { IfOk result (λ most. HasMostFrom (sum_of object_units) most.units (world_of heap.now) cuts.now 0) }
+    ensures filled { IfOk result (λ most. (others : ℕ → ℕ) → AreByClass others beside.now → HasMostFrom (pages_beside others) most.filled (world_of heap.now) cuts.now 0) }
 {
     let mut moment = Moment::last(alloc, heap)?;
+    let mut most = moment.amounts(beside);
     for index in (0..cuts.len()).rev() {
         moment.undo(heap, cuts[index]);
+        most = most.max(moment.amounts(beside));
     }
-    Ok(moment.most)
+    Ok(most)
 }
 
 /// What is held at the last moment of a log.

@@ -1,16 +1,12 @@
 //! What a startup leaves to the rest of a run, read off the events. Two walks go through these: one through all of them, of
 //! which the last world says what stays; and one that begins anew where the startup ends.
-ghost use Rattle.std.specs.Prelude.{◌≡◌, ◌-◌, ◌++◌, ◌∷◌, [], false, ℕ, List, OnOk, OnErr, IfOk, IfSome, unwrap_or, take, length};
-ghost use Rattle.std.specs.List.{AllByRecursion};
+ghost use Rattle.std.specs.Prelude.{◌≡◌, ◌++◌, ◌∷◌, ◌^◌, ◌≤◌, [], true, false, List, OnOk, IfOk, MatchOption, unwrap_or};
 ghost use Rattle.mh_model.specs.declared.command.Event.{Event};
-ghost use Rattle.mh_model.specs.Needs.{WorldRun, first_run};
+ghost use Rattle.mh_model.specs.Needs.{WorldRun};
 ghost use Rattle.mh_model.specs.Openings.{asked_parts};
-ghost use Rattle.mh_sizing_laws.specs.Made.{MakeOfClasses};
-ghost use Rattle.mh_sizing_laws.specs.Startup.{asks_for_cycle, births_made};
-ghost use Rattle.mh_sizing.specs.declared.kinds.Kinds.{Kinds};
-ghost use Rattle.mh_sizing.specs.After.{KeepAfter};
-ghost use Rattle.mh_sizing.specs.Later.{IsOf};
-ghost use Rattle.mh_sizing.specs.PartBirths.{AreBorn, births_of};
+ghost use Rattle.mh_sizing.specs.Later.{AskForNone, IsStartupOfFirst, IsTooLargeAfter, startup_with};
+ghost use Rattle.mh_sizing.specs.Needed.{AreTheNeeds};
+ghost use Rattle.mh_sizing.specs.PartBirths.{AreBorn};
 ghost use Rattle.mh_sizing.specs.Walk.{HasWalked, HasWalkedFrom};
 
 use crate::after::Startup;
@@ -85,7 +81,8 @@ fn walk_on(walk: &mut Walk, events: &[Event]) -> Result<(), NoMemory>
 
 /// Whether one of these events asks for a cycle.
 fn ask_for_cycle(events: &[Event]) -> bool
-    ensures { result ≡ false → AllByRecursion (λ event. asks_for_cycle event ≡ false) events.now }
+    ensures none { result ≡ false → AskForNone events.now }
+    ensures some { result ≡ true → AskForNone events.now → ⊥ }
 {
     for event in events {
         if matches!(event, Event::Control(Control::Start)) {
@@ -95,46 +92,55 @@ fn ask_for_cycle(events: &[Event]) -> bool
     false
 }
 
+/// The same number in 32 bits, if it has no more.
+fn narrowed(number: u128) -> Option<u32>
+    ensures { MatchOption result (2 ^ 32 ≤ number) (λ same. same ≡ number) }
+{
+    u32::try_from(number).ok()
+}
+
 /// The numbers of a startup. None if one has more than 32 bits.
 fn startup_with(needs: &Needs, anchors: Anchors, later: Later) -> Option<Startup>
-    ensures { IfSome result (λ startup. IsOf startup needs.now anchors later) }
+    ensures { MatchOption result (IsTooLargeAfter (startup_with needs.now anchors later)) (λ startup. startup ≡ startup_with needs.now anchors later) }
 {
-    let live = u128::from(later.live).saturating_sub(anchors.staying);
-    let needs = Needs {
-        live: u32::try_from(live).ok()?,
-        marking_units: needs.marking_units,
-        asked: u32::try_from(later.asked).ok()?,
-        opened: u32::try_from(later.opened).ok()?,
-        page_units: needs.page_units,
-    };
+    let pages = narrowed(anchors.pages)?;
+    let anchored = narrowed(anchors.anchored)?;
+    let live = narrowed(u128::from(later.live).saturating_sub(anchors.staying))?;
+    let asked = narrowed(u128::from(later.asked))?;
+    let opened = narrowed(u128::from(later.opened))?;
     Some(Startup {
-        pages: u32::try_from(anchors.pages).ok()?,
-        anchored: u32::try_from(anchors.anchored).ok()?,
-        needs,
+        pages,
+        anchored,
+        needs: Needs {
+            live,
+            marking_units: needs.marking_units,
+            asked,
+            opened,
+            page_units: needs.page_units,
+        },
+        filled: later.filled,
     })
 }
 
-/// What the first `first` events of a run leave to the rest. The objects that stay are those that the run's last world
-/// reaches. None if one of the first events asks for a cycle, or if a number has more than 32 bits.
-///
-/// The clause says that the numbers are enough. None says that they are the least, or when there are none.
-pub fn startup_of(
+/// The startup that the first `first` events of a run are, if they are one, of which all events are walked. The objects that
+/// stay are those that the run's last world reaches. None if one of the first events asks for a cycle, or if a number has more
+/// than 32 bits.
+pub(crate) fn startup_of(
     alloc: Global,
     config: Config,
     events: &[Event],
     first: usize,
+    whole: &Walk,
+    needs: &Needs,
 ) -> Result<Option<Startup>, NoMemory>
-    ensures kept { IfOk result (λ found. IfSome found (λ startup. (kinds : Kinds) → MakeOfClasses kinds.fewest_slots kinds.kinds config events.now → KeepAfter startup kinds config events.now)) }
+    requires walked { HasWalked whole.now config events.now }
+    requires needs { AreTheNeeds needs.now config events.now }
+    ensures { IfOk result (IsStartupOfFirst first config events.now) }
 {
     let first = first.min(events.len());
     if ask_for_cycle(&events[..first]) {
         return Ok(None);
     }
-    let mut whole = Walk::open(alloc, config);
-    walk_on(&mut whole, events)?;
-    let Some(needs) = whole.needs()? else {
-        return Ok(None);
-    };
     let set = whole.reached()?;
     let mut walk = Walk::open(alloc, config);
     let parts = walk_start(&mut walk, alloc, config, &events[..first])?;
@@ -145,6 +151,6 @@ pub fn startup_of(
     let anchors = all_anchors(alloc, &stays, &parts)?;
     walk.begin_anew();
     walk_on(&mut walk, &events[first..])?;
-    let later = walk.later()?;
-    Ok(startup_with(&needs, anchors, later))
+    let later = walk.later(&anchors.beside)?;
+    Ok(startup_with(needs, anchors, later))
 }

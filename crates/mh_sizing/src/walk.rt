@@ -4,12 +4,12 @@
 //! It finds the most live parts at a time, and the most that marking them costs. Of an interval it finds the most parts
 //! that it makes, and the most pages that these open. By the classes that occur it finds what a page costs a cycle.
 //! None are given exactly if a number has more than 32 bits: no heap of 4,096 pages is enough for such needs.
-//! `Walk::kinds` says how many classes occur, and the fewest slots of their pages, and `Walk::demand` how many pages
+//! `Walk::kinds` says how many classes occur, and the fewest slots of their pages, and `Walk::footprint` how many pages
 //! they take at most, all together.
 //!
 //! A command that the world refuses makes nothing, and counts nothing. Only a command may be refused memory, since the
 //! walk logs what it overwrites. A walk that is refused memory is as it was, but for names in its log that do no harm.
-ghost use Rattle.std.specs.Prelude.{◌≡◌, ◌+◌, ◌≤◌, ℕ, true, [], ◌∷◌, ◌++◌, not, ◌&&◌, ◌==◌, List, ◌^◌, IfOk, IfSome, IsNone, MatchOption, OnErr, OnOk, length};
+ghost use Rattle.std.specs.Prelude.{◌≡◌, ◌+◌, ◌≤◌, ℕ, true, [], ◌∷◌, ◌++◌, ◌↔◌, not, ◌&&◌, ◌==◌, List, ◌^◌, IfOk, IfSome, IsNone, MatchOption, OnErr, OnOk, length};
 ghost use Rattle.mh_model.specs.declared.command.Event.{Event};
 ghost use Rattle.mh_model.specs.declared.command.Event.TheVariants as events;
 ghost use Rattle.mh_model.specs.declared.config.Config.{Config};
@@ -17,18 +17,20 @@ ghost use Rattle.mh_model.specs.declared.needs.Needs.{Needs};
 ghost use Rattle.mh_model.specs.Needs.{WorldRun, first_run, run_worlds, runs_quantum};
 ghost use Rattle.mh_model.specs.Paths.{Reachable};
 ghost use Rattle.mh_model.specs.World.{births};
-ghost use Rattle.mh_sizing_laws.specs.Made.{MakeNoMore, MakeOfClasses, demand, parts_made, run_after};
+ghost use Rattle.mh_sizing_laws.specs.Made.{MakeNoMore, MakeOfClasses, footprint, parts_made, run_after};
 ghost use Rattle.mh_sizing_laws.specs.SharpPages.{fewest_slots, occurring};
 ghost use Rattle.mh_sizing.specs.Births.{is_among};
+ghost use Rattle.mh_sizing.specs.ByClass.{AreByClass};
 ghost use Rattle.mh_sizing.specs.Needed.{AreTheNeeds, IsCommand, IsTooLarge};
 ghost use Rattle.mh_sizing.specs.Units.{units_made};
 ghost use Rattle.mh_sizing.specs.Worlds.{AreMostOf};
 
 use crate::asked::{Asked, parts_asked};
 use crate::births::BirthSet;
-use crate::counts::Counts;
 use crate::kinds::Kinds;
+use crate::moments::Amounts;
 use crate::world::RunWorld;
+use mh_classes::class::CLASSES;
 use mh_model::command::{Command, Control, Event};
 use mh_model::config::{Config, Rules};
 use mh_model::memory::NoMemory;
@@ -70,6 +72,8 @@ pub(crate) struct Later {
     pub(crate) asked: u64,
     /// Pages that these open.
     pub(crate) opened: u64,
+    /// Pages that the live parts fill, each class by itself, beside so many parts of each class.
+    pub(crate) filled: u64,
 }
 
 /// The events of a run so far, as far as they bear on what its sessions need. It keeps the shape of every
@@ -85,7 +89,7 @@ pub struct Walk {
 }
 
 impl Walk {
-    ghost use Rattle.mh_sizing.specs.Later.{HoldNoMore};
+    ghost use Rattle.mh_sizing.specs.Later.{IsLater};
     ghost use Rattle.mh_sizing.specs.Walk.{HasWalked, HasWalkedFrom};
 
     /// The walk of no events, which takes no memory.
@@ -160,7 +164,7 @@ impl Walk {
 
     /// What the world after these events reaches.
     pub(crate) fn reached(&self) -> Result<BirthSet, NoMemory>
-        ensures reached { IfOk result (λ set. (config : Config) (from : WorldRun) (events : List Event) → HasWalkedFrom self.now config from events → (birth : ℕ) → is_among set.births birth ≡ true → Reachable (run_after from events).world birth) }
+        ensures reached { IfOk result (λ set. (config : Config) (from : WorldRun) (events : List Event) → HasWalkedFrom self.now config from events → (birth : ℕ) → (is_among set.births birth ≡ true) ↔ Reachable (run_after from events).world birth) }
         ensures room { IfOk result (λ set. (config : Config) (from : WorldRun) (events : List Event) → HasWalkedFrom self.now config from events → set.room ≡ births (run_after from events).world) }
     {
         self.world.reached()
@@ -174,22 +178,30 @@ impl Walk {
         self.asked = Asked::new();
     }
 
-    /// What the sessions of the events so far hold and make at most.
-    pub(crate) fn later(&self) -> Result<Later, NoMemory>
-        ensures { IfOk result (λ later. (config : Config) (from : WorldRun) (events : List Event) → HasWalkedFrom self.now config from events → HoldNoMore later from events) }
+    /// The most that the sessions of the events so far hold and make. Live parts fill pages beside so many of each class.
+    pub(crate) fn later(&self, beside: &[u64; CLASSES]) -> Result<Later, NoMemory>
+        ensures { IfOk result (λ later. (others : ℕ → ℕ) (config : Config) (from : WorldRun) (events : List Event) → AreByClass others beside.now → HasWalkedFrom self.now config from events → IsLater later others from events) }
     {
-        let most = self.world.most()?;
+        let most = self.world.most(beside)?;
         Ok(Later {
             live: most.parts,
             asked: self.asked.parts(),
             opened: self.asked.pages(),
+            filled: most.filled,
         })
     }
 
+    /// The most that the worlds of the events so far reach, and the most pages that this fills.
+    pub(crate) fn most(&self) -> Result<Amounts, NoMemory>
+        ensures { IfOk result (λ most. (config : Config) (events : List Event) → HasWalked self.now config events → AreMostOf (λ size. 0) most (run_worlds (first_run config) events)) }
+    {
+        self.world.most(&[0; CLASSES])
+    }
+
     /// What the sessions of the events so far need, if so much is reached at most. None if a number has more than 32 bits.
-    fn needs_with(&self, most: Counts) -> Option<Needs>
-        ensures needs { (config : Config) (events : List Event) → HasWalked self.now config events → AreMostOf most (run_worlds (first_run config) events) → IfSome result (λ needs. AreTheNeeds needs config events) }
-        ensures none { (config : Config) (events : List Event) → HasWalked self.now config events → AreMostOf most (run_worlds (first_run config) events) → IsNone result → (needs : Needs) → MakeNoMore needs config events → IsTooLarge needs }
+    pub(crate) fn needs_with(&self, most: Amounts) -> Option<Needs>
+        ensures needs { (config : Config) (events : List Event) → HasWalked self.now config events → AreMostOf (λ size. 0) most (run_worlds (first_run config) events) → IfSome result (λ needs. AreTheNeeds needs config events) }
+        ensures none { (config : Config) (events : List Event) → HasWalked self.now config events → AreMostOf (λ size. 0) most (run_worlds (first_run config) events) → IsNone result → (needs : Needs) → MakeNoMore needs config events → IsTooLarge needs }
     {
         let live = in_32_bits(most.parts)?;
         let marked = in_32_bits(most.units)?;
@@ -209,15 +221,15 @@ impl Walk {
         ensures needs { (config : Config) (events : List Event) → HasWalked self.now config events → IfOk result (λ found. IfSome found (λ needs. AreTheNeeds needs config events)) }
         ensures none { (config : Config) (events : List Event) → HasWalked self.now config events → IfOk result (λ found. IsNone found → (needs : Needs) → MakeNoMore needs config events → IsTooLarge needs) }
     {
-        let most = self.world.most()?;
+        let most = self.most()?;
         Ok(self.needs_with(most))
     }
 
     /// The pages that the classes of the events so far take at most, all together. None if they are 2^32 or more.
-    pub fn demand(&self) -> Option<u32>
-        ensures { (config : Config) (events : List Event) → HasWalked self.now config events → MatchOption result (2 ^ 32 ≤ demand config events) (λ pages. pages ≡ demand config events) }
+    pub fn footprint(&self) -> Option<u32>
+        ensures { (config : Config) (events : List Event) → HasWalked self.now config events → MatchOption result (2 ^ 32 ≤ footprint config events) (λ pages. pages ≡ footprint config events) }
     {
-        in_32_bits(self.asked.demand())
+        in_32_bits(self.asked.footprint())
     }
 
     /// The classes of all parts that the events so far make.

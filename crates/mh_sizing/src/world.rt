@@ -1,19 +1,21 @@
 //! The ever-growing world of a run, as an outline of it, and the most that its worlds have reached. The names that
 //! commands overwrite are logged as it goes on, and the most is found from the last world back.
-ghost use Rattle.std.specs.Prelude.{◌≡◌, ◌≤◌, ℕ, true, IsTrue, OnOk, OnErr, IfOk, List, [], ◌∷◌, ◌++◌};
+ghost use Rattle.std.specs.Prelude.{◌↔◌, ◌≡◌, ◌≤◌, ℕ, true, IsTrue, OnOk, OnErr, IfOk, List, [], ◌∷◌, ◌++◌};
 ghost use Rattle.mh_model.specs.Paths.{Reachable};
 ghost use Rattle.mh_model.specs.World.{World, births, first_world, world_step};
 ghost use Rattle.mh_shadow.specs.Outline.{Outlines};
 ghost use Rattle.mh_shadow.specs.OutlineSteps.{Follows};
 ghost use Rattle.mh_shadow.specs.ShadowHeap.{outline_of, world_of};
 ghost use Rattle.mh_sizing.specs.Births.{is_among};
+ghost use Rattle.mh_sizing.specs.ByClass.{AreByClass};
 ghost use Rattle.mh_sizing.specs.Cuts.{cuts_of, overwritten, HasLogged};
 ghost use Rattle.mh_sizing.specs.Within.{HasRoomToMake, IsWithin};
 
 use crate::births::BirthSet;
 use crate::counts::{Counts, count_object};
 use crate::cuts::{Cut, log_overwritten};
-use crate::moments::{held_last, most_held};
+use crate::moments::{Amounts, held_last, most_held};
+use mh_classes::class::CLASSES;
 use mh_model::birth::LIFE;
 use mh_model::command::Command;
 use mh_model::config::Config;
@@ -65,10 +67,11 @@ impl RunWorld {
     }
 
     /// The most parts that a world of the run has reached, and the most units that marking what it reached has cost.
-    pub(crate) fn most(&self) -> Result<Counts, NoMemory>
-        ensures { IfOk result (λ most. (worlds : List World) (last : World) → HasLogOf self.now worlds last → AreMostOf most worlds) }
+    /// Also the most pages that it has filled, each class by itself, beside so many parts of each class.
+    pub(crate) fn most(&self, beside: &[u64; CLASSES]) -> Result<Amounts, NoMemory>
+        ensures { IfOk result (λ most. (others : ℕ → ℕ) (worlds : List World) (last : World) → AreByClass others beside.now → HasLogOf self.now worlds last → AreMostOf others most worlds) }
     {
-        most_held(self.alloc, &self.heap, &self.cuts)
+        most_held(self.alloc, &self.heap, &self.cuts, beside)
     }
 
     /// How many objects were made.
@@ -80,7 +83,7 @@ impl RunWorld {
 
     /// What the last world reaches.
     pub(crate) fn reached(&self) -> Result<BirthSet, NoMemory>
-        ensures reached { IfOk result (λ set. (worlds : List World) (last : World) → HasLogOf self.now worlds last → (birth : ℕ) → is_among set.births birth ≡ true → Reachable last birth) }
+        ensures reached { IfOk result (λ set. (worlds : List World) (last : World) → HasLogOf self.now worlds last → (birth : ℕ) → (is_among set.births birth ≡ true) ↔ Reachable last birth) }
         ensures room { IfOk result (λ set. (worlds : List World) (last : World) → HasLogOf self.now worlds last → set.room ≡ births last) }
     {
         held_last(self.alloc, &self.heap)

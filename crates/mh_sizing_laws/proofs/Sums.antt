@@ -1,7 +1,7 @@
 -- Sums of the values of a function below a number, and over lists; and the numbers whose values aren't 0.
-use Rattle.std.proofs.Common.{◌≡◌, inl, inr, ℕ, zero, suc, ◌+◌, ◌==◌, ◌<◌, ◌≤◌, nat_lt, Bool, true, false, if◌then◌else◌, Option, Some, None, List, [], ◌∷◌, get_or, refl, arith}
+use Rattle.std.proofs.Common.{◌≡◌, inl, inr, ℕ, zero, suc, ◌+◌, ◌==◌, ◌<◌, ◌≤◌, nat_lt, Bool, true, false, if◌then◌else◌, Option, Some, None, List, [], ◌∷◌, get_or, refl, ap, arith, eq-eqb}
 use Rattle.std.specs.List.{AllByRecursion, IsDistinct, sum_by}
-use Rattle.std.proofs.lemmas.Bool.{cases_lt, ne_eqb, ltb-true, ltb-false}
+use Rattle.std.proofs.lemmas.Bool.{cases_eq, cases_lt, ne_eqb, ltb-true, ltb-false}
 use Rattle.std.proofs.lemmas.List.Sums.{sum_by-cons}
 use Rattle.mh_model.specs.Batches.{NoneTwice}
 
@@ -76,10 +76,50 @@ module _ (f : ℕ → ℕ) where
       go true is rest = (each n (omega (arith, few)) (ltb-true 0 (f n) is), rest)
       go false is rest = rest
 
-  pub present-sum : (g : ℕ → ℕ) (most : ℕ) → ((birth : ℕ) → birth < most → f birth ≤ g birth) → (n : ℕ) → n ≤ most → sum_to f n ≤ sum_by g (present f n)
-  present-sum g most below zero few = omega arith
-  present-sum g most below (suc n) few = go (nat_lt 0 (f n)) refl (present-sum g most below n (omega (arith, few)))
+  -- what is 0 where they are sums to no more
+  pub present-less : (h g : ℕ → ℕ) (most : ℕ) → ((birth : ℕ) → f birth ≡ 0 → h birth ≡ 0) → ((birth : ℕ) → birth < most → h birth ≤ g birth) → (n : ℕ) → n ≤ most → sum_to h n ≤ sum_by g (present f n)
+  present-less h g most none below zero few = omega arith
+  present-less h g most none below (suc n) few = go (nat_lt 0 (f n)) refl (present-less h g most none below n (omega (arith, few)))
     where
-      go : (some : Bool) → nat_lt 0 (f n) ≡ some → sum_to f n ≤ sum_by g (present f n) → sum_to f n + f n ≤ sum_by g (if some then n ∷ present f n else present f n)
+      go : (some : Bool) → nat_lt 0 (f n) ≡ some → sum_to h n ≤ sum_by g (present f n) → sum_to h n + h n ≤ sum_by g (if some then n ∷ present f n else present f n)
       go true is rest = omega (arith, rest, below n (omega (arith, few)), sum_by-cons g n (present f n))
-      go false is rest = omega (arith, rest, ltb-false 0 (f n) is)
+      go false is rest = omega (arith, rest, none n (omega (arith, ltb-false 0 (f n) is)))
+
+  pub present-sum : (g : ℕ → ℕ) (most : ℕ) → ((birth : ℕ) → birth < most → f birth ≤ g birth) → (n : ℕ) → n ≤ most → sum_to f n ≤ sum_by g (present f n)
+  present-sum g most = present-less f g most (λ birth none. none)
+
+-- Distinct numbers ---------------------------------------------------------------------------------
+
+-- a function that is 0 at a number
+abbrev without : ℕ → (ℕ → ℕ) → ℕ → ℕ
+without number f i = if number == i then 0 else f i
+
+without-others : (number : ℕ) (f : ℕ → ℕ) (list : List ℕ) → AllByRecursion (λ other. (number == other) ≡ false) list → sum_by f list ≤ sum_by (without number f) list
+without-others number f [] apart = omega arith
+without-others number f (i ∷ list) apart = omega (arith, sum_by-cons f i list, sum_by-cons (without number f) i list, ap {B = ℕ} (λ same. if same then 0 else f i) apart.0, without-others number f list apart.1)
+
+without-less : (number : ℕ) (f : ℕ → ℕ) (i : ℕ) → without number f i ≤ f i
+without-less number f i = go (number == i)
+  where
+    go : (same : Bool) → (if same then 0 else f i) ≤ f i
+    go true = omega arith
+    go false = omega arith
+
+sum_to-without : (number : ℕ) (f : ℕ → ℕ) (n : ℕ) → number < n → f number + sum_to (without number f) n ≤ sum_to f n
+sum_to-without number f zero below = absurd (omega (arith, below))
+sum_to-without number f (suc n) below = elim (cases_eq number n) [
+  | inl same ↦
+      let none : without number f n ≡ 0 = ap {B = ℕ} (λ b. if b then 0 else f n) (eq-eqb number n same) in
+      omega (arith, none, ap f same, sum_to-below (without number f) f n (λ i inside. without-less number f i))
+  | inr apart ↦ omega (arith, without-less number f n, sum_to-without number f n (before number n apart below))
+]
+  where
+    before : (i m : ℕ) → (i ≡ m → ⊥) → i < suc m → i < m
+    before i m apart inside = elim (cases_lt i m) [ inl less ↦ less | inr more ↦ absurd (apart (omega (arith, inside, more))) ]
+
+-- distinct numbers below another sum to no more than all
+pub sum-distinct : (f : ℕ → ℕ) (n : ℕ) (list : List ℕ) → NoneTwice list → AllByRecursion (λ number. number < n) list → sum_by f list ≤ sum_to f n
+unfolding IsDistinct
+sum-distinct f n [] once below = omega arith
+sum-distinct f n (number ∷ list) once below =
+    omega (arith, sum_by-cons f number list, without-others number f list once.0, sum-distinct (without number f) n list once.1 below.1, sum_to-without number f n below.0)

@@ -1,9 +1,10 @@
 pub mod AskedNeeds
 pub mod BesideRuns
+pub mod BornParts
 pub mod NeededParts
 pub mod NeededRuns
 pub mod ClassPages
-pub mod ClassDemand
+pub mod ClassFootprint
 pub mod ClassQuanta
 pub mod OpenedInAll
 pub mod OtherConfigs

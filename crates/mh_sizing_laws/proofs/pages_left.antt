@@ -1,5 +1,6 @@
 pub mod Counting
 pub mod MadeGroups
+pub mod PlacedParts
 pub mod FedTables
 pub mod FedCommands
 pub mod SweptPages

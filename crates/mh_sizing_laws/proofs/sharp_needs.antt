@@ -1,1 +1,3 @@
+pub mod FewerPages
+pub mod FewPages
 pub mod SharpNeededRuns

@@ -3,3 +3,4 @@ pub mod AcceptedStarts
 pub mod StartedPages
 pub mod SharpStartedPages
 pub mod OtherStarts
+pub mod LaterPages

@@ -7,6 +7,7 @@ pub mod Made
 pub mod Needs
 pub mod Filling
 pub mod Anchors
+pub mod Filled
 pub mod SharpPages
 pub mod SharpNeeds
 pub mod SharpAnchors

@@ -80,7 +80,11 @@ pub record MakeOfClasses (least kinds : ℕ) (config : Config) (events : List Ev
   pub slots : least ≤ fewest_slots (parts_made config events)
   pub classes : length (occurring (parts_made config events)) ≤ kinds
 
--- Demand -----------------------------------------------------------------------------------------
+-- they make parts of at most so many classes, whatever slots the pages of these have
+abbrev pub MakeOfKinds : ℕ → Config → List Event → Type 0
+MakeOfKinds kinds config events = length (occurring (parts_made config events)) ≤ kinds
+
+-- Footprint --------------------------------------------------------------------------------------
 
 -- the most pages of a class at a time if so many parts of it are made in all, whatever cycles run: a second is opened once the first is full, and each
 -- further one by a part
@@ -88,9 +92,9 @@ abbrev pub births_less_slots : ℕ → ℕ → ℕ
 births_less_slots size count = max 1 (count + 1 - slots_in size)
 
 -- the pages of a class at most: those that the intervals of a run open together by its parts, or those that its parts open in all, whichever are fewer
-abbrev pub class_demand : ℕ → Config → List Event → ℕ
-class_demand size config events = min (sum_by (λ interval. pages_for size (class_parts size interval)) (intervals_made config events)) (births_less_slots size (class_parts size (parts_made config events)))
+abbrev pub class_footprint : ℕ → Config → List Event → ℕ
+class_footprint size config events = min (sum_by (λ interval. pages_for size (class_parts size interval)) (intervals_made config events)) (births_less_slots size (class_parts size (parts_made config events)))
 
 -- the pages that a run has in use at most, whatever cycles run
-abbrev pub demand : Config → List Event → ℕ
-demand config events = sum_by (λ size. class_demand size config events) class_sizes
+abbrev pub footprint : Config → List Event → ℕ
+footprint config events = sum_by (λ size. class_footprint size config events) class_sizes

@@ -10,7 +10,8 @@ use Rattle.mh_model.specs.Machine.{first_machine}
 use Rattle.mh_model.specs.Openings.{free_of}
 use Rattle.mh_model.specs.Intervals.{cycle_ends, CyclesTakeAtMost, IsNeverFull}
 use Rattle.mh_model.specs.Needs.{HasEnoughFor}
-use Rattle.mh_sizing_laws.specs.Made.{MakeNoMore, demand, intervals_made, objects_made, parts_made}
+use Rattle.mh_sizing_laws.specs.Filled.{FillNoMore}
+use Rattle.mh_sizing_laws.specs.Made.{MakeNoMore, footprint, intervals_made, objects_made, parts_made}
 
 -- No cycle of any run takes more quanta than the bound of a cycle
 abbrev pub CyclesTakeTheBound : Type 0
@@ -32,8 +33,8 @@ EnoughForNeedsSuffices = (needs : Needs) (config : Config) (events : List Event)
 -- Let a heap have for each class as many pages as all intervals of a run open together by the parts of that class, or as its parts open in all, whichever
 -- are fewer, by the ever-growing world alone. No reply is `heap full`, whatever the quanta, the trigger and the cycles. What all parts of the run would
 -- fill together isn't enough: a cycle may flag the page that births are filling, and the next birth opens another
-abbrev pub PagesForDemandSuffice : Type 0
-PagesForDemandSuffice = (config : Config) (events : List Event) → demand config events ≤ config.pages → IsNeverFull config events
+abbrev pub PagesForFootprintSuffice : Type 0
+PagesForFootprintSuffice = (config : Config) (events : List Event) → footprint config events ≤ config.pages → IsNeverFull config events
 
 -- Let the scheduler run a quantum after E units, and let no object have more than m parts. No interval makes more than `E - 1 + m` parts, whoever the
 -- mutators are: under the second rules each part that is made is a unit, and before its last event an interval has fewer than E
@@ -50,5 +51,6 @@ pub record HasSameScheduler (config other : Config) : Type 0 where
 -- scheduler
 pub record NeedsAreOfTheScheduler : Type 0 where
   pub needs : (needs : Needs) (config other : Config) (events : List Event) → HasSameScheduler config other → MakeNoMore needs config events → MakeNoMore needs other events
-  pub demanded : (config other : Config) (events : List Event) → HasSameScheduler config other → demand other events ≡ demand config events
+  pub filled : (most : ℕ) (config other : Config) (events : List Event) → HasSameScheduler config other → FillNoMore most config events → FillNoMore most other events
+  pub footprints : (config other : Config) (events : List Event) → HasSameScheduler config other → footprint other events ≡ footprint config events
   pub parts : (config other : Config) (events : List Event) → HasSameScheduler config other → parts_made other events ≡ parts_made config events

@@ -11,9 +11,10 @@ use Rattle.mh_model.specs.CycleUnits.{ReachesAtMost, most_slots, most_moves}
 use Rattle.mh_model.specs.LiveParts.{HasAtMostLive}
 use Rattle.mh_model.specs.Needs.{first_run, run_worlds, AreEnoughQuanta}
 use Rattle.mh_model.specs.Openings.{pages_of_parts}
-use Rattle.mh_sizing_laws.specs.Made.{MakeOfClasses, intervals_made_in, parts_made, run_after}
+use Rattle.mh_sizing_laws.specs.Filled.{FillsAtMost}
+use Rattle.mh_sizing_laws.specs.Made.{MakeOfClasses, MakeOfKinds, intervals_made_in, parts_made, run_after}
 use Rattle.mh_sizing_laws.specs.Needs.{HasSameScheduler, StaysInRoom}
-use Rattle.mh_sizing_laws.specs.Startup.{anchored_of, asks_for_cycle, staying_of}
+use Rattle.mh_sizing_laws.specs.Startup.{anchored_of, asks_for_cycle, staying_of, staying_parts}
 
 -- Needs ------------------------------------------------------------------------------------------
 
@@ -27,6 +28,11 @@ pub record MakeNoMoreAfter (needs : Needs) (config : Config) (start rest : List 
   pub asked : AllByRecursion (λ interval. length interval ≤ needs.asked) (intervals_made_in [] (run_after (first_run config) start) rest)
   pub opened : AllByRecursion (λ interval. pages_of_parts interval ≤ needs.opened) (intervals_made_in [] (run_after (first_run config) start) rest)
   pub page : let list = parts_made config (start ++ rest) in most_slots list + most_moves list ≤ needs.page_units
+
+-- the live parts fill no more pages at each moment from the startup's end on, each class by itself, beside those parts of the class that stay in its
+-- anchored pages
+abbrev pub FillNoMoreAfter : ℕ → Config → List Event → List Event → (ℕ → Bool) → Type 0
+FillNoMoreAfter most config start rest stays = AllByRecursion (FillsAtMost (staying_parts stays config start) most) (run_worlds (run_after (first_run config) start) rest)
 
 -- a startup that asks for no cycle, whose parts fill at most so many pages, of which the objects that stay anchor at most so many
 pub record IsStartupWithin (anchored startup_pages : ℕ) (config : Config) (start : List Event) (stays : ℕ → Bool) : Type 0 where
@@ -45,12 +51,12 @@ pub record HasEnoughBeside (needs : Needs) (anchored startup_pages : ℕ) (confi
   pub pages : anchored + needs.live + (quanta * needs.asked + quanta * needs.opened) ≤ config.pages + needs.asked
   pub trigger : quanta * needs.opened ≤ config.trigger + 1
 
--- and it has enough if small new parts share pages: `a + L + L / s + (3 * N - 2) * g + (N - 1) * min g k + k + N - 1` pages. Parts of the whole run are of
--- at most k classes, with at least s slots a page
-pub record HasSharpEnoughBeside (needs : Needs) (least kinds anchored startup_pages : ℕ) (config : Config) (quanta : ℕ) : Type 0 where
+-- and it has enough if small new parts share pages: `a + L + F + (3 * N - 2) * g + (N - 1) * min g k + k + N - 1` pages. The L parts fill F pages at most,
+-- each class by itself, and parts of the whole run are of at most k classes
+pub record HasSharpEnoughBeside (needs : Needs) (filled kinds anchored startup_pages : ℕ) (config : Config) (quanta : ℕ) : Type 0 where
   pub bound : AreEnoughQuanta needs config quanta
   pub startup : startup_pages + config.trigger + 1 ≤ config.pages
-  pub pages : anchored + needs.live + needs.live / least + 3 * (quanta * needs.opened) + quanta * min needs.opened kinds + kinds + quanta ≤ config.pages + (2 * needs.opened + min needs.opened kinds + 1)
+  pub pages : anchored + needs.live + filled + 3 * (quanta * needs.opened) + quanta * min needs.opened kinds + kinds + quanta ≤ config.pages + (2 * needs.opened + min needs.opened kinds + 1)
   pub trigger : quanta * needs.opened ≤ config.trigger + 1
 
 -- Laws -------------------------------------------------------------------------------------------
@@ -64,18 +70,25 @@ abbrev pub EnoughAfterStartupSuffices : Type 0
 EnoughAfterStartupSuffices = (needs : Needs) (anchored startup_pages : ℕ) (config : Config) (start rest : List Event) (stays : ℕ → Bool) (quanta : ℕ) →
     MakeNoMoreAfter needs config start rest stays → IsStartupWithin anchored startup_pages config start stays → HasEnoughBeside needs anchored startup_pages config quanta → StaysInRoom config (start ++ rest) quanta needs.opened
 
--- The same where small parts share pages, and the parts of the whole run are of at most k classes, whose pages have s slots at least. With
--- `a + L + L / s + (3 * N - 2) * g + (N - 1) * min g k + k + N - 1` pages and a trigger of `N * g - 1`, no cycle takes more than N quanta, each leaves
--- `N * g` pages free, and no reply is `heap full`
+-- The same where small parts share pages. Let the L parts fill F pages at most, each class by itself, and let the parts of the whole run be of at most k
+-- classes. With `a + L + F + (3 * N - 2) * g + (N - 1) * min g k + k + N - 1` pages and a trigger of `N * g - 1`, no cycle takes more than N quanta, each
+-- leaves `N * g` pages free, and no reply is `heap full`
 abbrev pub SharpEnoughAfterStartupSuffices : Type 0
-SharpEnoughAfterStartupSuffices = (needs : Needs) (least kinds anchored startup_pages : ℕ) (config : Config) (start rest : List Event) (stays : ℕ → Bool) (quanta : ℕ) →
-    MakeNoMoreAfter needs config start rest stays → MakeOfClasses least kinds config (start ++ rest) → IsStartupWithin anchored startup_pages config start stays → HasSharpEnoughBeside needs least kinds anchored startup_pages config quanta
-    → StaysInRoom config (start ++ rest) quanta needs.opened
+SharpEnoughAfterStartupSuffices = (needs : Needs) (filled kinds anchored startup_pages : ℕ) (config : Config) (start rest : List Event) (stays : ℕ → Bool) (quanta : ℕ) →
+    MakeNoMoreAfter needs config start rest stays → FillNoMoreAfter filled config start rest stays → MakeOfKinds kinds config (start ++ rest) → IsStartupWithin anchored startup_pages config start stays
+    → HasSharpEnoughBeside needs filled kinds anchored startup_pages config quanta → StaysInRoom config (start ++ rest) quanta needs.opened
+
+-- Let sessions hold L live parts at most after a startup, beside those that stay in its anchored pages, and let the pages of the classes of all that they
+-- make have s slots at least. The L parts fill `L / s` pages at most
+abbrev pub LaterPartsFillFewPages : Type 0
+LaterPartsFillFewPages = (needs : Needs) (least kinds : ℕ) (config : Config) (start rest : List Event) (stays : ℕ → Bool) →
+    MakeNoMoreAfter needs config start rest stays → MakeOfClasses least kinds config (start ++ rest) → FillNoMoreAfter (needs.live / least) config start rest stays
 
 -- None of this depends on pages, quantum or trigger: it is the same in each configuration with the same rules and scheduler. So is what the parts of a
 -- startup fill, by the law of `Needs`
 pub record StartedNeedsAreOfTheScheduler : Type 0 where
   pub needs : (needs : Needs) (config other : Config) (start rest : List Event) (stays : ℕ → Bool) → HasSameScheduler config other → MakeNoMoreAfter needs config start rest stays → MakeNoMoreAfter needs other start rest stays
+  pub filled : (most : ℕ) (config other : Config) (start rest : List Event) (stays : ℕ → Bool) → HasSameScheduler config other → FillNoMoreAfter most config start rest stays → FillNoMoreAfter most other start rest stays
   pub within : (anchored startup_pages : ℕ) (config other : Config) (start : List Event) (stays : ℕ → Bool) → HasSameScheduler config other → IsStartupWithin anchored startup_pages config start stays → IsStartupWithin anchored startup_pages other start stays
   pub anchored : (config other : Config) (start : List Event) (stays : ℕ → Bool) → HasSameScheduler config other → anchored_of stays other start ≡ anchored_of stays config start
   pub staying : (config other : Config) (start : List Event) (stays : ℕ → Bool) → HasSameScheduler config other → staying_of stays other start ≡ staying_of stays config start

@@ -9,7 +9,7 @@ use Rattle.mh_model.specs.declared.command.Event.TheVariants as event
 use Rattle.mh_model.specs.declared.config.Config.{Config}
 use Rattle.mh_model.specs.declared.cycle.Phase.TheVariants.{Idle}
 use Rattle.mh_model.specs.World.{births, first_world}
-use Rattle.mh_model.specs.Classes.{class_sizes, slots_in, tabulate}
+use Rattle.mh_model.specs.Classes.{class_sizes, is_class_size, slots_in, tabulate}
 use Rattle.mh_model.specs.Pages.{flag_at}
 use Rattle.mh_model.specs.Machine.{first_machine, machine_after, machine_replies}
 use Rattle.mh_model.specs.Snapshot.{first_moment, moment_after}
@@ -17,6 +17,7 @@ use Rattle.mh_model.specs.Openings.{class_parts, free_of, pages_of_parts}
 use Rattle.mh_model.specs.Intervals.{AnswerAsTheWorld, IsNeverFull}
 use Rattle.mh_model.specs.Needs.{WorldRun, first_run, next_run}
 use Rattle.mh_sizing_laws.specs.Anchors.{anchored, staying}
+use Rattle.mh_sizing_laws.specs.Filled.{staying_of_class}
 use Rattle.mh_sizing_laws.specs.Made.{made_parts, parts_made, run_after}
 
 -- an event asks for a cycle
@@ -51,12 +52,15 @@ anchored_by stays slots list = sum_by (λ page. if are_anchoring stays slots pag
 abbrev pub staying_by : (ℕ → Bool) → ℕ → List ℕ → ℕ
 staying_by stays slots list = sum_by (λ page. if are_anchoring stays slots page then count_by stays page else 0) (filled_pages slots list)
 
--- how many pages a startup anchors by the objects that stay, and how many of their parts these have
+-- how many pages a startup anchors by the objects that stay, and how many of their parts these have, of a class and of all
 abbrev pub anchored_of : (ℕ → Bool) → Config → List Event → ℕ
 anchored_of stays config events = sum_by (λ size. anchored_by stays (slots_in size) (births_made size config events)) class_sizes
 
+abbrev pub staying_parts : (ℕ → Bool) → Config → List Event → ℕ → ℕ
+staying_parts stays config events size = staying_by stays (slots_in size) (births_made size config events)
+
 abbrev pub staying_of : (ℕ → Bool) → Config → List Event → ℕ
-staying_of stays config events = sum_by (λ size. staying_by stays (slots_in size) (births_made size config events)) class_sizes
+staying_of stays config events = sum_by (staying_parts stays config events) class_sizes
 
 -- Startups ---------------------------------------------------------------------------------------
 
@@ -73,6 +77,7 @@ pub record FillsPages (config : Config) (start : List Event) : Type 0 where
   pub unflagged : (number : ℕ) → flag_at (machine_after (first_machine config) start).heap.collector.table number ≡ false
   pub in_use : free_of (machine_after (first_machine config) start) + pages_of_parts (parts_made config start) ≡ config.pages
   pub anchored : (stays : ℕ → Bool) → anchored stays (machine_after (first_machine config) start).heap.collector.table ≡ anchored_of stays config start
+  pub staying_class : (stays : ℕ → Bool) (size : ℕ) → is_class_size size ≡ true → staying_of_class stays (machine_after (first_machine config) start).heap.collector.table size ≡ staying_parts stays config start size
   pub staying : (stays : ℕ → Bool) → staying stays (machine_after (first_machine config) start).heap.collector.table ≡ staying_of stays config start
 
 -- Let no event of a startup ask for a cycle. Let more pages than the trigger be left of the heap by what all its parts fill, by the ever-growing world

@@ -1,5 +1,5 @@
 //! Laws of runs of which only the needs of their sessions are known.
-ghost use Rattle.mh_sizing_laws.specs.Needs.{CyclesTakeTheBound, EnoughForNeedsSuffices, IntervalsMakeFewParts, NeedsAreOfTheScheduler, PagesForDemandSuffice};
+ghost use Rattle.mh_sizing_laws.specs.Needs.{CyclesTakeTheBound, EnoughForNeedsSuffices, IntervalsMakeFewParts, NeedsAreOfTheScheduler, PagesForFootprintSuffice};
 
 /// No cycle takes more quanta than its bound, whatever is asked of the heap.
 pub fn cycles_take_the_bound()
@@ -13,8 +13,8 @@ pub fn enough_for_needs_suffices()
 
 /// Nor is a heap ever full that has for each class as many pages as all intervals of a run open together, or as its
 /// parts open in all, whatever its quanta, its trigger and its cycles.
-pub fn pages_for_demand_suffice()
-    ensures { PagesForDemandSuffice }
+pub fn pages_for_footprint_suffice()
+    ensures { PagesForFootprintSuffice }
 {}
 
 /// What sessions need is the same in each configuration with the same rules and as many units between two quanta.

@@ -8,7 +8,7 @@ use Rattle.mh_model.specs.declared.config.Config.{Config}
 use Rattle.mh_model.specs.Configs.{configured, configured_first}
 use Rattle.mh_model.specs.World.{heap_step}
 use Rattle.mh_model.specs.Openings.{asked_count, pages_of_parts}
-use Rattle.mh_sizing_laws.specs.Made.{demand, intervals_made, objects_made, parts_made}
+use Rattle.mh_sizing_laws.specs.Made.{footprint, intervals_made, objects_made, parts_made}
 
 -- a row that unfolds this name computes
 unfoldable worked : ℕ
@@ -35,7 +35,7 @@ by_object (Some config) events = map length (objects_made config events)
 -- the pages that a run takes at most, and those that all its parts would fill
 abbrev together : Option Config → List Event → List ℕ
 together None events = []
-together (Some config) events = demand config events ∷ pages_of_parts (parts_made config events) ∷ []
+together (Some config) events = footprint config events ∷ pages_of_parts (parts_made config events) ∷ []
 
 abbrev asked : Option Config → List Event → ℕ
 asked None events = 0

@@ -1,7 +1,8 @@
 -- A small run that has the pages which suffice: two objects, each of which takes the place of the one before, with a quantum after each.
-use Rattle.std.proofs.Common.{◌≡◌, ℕ, zero, suc, ◌≤◌, Option, Some, None, List, [], ◌∷◌, get_or, replicate, refl, sym, ap, ◌∙◌, arith, eq-eqb}
-use Rattle.std.specs.List.{AllByRecursion, IsDistinct}
-use Rattle.std.proofs.lemmas.Bool.{true≢false}
+use Rattle.std.proofs.Common.{◌≡◌, ℕ, zero, suc, ◌-◌, ◌≤◌, nat_le, Option, Some, None, List, [], ◌∷◌, get_or, replicate, refl, sym, ap, ◌∙◌, arith, eq-eqb}
+use Rattle.std.specs.List.{AllByRecursion, IsDistinct, sum_by}
+use Rattle.std.proofs.Math.Nat.{le_trans}
+use Rattle.std.proofs.lemmas.Bool.{leb-true, true≢false}
 use Rattle.std.proofs.lemmas.List.Sums.{sum_by-cons}
 use Rattle.std.proofs.lemmas.Option.{none-some, same_Some}
 use Rattle.mh_model.specs.declared.command.Command.TheVariants.{New}
@@ -9,6 +10,7 @@ use Rattle.mh_model.specs.declared.command.Event.{Event}
 use Rattle.mh_model.specs.declared.command.Event.TheVariants as event
 use Rattle.mh_model.specs.declared.config.Config.{Config}
 use Rattle.mh_model.specs.declared.config.Rules.TheVariants.{Second}
+use Rattle.mh_model.specs.Classes.{class_sizes, slots_in}
 use Rattle.mh_model.specs.Collector.{step_cost, collector_step, steps, quantum}
 use Rattle.mh_model.specs.Intervals.{CyclesTakeAtMost}
 use Rattle.mh_model.specs.LiveParts.{object_parts, HasAtMostLive}
@@ -18,8 +20,13 @@ use Rattle.mh_model.specs.Paths.{IsPath}
 use Rattle.mh_model.specs.Snapshot.{Moment, first_moment, half_moment, next_moment}
 use Rattle.mh_model.specs.World.{Object, World, object_at, slot_at, reference_of, heap_step}
 use Rattle.mh_sizing_laws.specs.PagesLeft.{NeverFills}
-use Rattle.mh_table_laws.proofs.Lists.{none_at}
+use Rattle.mh_table_laws.proofs.Lists.{member-passes, none_at}
+use Rattle.mh_sizing_laws.specs.Filled.{parts_of_class, FillsAtMost}
 use Rattle.mh_sizing_laws.specs.SharpPages.{HasSharpPagesFor}
+use Rattle.mh_sizing_laws.proofs.openings.MadeParts.{IsAmong}
+use Rattle.mh_sizing_laws.proofs.pages_left.MarkedPages.{div-more}
+use Rattle.mh_sizing_laws.proofs.sharp_needs.FewPages.{live-few}
+use Rattle.mh_sizing_laws.proofs.sharp_pages.ClassesThatOccur.{sum-slots}
 use Rattle.mh_sizing_laws.proofs.sharp_pages.SharpRuns.{sharp-pages-suffice}
 
 -- Worlds of one root -----------------------------------------------------------------------------
@@ -56,6 +63,16 @@ one-live last world has (birth ∷ other ∷ list) once reached =
     let (path', is') = reached.1.0 in
     absurd (true≢false (sym (eq-eqb birth other (one-reached last world has path birth is ∙ sym (one-reached last world has path' other is'))) ∙ once.0.0))
 
+-- it fills no page, since each has four slots at least
+one-filled : (last : ℕ) (world : World) → HasOneRoot last world → FillsAtMost (λ size. 0) 0 world
+one-filled last world has list once reached = le_trans (sum-slots count 4 class_sizes (omega arith) (λ size among more. four size among)) (div-more (sum_by count class_sizes) 1 4 (omega arith) (live-few 1 world (one-live last world has) list once reached))
+  where
+    count : ℕ → ℕ
+    count size = parts_of_class size world list - 0
+
+    four : (size : ℕ) → IsAmong size class_sizes → 4 ≤ slots_in size
+    four size among = leb-true 4 (slots_in size) (member-passes (λ s. nat_le 4 (slots_in s)) size class_sizes refl among)
+
 first-slot : (last slot birth : ℕ) → get_or (Some last ∷ replicate 143 None) slot None ≡ Some birth → birth ≡ last
 first-slot last zero birth e = sym (same_Some last birth e)
 first-slot last (suc slot) birth e = absurd (none-some birth (sym (none_at 143 slot) ∙ e))
@@ -75,20 +92,27 @@ two = born ∷ born ∷ []
 abbrev later : Moment
 later = next_moment (first_moment small) born
 
--- cycles of one quantum, intervals that open a page, and one live part
-pub has_pages : HasSharpPagesFor small two 1 1 1
+-- what the worlds of the run name
+at-first : HasOneRoot 0 (first_moment small).world
+at-first = record { flat = tt; named = λ slot birth e. absurd (none-some birth (sym (none_at 144 slot) ∙ e)); small = omega arith }
+
+after-one : HasOneRoot 0 later.world
+unfolding step_cost collector_step steps quantum heap_effect mutator_step heap_step quantum_run command_step control_step event_step half_moment next_moment
+after-one = record { flat = (refl, tt); named = λ slot birth e. first-slot 0 slot birth e; small = omega arith }
+
+after-two : HasOneRoot 1 (next_moment later born).world
+unfolding step_cost collector_step steps quantum heap_effect mutator_step heap_step quantum_run command_step control_step event_step half_moment next_moment
+after-two = record { flat = (refl, (refl, tt)); named = λ slot birth e. first-slot 1 slot birth e; small = omega arith }
+
+-- cycles of one quantum, intervals that open a page, and one live part, which fills none
+pub has_pages : HasSharpPagesFor small two 1 1 1 0
 unfolding step_cost collector_step steps quantum heap_effect mutator_step heap_step quantum_run command_step control_step event_step half_moment next_moment
 has_pages = record {
   pages = omega arith;
   trigger = omega arith;
   intervals = (omega arith, (omega arith, (omega arith, tt)));
-  live = (
-    one-live 0 (first_moment small).world (record { flat = tt; named = λ slot birth e. absurd (none-some birth (sym (none_at 144 slot) ∙ e)); small = omega arith }),
-    (
-      one-live 0 later.world (record { flat = (refl, tt); named = λ slot birth e. first-slot 0 slot birth e; small = omega arith }),
-      (one-live 1 (next_moment later born).world (record { flat = (refl, (refl, tt)); named = λ slot birth e. first-slot 1 slot birth e; small = omega arith }), tt),
-    ),
-  );
+  live = (one-live 0 (first_moment small).world at-first, (one-live 0 later.world after-one, (one-live 1 (next_moment later born).world after-two, tt)));
+  fills = (one-filled 0 (first_moment small).world at-first, (one-filled 0 later.world after-one, (one-filled 1 (next_moment later born).world after-two, tt)));
 }
 
 -- each quantum ends the cycle that it starts
@@ -98,4 +122,4 @@ takes_one = (λ runs. absurd (true≢false runs), (λ runs. absurd (true≢false
 
 -- so the law says that it is never full
 pub never_fills : NeverFills small two 1 1
-never_fills = sharp-pages-suffice small two 1 1 1 (omega arith) takes_one has_pages
+never_fills = sharp-pages-suffice small two 1 1 1 0 (omega arith) takes_one has_pages

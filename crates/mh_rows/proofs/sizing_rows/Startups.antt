@@ -1,12 +1,12 @@
 -- What a startup makes fills pages in order: births cut into pages, and the pages that objects which stay anchor.
-use Rattle.std.proofs.Common.{◌≡◌, ℕ, nat_le, Bool, Option, Some, None, List, [], ◌∷◌, ◌++◌, refl}
+use Rattle.std.proofs.Common.{◌≡◌, ℕ, nat_le, Bool, Option, Some, None, List, [], ◌∷◌, ◌++◌, map, refl}
 use Rattle.mh_model.specs.declared.command.Command.TheVariants.{New}
 use Rattle.mh_model.specs.declared.command.Event.{Event}
 use Rattle.mh_model.specs.declared.command.Event.TheVariants as event
 use Rattle.mh_model.specs.declared.config.Config.{Config}
 use Rattle.mh_model.specs.Configs.{configured}
 use Rattle.mh_model.specs.World.{heap_step}
-use Rattle.mh_sizing_laws.specs.Startup.{anchored_of, births_made, filled_pages, staying_of}
+use Rattle.mh_sizing_laws.specs.Startup.{anchored_of, births_made, filled_pages, staying_of, staying_parts}
 use Rattle.mh_rows.proofs.sizing_rows.MadeParts.{wide}
 
 -- a row that unfolds this name computes
@@ -40,3 +40,14 @@ anchors stays (Some config) events = anchored_of stays config events ∷ staying
 pub a_quarter : anchors (nat_le 3) (configured 9 1000 1 0) (wide 6) ≡ 1 ∷ 2 ∷ []
 unfolding worked
 a_quarter = refl
+
+-- how many of two classes
+abbrev by_class : (ℕ → Bool) → Option Config → List Event → List ℕ
+by_class stays None events = []
+by_class stays (Some config) events = map (staying_parts stays config events) (4 ∷ 64 ∷ [])
+
+-- these are of the largest class
+-- refuses: each class counts those of all
+pub largest : by_class (nat_le 3) (configured 9 1000 1 0) (wide 6) ≡ 0 ∷ 2 ∷ []
+unfolding worked
+largest = refl

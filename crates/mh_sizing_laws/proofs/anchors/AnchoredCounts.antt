@@ -16,6 +16,14 @@ pub weights-sum_by : (f : Option (Page Block) → ℕ) (table : Table Block) →
 weights-sum_by f [] = refl
 weights-sum_by f (page ∷ table) = omega (arith, weights-sum_by f table, sum_by-cons f page table)
 
+-- weights that are less by what pages of an earlier table count
+pub less-beside : (count : Option (Page Block) → ℕ) (weight larger : ℕ → Option (Page Block) → ℕ) (first table : Table Block) → length first ≤ length table → ((number : ℕ) → weight number (page_at table number) + count (page_at first number) ≤ larger number (page_at table number))
+    → weights weight table + sum_by count first ≤ weights larger table
+less-beside count weight larger [] [] size each = omega arith
+less-beside count weight larger [] (page ∷ table) size each = omega (arith, less-beside count (λ n. weight (suc n)) (λ n. larger (suc n)) [] table (omega arith) (λ number. each (suc number)), each 0)
+less-beside count weight larger (old ∷ first) [] size each = absurd (omega (arith, size))
+less-beside count weight larger (old ∷ first) (page ∷ table) size each = omega (arith, less-beside count (λ n. weight (suc n)) (λ n. larger (suc n)) first table (omega (arith, size)) (λ number. each (suc number)), each 0, sum_by-cons count old first)
+
 module _ (stays : ℕ → Bool) where
   -- a page that is free or in use weighs one or more; one that is anchored weighs its blocks that stay, or more
   pub balanced : (old : Option (Page Block)) (free weight : ℕ) → ((page : Page Block) → old ≡ Some page → is_anchored stays page ≡ true → staying_in stays page ≤ weight) → 1 ≤ free + weight → suc (anchor_blocks stays old) ≤ free + weight + anchor_count stays old
@@ -37,14 +45,6 @@ module _ (stays : ℕ → Bool) where
       omega (arith, used-beside (λ n. weight (suc n)) first table (omega (arith, size)) (λ number. each (suc number)), each 0, sum_by-cons (anchor_count stays) old first, sum_by-cons (anchor_blocks stays) old first)
   used-beside weight (old ∷ first) (Some page ∷ table) size each =
       omega (arith, used-beside (λ n. weight (suc n)) first table (omega (arith, size)) (λ number. each (suc number)), each 0, sum_by-cons (anchor_count stays) old first, sum_by-cons (anchor_blocks stays) old first)
-
-  -- weights that are less by the blocks that stay
-  pub less-beside : (weight larger : ℕ → Option (Page Block) → ℕ) (first table : Table Block) → length first ≤ length table → ((number : ℕ) → weight number (page_at table number) + anchor_blocks stays (page_at first number) ≤ larger number (page_at table number))
-      → weights weight table + staying stays first ≤ weights larger table
-  less-beside weight larger [] [] size each = omega arith
-  less-beside weight larger [] (page ∷ table) size each = omega (arith, less-beside (λ n. weight (suc n)) (λ n. larger (suc n)) [] table (omega arith) (λ number. each (suc number)), each 0)
-  less-beside weight larger (old ∷ first) [] size each = absurd (omega (arith, size))
-  less-beside weight larger (old ∷ first) (page ∷ table) size each = omega (arith, less-beside (λ n. weight (suc n)) (λ n. larger (suc n)) first table (omega (arith, size)) (λ number. each (suc number)), each 0, sum_by-cons (anchor_blocks stays) old first)
 
   -- So no more other pages are in use than there are other blocks that are no forwarders
   pub anchors-counted : (first table : Table Block) → length first ≤ length table → AnchorsStand stays first table → HavePlain table → IsUsedBeside (staying stays first) (anchored stays first) table

@@ -33,11 +33,12 @@ module _ (stays : ℕ → Bool) where
   IsStaying None = ⊥
   IsStaying (Some block) = (stays block.birth ≡ true) × (block.forward ≡ None)
 
-  -- A page stands: it is in use, unflagged, with as many slots, and with the blocks that stay
+  -- A page stands: it is in use, unflagged, of its class, with as many slots, and with the blocks that stay
   pub record Stands (page : Page Block) (content : Option (Page Block)) : Type 0 where
     pub now : Page Block
     pub in_use : content ≡ Some now
     pub size : length now.slots ≡ length page.slots
+    pub class : now.class_size ≡ page.class_size
     pub unflagged : now.is_flagged ≡ false
     pub blocks : (slot : ℕ) (block : Block) → block_in slot page ≡ Some block → stays block.birth ≡ true → IsStaying (block_in slot now)
 
@@ -70,11 +71,12 @@ module _ (stays : ℕ → Bool) where
 
   stands-grows : (page : Page Block) (old new : Option (Page Block)) → PageGrows old new → Stands page old → Stands page new
   stands-grows page old new grows is =
-      let (now, at, size) = grows.used is.now is.in_use in
+      let (now, at, size, class) = grows.used is.now is.in_use in
       record {
         now = now;
         in_use = at;
         size = size ∙ is.size;
+        class = class ∙ is.class;
         unflagged = sym (ap flag_of at) ∙ grows.flag ∙ ap flag_of is.in_use ∙ is.unflagged;
         blocks = λ slot block there stay. staying-grows (block_in slot is.now) (block_in slot now)
             (subst (λ c. SlotGrows (block_in slot is.now) (get_or (slots_of c) slot None)) at (subst (λ c. SlotGrows (get_or (slots_of c) slot None) (get_or (slots_of new) slot None)) is.in_use (grows.slots slot))) (is.blocks slot block there stay);
@@ -103,6 +105,7 @@ module _ (stays : ℕ → Bool) where
       now = page_with slot content now;
       in_use = refl;
       size = length-set now.slots slot content ∙ ap (λ (p : Page Block). length p.slots) same ∙ is.size;
+      class = ap (λ (p : Page Block). p.class_size) same ∙ is.class;
       unflagged = ap (λ (p : Page Block). p.is_flagged) same ∙ is.unflagged;
       blocks = λ other block there stay. by_slot other (subst (λ (p : Page Block). IsStaying (block_in other p)) (sym same) (is.blocks other block there stay));
     }
@@ -145,6 +148,7 @@ module _ (stays : ℕ → Bool) where
           now = record now { is_flagged = false };
           in_use = refl;
           size = ap (λ (p : Page Block). length p.slots) same ∙ is.size;
+          class = ap (λ (p : Page Block). p.class_size) same ∙ is.class;
           unflagged = refl;
           blocks = λ slot block there stay. subst (λ (p : Page Block). IsStaying (block_in slot p)) (sym same) (is.blocks slot block there stay);
         }

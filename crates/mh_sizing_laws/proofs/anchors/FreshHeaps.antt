@@ -65,6 +65,7 @@ module _ (c : Collector) (fresh : IsFresh c) where
       now = page;
       in_use = at;
       size = refl;
+      class = refl;
       unflagged = sym (ap flag_of at) ∙ fresh.unflagged number;
       blocks = λ slot block there stay. subst (IsStaying stays) (sym there) (stay, block-original number slot page block at there);
     };

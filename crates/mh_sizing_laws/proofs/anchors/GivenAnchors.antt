@@ -1,8 +1,11 @@
 -- What is given of anchored pages: which objects stay, and the table in which their blocks anchored pages.
-use Rattle.std.proofs.Common.{ℕ, Bool, false, Option, Some, None, []}
+use Rattle.std.proofs.Common.{ℕ, ◌+◌, Bool, false, Option, Some, None, []}
 use Rattle.mh_model.specs.Pages.{Page, Table, page_at}
 use Rattle.mh_model.specs.Table.{Block}
+use Rattle.mh_model.specs.LiveParts.{HasAtMostLive}
+use Rattle.mh_model.specs.World.{World}
 use Rattle.mh_sizing_laws.specs.Anchors.{is_anchored, anchored, staying}
+use Rattle.mh_sizing_laws.specs.Filled.{FillsAtMost, staying_of_class}
 
 pub record Anchors : Type 0 where
   pub stays : ℕ → Bool
@@ -27,3 +30,12 @@ module _ (anchors : Anchors) where
 
   abbrev pub staying_blocks : ℕ
   staying_blocks = staying anchors.stays anchors.first
+
+  -- of a class
+  abbrev pub class_staying : ℕ → ℕ
+  class_staying = staying_of_class anchors.stays anchors.first
+
+  -- a world has few live parts beside these, and those of each class fill few pages
+  pub record HoldsFew (most filled : ℕ) (world : World) : Type 0 where
+    pub live : HasAtMostLive (most + staying_blocks) world
+    pub fills : FillsAtMost class_staying filled world

@@ -46,9 +46,9 @@ abbrev pub flag_of : Option (Page Block) → Bool
 flag_of None = false
 flag_of (Some page) = page.is_flagged
 
--- a page in use stays so, with as many slots
+-- a page in use stays so, with as many slots and of the same class
 abbrev StaysInUse : Option (Page Block) → Option (Page Block) → Type 0
-StaysInUse old new = (page : Page Block) → old ≡ Some page → (now : Page Block) × (new ≡ Some now) × (length now.slots ≡ length page.slots)
+StaysInUse old new = (page : Page Block) → old ≡ Some page → (now : Page Block) × (new ≡ Some now) × (length now.slots ≡ length page.slots) × (now.class_size ≡ page.class_size)
 
 -- and each keeps its flag and its blocks
 pub record PageGrows (old new : Option (Page Block)) : Type 0 where
@@ -57,11 +57,11 @@ pub record PageGrows (old new : Option (Page Block)) : Type 0 where
   pub slots : (slot : ℕ) → SlotGrows (get_or (slots_of old) slot None) (get_or (slots_of new) slot None)
 
 page-same : (page : Option (Page Block)) → PageGrows page page
-page-same page = record { used = λ now is. (now, is, refl); flag = refl; slots = λ slot. slot-same (get_or (slots_of page) slot None) }
+page-same page = record { used = λ now is. (now, is, refl, refl); flag = refl; slots = λ slot. slot-same (get_or (slots_of page) slot None) }
 
 page-then : (first second third : Option (Page Block)) → PageGrows first second → PageGrows second third → PageGrows first third
 page-then first second third one two = record {
-  used = λ page is. let (now, at, size) = one.used page is in let (later, there, size') = two.used now at in (later, there, size' ∙ size);
+  used = λ page is. let (now, at, size, class) = one.used page is in let (later, there, size', class') = two.used now at in (later, there, size' ∙ size, class' ∙ class);
   flag = two.flag ∙ one.flag;
   slots = λ slot. slot-then (get_or (slots_of first) slot None) (get_or (slots_of second) slot None) (get_or (slots_of third) slot None) (one.slots slot) (two.slots slot);
 }
@@ -74,7 +74,12 @@ slots-with slots slot block inside grows other = elim (cases_eq other slot) [
 
 page-with : (page : Page Block) (slot : ℕ) (block : Block) → slot < length page.slots → SlotGrows (block_in slot page) (Some block) → PageGrows (Some page) (Some (page_with slot (Some block) page))
 page-with page slot block inside grows = record {
-  used = λ old is. (page_with slot (Some block) page, refl, length-set page.slots slot (Some block) ∙ ap (λ (p : Page Block). length p.slots) (same_Some page old is));
+  used = λ old is. (
+    page_with slot (Some block) page,
+    refl,
+    length-set page.slots slot (Some block) ∙ ap (λ (p : Page Block). length p.slots) (same_Some page old is),
+    ap (λ (p : Page Block). p.class_size) (same_Some page old is),
+  );
   flag = refl;
   slots = slots-with page.slots slot block inside grows;
 }

@@ -30,8 +30,8 @@ use Rattle.mh_laws.specs.Commands.{IsOnCourse}
 use Rattle.mh_laws.proofs.commands.LeftUnchanged.{mutator_step-course, event-keeps}
 use Rattle.mh_run_laws.proofs.following.AllCommands.{commands-follow}
 use Rattle.mh_run_laws.proofs.runs.FaithfulMoments.{moments-faithful}
-use Rattle.mh_sizing_laws.specs.Made.{made_parts, parts_made, parts_made_in, intervals_made_in, births_less_slots, class_demand}
-use Rattle.mh_sizing_laws.specs.Needs.{PagesForDemandSuffice}
+use Rattle.mh_sizing_laws.specs.Made.{made_parts, parts_made, parts_made_in, intervals_made_in, births_less_slots, class_footprint}
+use Rattle.mh_sizing_laws.specs.Needs.{PagesForFootprintSuffice}
 use Rattle.mh_sizing_laws.proofs.Births.{with_parts, IsServedSo, command-served}
 use Rattle.mh_sizing_laws.proofs.openings.Intervals.{class_parts-append, quiet-event, quantum-event}
 use Rattle.mh_sizing_laws.proofs.openings.MadeParts.{IsAmong, among-is_class, more-pages}
@@ -44,7 +44,7 @@ use Rattle.mh_sizing_laws.proofs.triggers.Commands.{control-reply}
 use Rattle.mh_sizing_laws.proofs.triggers.SizedRuns.{half-stays, run-collector}
 use Rattle.mh_sizing_laws.proofs.needs.BesideRuns.{NoneIsFull, IsBeside, first-beside, same-quantum, next-beside}
 use Rattle.mh_sizing_laws.proofs.needs.ClassPages.{counts_one, counts_blocks}
-use Rattle.mh_sizing_laws.proofs.needs.ClassDemand.{births-more, bound_of, demand-births, HasPagesBy, MeetsDemand, opened-by}
+use Rattle.mh_sizing_laws.proofs.needs.ClassFootprint.{births-more, bound_of, footprint-births, HasPagesBy, MeetsFootprint, opened-by}
 use Rattle.mh_sizing_laws.proofs.needs.ClassQuanta.{IsNoLarger, few-no_larger, quantum-no_larger}
 
 -- Intervals --------------------------------------------------------------------------------------
@@ -153,7 +153,7 @@ module _ (config : Config) where
             births-more size (made size + class_parts size list) (made size + class_parts size (list ++ parts_made_in (next_run run (event.Session who c)) events)) (omega (arith, class_parts-append size list (parts_made_in (next_run run (event.Session who c)) events))),
           )
 
-      meets : MeetsDemand closed whole all (ages table) (with_parts list (births run.world) (λ k. [])) (ages table)
+      meets : MeetsFootprint closed whole all (ages table) (with_parts list (births run.world) (λ k. [])) (ages table)
       meets = record {
         slots = have_their_slots birth_of table has.slots;
         classes = λ size class. record { asked = class_parts size before; made = made size; asked_is = omega (arith, ahead size); made_is = omega (arith, ahead size); has = has.classes size class };
@@ -161,8 +161,8 @@ module _ (config : Config) where
         alone = alone-same (ages table);
       }
 
-      served : IsServedSo (MeetsDemand closed whole all (ages table)) (λ k. []) moment.machine.heap who c
-      served = command-served (MeetsDemand closed whole all (ages table)) (demand-births closed whole all (ages table)) (λ k. []) moment.machine.heap run.world (subst (Agrees (heap_view moment.machine.heap)) has.beside.world (has.agrees [])) who c meets
+      served : IsServedSo (MeetsFootprint closed whole all (ages table)) (λ k. []) moment.machine.heap who c
+      served = command-served (MeetsFootprint closed whole all (ages table)) (footprint-births closed whole all (ages table)) (λ k. []) moment.machine.heap run.world (subst (Agrees (heap_view moment.machine.heap)) has.beside.world (has.agrees [])) who c meets
 
       course : IsOnCourse (most_fields moment.machine.heap.config) moment.machine.heap.collector (mutator_step moment.machine.heap who c).state.collector
       course = mutator_step-course moment.machine.heap who c
@@ -265,17 +265,17 @@ module _ (config : Config) where
       let rest = never-full events from now all (next_moment moment event) (next_run run event) on in
       ((half.reply, rest.0), (half.flagged, rest.1))
 
--- Pages for the demand suffice
-pub demand-suffices : PagesForDemandSuffice
+-- Pages for the footprint suffice
+pub footprint-suffices : PagesForFootprintSuffice
 unfolding moment_after
-demand-suffices config events few =
+footprint-suffices config events few =
     let all = never-full config events (λ size. 0) [] (λ size. 0) (first_moment config) (first_run config) (record {
       beside = first-beside config;
       agrees = λ more. ((moments-faithful commands-follow).at_each config more).agrees;
       slots = λ number page at. absurd (none-some page (sym (none_at config.pages number) ∙ at));
       whole = length-replicate config.pages None;
       classes = λ size class. subst (HasPagesBy size 0 0 0) (sym (free-table_map birth_of config.pages)) (none-by size config.pages);
-      enough = omega (arith, few, sum-below (bound_from config (λ size. 0) [] (λ size. 0) (first_run config) events) (λ size. class_demand size config events) class_sizes (λ size among. zero-more size));
+      enough = omega (arith, few, sum-below (bound_from config (λ size. 0) [] (λ size. 0) (first_run config) events) (λ size. class_footprint size config events) class_sizes (λ size among. zero-more size));
     }) in
     record { replies = all.0; flagged = all.1 }
   where
@@ -293,7 +293,7 @@ demand-suffices config events few =
       });
     }
 
-    zero-more : (size : ℕ) → bound_from config (λ k. 0) [] (λ k. 0) (first_run config) events size ≤ class_demand size config events
+    zero-more : (size : ℕ) → bound_from config (λ k. 0) [] (λ k. 0) (first_run config) events size ≤ class_footprint size config events
     zero-more size =
         let none : 0 + class_parts size (parts_made config events) ≡ class_parts size (parts_made config events) = omega arith in
         omega (arith, ap (births_less_slots size) none)

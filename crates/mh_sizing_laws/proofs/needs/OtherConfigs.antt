@@ -21,6 +21,7 @@ use Rattle.mh_model.specs.CycleUnits.{ReachesAtMost, most_slots, most_moves}
 use Rattle.mh_model.specs.LiveParts.{HasAtMostLive}
 use Rattle.mh_model.specs.Machine.{command_units}
 use Rattle.mh_model.specs.Needs.{WorldRun, first_run, half_run, runs_quantum, next_run, run_worlds}
+use Rattle.mh_sizing_laws.specs.Filled.{FillsAtMost}
 use Rattle.mh_sizing_laws.specs.Made.{births_less_slots, made_parts, parts_made_in, intervals_made_in}
 use Rattle.mh_sizing_laws.specs.Needs.{HasSameScheduler, NeedsAreOfTheScheduler}
 use Rattle.mh_sizing_laws.proofs.needs.BesideRuns.{after-world, config-kept}
@@ -178,7 +179,8 @@ of-scheduler = record {
     opened = subst (AllByRecursion (λ interval. pages_of_parts interval ≤ needs.opened)) (sym (intervals-same other events [] (first_run config) same)) make.opened;
     page = subst (λ (list : List Part). most_slots list + most_moves list ≤ needs.page_units) (sym (all-same other events (first_run config) same)) make.page;
   };
-  demanded = λ config other events same.
+  filled = λ most config other events same fills. worlds-same other (FillsAtMost (λ size. 0) most) (λ world few list once reached. few list once (all-reached other world list reached)) events (first_run config) same fills;
+  footprints = λ config other events same.
       ap₂ (λ (intervals : List (List Part)) (list : List Part). sum_by (λ size. min (sum_by (λ interval. pages_for size (class_parts size interval)) intervals) (births_less_slots size (class_parts size list))) class_sizes)
       (intervals-same other events [] (first_run config) same) (all-same other events (first_run config) same);
   parts = λ config other events same. all-same other events (first_run config) same;

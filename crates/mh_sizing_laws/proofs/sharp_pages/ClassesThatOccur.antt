@@ -1,8 +1,8 @@
 -- The classes that occur among parts, and sums over them.
-use Rattle.std.proofs.Common.{rules, ◌≡◌, ℕ, zero, suc, ◌+◌, ◌*◌, ◌/◌, ◌<◌, ◌≤◌, ◌==◌, ◌||◌, min, not, Bool, true, false, if◌then◌else◌, List, [], ◌∷◌, length, filter, refl, sym, ap, ◌∙◌, arith, eq-eqb}
+use Rattle.std.proofs.Common.{rules, ◌≡◌, inl, inr, ℕ, zero, suc, ◌+◌, ◌*◌, ◌/◌, ◌<◌, ◌≤◌, ◌==◌, ◌||◌, min, not, Bool, true, false, if◌then◌else◌, List, [], ◌∷◌, length, filter, refl, sym, ap, ◌∙◌, arith, eq-eqb}
 use Rattle.std.specs.List.{AllByRecursion, IsDistinct, sum_by, list_any}
-use Rattle.std.proofs.Math.Nat.{le-div_iff_mul-le, div-mul-le_self, mul-le-mul_left, mul_comm, add-mul, add-mul-div_left}
-use Rattle.std.proofs.lemmas.Bool.{eqb-true, false≢true, true≢false}
+use Rattle.std.proofs.Math.Nat.{le-div_iff_mul-le, div-mul-le_self, mul-le-mul_left, mul_comm, mul-suc, add-mul, add-mul-div_left}
+use Rattle.std.proofs.lemmas.Bool.{cases_lt, eqb-true, false≢true, true≢false}
 use Rattle.std.proofs.lemmas.Grind.{div_ceil_times}
 use Rattle.std.proofs.lemmas.List.Sums.{sum_by-cons}
 use Rattle.mh_model.specs.Batches.{NoneTwice}
@@ -36,7 +36,7 @@ module _ (test : ℕ → Bool) where
       go true false is h rest = rest (ap (λ b. b || list_any (λ other. other == size) (filter test sizes)) (sym is) ∙ h)
       go false false is h rest = rest h
 
-  kept-all : (P : ℕ → Type 0) (sizes : List ℕ) → AllByRecursion P sizes → AllByRecursion P (filter test sizes)
+  pub kept-all : (P : ℕ → Type 0) (sizes : List ℕ) → AllByRecursion P sizes → AllByRecursion P (filter test sizes)
   kept-all P [] all = tt
   kept-all P (k ∷ sizes) all = go (test k) (kept-all P sizes all.1)
     where
@@ -44,7 +44,7 @@ module _ (test : ℕ → Bool) where
       go true rest = (all.0, rest)
       go false rest = rest
 
-  kept-once : (sizes : List ℕ) → NoneTwice sizes → NoneTwice (filter test sizes)
+  pub kept-once : (sizes : List ℕ) → NoneTwice sizes → NoneTwice (filter test sizes)
   unfolding IsDistinct
   kept-once [] once = tt
   kept-once (k ∷ sizes) once = go (test k) (kept-once sizes once.1)
@@ -77,6 +77,14 @@ occurring-classes list size among = among-kept (occurs list) size class_sizes am
 pub occurring-sum : (f : ℕ → ℕ) (list : List Part) → sum_by f (occurring list) ≤ sum_by f class_sizes
 occurring-sum f list = kept-sum (occurs list) f class_sizes
 
+-- a list of some of the classes
+pub record AreClasses (sizes : List ℕ) : Type 0 where
+  pub each : (size : ℕ) → IsAmong size sizes → is_class_size size ≡ true
+  pub sum : (f : ℕ → ℕ) → sum_by f sizes ≤ sum_by f class_sizes
+
+pub occurring-some : (list : List Part) → AreClasses (occurring list)
+occurring-some list = record { each = occurring-classes list; sum = λ f. occurring-sum f list }
+
 -- a class of which there are parts occurs
 pub occurring-parts : (list : List Part) (size : ℕ) → is_class_size size ≡ true → 0 < class_parts size list → IsAmong size (occurring list)
 occurring-parts list size class some = kept-among (occurs list) size class_sizes (go (class_parts size list == 0) refl) (among-classes size class)
@@ -86,20 +94,6 @@ occurring-parts list size class some = kept-among (occurs list) size class_sizes
     go false is = refl
 
 -- Slots ------------------------------------------------------------------------------------------
-
-pub fewest-some : (sizes : List ℕ) → ((size : ℕ) → IsAmong size sizes → is_class_size size ≡ true) → 0 < fewest_of sizes
-fewest-some [] classes = omega arith
-fewest-some (k ∷ sizes) classes = omega (arith, (slots_in-class_size k (classes k first)).0, fewest-some sizes (λ size among. classes size (later size among)))
-  where
-    first : IsAmong k (k ∷ sizes)
-    first = ap (λ b. b || list_any (λ other. other == k) sizes) (eq-eqb k k refl)
-
-    later : (size : ℕ) → IsAmong size sizes → IsAmong size (k ∷ sizes)
-    later size among = go (k == size)
-      where
-        go : (same : Bool) → (same || list_any (λ other. other == size) sizes) ≡ true
-        go true = refl
-        go false = among
 
 pub fewest-least : (size : ℕ) (sizes : List ℕ) → IsAmong size sizes → fewest_of sizes ≤ slots_in size
 fewest-least size [] among = absurd (false≢true among)
@@ -123,24 +117,29 @@ pub sum-none : (sizes : List ℕ) → sum_by (λ (k : ℕ). 0) sizes ≡ 0
 sum-none [] = refl
 sum-none (k ∷ sizes) = omega (arith, sum_by-cons (λ (j : ℕ). 0) k sizes, sum-none sizes)
 
+-- no blocks fill no page
+pub none-fill : (slots count : ℕ) → count ≤ 0 → count / slots ≤ 0
+none-fill zero count none = omega arith
+none-fill (suc slots) count none = omega (arith, none, div-mul-le_self count (suc slots), mul-suc (count / suc slots) slots)
+
 -- quotients by one number
 sum-quotients : (few : ℕ) (f : ℕ → ℕ) (sizes : List ℕ) → sum_by (λ k. f k / few) sizes * few ≤ sum_by f sizes
 sum-quotients few f [] = omega arith
 sum-quotients few f (k ∷ sizes) =
     omega (arith, ap (λ n. n * few) (sum_by-cons (λ j. f j / few) k sizes), add-mul (f k / few) (sum_by (λ j. f j / few) sizes) few, div-mul-le_self (f k) few, sum_by-cons f k sizes, sum-quotients few f sizes)
 
--- Quotients by the slots of each class are no more than one by the fewest slots
-pub sum-slots : (f : ℕ → ℕ) (sizes : List ℕ) → ((size : ℕ) → IsAmong size sizes → is_class_size size ≡ true) → sum_by (λ k. f k / slots_in k) sizes ≤ sum_by f sizes / fewest_of sizes
-sum-slots f sizes classes =
-    let few : ℕ = fewest_of sizes in
-    let some : 0 < few = fewest-some sizes classes in
-    let each = sum-below (λ k. f k / slots_in k) (λ k. f k / few) sizes (λ k among. less k (fewest-least k sizes among) some) in
-    omega (arith, each, (le-div_iff_mul-le some).1 (sum-quotients few f sizes))
+-- quotients by the slots of each class that has some are no more than one by no more slots
+pub sum-slots : (f : ℕ → ℕ) (least : ℕ) (sizes : List ℕ) → 1 ≤ least → ((size : ℕ) → IsAmong size sizes → 0 < f size → least ≤ slots_in size) → sum_by (λ k. f k / slots_in k) sizes ≤ sum_by f sizes / least
+sum-slots f least sizes some slots =
+    omega (arith, sum-below (λ k. f k / slots_in k) (λ k. f k / least) sizes (λ k among. less k (slots k among)), (le-div_iff_mul-le some).1 (sum-quotients least f sizes))
   where
-    less : (k : ℕ) → fewest_of sizes ≤ slots_in k → 0 < fewest_of sizes → f k / slots_in k ≤ f k / fewest_of sizes
-    less k least some =
-        let product : f k / slots_in k * fewest_of sizes ≤ f k / slots_in k * slots_in k = mul-le-mul_left (f k / slots_in k) least in
-        (le-div_iff_mul-le some).1 (omega (arith, product, div-mul-le_self (f k) (slots_in k)))
+    less : (k : ℕ) → (0 < f k → least ≤ slots_in k) → f k / slots_in k ≤ f k / least
+    less k more = elim (cases_lt 0 (f k)) [
+      | inr none ↦ omega (arith, none, none-fill (slots_in k) (f k))
+      | inl one ↦
+          let product : f k / slots_in k * least ≤ f k / slots_in k * slots_in k = mul-le-mul_left (f k / slots_in k) (more one) in
+          (le-div_iff_mul-le some).1 (omega (arith, product, div-mul-le_self (f k) (slots_in k)))
+    ]
 
 -- with whole pages
 pub sum-pages : (f g : ℕ → ℕ) (sizes : List ℕ) → ((size : ℕ) → IsAmong size sizes → is_class_size size ≡ true) → sum_by (λ k. (f k + slots_in k * g k) / slots_in k) sizes ≤ sum_by (λ k. f k / slots_in k) sizes + sum_by g sizes
@@ -185,23 +184,9 @@ module _ (test other : ℕ → Bool) (passes : (size : ℕ) → test size ≡ tr
       go false is true is' rest = omega (arith, rest)
       go false is false is' rest = rest
 
-  kept-fewest : (sizes : List ℕ) → fewest_of (filter other sizes) ≤ fewest_of (filter test sizes)
-  kept-fewest [] = omega arith
-  kept-fewest (k ∷ sizes) = go (test k) refl (other k) refl (kept-fewest sizes)
-    where
-      go : (kept : Bool) → test k ≡ kept → (also : Bool) → other k ≡ also → fewest_of (filter other sizes) ≤ fewest_of (filter test sizes) → fewest_of (if also then k ∷ filter other sizes else filter other sizes) ≤ fewest_of (if kept then k ∷ filter test sizes else filter test sizes)
-      go true is true is' rest = omega (arith, rest)
-      go true is false is' rest = absurd (true≢false (sym (passes k is) ∙ is'))
-      go false is true is' rest = omega (arith, rest)
-      go false is false is' rest = rest
-
--- parts of which there are no more have no other classes, and no fewer slots in a page
-pub record HasFewer (old new : List Part) : Type 0 where
-  pub classes : length (occurring old) ≤ length (occurring new)
-  pub slots : fewest_of (occurring new) ≤ fewest_of (occurring old)
-
-pub fewer-parts : (old new : List Part) → ((size : ℕ) → class_parts size old ≤ class_parts size new) → HasFewer old new
-fewer-parts old new few = record { classes = kept-fewer (occurs old) (occurs new) passes class_sizes; slots = kept-fewest (occurs old) (occurs new) passes class_sizes }
+-- parts of which there are no more have no other classes
+pub fewer-classes : (old new : List Part) → ((size : ℕ) → class_parts size old ≤ class_parts size new) → length (occurring old) ≤ length (occurring new)
+fewer-classes old new few = kept-fewer (occurs old) (occurs new) passes class_sizes
   where
     by_counts : (one more : ℕ) → one ≤ more → not (one == 0) ≡ true → (none : Bool) → (more == 0) ≡ none → not none ≡ true
     by_counts one more less some true is = absurd (false≢true (sym (ap not (eq-eqb one 0 (omega (arith, less, eqb-true more 0 is)))) ∙ some))

@@ -5,7 +5,6 @@ use Rattle.std.proofs.lemmas.Bool.{cases_Bool, false≢true, true≢false, or_pa
 use Rattle.mh_model.specs.declared.cycle.Phase.TheVariants.{Idle}
 use Rattle.mh_model.specs.Batches.{NoneTwice}
 use Rattle.mh_model.specs.Classes.{slots_in, is_class_size}
-use Rattle.mh_model.specs.LiveParts.{HasAtMostLive}
 use Rattle.mh_model.specs.Pages.{Page, Table, block_count, HaveTheirSlots}
 use Rattle.mh_model.specs.Paths.{Agrees}
 use Rattle.mh_model.specs.Table.{Block}
@@ -28,6 +27,7 @@ use Rattle.mh_sizing_laws.proofs.cycles.Classes.{HasClasses, collector_step-clas
 use Rattle.mh_sizing_laws.proofs.openings.MadeParts.{IsAmong}
 use Rattle.mh_sizing_laws.proofs.openings.Rooms.{empties}
 use Rattle.mh_sizing_laws.proofs.pages_left.GrownWorlds.{HasGrown, grown-same}
+use Rattle.mh_sizing_laws.proofs.pages_left.PlacedParts.{ArePlaced, step-placed}
 use Rattle.mh_sizing_laws.specs.Anchors.{ReachesThoseThatStay}
 use Rattle.mh_sizing_laws.proofs.pages_left.SweptPages.{quiet-beside}
 use Rattle.mh_sizing_laws.proofs.filling.Beside.{beside, beside-less, beside-most}
@@ -37,22 +37,23 @@ use Rattle.mh_sizing_laws.proofs.filling.Slots.{youngs, olds, blocks-empties}
 use Rattle.mh_sizing_laws.proofs.filling.PageWeights.{traced, traced_by, roomy}
 use Rattle.mh_sizing_laws.proofs.filling.Ages.{birth_of, ages}
 use Rattle.mh_sizing_laws.proofs.filling.FilledTables.{AllFill}
-use Rattle.mh_sizing_laws.proofs.anchors.GivenAnchors.{Anchors, anchor_at, anchored_pages, staying_blocks}
+use Rattle.mh_sizing_laws.proofs.anchors.GivenAnchors.{Anchors, anchor_at, anchored_pages, staying_blocks, HoldsFew}
 use Rattle.mh_sizing_laws.proofs.anchors.AnchoredQuanta.{IsAnchoring, step-anchoring}
 use Rattle.mh_sizing_laws.proofs.anchors.AnchoredMoments.{AreOlder}
+use Rattle.mh_sizing_laws.proofs.sharp_pages.ClassesThatOccur.{AreClasses}
 use Rattle.mh_sizing_laws.proofs.sharp_pages.ClassSums.{weights-same, weights-zero}
 use Rattle.mh_sizing_laws.proofs.sharp_pages.Moves.{resting_beside}
 use Rattle.mh_sizing_laws.proofs.sharp_pages.SweptTables.{young_in}
 use Rattle.mh_sizing_laws.proofs.sharp_pages.CycleSteps.{Goes, Works, step-goes}
 
-module _ (anchors : Anchors) (sizes : List ℕ) (most : ℕ) (once : NoneTwice sizes) (are_classes : (size : ℕ) → IsAmong size sizes → is_class_size size ≡ true) where
-  module _ (from bound : ℕ) (base fresh : ℕ → ℕ) (snapshot world : World) (from_is : births snapshot ≡ from) (grown : HasGrown snapshot world) (live : HasAtMostLive (most + staying_blocks anchors) snapshot)
+module _ (anchors : Anchors) (sizes : List ℕ) (most filled : ℕ) (once : NoneTwice sizes) (are_classes : AreClasses sizes) where
+  module _ (from bound : ℕ) (base fresh : ℕ → ℕ) (snapshot world : World) (from_is : births snapshot ≡ from) (grown : HasGrown snapshot world) (holds : HoldsFew anchors most filled snapshot)
       (reaches : ReachesThoseThatStay anchors.stays snapshot) (older : AreOlder anchors.stays anchors.first snapshot) where
     abbrev IsGoing : Collector → Type 0
-    IsGoing c = Goes anchors sizes from most bound base fresh c
+    IsGoing c = Goes anchors sizes from most filled bound base fresh c
 
     -- steps of a quantum
-    steps-goes : (more left : ℕ) (has_moved : Bool) (heap : HeapState) → Works anchors sizes from most bound base fresh snapshot world heap → IsGoing heap.collector → IsGoing (steps more left has_moved heap.collector).collector
+    steps-goes : (more left : ℕ) (has_moved : Bool) (heap : HeapState) → Works anchors sizes from most filled bound base fresh snapshot world heap → IsGoing heap.collector → IsGoing (steps more left has_moved heap.collector).collector
     unfolding steps
     steps-goes zero left has_moved heap works goes = goes
     steps-goes (suc more) left has_moved heap works goes = elim (cases_Bool (is_idle heap.collector.phase || nat_lt left (step_cost heap.collector has_moved))) [
@@ -60,19 +61,20 @@ module _ (anchors : Anchors) (sizes : List ℕ) (most : ℕ) (once : NoneTwice s
       | inr on ↦
           let (runs, fits) = or_parts (is_idle heap.collector.phase) (nat_lt left (step_cost heap.collector has_moved)) on in
           let next : HeapState = record heap { collector = collector_step heap.collector } in
-          let later : Works anchors sizes from most bound base fresh snapshot world next = record {
+          let later : Works anchors sizes from most filled bound base fresh snapshot world next = record {
             keeps = (continues-collector_step snapshot heap.next_birth heap.collector runs works.keeps).keeps;
             agrees = agrees-collector_step snapshot world heap runs works.keeps works.agrees;
             slots = (collector_step-keeps 0 heap.collector).slots works.slots;
             classes = collector_step-classes (λ size. IsAmong size sizes) heap.collector works.classes;
+            placed = step-placed heap.collector works.slots works.placed;
             anchoring = step-anchoring anchors.stays anchors.first snapshot heap.next_birth heap.collector works.keeps reaches works.slots works.anchoring;
           } in
           subst (λ s. IsGoing s.collector) (sym (steps-go more left has_moved heap.collector on))
-          (steps-goes more (left - step_cost heap.collector has_moved) (has_moved || is_moving heap.collector) next later (step-goes anchors sizes from most bound base fresh once are_classes snapshot world from_is grown live reaches older heap works runs goes))
+          (steps-goes more (left - step_cost heap.collector has_moved) (has_moved || is_moving heap.collector) next later (step-goes anchors sizes from most filled bound base fresh once are_classes snapshot world from_is grown holds reaches older heap works runs goes))
     ]
 
     -- a quantum that begins with such a collector
-    from-start : (heap : HeapState) (d : Collector) → quantum_start heap.config heap.collector ≡ d → Works anchors sizes from most bound base fresh snapshot world (record heap { collector = d }) → IsGoing d → IsGoing (quantum heap.config heap.collector).collector
+    from-start : (heap : HeapState) (d : Collector) → quantum_start heap.config heap.collector ≡ d → Works anchors sizes from most filled bound base fresh snapshot world (record heap { collector = d }) → IsGoing d → IsGoing (quantum heap.config heap.collector).collector
     unfolding quantum
     from-start heap d is works goes =
         subst (λ z. IsGoing (steps heap.config.quantum heap.config.quantum false z).collector) (sym is) (steps-goes heap.config.quantum heap.config.quantum false (record heap { collector = d }) works goes)
@@ -82,7 +84,7 @@ module _ (anchors : Anchors) (sizes : List ℕ) (most : ℕ) (once : NoneTwice s
     counted-view heap quanta = refl
 
     -- A quantum of a cycle that runs
-    pub quantum-goes : (heap : HeapState) → is_idle heap.collector.phase ≡ false → Works anchors sizes from most bound base fresh snapshot world heap → IsGoing heap.collector → IsGoing (quantum heap.config heap.collector).collector
+    pub quantum-goes : (heap : HeapState) → is_idle heap.collector.phase ≡ false → Works anchors sizes from most filled bound base fresh snapshot world heap → IsGoing heap.collector → IsGoing (quantum heap.config heap.collector).collector
     quantum-goes heap runs works goes = elim (begins heap.config heap.collector).case [
       | inl starts ↦ absurd (true≢false (sym (ap is_idle starts.1) ∙ runs))
       | inr other ↦ elim other [
@@ -95,6 +97,7 @@ module _ (anchors : Anchors) (sizes : List ℕ) (most : ℕ) (once : NoneTwice s
               agrees = subst (λ v. Agrees v world) (sym (counted-view heap (c.quanta + 1))) works.agrees;
               slots = works.slots;
               classes = works.classes;
+              placed = works.placed;
               anchoring = record {
                 blocks = record { used = works.anchoring.blocks.used; swept = works.anchoring.blocks.swept; cursor = works.anchoring.blocks.cursor };
                 anchors = works.anchoring.anchors;
@@ -103,7 +106,7 @@ module _ (anchors : Anchors) (sizes : List ℕ) (most : ℕ) (once : NoneTwice s
             })
             (record {
               traces = λ e. let t = goes.traces e in record { weight = t.weight; young = t.young; enough = t.enough };
-              leaves = λ e. let l = goes.leaves e in record { used = l.used; old = l.old; few = l.few; fill = l.fill };
+              leaves = λ e. let l = goes.leaves e in record { used = l.used; old = l.old; few = l.few; full = l.full; fill = l.fill };
             })
         | inr rests ↦ absurd (true≢false (sym (ap is_idle rests.1) ∙ runs))
       ]
@@ -168,20 +171,21 @@ module _ (anchors : Anchors) (sizes : List ℕ) (most : ℕ) (once : NoneTwice s
         refl
 
   -- A quantum that starts a cycle
-  pub quantum-starts : (bound : ℕ) (base : ℕ → ℕ) (heap : HeapState) (snapshot world : World) → HeapKeeps snapshot heap → Agrees (heap_view heap) world → HaveTheirSlots heap.collector.table → HasClasses (λ size. IsAmong size sizes) heap.collector.table → IsAnchoring anchors.stays anchors.first heap.collector
-      → HasAtMostLive (most + staying_blocks anchors) world → ReachesThoseThatStay anchors.stays world → AreOlder anchors.stays anchors.first world → is_start_due heap.config heap.collector ≡ true → heap.collector.phase ≡ Idle → AllFill (resting_beside (anchor_at anchors)) base (λ k. 1) heap.collector.table → most + anchored_pages anchors + sum_by (λ k. (base k + slots_in k) / slots_in k) sizes ≤ bound
-      → Goes anchors sizes (births world) most bound (λ k. base k + slots_in k) (λ k. 0) (quantum heap.config heap.collector).collector
-  quantum-starts bound base heap snapshot world keeps agrees slots classes anchoring live reaches older due idle fill enough = elim (begins heap.config heap.collector).case [
+  pub quantum-starts : (bound : ℕ) (base : ℕ → ℕ) (heap : HeapState) (snapshot world : World) → HeapKeeps snapshot heap → Agrees (heap_view heap) world → HaveTheirSlots heap.collector.table → HasClasses (λ size. IsAmong size sizes) heap.collector.table → ArePlaced heap.collector.table → IsAnchoring anchors.stays anchors.first heap.collector
+      → HoldsFew anchors most filled world → ReachesThoseThatStay anchors.stays world → AreOlder anchors.stays anchors.first world → is_start_due heap.config heap.collector ≡ true → heap.collector.phase ≡ Idle → AllFill (resting_beside (anchor_at anchors)) base (λ k. 1) heap.collector.table → most + anchored_pages anchors + sum_by (λ k. (base k + slots_in k) / slots_in k) sizes ≤ bound
+      → Goes anchors sizes (births world) most filled bound (λ k. base k + slots_in k) (λ k. 0) (quantum heap.config heap.collector).collector
+  quantum-starts bound base heap snapshot world keeps agrees slots classes placed anchoring holds reaches older due idle fill enough = elim (begins heap.config heap.collector).case [
     | inl starts ↦
         let d : Collector = record (cycle_start heap.collector) { quanta = 1 } in
         let view : KeepsSnapshot (heap_view heap) heap.next_birth d = snapshot-counted (heap_view heap) heap.next_birth (cycle_start heap.collector) false 1 (snapshot-started heap (ap in_sweep idle) keeps.sound) in
         let same : heap.next_birth ≡ births world = sym (births-view heap) ∙ agrees.next_birth in
-        from-start (births world) bound (λ k. base k + slots_in k) (λ k. 0) world world refl (grown-same world) live reaches older heap d starts.2
+        from-start (births world) bound (λ k. base k + slots_in k) (λ k. 0) world world refl (grown-same world) holds reaches older heap d starts.2
         (record {
           keeps = snapshot-agreeing (heap_view heap) world agrees heap.next_birth d view;
           agrees = subst (λ v. Agrees v world) (sym (started-view heap slots keeps.sound idle view)) agrees;
           slots = slots;
           classes = classes;
+          placed = placed;
           anchoring = record { blocks = quiet-beside (staying_blocks anchors) (anchored_pages anchors) d refl (anchoring.blocks.used (ap in_sweep idle)); anchors = anchoring.anchors; size = anchoring.size };
         })
         (record {

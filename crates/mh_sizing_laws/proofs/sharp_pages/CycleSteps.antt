@@ -1,5 +1,5 @@
 -- Steps of a cycle: what its pages weigh while it marks and sweeps, and what the sweep leaves.
-use Rattle.std.proofs.Common.{◌≡◌, ◌⊎◌, inl, inr, ℕ, suc, ◌+◌, ◌/◌, ◌==◌, ◌<◌, ◌≤◌, not, ◌||◌, Bool, true, false, if◌then◌else◌, Option, Some, None, is_some, option_and_then, List, [], ◌∷◌, length, get_or, refl, sym, ap, ◌∙◌, subst, arith, eq-eqb}
+use Rattle.std.proofs.Common.{◌≡◌, ◌⊎◌, inl, inr, ℕ, suc, ◌+◌, ◌-◌, ◌/◌, ◌==◌, ◌<◌, ◌≤◌, not, ◌||◌, Bool, true, false, if◌then◌else◌, Option, Some, None, is_some, option_and_then, List, [], ◌∷◌, length, get_or, refl, sym, ap, ◌∙◌, subst, arith, eq-eqb}
 use Rattle.std.specs.List.{sum_by}
 use Rattle.std.proofs.lemmas.Bool.{cases_eq, cases_lt, eqb-false, false≢true, true≢false, leb-true}
 use Rattle.std.proofs.lemmas.List.{get_or-set_same, get_or-set_other}
@@ -8,7 +8,7 @@ use Rattle.mh_model.specs.declared.cycle.Phase.{Phase}
 use Rattle.mh_model.specs.declared.cycle.Phase.TheVariants.{Idle, Roots, Mark, Sweep, Defrag}
 use Rattle.mh_model.specs.Batches.{NoneTwice}
 use Rattle.mh_model.specs.Classes.{slots_in, is_class_size}
-use Rattle.mh_model.specs.LiveParts.{HasAtMostLive, count_blocks, is_plain}
+use Rattle.mh_model.specs.LiveParts.{count_blocks, is_plain}
 use Rattle.mh_model.specs.Pages.{Page, Table, page_number, slot_number, page_at, block_in, block_at, live_in, free_pages, page_with, HaveTheirSlots}
 use Rattle.mh_model.specs.Paths.{Agrees}
 use Rattle.mh_model.specs.Table.{Block}
@@ -20,6 +20,7 @@ use Rattle.mh_model.specs.Invariant.{in_trace, in_defrag, IsSound, IsFinished, H
 use Rattle.mh_model.specs.Limits.{root_slots}
 use Rattle.mh_table_laws.proofs.Lists.{below_length, get_or-set_either}
 use Rattle.mh_table_laws.proofs.placing.Places.{shaped-slots, block-slot}
+use Rattle.mh_table_laws.proofs.tables.PageSlots.{slots_in-class_size}
 use Rattle.mh_laws.proofs.commands.LeftUnchanged.{step_in-keeps}
 use Rattle.mh_laws.proofs.snapshots.CycleSteps.{continues-collector_step}
 use Rattle.mh_laws.proofs.sweeping.SweepSteps.{snapshot-sweep_step}
@@ -28,20 +29,24 @@ use Rattle.mh_sizing_laws.proofs.cycles.Classes.{HasClasses, swept-classes}
 use Rattle.mh_sizing_laws.proofs.openings.MadeParts.{IsAmong}
 use Rattle.mh_sizing_laws.proofs.pages_left.FedTables.{HasBlock, IsWithin}
 use Rattle.mh_sizing_laws.proofs.pages_left.GrownWorlds.{HasGrown}
+use Rattle.mh_sizing_laws.proofs.pages_left.MarkedPages.{div-more}
+use Rattle.mh_sizing_laws.proofs.pages_left.PlacedParts.{ArePlaced, swept-placed}
 use Rattle.mh_sizing_laws.specs.Anchors.{ReachesThoseThatStay}
+use Rattle.mh_sizing_laws.specs.Filled.{pages_filled}
 use Rattle.mh_sizing_laws.proofs.filling.Beside.{beside, beside-less}
 use Rattle.mh_sizing_laws.proofs.filling.Weights.{weights, weigh, weigh-less}
 use Rattle.mh_sizing_laws.proofs.filling.PageWeights.{traced}
 use Rattle.mh_sizing_laws.proofs.filling.Ages.{ages}
 use Rattle.mh_sizing_laws.proofs.filling.AgedCommands.{with_shade-ages, mark_first-ages}
 use Rattle.mh_sizing_laws.proofs.filling.FilledTables.{AllFill}
-use Rattle.mh_sizing_laws.proofs.anchors.GivenAnchors.{Anchors, anchor_at, anchored_pages, staying_blocks}
+use Rattle.mh_sizing_laws.proofs.anchors.GivenAnchors.{Anchors, anchor_at, anchored_pages, class_staying, staying_blocks, HoldsFew}
 use Rattle.mh_sizing_laws.proofs.anchors.AnchoredQuanta.{IsAnchoring, step-stands}
 use Rattle.mh_sizing_laws.proofs.anchors.AnchoredMoments.{AreOlder}
+use Rattle.mh_sizing_laws.proofs.sharp_pages.ClassesThatOccur.{AreClasses}
 use Rattle.mh_sizing_laws.proofs.sharp_pages.ClassSums.{sum-below}
 use Rattle.mh_sizing_laws.proofs.sharp_pages.Moves.{resting_beside, moved}
-use Rattle.mh_sizing_laws.proofs.sharp_pages.OldBlocks.{stands-old, old-few}
-use Rattle.mh_sizing_laws.proofs.sharp_pages.SweptTables.{is_old, HasOldAnchors, old_in, young_in, new_page, used-sorts, new-few, olds-few, roomy-few}
+use Rattle.mh_sizing_laws.proofs.sharp_pages.OldBlocks.{stands-old, old-few, old-fills}
+use Rattle.mh_sizing_laws.proofs.sharp_pages.SweptTables.{is_old, is_old_in, HasOldAnchors, old_in, young_in, new_page, used-sorts, new-few, olds-few, class-few, roomy-few}
 use Rattle.mh_sizing_laws.proofs.sharp_pages.SweptWeights.{aged, swept-weights, youngs-swept, others-less, here-traced, next-page, entered-traced}
 
 -- how many pages the sweep has passed, and how many it has begun with
@@ -51,7 +56,7 @@ passed_by phase cursor = if in_sweep phase then page_number cursor else 0
 abbrev pub entered_by : Phase → ℕ → ℕ
 entered_by phase cursor = if in_sweep phase then suc (page_number cursor) else 0
 
-module _ (anchors : Anchors) (sizes : List ℕ) (from most bound : ℕ) (base fresh : ℕ → ℕ) where
+module _ (anchors : Anchors) (sizes : List ℕ) (from most filled bound : ℕ) (base fresh : ℕ → ℕ) where
   abbrev out : ℕ → Bool
   out = anchor_at anchors
 
@@ -66,6 +71,7 @@ module _ (anchors : Anchors) (sizes : List ℕ) (from most bound : ℕ) (base fr
     pub used : length c.table ≤ free_pages c.table + bound
     pub old : ℕ → ℕ
     pub few : sum_by old sizes ≤ most
+    pub full : sum_by (λ k. old k / slots_in k) sizes ≤ filled
     pub fill : AllFill (resting_beside out) (λ k. old k + fresh k) (λ k. 1) c.table
 
   pub record Goes (c : Collector) : Type 0 where
@@ -91,12 +97,18 @@ module _ (anchors : Anchors) (sizes : List ℕ) (from most bound : ℕ) (base fr
     pub agrees : Agrees (heap_view heap) world
     pub slots : HaveTheirSlots heap.collector.table
     pub classes : HasClasses (λ size. IsAmong size sizes) heap.collector.table
+    pub placed : ArePlaced heap.collector.table
     pub anchoring : IsAnchoring anchors.stays anchors.first heap.collector
 
-  module _ (once : NoneTwice sizes) (are_classes : (size : ℕ) → IsAmong size sizes → is_class_size size ≡ true) (snapshot world : World) (from_is : births snapshot ≡ from) (grown : HasGrown snapshot world) (live : HasAtMostLive (most + staying_blocks anchors) snapshot)
+  -- what the sweep leaves of old blocks
+  pub record IsFew (table : Table Block) : Type 0 where
+    pub few : count_blocks (is_old from) table ≤ most + staying_blocks anchors
+    pub fills : pages_filled (λ size. count_blocks (is_old_in size from) table - class_staying anchors size) ≤ filled
+
+  module _ (once : NoneTwice sizes) (are_classes : AreClasses sizes) (snapshot world : World) (from_is : births snapshot ≡ from) (grown : HasGrown snapshot world) (holds : HoldsFew anchors most filled snapshot)
       (reaches : ReachesThoseThatStay anchors.stays snapshot) (older : AreOlder anchors.stays anchors.first snapshot) where
     -- After the sweep the old blocks are no more than the live parts
-    swept-old : (heap : HeapState) → in_defrag heap.collector.phase ≡ true → HeapKeeps snapshot heap → Agrees (heap_view heap) world → count_blocks (is_old from) heap.collector.table ≤ most + staying_blocks anchors
+    swept-old : (heap : HeapState) → in_defrag heap.collector.phase ≡ true → HeapKeeps snapshot heap → Agrees (heap_view heap) world → IsFew heap.collector.table
     swept-old heap defrags keeps agrees =
         let runs : is_idle heap.collector.phase ≡ false = defrag-runs heap.collector.phase defrags in
         let quiet : in_sweep heap.collector.phase ≡ false = defrag-quiet heap.collector.phase defrags in
@@ -105,7 +117,10 @@ module _ (anchors : Anchors) (sizes : List ℕ) (from most bound : ℕ) (base fr
           whole = λ birth kept. keeps.cycle.whole runs birth kept;
           stamped = λ place block there. keeps.sound.marked defrags place block there;
         } in
-        subst (λ n. count_blocks (is_old n) heap.collector.table ≤ most + staying_blocks anchors) from_is (old-few snapshot world heap keeps.sound quiet agrees finished (most + staying_blocks anchors) grown live)
+        record {
+          few = subst (λ n. count_blocks (is_old n) heap.collector.table ≤ most + staying_blocks anchors) from_is (old-few snapshot world heap keeps.sound quiet agrees finished (most + staying_blocks anchors) grown holds.live);
+          fills = subst (λ n. pages_filled (λ size. count_blocks (is_old_in size n) heap.collector.table - class_staying anchors size) ≤ filled) from_is (old-fills snapshot world heap keeps.sound quiet agrees finished (class_staying anchors) filled grown holds.fills);
+        }
       where
         defrag-runs : (phase : Phase) → in_defrag phase ≡ true → is_idle phase ≡ false
         defrag-runs Defrag e = refl
@@ -218,8 +233,8 @@ module _ (anchors : Anchors) (sizes : List ℕ) (from most bound : ℕ) (base fr
               let left : Page Block = page_with (slot_number c.cursor) (option_and_then (survivor c.cycle) (block_in (slot_number c.cursor) old)) old in
               judged left page (sym (ap (λ b. if b then judged_page c.table n left else Some left) (ends old refl)) ∙ written)
 
-      swept-leaves : c.phase ≡ Sweep → is_past swept.table swept.cursor ≡ true → Traces swept → count_blocks (is_old from) swept.table ≤ most + staying_blocks anchors → Leaves (with_phase swept Defrag 0)
-      swept-leaves sweeps past traces few =
+      swept-leaves : c.phase ≡ Sweep → is_past swept.table swept.cursor ≡ true → Traces swept → IsFew swept.table → Leaves (with_phase swept Defrag 0)
+      swept-leaves sweeps past traces is_few =
           let slots : HaveTheirSlots swept.table = (step_in-keeps 0 Sweep c).slots works.slots in
           let classes = swept-classes (λ size. IsAmong size sizes) c.cycle c.table c.cursor works.classes in
           let sound : IsSound heap.next_birth swept = (snapshot-sweep_step snapshot heap.next_birth c sweeps works.keeps).sound in
@@ -231,15 +246,24 @@ module _ (anchors : Anchors) (sizes : List ℕ) (from most bound : ℕ) (base fr
           let has : HasOldAnchors anchors from swept.table = record {
             size = omega (arith, works.anchoring.size, (step_in-keeps 0 Sweep c).pages);
             old = λ number page at is. stands-old anchors.stays from (λ birth stay. omega (arith, older birth stay, from_is)) page (page_at swept.table number) (stand.pages number page at is);
+            class = λ number page at is. let stands = stand.pages number page at is in (stands.now, stands.in_use, stands.class);
           } in
           let weight = λ (k : ℕ) (class : is_class_size k ≡ true). subst (λ s. weights (weigh k (beside out (traced from (if s then passed else 0) (if s then suc passed else 0) 0 (slots_in k)))) (ages swept.table) ≤ base k) (ap in_sweep sweeps) (traces.weight k class) in
           let sorts = used-sorts anchors sizes from passed (suc passed) swept.table slots classes some plain within has in
           let pages = sum-below (λ k. weights (weigh k (new_page from)) (ages swept.table)) (λ k. base k / slots_in k) sizes
-          (λ k among. new-few anchors sizes from passed (suc passed) swept.table slots classes some plain within has k (base k) (are_classes k among) (weight k (are_classes k among))) in
+          (λ k among. new-few anchors sizes from passed (suc passed) swept.table slots classes some plain within has k (base k) (are_classes.each k among) (weight k (are_classes.each k among))) in
           record {
-            used = omega (arith, sorts, pages, few, traces.enough);
+            used = omega (arith, sorts, pages, is_few.few, traces.enough);
             old = λ k. weights (weigh k (beside out (old_in from))) (ages swept.table);
-            few = omega (arith, olds-few anchors sizes from passed (suc passed) swept.table slots classes some plain within has once, few);
+            few = omega (arith, olds-few anchors sizes from passed (suc passed) swept.table slots classes some plain within has once, is_few.few);
+            full = omega (
+              arith,
+              sum-below (λ k. weights (weigh k (beside out (old_in from))) (ages swept.table) / slots_in k) (λ k. (count_blocks (is_old_in k from) swept.table - class_staying anchors k) / slots_in k) sizes
+                  (λ k among. div-more (weights (weigh k (beside out (old_in from))) (ages swept.table)) (count_blocks (is_old_in k from) swept.table - class_staying anchors k) (slots_in k) (slots_in-class_size k (are_classes.each k among)).0
+                  (omega (arith, class-few anchors sizes from passed (suc passed) swept.table slots classes some plain within has (swept-placed c.cycle c.table c.cursor works.placed) k))),
+              are_classes.sum (λ k. (count_blocks (is_old_in k from) swept.table - class_staying anchors k) / slots_in k),
+              is_few.fills,
+            );
             fill = λ k class. inl (omega (arith, roomy-few anchors sizes from passed (suc passed) swept.table slots classes some plain within has k, traces.young k class));
           }
         where
@@ -273,16 +297,16 @@ module _ (anchors : Anchors) (sizes : List ℕ) (from most bound : ℕ) (base fr
           after_roots d phase trace quiet same true = after d d.grey trace quiet same
           after_roots d phase trace quiet same false = trace-to d trace quiet (ap in_trace phase) (ap (λ s. if s then page_number d.cursor else 0) (ap in_sweep phase)) same
 
-          after_sweep : c.phase ≡ Sweep → (test : Bool) → is_past swept.table swept.cursor ≡ test → (in_defrag (if test then with_phase swept Defrag 0 else swept).phase ≡ true → count_blocks (is_old from) (if test then with_phase swept Defrag 0 else swept).table ≤ most + staying_blocks anchors)
+          after_sweep : c.phase ≡ Sweep → (test : Bool) → is_past swept.table swept.cursor ≡ test → (in_defrag (if test then with_phase swept Defrag 0 else swept).phase ≡ true → IsFew (if test then with_phase swept Defrag 0 else swept).table)
               → Goes (if test then with_phase swept Defrag 0 else swept)
           after_sweep sweeps true past few = goes-left (with_phase swept Defrag 0) refl (swept-leaves sweeps past (sweep-traces sweeps (goes.traces (ap in_trace sweeps))) (few refl))
           after_sweep sweeps false past few = goes-trace swept (ap in_trace sweeps) (sweep-traces sweeps (goes.traces (ap in_trace sweeps)))
 
           after_defrag : (d : Collector) → d.phase ≡ Defrag → Leaves d → (test : Bool) → Goes (if test then cycle_end d else d)
-          after_defrag d phase leaves true = goes-left (cycle_end d) refl (record { used = leaves.used; old = leaves.old; few = leaves.few; fill = leaves.fill })
+          after_defrag d phase leaves true = goes-left (cycle_end d) refl (record { used = leaves.used; old = leaves.old; few = leaves.few; full = leaves.full; fill = leaves.fill })
           after_defrag d phase leaves false = goes-left d (ap in_trace phase) leaves
 
-          go : (phase : Phase) → c.phase ≡ phase → (in_defrag (phase_after phase (step_in phase c)).phase ≡ true → count_blocks (is_old from) (phase_after phase (step_in phase c)).table ≤ most + staying_blocks anchors) → Goes (phase_after phase (step_in phase c))
+          go : (phase : Phase) → c.phase ≡ phase → (in_defrag (phase_after phase (step_in phase c)).phase ≡ true → IsFew (phase_after phase (step_in phase c)).table) → Goes (phase_after phase (step_in phase c))
           go Idle is few = absurd (true≢false (sym (ap is_idle is) ∙ runs))
           go Roots is few = after_roots (roots_step c) refl (ap in_trace is) (ap in_sweep is) (with_shade-ages c (get_or c.slots c.cursor None)) ((roots_step c).cursor == root_slots)
           go Mark is few = after (with_marking c (mark_step (marking_of c))) (with_marking c (mark_step (marking_of c))).grey (ap in_trace is) (ap in_sweep is) (mark_first-ages (marking_of c) c.grey)
@@ -290,4 +314,4 @@ module _ (anchors : Anchors) (sizes : List ℕ) (from most bound : ℕ) (base fr
           go Defrag is few =
               let leaves : Leaves c = goes.leaves (ap in_trace is) in
               let move = moved out c (λ k. leaves.old k + fresh k) works.slots (next_move c.table c.cursor) refl in
-              after_defrag (defrag_step c) refl (record { used = omega (arith, leaves.used, move.free, move.count); old = leaves.old; few = leaves.few; fill = move.fill leaves.fill }) (is_past (defrag_step c).table (defrag_step c).cursor)
+              after_defrag (defrag_step c) refl (record { used = omega (arith, leaves.used, move.free, move.count); old = leaves.old; few = leaves.few; full = leaves.full; fill = move.fill leaves.fill }) (is_past (defrag_step c).table (defrag_step c).cursor)

@@ -34,15 +34,15 @@ unfolding command_step
 half-course machine (event.Session who command) = let course = mutator_step-course machine.heap who command in record { phase = course.phase; cursor = course.cursor; quanta = course.quanta }
 half-course machine (event.Control control) = record { phase = refl; cursor = refl; quanta = refl }
 
-module _ (config : Config) (anchors : Anchors) (quanta opened most unit : ℕ) (list : List Part) (unit_is : unit ≡ opened + few_of opened list + 1) where
+module _ (config : Config) (anchors : Anchors) (quanta opened most filled unit : ℕ) (list : List Part) (unit_is : unit ≡ opened + few_of opened list + 1) where
   abbrev MarksOf : ℕ → List Event → Collector → Type 0
-  MarksOf = Marks config anchors quanta opened most unit list unit_is
+  MarksOf = Marks config anchors quanta opened most filled unit list unit_is
 
   abbrev MovesOf : List Event → Machine → Type 0
-  MovesOf = Moves config anchors quanta opened most unit list unit_is
+  MovesOf = Moves config anchors quanta opened most filled unit list unit_is
 
   abbrev RestsOf : Collector → Type 0
-  RestsOf = Rests config anchors quanta opened most unit list unit_is
+  RestsOf = Rests config anchors quanta opened most filled unit list unit_is
 
   module _ (before : List Event) (machine : Machine) (event : Event) (stays : StaysInBounds config machine) (slots : HaveTheirSlots machine.heap.collector.table) where
     abbrev half : Machine
@@ -59,7 +59,7 @@ module _ (config : Config) (anchors : Anchors) (quanta opened most unit : ℕ) (
         (half-fill (resting_beside (anchor_at anchors)) base (λ k. 1) config machine event stays.config_is (λ k. allows-beside (anchor_at anchors) (resting k) machine.heap.next_birth (resting-allows k machine.heap.next_birth)) slots fill)
 
     pub half-rests : RestsOf machine.heap.collector → RestsOf half.heap.collector
-    half-rests rests = record { old = rests.old; born = rests.born; few = rests.few; births = rests.births; fill = rested (λ k. rests.old k + slots_in k * rests.born k) rests.fill }
+    half-rests rests = record { old = rests.old; born = rests.born; few = rests.few; full = rests.full; births = rests.births; fill = rested (λ k. rests.old k + slots_in k * rests.born k) rests.fill }
 
     pub half-moves : MovesOf before machine → MovesOf now half
     half-moves moves = record {
@@ -68,6 +68,7 @@ module _ (config : Config) (anchors : Anchors) (quanta opened most unit : ℕ) (
       bound = moves.bound;
       start = moves.start;
       few = moves.few;
+      full = moves.full;
       births = omega (arith, moves.births, ap (λ n. n * opened) same.quanta);
       limit = omega (arith, moves.limit, ap (λ n. n * unit) same.quanta);
       used = moves.used;
@@ -87,6 +88,7 @@ module _ (config : Config) (anchors : Anchors) (quanta opened most unit : ℕ) (
           swept = marks.swept;
           born = marks.born;
           few = marks.few;
+          full = marks.full;
           pages = omega (arith, marks.pages, ap (λ n. n * unit) same.quanta);
           one = marks.one;
           births = omega (arith, marks.births, ap (λ n. n * opened) same.quanta);
@@ -106,14 +108,14 @@ module _ (config : Config) (anchors : Anchors) (quanta opened most unit : ℕ) (
       pub quiet-rests : RestsOf half.heap.collector → RestsOf next.heap.collector
       quiet-rests rests = elim (quiet-collector machine event quiet) [
         | inl is ↦ subst RestsOf (sym is) rests
-        | inr is ↦ subst RestsOf (sym is) (record { old = rests.old; born = rests.born; few = rests.few; births = rests.births; fill = rests.fill })
+        | inr is ↦ subst RestsOf (sym is) (record { old = rests.old; born = rests.born; few = rests.few; full = rests.full; births = rests.births; fill = rests.fill })
       ]
 
       pub quiet-marks : (from : ℕ) → MarksOf from now half.heap.collector → MarksOf from now next.heap.collector
       quiet-marks from marks = elim (quiet-collector machine event quiet) [
         | inl is ↦ subst (MarksOf from now) (sym is) marks
         | inr is ↦ subst (MarksOf from now) (sym is)
-            (record { old = marks.old; touched = marks.touched; swept = marks.swept; born = marks.born; few = marks.few; pages = marks.pages; one = marks.one; births = marks.births; fill = marks.fill; young = marks.young })
+            (record { old = marks.old; touched = marks.touched; swept = marks.swept; born = marks.born; few = marks.few; full = marks.full; pages = marks.pages; one = marks.one; births = marks.births; fill = marks.fill; young = marks.young })
       ]
 
       pub quiet-moves : MovesOf now half → MovesOf now next
@@ -125,6 +127,7 @@ module _ (config : Config) (anchors : Anchors) (quanta opened most unit : ℕ) (
             bound = moves.bound;
             start = moves.start;
             few = moves.few;
+            full = moves.full;
             births = omega (arith, moves.births, ap (λ n. n * opened) like.quanta);
             limit = omega (arith, moves.limit, ap (λ n. n * unit) like.quanta);
             used = moves.used;

@@ -35,10 +35,10 @@ record IsFew (config : Config) (marked opened : ℕ) (Few : List Event → Type 
   suffices : (events : List Event) → Few events → HasRoomFor config events (quanta_of config marked events) opened → CyclesTakeAtMost (quanta_of config marked events) config events × IsNeverFull config events
 
 -- pages suffice for such a run
-few-pages-suffice : (config : Config) (events : List Event) (marked opened most : ℕ) (Few : List Event → Type 0) → quantum_overhead < config.quantum → IsFew config marked opened Few → Few events
-    → HasSharpPagesFor config events (quanta_of config marked events) opened most → CyclesTakeAtMost (quanta_of config marked events) config events × NeverFills config events (quanta_of config marked events) opened
-few-pages-suffice config events marked opened most Few large is_few few has =
-    let room : HasRoomFor config events quanta opened = sharp-room config events quanta opened most (omega arith) so_far has in
+few-pages-suffice : (config : Config) (events : List Event) (marked opened most filled : ℕ) (Few : List Event → Type 0) → quantum_overhead < config.quantum → IsFew config marked opened Few → Few events
+    → HasSharpPagesFor config events (quanta_of config marked events) opened most filled → CyclesTakeAtMost (quanta_of config marked events) config events × NeverFills config events (quanta_of config marked events) opened
+few-pages-suffice config events marked opened most filled Few large is_few few has =
+    let room : HasRoomFor config events quanta opened = sharp-room config events quanta opened most filled (omega arith) so_far has in
     let all = is_few.suffices events few room in
     (all.0, record { room = room; never_full = all.1 })
   where
@@ -48,7 +48,7 @@ few-pages-suffice config events marked opened most Few large is_few few has =
     quanta : ℕ
     quanta = quanta_of config marked events
 
-    so_far : FewerSoFar config no_anchors quanta opened most (opened + few_of opened (all_asked config events) + 1) (all_asked config events) refl first events
+    so_far : FewerSoFar config no_anchors quanta opened most filled (opened + few_of opened (all_asked config events) + 1) (all_asked config events) refl first events
     so_far done rest split left = λ runs. omega (arith, fewer, last-moment (λ (machine : Machine). is_idle machine.heap.collector.phase ≡ false → machine.heap.collector.quanta < less) done first takes.0 runs)
       where
         less : ℕ
@@ -77,14 +77,14 @@ few-pages-suffice config events marked opened most Few large is_few few has =
 
 -- Pages suffice for cycles that mark few blocks
 pub sharp-marking-suffices : SharpPagesForMarkingSuffice
-sharp-marking-suffices config events marked opened most large starts has = few-pages-suffice config events marked opened most (CyclesMarkAtMost marked config) large (record {
+sharp-marking-suffices config events marked opened most filled large starts has = few-pages-suffice config events marked opened most filled (CyclesMarkAtMost marked config) large (record {
   before = λ done rest all. starts-before (λ machine. marking_units machine.heap.collector.table ≤ marked) done rest (first_machine config) all;
   suffices = λ part few room. marking-suffices config part marked opened large few room;
 }) starts has
 
 -- and for cycles whose snapshots reach little
 pub sharp-reached-suffices : SharpPagesForReachedSuffice
-sharp-reached-suffices config events marked opened most large starts has = few-pages-suffice config events marked opened most (CyclesReachAtMost marked config) large (record {
+sharp-reached-suffices config events marked opened most filled large starts has = few-pages-suffice config events marked opened most filled (CyclesReachAtMost marked config) large (record {
   before = λ done rest all. snapshots-before (ReachesAtMost marked) done rest (first_moment config) all;
   suffices = λ part few room. reached-suffices config part marked opened large few room;
 }) starts has

@@ -1,6 +1,7 @@
 -- What a sweep leaves of the blocks that were there as its cycle started: parts of what the snapshot reached, each of them at most once.
-use Rattle.std.proofs.Common.{◌≡◌, ℕ, ◌==◌, ◌<◌, ◌≤◌, nat_le, not, Bool, true, false, if◌then◌else◌, Option, Some, None, is_some, refl, sym, ap, subst, arith}
+use Rattle.std.proofs.Common.{◌≡◌, ℕ, ◌-◌, ◌/◌, ◌==◌, ◌<◌, ◌≤◌, nat_le, not, Bool, true, false, if◌then◌else◌, Option, Some, None, is_some, List, refl, sym, ap, subst, arith}
 use Rattle.std.proofs.lemmas.Bool.{and_parts, and_from, leb-true, leb-false, false≢true}
+use Rattle.mh_model.specs.Classes.{class_sizes, slots_in}
 use Rattle.mh_model.specs.Collector.{Collector}
 use Rattle.mh_model.specs.Mutator.{HeapState}
 use Rattle.mh_model.specs.Pages.{Page, block_in}
@@ -10,14 +11,20 @@ use Rattle.mh_model.specs.View.{in_sweep, heap_view}
 use Rattle.mh_model.specs.World.{World, births, object_at}
 use Rattle.mh_model.specs.Invariant.{IsSound, IsFinished}
 use Rattle.mh_model.specs.LiveParts.{object_parts, parts_of_births, HasAtMostLive, slot_count, page_count, count_blocks, is_plain}
+use Rattle.mh_table_laws.proofs.tables.PageSlots.{slots_in-class_size}
 use Rattle.mh_sizing_laws.specs.Anchors.{staying_in}
-use Rattle.mh_sizing_laws.proofs.Sums.{sum_by-pointwise, sum_to, sum_to-below, present, present-once, present-all, present-sum}
+use Rattle.mh_sizing_laws.specs.Filled.{object_class_parts, pages_filled, parts_of_class, FillsAtMost}
+use Rattle.mh_sizing_laws.proofs.Sums.{sum_by-pointwise, sum_to, sum_to-below, present, present-less, present-once, present-all, present-sum}
 use Rattle.mh_sizing_laws.proofs.Weighing.{with_key}
 use Rattle.mh_sizing_laws.proofs.pages_left.Counting.{count-less, count-keys}
-use Rattle.mh_sizing_laws.proofs.pages_left.KeptBlocks.{plain-live, is_of, birth-few, birth-reached}
-use Rattle.mh_sizing_laws.proofs.pages_left.GrownWorlds.{HasGrown, parts-before}
+use Rattle.mh_sizing_laws.proofs.openings.MadeParts.{among-is_class}
+use Rattle.mh_sizing_laws.proofs.pages_left.KeptBlocks.{plain-live, is_of, of_class, birth-few, birth-reached, class-few}
+use Rattle.mh_sizing_laws.proofs.pages_left.GrownWorlds.{HasGrown, class-before, parts-before}
+use Rattle.mh_sizing_laws.proofs.pages_left.MarkedPages.{div-more}
+use Rattle.mh_sizing_laws.proofs.pages_left.PlacedParts.{is_in_class}
 use Rattle.mh_sizing_laws.proofs.anchors.AnchoredPages.{IsStaying, Stands}
-use Rattle.mh_sizing_laws.proofs.sharp_pages.SweptTables.{is_old}
+use Rattle.mh_sizing_laws.proofs.sharp_pages.ClassSums.{sum-below}
+use Rattle.mh_sizing_laws.proofs.sharp_pages.SweptTables.{is_old, is_old_in}
 
 -- Anchored pages that stand have their blocks that stay among the old ones, if the objects that stay are old
 module _ (stays : ℕ → Bool) (from : ℕ) (older : (birth : ℕ) → stays birth ≡ true → birth < from) where
@@ -71,3 +78,42 @@ module _ (snapshot world : World) (heap : HeapState) (sound : IsSound heap.next_
       narrower birth block e =
           let (old, same) = and_parts (is_old (births snapshot) block) (block.birth == birth) e in
           and_from (is_plain block) (block.birth == birth) (and_parts (is_plain block) (not (nat_le (births snapshot) block.birth)) old).0 same
+
+  -- and those of each class fill no more pages
+  pub old-fills : (beside : ℕ → ℕ) (filled : ℕ) → HasGrown snapshot world → FillsAtMost beside filled snapshot → pages_filled (λ size. count_blocks (is_old_in size (births snapshot)) c.table - beside size) ≤ filled
+  old-fills beside filled grown fills =
+      omega (
+        arith,
+        sum-below (λ size. (count_blocks (is_old_in size from) c.table - beside size) / slots_in size) (λ size. (parts_of_class size snapshot list - beside size) / slots_in size) class_sizes
+            (λ size among. div-more (count_blocks (is_old_in size from) c.table - beside size) (parts_of_class size snapshot list - beside size) (slots_in size) (slots_in-class_size size (among-is_class size among)).0 (omega (arith, class-old size))),
+        fills list (present-once of_birth from) (present-all of_birth (Reachable snapshot) from (birth-reached snapshot world heap sound quiet agrees finished) from (omega arith)),
+      )
+    where
+      from : ℕ
+      from = births snapshot
+
+      list : List ℕ
+      list = present of_birth from
+
+      in_birth : ℕ → ℕ → ℕ
+      in_birth size birth = count_blocks (of_class size birth) c.table
+
+      -- a birth without blocks has none of a class
+      none-of : (size birth : ℕ) → of_birth birth ≡ 0 → in_birth size birth ≡ 0
+      none-of size birth none = omega (arith, none, count-less (of_class size birth) (is_of birth) (λ block e. (and_parts (is_of birth block) (is_in_class size block) e).0) c.table)
+
+      narrower : (size birth : ℕ) (block : Block) → with_key (is_old_in size from) (λ b. b.birth) birth block ≡ true → of_class size birth block ≡ true
+      narrower size birth block e =
+          let (mine, same) = and_parts (is_old_in size from block) (block.birth == birth) e in
+          let (old, own) = and_parts (is_old from block) (is_in_class size block) mine in
+          and_from (is_of birth block) (is_in_class size block) (and_from (is_plain block) (block.birth == birth) (and_parts (is_plain block) (not (nat_le from block.birth)) old).0 same) own
+
+      class-old : (size : ℕ) → count_blocks (is_old_in size from) c.table ≤ parts_of_class size snapshot list
+      class-old size =
+          omega (
+            arith,
+            count-keys (is_old_in size from) (λ block. block.birth) c.table from sound.narrow (λ place block there e. (old-is block (and_parts (is_old from block) (is_in_class size block) e).0).1),
+            sum_to-below (λ birth. count_blocks (with_key (is_old_in size from) (λ block. block.birth) birth) c.table) (in_birth size) from (λ birth inside. count-less (with_key (is_old_in size from) (λ block. block.birth) birth) (of_class size birth) (narrower size birth) c.table),
+            present-less of_birth (in_birth size) (λ birth. object_class_parts size (object_at snapshot birth)) from (none-of size)
+                (λ birth before. omega (arith, class-few snapshot world heap sound quiet agrees finished size birth, class-before snapshot world grown size birth before)) from (omega arith),
+          )

@@ -6,7 +6,6 @@ use Rattle.mh_model.specs.declared.config.Config.{Config}
 use Rattle.mh_model.specs.Classes.{Part}
 use Rattle.mh_model.specs.Collector.{Collector, is_idle, is_start_due, quantum}
 use Rattle.mh_model.specs.Invariant.{in_trace, in_defrag, HeapKeeps}
-use Rattle.mh_model.specs.LiveParts.{HasAtMostLive}
 use Rattle.mh_model.specs.Machine.{Machine, first_machine, half_step, event_step, machine_after}
 use Rattle.mh_model.specs.Openings.{asked_parts, opens_at_most}
 use Rattle.mh_model.specs.Pages.{HaveTheirSlots}
@@ -30,7 +29,8 @@ use Rattle.mh_sizing_laws.specs.Anchors.{ReachesThoseThatStay}
 use Rattle.mh_sizing_laws.proofs.pages_left.BlocksInUse.{half-machine}
 use Rattle.mh_sizing_laws.proofs.pages_left.FinishedCycles.{next-world, next-snapshot, half-snapshot, half-grows, next-grown, ran-collector, HoldsOfSnapshot, running-snapshot}
 use Rattle.mh_sizing_laws.proofs.pages_left.GrownWorlds.{HasGrown, grown-more}
-use Rattle.mh_sizing_laws.proofs.anchors.GivenAnchors.{Anchors, staying_blocks}
+use Rattle.mh_sizing_laws.proofs.pages_left.PlacedParts.{ArePlaced, half-placed, run-placed}
+use Rattle.mh_sizing_laws.proofs.anchors.GivenAnchors.{Anchors, HoldsFew}
 use Rattle.mh_sizing_laws.proofs.anchors.StartedClasses.{quantum-classes, half-classes}
 use Rattle.mh_sizing_laws.proofs.anchors.AnchoredMoments.{reached-older, IsStanding, half-anchoring, next-standing}
 use Rattle.mh_sizing_laws.specs.SharpPages.{occurring}
@@ -40,7 +40,7 @@ use Rattle.mh_sizing_laws.proofs.sharp_pages.SharpStates as states
 use Rattle.mh_sizing_laws.proofs.sharp_pages.CountedQuanta.{IsAtWork, counted-quantum, counted-start}
 use Rattle.mh_sizing_laws.proofs.sharp_pages.HalfStates.{IsSameCourse, half-course, half-rests, half-moves, half-marks, quiet-rests, quiet-marks, quiet-moves}
 
-module _ (config : Config) (anchors : Anchors) (quanta opened most unit : ℕ) (list : List Part) (unit_is : unit ≡ opened + few_of opened list + 1) where
+module _ (config : Config) (anchors : Anchors) (quanta opened most filled unit : ℕ) (list : List Part) (unit_is : unit ≡ opened + few_of opened list + 1) where
   abbrev Among : ℕ → Type 0
   Among size = IsAmong size (occurring list)
 
@@ -49,15 +49,15 @@ module _ (config : Config) (anchors : Anchors) (quanta opened most unit : ℕ) (
     pub stays : StaysInBounds config moment.machine
     pub slots : HaveTheirSlots moment.machine.heap.collector.table
     pub grown : HasGrown moment.snapshot moment.world
-    pub live : HoldsOfSnapshot (HasAtMostLive (most + staying_blocks anchors)) moment
+    pub live : HoldsOfSnapshot (HoldsFew anchors most filled) moment
     pub standing : IsStanding anchors.stays anchors.first moment
     pub classes : HasClasses Among moment.machine.heap.collector.table
-    pub marks : in_trace moment.machine.heap.collector.phase ≡ true → Marks config anchors quanta opened most unit list unit_is (births moment.snapshot) before moment.machine.heap.collector
-    pub moves : in_defrag moment.machine.heap.collector.phase ≡ true → Moves config anchors quanta opened most unit list unit_is before moment.machine
-    pub rests : is_idle moment.machine.heap.collector.phase ≡ true → Rests config anchors quanta opened most unit list unit_is moment.machine.heap.collector
+    pub marks : in_trace moment.machine.heap.collector.phase ≡ true → Marks config anchors quanta opened most filled unit list unit_is (births moment.snapshot) before moment.machine.heap.collector
+    pub moves : in_defrag moment.machine.heap.collector.phase ≡ true → Moves config anchors quanta opened most filled unit list unit_is before moment.machine
+    pub rests : is_idle moment.machine.heap.collector.phase ≡ true → Rests config anchors quanta opened most filled unit list unit_is moment.machine.heap.collector
 
   module _ (done before : List Event) (moment : Moment) (event : Event) (is : moment ≡ moment_after (first_moment config) done) (sharp : IsSharp before moment) (fit : PartsFit Among (asked_parts config event))
-      (live : HasAtMostLive (most + staying_blocks anchors) (next_moment moment event).world) (reach : ReachesThoseThatStay anchors.stays (next_moment moment event).world) (some : 1 ≤ quanta) (fewer : HasHadFewer config quanta opened moment.machine) (short : opens_at_most config (before ++ event ∷ []) ≤ opened) where
+      (live : HoldsFew anchors most filled (next_moment moment event).world) (reach : ReachesThoseThatStay anchors.stays (next_moment moment event).world) (some : 1 ≤ quanta) (fewer : HasHadFewer config quanta opened moment.machine) (short : opens_at_most config (before ++ event ∷ []) ≤ opened) where
     abbrev machine : Machine
     machine = moment.machine
 
@@ -97,12 +97,13 @@ module _ (config : Config) (anchors : Anchors) (quanta opened most unit : ℕ) (
     half-slots : HaveTheirSlots half.heap.collector.table
     half-slots = (event-keeps machine event).half.slots sharp.slots
 
-    at_work : IsAtWork config anchors quanta opened most unit list unit_is moment.snapshot middle.world half.heap
+    at_work : IsAtWork config anchors quanta opened most filled unit list unit_is moment.snapshot middle.world half.heap
     at_work = record {
       keeps = subst (λ s. HeapKeeps s half.heap) (half-snapshot moment event) (subst (λ (m : Machine). HeapKeeps middle.snapshot m.heap) (half-machine moment event) half-faithful.keeps);
       agrees = subst (λ (m : Machine). Agrees (heap_view m.heap) middle.world) (half-machine moment event) half-faithful.agrees;
       slots = half-slots;
       classes = half-classes config Among machine event sharp.stays fit sharp.classes;
+      placed = half-placed machine event sharp.slots (subst (λ (m : Machine). ArePlaced m.heap.collector.table) (sym machine_is) (run-placed config done));
       anchoring = half-anchoring anchors.stays anchors.first machine event sharp.slots sharp.standing.anchoring;
     }
 
@@ -139,20 +140,20 @@ module _ (config : Config) (anchors : Anchors) (quanta opened most unit : ℕ) (
     -- Quanta -------------------------------------------------------------------------------------
 
     abbrev Counted : ℕ → Collector → Type 0
-    Counted from c = IsCounted config anchors quanta opened most unit list unit_is from (suc count) c
+    Counted from c = IsCounted config anchors quanta opened most filled unit list unit_is from (suc count) c
 
     half-counted : is_idle half.heap.collector.phase ≡ false → Counted (births moment.snapshot) half.heap.collector
     half-counted runs = elim (phase-cases half.heap.collector.phase runs) [
       | inl traces ↦
-          marks-counted config anchors quanta opened most unit list unit_is (births moment.snapshot) now half.heap.collector traces half-slots short
-          (half-marks config anchors quanta opened most unit list unit_is before machine event sharp.stays sharp.slots (births moment.snapshot) faithful.keeps.before (sharp.marks (ap in_trace (sym same.phase) ∙ traces)))
+          marks-counted config anchors quanta opened most filled unit list unit_is (births moment.snapshot) now half.heap.collector traces half-slots short
+          (half-marks config anchors quanta opened most filled unit list unit_is before machine event sharp.stays sharp.slots (births moment.snapshot) faithful.keeps.before (sharp.marks (ap in_trace (sym same.phase) ∙ traces)))
       | inr moving ↦
-          moves-counted config anchors quanta opened most unit list unit_is (births moment.snapshot) now half moving ((event-keeps machine event).half.pages ∙ whole) short
-          (half-moves config anchors quanta opened most unit list unit_is before machine event sharp.stays sharp.slots (sharp.moves (ap in_defrag (sym same.phase) ∙ moving)))
+          moves-counted config anchors quanta opened most filled unit list unit_is (births moment.snapshot) now half moving ((event-keeps machine event).half.pages ∙ whole) short
+          (half-moves config anchors quanta opened most filled unit list unit_is before machine event sharp.stays sharp.slots (sharp.moves (ap in_defrag (sym same.phase) ∙ moving)))
     ]
 
-    half-rested : is_idle half.heap.collector.phase ≡ true → Rests config anchors quanta opened most unit list unit_is half.heap.collector
-    half-rested idle = half-rests config anchors quanta opened most unit list unit_is before machine event sharp.stays sharp.slots (sharp.rests (ap is_idle (sym same.phase) ∙ idle))
+    half-rested : is_idle half.heap.collector.phase ≡ true → Rests config anchors quanta opened most filled unit list unit_is half.heap.collector
+    half-rested idle = half-rests config anchors quanta opened most filled unit list unit_is before machine event sharp.stays sharp.slots (sharp.rests (ap is_idle (sym same.phase) ∙ idle))
 
     running : is_idle half.heap.collector.phase ≡ false → is_idle machine.heap.collector.phase ≡ false
     running ran = ap is_idle (sym same.phase) ∙ ran
@@ -164,12 +165,12 @@ module _ (config : Config) (anchors : Anchors) (quanta opened most unit : ℕ) (
     counted runs (inl ran) =
         subst (λ s. Counted (births s) next.heap.collector) (sym (snapshot-runs runs false (not-due ran)))
         (subst (Counted (births moment.snapshot)) (sym (ran-collector machine event runs))
-        (counted-quantum config anchors quanta opened most unit list unit_is (suc count) moment.snapshot middle.world half.heap at_work half-grown (sharp.live (running ran)) (sharp.standing.reaches (running ran)) (sharp.standing.older (running ran)) ran (half-counted ran)))
+        (counted-quantum config anchors quanta opened most filled unit list unit_is (suc count) moment.snapshot middle.world half.heap at_work half-grown (sharp.live (running ran)) (sharp.standing.reaches (running ran)) (sharp.standing.older (running ran)) ran (half-counted ran)))
     counted runs (inr due) =
         let idle : is_idle half.heap.collector.phase ≡ true = (and_parts (is_idle half.heap.collector.phase) _ due).0 in
         subst (λ s. Counted (births s) next.heap.collector) (sym (snapshot-runs runs true due))
         (subst (Counted (births middle.world)) (sym (ran-collector machine event runs))
-        (counted-start config anchors quanta opened most unit list unit_is count moment.snapshot middle.world half.heap at_work (subst (HasAtMostLive (most + staying_blocks anchors)) (next-world moment event) live) middle-reach
+        (counted-start config anchors quanta opened most filled unit list unit_is count moment.snapshot middle.world half.heap at_work (subst (HoldsFew anchors most filled) (next-world moment event) live) middle-reach
         (λ birth stay. reached-older (heap_view middle.machine.heap) middle.world half-faithful.agrees birth (middle-reach birth stay)) due (idle_is half.heap.collector.phase idle) (half-rested idle)))
 
     counts : has_quantum machine event ≡ true → is_idle next.heap.collector.phase ≡ false → next.heap.collector.quanta ≡ suc count
@@ -182,9 +183,9 @@ module _ (config : Config) (anchors : Anchors) (quanta opened most unit : ℕ) (
         is_after = subst (IsAfter config half.heap.collector) (sym (ran-collector machine event runs ∙ ap (λ c. (quantum c half.heap.collector).collector) halves.config_is)) (quantum-after config half.heap.collector halves.bounds half-slots)
 
     -- what a quantum of a cycle leaves
-    pub left : has_quantum machine event ≡ true → IsInCycle half.heap → states.IsAfter config anchors quanta opened most unit list unit_is (births later.snapshot) (suc count) next
+    pub left : has_quantum machine event ≡ true → IsInCycle half.heap → states.IsAfter config anchors quanta opened most filled unit list unit_is (births later.snapshot) (suc count) next
     left runs within =
-        after config anchors quanta opened most unit list unit_is (births later.snapshot) (suc count) next (next-stays config machine event sharp.stays).config_is ((event-keeps machine event).whole.slots sharp.slots) ((event-keeps machine event).whole.pages ∙ whole)
+        after config anchors quanta opened most filled unit list unit_is (births later.snapshot) (suc count) next (next-stays config machine event sharp.stays).config_is ((event-keeps machine event).whole.slots sharp.slots) ((event-keeps machine event).whole.pages ∙ whole)
         (counts runs) few (counted runs within)
 
     pub left-few : suc count ≤ quanta
@@ -198,14 +199,14 @@ module _ (config : Config) (anchors : Anchors) (quanta opened most unit : ℕ) (
       | inr quiet ↦ subst (HasClasses Among) (sym (quiet-event machine event quiet).table) at_work.classes
     ]
 
-    goes-on : (interval : List Event) → (in_trace next.heap.collector.phase ≡ true → Marks config anchors quanta opened most unit list unit_is (births later.snapshot) interval next.heap.collector) → (in_defrag next.heap.collector.phase ≡ true → Moves config anchors quanta opened most unit list unit_is interval next)
-        → (is_idle next.heap.collector.phase ≡ true → Rests config anchors quanta opened most unit list unit_is next.heap.collector) → IsSharp interval later
+    goes-on : (interval : List Event) → (in_trace next.heap.collector.phase ≡ true → Marks config anchors quanta opened most filled unit list unit_is (births later.snapshot) interval next.heap.collector) → (in_defrag next.heap.collector.phase ≡ true → Moves config anchors quanta opened most filled unit list unit_is interval next)
+        → (is_idle next.heap.collector.phase ≡ true → Rests config anchors quanta opened most filled unit list unit_is next.heap.collector) → IsSharp interval later
     unfolding next_moment
     goes-on interval marks moves rests = record {
       stays = next-stays config machine event sharp.stays;
       slots = (event-keeps machine event).whole.slots sharp.slots;
       grown = next-grown moment event sharp.grown;
-      live = running-snapshot (HasAtMostLive (most + staying_blocks anchors)) moment event sharp.live live;
+      live = running-snapshot (HoldsFew anchors most filled) moment event sharp.live live;
       standing = next-standing anchors.stays anchors.first moment event half-faithful reach sharp.standing;
       classes = next-classes;
       marks = marks;
@@ -217,12 +218,12 @@ module _ (config : Config) (anchors : Anchors) (quanta opened most unit : ℕ) (
     sharp-quiet quiet =
         let like = quiet-event machine event quiet in
         goes-on now
-        (λ traces. subst (λ s. Marks config anchors quanta opened most unit list unit_is (births s) now next.heap.collector) (sym (snapshot-quiet quiet))
-        (quiet-marks config anchors quanta opened most unit list unit_is before machine event sharp.stays sharp.slots quiet (births moment.snapshot)
-        (half-marks config anchors quanta opened most unit list unit_is before machine event sharp.stays sharp.slots (births moment.snapshot) faithful.keeps.before (sharp.marks (ap in_trace (sym (like.phase ∙ same.phase)) ∙ traces)))))
-        (λ moving. quiet-moves config anchors quanta opened most unit list unit_is before machine event sharp.stays sharp.slots quiet
-        (half-moves config anchors quanta opened most unit list unit_is before machine event sharp.stays sharp.slots (sharp.moves (ap in_defrag (sym (like.phase ∙ same.phase)) ∙ moving))))
-        (λ idle. quiet-rests config anchors quanta opened most unit list unit_is before machine event sharp.stays sharp.slots quiet (half-rested (ap is_idle (sym like.phase) ∙ idle)))
+        (λ traces. subst (λ s. Marks config anchors quanta opened most filled unit list unit_is (births s) now next.heap.collector) (sym (snapshot-quiet quiet))
+        (quiet-marks config anchors quanta opened most filled unit list unit_is before machine event sharp.stays sharp.slots quiet (births moment.snapshot)
+        (half-marks config anchors quanta opened most filled unit list unit_is before machine event sharp.stays sharp.slots (births moment.snapshot) faithful.keeps.before (sharp.marks (ap in_trace (sym (like.phase ∙ same.phase)) ∙ traces)))))
+        (λ moving. quiet-moves config anchors quanta opened most filled unit list unit_is before machine event sharp.stays sharp.slots quiet
+        (half-moves config anchors quanta opened most filled unit list unit_is before machine event sharp.stays sharp.slots (sharp.moves (ap in_defrag (sym (like.phase ∙ same.phase)) ∙ moving))))
+        (λ idle. quiet-rests config anchors quanta opened most filled unit list unit_is before machine event sharp.stays sharp.slots quiet (half-rested (ap is_idle (sym like.phase) ∙ idle)))
 
     pub sharp-quantum : has_quantum machine event ≡ true → IsSharp [] later
     sharp-quantum runs = elim (begins half.heap.config half.heap.collector).case [
@@ -235,9 +236,9 @@ module _ (config : Config) (anchors : Anchors) (quanta opened most unit : ℕ) (
             goes-on []
             (λ traces. absurd (true≢false (sym none ∙ traced-runs next.heap.collector.phase traces)))
             (λ moving. absurd (true≢false (sym none ∙ moving-runs next.heap.collector.phase moving)))
-            (λ e. subst (Rests config anchors quanta opened most unit list unit_is) (sym still) (half-rested (ap is_idle idle)))
+            (λ e. subst (Rests config anchors quanta opened most filled unit list unit_is) (sym still) (half-rested (ap is_idle idle)))
       ]
     ]
       where
-        by_cycle : states.IsAfter config anchors quanta opened most unit list unit_is (births later.snapshot) (suc count) next → IsSharp [] later
+        by_cycle : states.IsAfter config anchors quanta opened most filled unit list unit_is (births later.snapshot) (suc count) next → IsSharp [] later
         by_cycle is_left = goes-on [] is_left.marks is_left.moves is_left.rests

@@ -1,7 +1,7 @@
 -- The induction over a run with pages where small parts share them: each cycle leaves enough pages free. What is carried bounds the pages of a cycle by three sums:
 -- the pages that its own births fill, those that older blocks fill which it found, and one of each class for each interval.
 -- With N of 3, one live part and 64 small parts an interval, which fill one page, 13 pages suffice, where each part may keep a page 132. For cycles of one quantum that other law is the better.
-use Rattle.std.proofs.Common.{◌≡◌, ℕ, ◌+◌, ◌*◌, ◌/◌, ◌≤◌, Bool, true, false, if◌then◌else◌, List, [], ◌∷◌, ◌++◌, length, flat_map, refl, sym, ap, ◌∙◌, subst, arith}
+use Rattle.std.proofs.Common.{◌≡◌, ℕ, ◌+◌, ◌*◌, ◌≤◌, Bool, true, false, if◌then◌else◌, List, [], ◌∷◌, ◌++◌, length, flat_map, refl, sym, ap, ◌∙◌, subst, arith}
 use Rattle.std.specs.List.{AllByRecursion}
 use Rattle.std.proofs.Math.Nat.{mul-add, mul-le-mul_right}
 use Rattle.std.proofs.lemmas.Bool.{and_parts, false≢true}
@@ -28,19 +28,25 @@ use Rattle.mh_sizing_laws.proofs.triggers.SizedRuns.{IsShort, HasHadFewer, Leave
 use Rattle.mh_sizing_laws.proofs.pages_left.BlocksInUse.{run-blocks}
 use Rattle.mh_sizing_laws.proofs.pages_left.FinishedCycles.{ended-run}
 use Rattle.mh_sizing_laws.specs.Anchors.{started, ReachesThoseThatStay}
-use Rattle.mh_sizing_laws.specs.SharpPages.{occurring, fewest_of, all_asked, HasSharpPagesFor, SharpPagesSuffice, SharpPagesForTheBoundSuffice}
+use Rattle.mh_sizing_laws.specs.Filled.{FillsAtMost}
+use Rattle.mh_sizing_laws.specs.SharpPages.{occurring, all_asked, HasSharpPagesFor, SharpPagesSuffice, SharpPagesForTheBoundSuffice}
 use Rattle.mh_sizing_laws.proofs.cycles.Occurring.{parts-class}
 use Rattle.mh_sizing_laws.proofs.pages_left.SizedPages.{moment-push, head-world, ends-push, moments-at}
-use Rattle.mh_sizing_laws.proofs.anchors.GivenAnchors.{Anchors, no_anchors, anchored_pages, staying_blocks}
+use Rattle.mh_sizing_laws.proofs.anchors.GivenAnchors.{Anchors, no_anchors, anchored_pages, class_staying, staying_blocks, HoldsFew}
 use Rattle.mh_sizing_laws.proofs.anchors.AnchoredMoments.{IsStanding}
 use Rattle.mh_sizing_laws.proofs.anchors.JoinedRuns.{moment-append}
 use Rattle.mh_sizing_laws.proofs.sharp_pages.ClassesThatOccur.{few_of, occurring-parts}
 use Rattle.mh_sizing_laws.proofs.sharp_pages.SharpStarts.{from-sharp}
 use Rattle.mh_sizing_laws.proofs.sharp_pages.SharpEvents.{IsSharp, left, left-few, sharp-quiet, sharp-quantum}
 
+-- live parts that are few and fill few pages
+pub all-hold : (anchors : Anchors) (most filled : ℕ) (list : List World) → AllByRecursion (HasAtMostLive (most + staying_blocks anchors)) list → AllByRecursion (FillsAtMost (class_staying anchors) filled) list → AllByRecursion (HoldsFew anchors most filled) list
+all-hold anchors most filled [] live fills = tt
+all-hold anchors most filled (world ∷ list) live fills = (record { live = live.0; fills = fills.0 }, all-hold anchors most filled list live.1 fills.1)
+
 -- Runs -------------------------------------------------------------------------------------------
 
-module _ (config : Config) (anchors : Anchors) (quanta opened most unit : ℕ) (list : List Part) (unit_is : unit ≡ opened + few_of opened list + 1) where
+module _ (config : Config) (anchors : Anchors) (quanta opened most filled unit : ℕ) (list : List Part) (unit_is : unit ≡ opened + few_of opened list + 1) where
   abbrev Leaving : Machine → Type 0
   Leaving = LeavesEnough config quanta opened
 
@@ -56,13 +62,13 @@ module _ (config : Config) (anchors : Anchors) (quanta opened most unit : ℕ) (
   AskAmong events = PartsFit (λ size. IsAmong size (occurring list)) (flat_map (asked_parts config) events)
 
   -- Each cycle of a run leaves enough pages free, if no cycle has had all its quanta while those before it did
-  module _ (start : List Event) (some : 1 ≤ quanta) (pages : most + anchored_pages anchors + most / fewest_of (occurring list) + 3 * (quanta * opened) + quanta * few_of opened list + length (occurring list) + quanta ≤ config.pages + (2 * opened + few_of opened list + 1))
+  module _ (start : List Event) (some : 1 ≤ quanta) (pages : most + anchored_pages anchors + filled + 3 * (quanta * opened) + quanta * few_of opened list + length (occurring list) + quanta ≤ config.pages + (2 * opened + few_of opened list + 1))
       (all : List Event) (so_far : FewerSoFar (started config start).machine all) where
     abbrev from : Moment
     from = started config start
 
-    pub ends-enough : (events done before : List Event) (moment : Moment) → done ++ events ≡ all → moment ≡ moment_after from done → IsSharp config anchors quanta opened most unit list unit_is before moment → AskAmong events → AllByRecursion Short (intervals before moment.machine events)
-        → AllByRecursion (HasAtMostLive (most + staying_blocks anchors)) (worlds moment events) → AllByRecursion (ReachesThoseThatStay anchors.stays) (worlds moment events) → AllByRecursion Leaving (run.cycle_ends from.machine done) → AllByRecursion Leaving (run.cycle_ends from.machine all)
+    pub ends-enough : (events done before : List Event) (moment : Moment) → done ++ events ≡ all → moment ≡ moment_after from done → IsSharp config anchors quanta opened most filled unit list unit_is before moment → AskAmong events → AllByRecursion Short (intervals before moment.machine events)
+        → AllByRecursion (HoldsFew anchors most filled) (worlds moment events) → AllByRecursion (ReachesThoseThatStay anchors.stays) (worlds moment events) → AllByRecursion Leaving (run.cycle_ends from.machine done) → AllByRecursion Leaving (run.cycle_ends from.machine all)
     unfolding next_moment
     ends-enough [] done before moment split is sharp fit short live reach lefts = subst (λ l. AllByRecursion Leaving (run.cycle_ends from.machine l)) (sym (append-nil done) ∙ split) lefts
     ends-enough (event ∷ events) done before moment split is sharp fit short live reach lefts =
@@ -76,8 +82,8 @@ module _ (config : Config) (anchors : Anchors) (quanta opened most unit : ℕ) (
         now-short : Short (before ++ event ∷ [])
         now-short = event-short config quanta opened events before moment.machine event short
 
-        live-now : HasAtMostLive (most + staying_blocks anchors) next'.world
-        live-now = head-world (HasAtMostLive (most + staying_blocks anchors)) events next' live.1
+        live-now : HoldsFew anchors most filled next'.world
+        live-now = head-world (HoldsFew anchors most filled) events next' live.1
 
         reach-now : ReachesThoseThatStay anchors.stays next'.world
         reach-now = head-world (ReachesThoseThatStay anchors.stays) events next' reach.1
@@ -101,8 +107,8 @@ module _ (config : Config) (anchors : Anchors) (quanta opened most unit : ℕ) (
         here ended =
             let has = ended-run moment.machine event ended in
             let idle : is_idle (event_step moment.machine event).state.heap.collector.phase ≡ true = (and_parts (is_idle (event_step moment.machine event).state.heap.collector.phase) _ ended).0 in
-            let after = left config anchors quanta opened most unit list unit_is (start ++ done) before moment event whole sharp event-fit live-now reach-now some fewer now-short has.runs has.within in
-            let count = left-few config anchors quanta opened most unit list unit_is (start ++ done) before moment event whole sharp event-fit live-now reach-now some fewer now-short in
+            let after = left config anchors quanta opened most filled unit list unit_is (start ++ done) before moment event whole sharp event-fit live-now reach-now some fewer now-short has.runs has.within in
+            let count = left-few config anchors quanta opened most filled unit list unit_is (start ++ done) before moment event whole sharp event-fit live-now reach-now some fewer now-short in
             let product = mul-le-mul_right unit count in
             let sum : quanta * unit ≡ quanta * opened + quanta * few_of opened list + quanta * 1 = ap (λ n. quanta * n) unit_is ∙ mul-add quanta (opened + few_of opened list) 1 ∙ ap (λ n. n + quanta * 1) (mul-add quanta opened (few_of opened list)) in
             omega (arith, after.ends idle, product, sum, pages, unit_is)
@@ -112,10 +118,10 @@ module _ (config : Config) (anchors : Anchors) (quanta opened most unit : ℕ) (
 
         by_quantum-run : (cut : Bool) → has_quantum moment.machine event ≡ cut
             → AllByRecursion Short (if cut then (before ++ event ∷ []) ∷ intervals [] (event_step moment.machine event).state events else intervals (before ++ event ∷ []) (event_step moment.machine event).state events)
-            → ((now : List Event) → IsSharp config anchors quanta opened most unit list unit_is now next' → AllByRecursion Short (intervals now (event_step moment.machine event).state events) → AllByRecursion Leaving (run.cycle_ends from.machine all))
+            → ((now : List Event) → IsSharp config anchors quanta opened most filled unit list unit_is now next' → AllByRecursion Short (intervals now (event_step moment.machine event).state events) → AllByRecursion Leaving (run.cycle_ends from.machine all))
             → AllByRecursion Leaving (run.cycle_ends from.machine all)
-        by_quantum-run true runs cuts more = more [] (sharp-quantum config anchors quanta opened most unit list unit_is (start ++ done) before moment event whole sharp event-fit live-now reach-now some fewer now-short runs) cuts.1
-        by_quantum-run false quiet cuts more = more (before ++ event ∷ []) (sharp-quiet config anchors quanta opened most unit list unit_is (start ++ done) before moment event whole sharp event-fit live-now reach-now some fewer now-short quiet) cuts
+        by_quantum-run true runs cuts more = more [] (sharp-quantum config anchors quanta opened most filled unit list unit_is (start ++ done) before moment event whole sharp event-fit live-now reach-now some fewer now-short runs) cuts.1
+        by_quantum-run false quiet cuts more = more (before ++ event ∷ []) (sharp-quiet config anchors quanta opened most filled unit list unit_is (start ++ done) before moment event whole sharp event-fit live-now reach-now some fewer now-short quiet) cuts
 
 -- The first moment -------------------------------------------------------------------------------
 
@@ -138,33 +144,32 @@ first-standing config = record {
 }
 
 -- Runs with pages enough have room, if no cycle has had all its quanta while those before it left enough
-pub sharp-room : (config : Config) (events : List Event) (quanta opened most : ℕ) → 1 ≤ quanta → FewerSoFar config no_anchors quanta opened most (opened + few_of opened (all_asked config events) + 1) (all_asked config events) refl (first_machine config) events → HasSharpPagesFor config events quanta opened most → HasRoomFor config events quanta opened
+pub sharp-room : (config : Config) (events : List Event) (quanta opened most filled : ℕ) → 1 ≤ quanta → FewerSoFar config no_anchors quanta opened most filled (opened + few_of opened (all_asked config events) + 1) (all_asked config events) refl (first_machine config) events → HasSharpPagesFor config events quanta opened most filled → HasRoomFor config events quanta opened
 unfolding moment_after
-sharp-room config events quanta opened most some so_far has =
+sharp-room config events quanta opened most filled some so_far has =
     let list : List Part = all_asked config events in
     let unit : ℕ = opened + few_of opened list + 1 in
     let first : Moment = first_moment config in
     let product = mul-le-mul_right opened some in
-    let more : most ≡ most + staying_blocks no_anchors = omega arith in
     record {
       pages = omega (arith, has.pages, product, some);
       trigger = has.trigger;
       intervals = has.intervals;
-      left = ends-enough config no_anchors quanta opened most unit list refl [] some (omega (arith, has.pages)) events so_far events [] [] first refl refl
-          (from-sharp config no_anchors quanta opened most unit list refl [] refl some (λ size one. occurring-parts list size (parts-class size [] one) (omega (arith, one))) (first-standing config))
-          (λ size one. occurring-parts list size (parts-class size list one) one) has.intervals (subst (λ n. AllByRecursion (HasAtMostLive n) (worlds first events)) more has.live)
+      left = ends-enough config no_anchors quanta opened most filled unit list refl [] some (omega (arith, has.pages)) events so_far events [] [] first refl refl
+          (from-sharp config no_anchors quanta opened most filled unit list refl [] refl some (λ size one. occurring-parts list size (parts-class size [] one) (omega (arith, one))) (first-standing config))
+          (λ size one. occurring-parts list size (parts-class size list one) one) has.intervals (all-hold no_anchors most filled (worlds first events) (subst (λ n. AllByRecursion (HasAtMostLive n) (worlds first events)) (omega arith) has.live) has.fills)
           (worlds-all (ReachesThoseThatStay no_anchors.stays) (λ world birth stay. absurd (false≢true stay)) events first) tt;
     }
 
 -- Pages suffice where small parts share them
 pub sharp-pages-suffice : SharpPagesSuffice
-sharp-pages-suffice config events quanta opened most some fewer has =
+sharp-pages-suffice config events quanta opened most filled some fewer has =
     let P : Machine → Type 0 = HasHadFewer config quanta opened in
-    let room = sharp-room config events quanta opened most some (λ done rest split lefts. moments-at P done rest (first_machine config) (subst (λ l. AllByRecursion P (moments (first_machine config) l)) (sym split) fewer)) has in
+    let room = sharp-room config events quanta opened most filled some (λ done rest split lefts. moments-at P done rest (first_machine config) (subst (λ l. AllByRecursion P (moments (first_machine config) l)) (sym split) fewer)) has in
     record { room = room; never_full = room-suffices config events quanta opened some fewer room }
 
 -- The bound of a cycle ---------------------------------------------------------------------------
 
 -- and so they do for the bound of a cycle
 pub sharp-bound-suffices : SharpPagesForTheBoundSuffice
-sharp-bound-suffices config events opened most has = sharp-pages-suffice config events (most_quanta config) opened most (some-quanta config) (cycles-bounded config events) has
+sharp-bound-suffices config events opened most filled has = sharp-pages-suffice config events (most_quanta config) opened most filled (some-quanta config) (cycles-bounded config events) has

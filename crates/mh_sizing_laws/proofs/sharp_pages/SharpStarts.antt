@@ -1,5 +1,5 @@
 -- What stands after a startup in which no cycle has begun: births have filled one page of each class before the next.
-use Rattle.std.proofs.Common.{◌≡◌, inl, ℕ, zero, suc, ◌+◌, ◌*◌, ◌≤◌, Bool, true, Option, None, List, [], replicate, flat_map, refl, sym, ap, ◌∙◌, subst, arith}
+use Rattle.std.proofs.Common.{◌≡◌, inl, ℕ, zero, suc, ◌+◌, ◌*◌, ◌/◌, ◌≤◌, Bool, true, Option, None, List, [], replicate, flat_map, refl, sym, ap, ◌∙◌, subst, arith}
 use Rattle.std.proofs.Math.Nat.{mul-le-mul_right}
 use Rattle.std.proofs.lemmas.Bool.{false≢true}
 use Rattle.mh_model.specs.declared.command.Command.{Command}
@@ -37,7 +37,8 @@ use Rattle.mh_sizing_laws.proofs.anchors.GivenAnchors.{Anchors, anchor_at}
 use Rattle.mh_sizing_laws.proofs.anchors.AnchoredMoments.{IsStanding}
 use Rattle.mh_sizing_laws.proofs.anchors.StartedClasses.{from-classes}
 use Rattle.mh_sizing_laws.proofs.anchors.StartedRuns.{from-fresh, from-stays, no_cycle}
-use Rattle.mh_sizing_laws.proofs.sharp_pages.ClassesThatOccur.{few_of, sum-none}
+use Rattle.mh_sizing_laws.proofs.sharp_pages.ClassSums.{sum-below}
+use Rattle.mh_sizing_laws.proofs.sharp_pages.ClassesThatOccur.{few_of, none-fill, sum-none}
 use Rattle.mh_sizing_laws.proofs.sharp_pages.Moves.{resting_beside, fill-rested}
 use Rattle.mh_sizing_laws.proofs.sharp_pages.SharpEvents.{IsSharp}
 
@@ -106,17 +107,17 @@ module _ (out : ℕ → Bool) where
 
 -- After the startup ------------------------------------------------------------------------------
 
-module _ (config : Config) (anchors : Anchors) (quanta opened most unit : ℕ) (list : List Part) (unit_is : unit ≡ opened + few_of opened list + 1) (start : List Event) (none_begins : (started config start).machine.heap.collector.cycle ≡ 0) where
+module _ (config : Config) (anchors : Anchors) (quanta opened most filled unit : ℕ) (list : List Part) (unit_is : unit ≡ opened + few_of opened list + 1) (start : List Event) (none_begins : (started config start).machine.heap.collector.cycle ≡ 0) where
   abbrev from : Moment
   from = started config start
 
-  filled : HasOneRoomy (anchor_at anchors) (started_table config start)
-  filled = (subst (IsFilledAtFirst (anchor_at anchors)) (sym (machine-moment_after start (first_moment config))) (run-filled (anchor_at anchors) config start)).filled none_begins
+  one-roomy : HasOneRoomy (anchor_at anchors) (started_table config start)
+  one-roomy = (subst (IsFilledAtFirst (anchor_at anchors)) (sym (machine-moment_after start (first_moment config))) (run-filled (anchor_at anchors) config start)).filled none_begins
 
   phase_is : from.machine.heap.collector.phase ≡ Idle
   phase_is = idle_is from.machine.heap.collector.phase (from-fresh config start none_begins).idle
 
-  pub from-sharp : 1 ≤ quanta → PartsFit (λ size. IsAmong size (occurring list)) (flat_map (asked_parts config) start) → IsStanding anchors.stays anchors.first from → IsSharp config anchors quanta opened most unit list unit_is [] from
+  pub from-sharp : 1 ≤ quanta → PartsFit (λ size. IsAmong size (occurring list)) (flat_map (asked_parts config) start) → IsStanding anchors.stays anchors.first from → IsSharp config anchors quanta opened most filled unit list unit_is [] from
   from-sharp some fit standing = record {
     stays = from-stays config start none_begins;
     slots = standing.slots;
@@ -130,7 +131,8 @@ module _ (config : Config) (anchors : Anchors) (quanta opened most unit : ℕ) (
       old = λ k. 0;
       born = λ k. 0;
       few = omega (arith, sum-none (occurring list));
+      full = omega (arith, sum-below (λ k. 0 / slots_in k) (λ k. 0) (occurring list) (λ k among. none-fill (slots_in k) 0 (omega arith)), sum-none (occurring list));
       births = omega (arith, sum-none (occurring list), mul-le-mul_right opened some);
-      fill = λ k class. fills-more (kind_beside (anchor_at anchors) (resting k)) 1 1 (0 + 0) (0 + slots_in k * 0 + 0) (ages (started_table config start)) (λ one. one) (omega arith) (filled k class);
+      fill = λ k class. fills-more (kind_beside (anchor_at anchors) (resting k)) 1 1 (0 + 0) (0 + slots_in k * 0 + 0) (ages (started_table config start)) (λ one. one) (omega arith) (one-roomy k class);
     };
   }

@@ -17,15 +17,14 @@ use Rattle.mh_model.specs.Table.{Block}
 use Rattle.mh_model.specs.View.{in_sweep}
 use Rattle.mh_sizing_laws.proofs.openings.Intervals.{asked_of, IsSince}
 use Rattle.mh_sizing_laws.proofs.openings.MadeParts.{opened-none, opened-few}
-use Rattle.mh_sizing_laws.proofs.pages_left.MarkedPages.{div-more}
-use Rattle.mh_sizing_laws.specs.SharpPages.{occurring, fewest_of}
+use Rattle.mh_sizing_laws.specs.SharpPages.{occurring}
 use Rattle.mh_sizing_laws.proofs.anchors.GivenAnchors.{Anchors, anchor_at, anchored_pages}
 use Rattle.mh_sizing_laws.proofs.filling.Beside.{family_beside}
 use Rattle.mh_sizing_laws.proofs.filling.Weights.{weigh}
 use Rattle.mh_sizing_laws.proofs.filling.Ages.{ages}
 use Rattle.mh_sizing_laws.proofs.filling.FilledTables.{AllFill}
 use Rattle.mh_sizing_laws.proofs.sharp_pages.ClassSums.{sum-once}
-use Rattle.mh_sizing_laws.proofs.sharp_pages.ClassesThatOccur.{few-classes, few_of, fewest-some, occurring-once, occurring-classes, occurring-sum, sum-both, sum-none, sum-slots, sum-pages}
+use Rattle.mh_sizing_laws.proofs.sharp_pages.ClassesThatOccur.{few-classes, few_of, occurring-once, occurring-classes, occurring-sum, sum-both, sum-none, sum-pages}
 use Rattle.mh_sizing_laws.proofs.sharp_pages.CycleSteps.{passed_by, entered_by, Traces, Leaves, Goes}
 use Rattle.mh_sizing_laws.proofs.sharp_pages.Intervals.{marking_family, newborn_family, marking-closed, newborn-closed, of_class_at, marking-opened}
 use Rattle.mh_sizing_laws.proofs.sharp_pages.Moves.{resting_beside}
@@ -76,7 +75,7 @@ begun-few phase cursor = go (in_sweep phase)
     go true = omega arith
     go false = omega arith
 
-module _ (config : Config) (anchors : Anchors) (quanta opened most unit : ℕ) (list : List Part) (unit_is : unit ≡ opened + few_of opened list + 1) where
+module _ (config : Config) (anchors : Anchors) (quanta opened most filled unit : ℕ) (list : List Part) (unit_is : unit ≡ opened + few_of opened list + 1) where
   abbrev pub sizes : List ℕ
   sizes = occurring list
 
@@ -86,13 +85,14 @@ module _ (config : Config) (anchors : Anchors) (quanta opened most unit : ℕ) (
 
   -- the pages that may be in use after so many quanta of a cycle
   abbrev pub allowed : ℕ → ℕ
-  allowed count = most + anchored_pages anchors + most / fewest_of sizes + begun + count * unit
+  allowed count = most + anchored_pages anchors + filled + begun + count * unit
 
   -- no cycle runs: the blocks of pages with room are what the last one kept, what was born in it, and those of one page of each class
   pub record Rests (c : Collector) : Type 0 where
     pub old : ℕ → ℕ
     pub born : ℕ → ℕ
     pub few : sum_by old sizes ≤ most
+    pub full : sum_by (λ k. old k / slots_in k) sizes ≤ filled
     pub births : sum_by born sizes + opened ≤ quanta * opened
     pub fill : AllFill (resting_beside (anchor_at anchors)) (λ k. old k + slots_in k * born k) (λ k. 1) c.table
 
@@ -103,6 +103,7 @@ module _ (config : Config) (anchors : Anchors) (quanta opened most unit : ℕ) (
     pub swept : ℕ → ℕ
     pub born : ℕ → ℕ
     pub few : sum_by old sizes ≤ most
+    pub full : sum_by (λ k. old k / slots_in k) sizes ≤ filled
     pub pages : sum_by touched sizes + (unit + opened) ≤ begun + c.quanta * unit
     pub one : sum_by swept sizes ≤ 1
     pub births : sum_by born sizes + opened ≤ c.quanta * opened
@@ -116,6 +117,7 @@ module _ (config : Config) (anchors : Anchors) (quanta opened most unit : ℕ) (
     pub bound : ℕ
     pub start : Table Block
     pub few : sum_by old sizes ≤ most
+    pub full : sum_by (λ k. old k / slots_in k) sizes ≤ filled
     pub births : sum_by born sizes + opened ≤ machine.heap.collector.quanta * opened
     pub limit : bound + (unit + opened) ≤ allowed machine.heap.collector.quanta
     pub used : config.pages ≤ free_pages start + bound
@@ -129,18 +131,15 @@ module _ (config : Config) (anchors : Anchors) (quanta opened most unit : ℕ) (
     pub born : ℕ → ℕ
     pub bound : ℕ
     pub few : sum_by old sizes ≤ most
+    pub full : sum_by (λ k. old k / slots_in k) sizes ≤ filled
     pub pages : sum_by touched sizes + (unit + opened) ≤ begun + count * unit
     pub births : sum_by born sizes + opened ≤ count * opened
     pub limit : bound + (unit + opened) ≤ allowed count
-    pub goes : Goes anchors sizes from most bound (λ k. old k + slots_in k * touched k) (λ k. slots_in k * born k) c
+    pub goes : Goes anchors sizes from most filled bound (λ k. old k + slots_in k * touched k) (λ k. slots_in k * born k) c
 
   -- the pages that the weights of each class may fill
-  pub filled : (old touched : ℕ → ℕ) (count : ℕ) → sum_by old sizes ≤ most → sum_by touched sizes + (unit + opened) ≤ begun + count * unit → most + anchored_pages anchors + sum_by (λ k. (old k + slots_in k * touched k) / slots_in k) sizes + (unit + opened) ≤ allowed count
-  filled old touched count few pages =
-      omega (arith, sum-pages old touched sizes (occurring-classes list), sum-slots old sizes (occurring-classes list), more, pages)
-    where
-      more : sum_by old sizes / fewest_of sizes ≤ most / fewest_of sizes
-      more = div-more (sum_by old sizes) most (fewest_of sizes) (fewest-some sizes (occurring-classes list)) few
+  pub within-allowed : (old touched : ℕ → ℕ) (count : ℕ) → sum_by (λ k. old k / slots_in k) sizes ≤ filled → sum_by touched sizes + (unit + opened) ≤ begun + count * unit → most + anchored_pages anchors + sum_by (λ k. (old k + slots_in k * touched k) / slots_in k) sizes + (unit + opened) ≤ allowed count
+  within-allowed old touched count full pages = omega (arith, sum-pages old touched sizes (occurring-classes list), full, pages)
 
   -- As an interval of a cycle that marks or sweeps ends
   pub marks-counted : (from : ℕ) (now : List Event) (c : Collector) → in_trace c.phase ≡ true → HaveTheirSlots c.table → opens_at_most config now ≤ opened → Marks from now c → IsCounted from (suc c.quanta) c
@@ -161,9 +160,10 @@ module _ (config : Config) (anchors : Anchors) (quanta opened most unit : ℕ) (
         born = born;
         bound = most + anchored_pages anchors + sum_by (λ k. (marks.old k + slots_in k * touched k) / slots_in k) sizes;
         few = marks.few;
+        full = marks.full;
         pages = counted;
         births = births;
-        limit = filled marks.old touched (suc c.quanta) marks.few counted;
+        limit = within-allowed marks.old touched (suc c.quanta) marks.full counted;
         goes = record {
           traces = λ e. record {
             weight = λ k class. omega (
@@ -190,12 +190,13 @@ module _ (config : Config) (anchors : Anchors) (quanta opened most unit : ℕ) (
         born = moves.born;
         bound = moves.bound + opened;
         few = moves.few;
+        full = moves.full;
         pages = omega (arith, sum-none sizes, suc-mul count unit, moves.births, mul-le-mul_left count below);
         births = omega (arith, moves.births, suc-mul count opened);
         limit = omega (arith, moves.limit, suc-mul count unit, unit_is);
         goes = record {
           traces = λ e. absurd (true≢false (sym e ∙ moving-untraced machine.heap.collector.phase moving));
-          leaves = λ e. record { used = omega (arith, moves.used, opens, short, whole); old = moves.old; few = moves.few; fill = moves.fill };
+          leaves = λ e. record { used = omega (arith, moves.used, opens, short, whole); old = moves.old; few = moves.few; full = moves.full; fill = moves.fill };
         };
       }
 
@@ -223,7 +224,7 @@ module _ (config : Config) (anchors : Anchors) (quanta opened most unit : ℕ) (
 
     after-marks : in_trace c.phase ≡ true → Marks from [] c
     after-marks traces =
-        let t : Traces anchors sizes from most is.bound base fresh c = is.goes.traces traces in
+        let t : Traces anchors sizes from most filled is.bound base fresh c = is.goes.traces traces in
         let runs : c.quanta ≡ count = counts (traced-runs c.phase traces) in
         let passed : ℕ = passed_by c.phase c.cursor in
         let swept : ℕ → ℕ = of_class_at (ages c.table) passed in
@@ -233,6 +234,7 @@ module _ (config : Config) (anchors : Anchors) (quanta opened most unit : ℕ) (
           swept = swept;
           born = is.born;
           few = is.few;
+          full = is.full;
           pages = omega (arith, is.pages, ap (λ n. n * unit) runs);
           one = one-swept passed (page_at (ages c.table) passed);
           births = omega (arith, is.births, ap (λ n. n * opened) runs);
@@ -243,13 +245,14 @@ module _ (config : Config) (anchors : Anchors) (quanta opened most unit : ℕ) (
     after-moves : in_defrag c.phase ≡ true → Moves [] machine
     after-moves moving =
         let runs : c.quanta ≡ count = counts (moving-runs c.phase moving) in
-        let l : Leaves anchors sizes from most is.bound base fresh c = is.goes.leaves (moving-untraced c.phase moving) in
+        let l : Leaves anchors sizes from most filled is.bound base fresh c = is.goes.leaves (moving-untraced c.phase moving) in
         record {
           old = l.old;
           born = is.born;
           bound = is.bound;
           start = c.table;
           few = l.few;
+          full = l.full;
           births = omega (arith, is.births, ap (λ n. n * opened) runs);
           limit = omega (arith, is.limit, ap (λ n. n * unit) runs);
           used = omega (arith, l.used, whole);
@@ -259,13 +262,13 @@ module _ (config : Config) (anchors : Anchors) (quanta opened most unit : ℕ) (
 
     after-rests : is_idle c.phase ≡ true → Rests c
     after-rests idle =
-        let l : Leaves anchors sizes from most is.bound base fresh c = is.goes.leaves (idle-untraced c.phase idle) in
+        let l : Leaves anchors sizes from most filled is.bound base fresh c = is.goes.leaves (idle-untraced c.phase idle) in
         let product : count * opened ≤ quanta * opened = mul-le-mul_right opened few in
-        record { old = l.old; born = is.born; few = l.few; births = omega (arith, is.births, product); fill = l.fill }
+        record { old = l.old; born = is.born; few = l.few; full = l.full; births = omega (arith, is.births, product); fill = l.fill }
 
     after-ends : is_idle c.phase ≡ true → config.pages + (unit + opened) ≤ free_pages c.table + allowed count
     after-ends idle =
-        let l : Leaves anchors sizes from most is.bound base fresh c = is.goes.leaves (idle-untraced c.phase idle) in
+        let l : Leaves anchors sizes from most filled is.bound base fresh c = is.goes.leaves (idle-untraced c.phase idle) in
         omega (arith, l.used, whole, is.limit)
 
     pub after : IsAfter from count machine

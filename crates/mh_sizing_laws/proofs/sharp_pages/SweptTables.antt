@@ -1,8 +1,9 @@
 -- The table as a sweep ends: each page in use has an old block that is kept, or is one of a class with young blocks alone.
-use Rattle.std.proofs.Common.{◌≡◌, ◌⊎◌, inl, inr, ℕ, suc, ◌+◌, ◌*◌, ◌/◌, ◌<◌, ◌≤◌, ◌==◌, nat_le, nat_lt, not, ◌&&◌, Bool, true, false, if◌then◌else◌, Option, Some, None, option_map, List, [], ◌∷◌, length, get_or, map, refl, ap, subst, arith}
+use Rattle.std.proofs.Common.{◌≡◌, ◌⊎◌, inl, inr, ℕ, suc, ◌+◌, ◌*◌, ◌/◌, ◌<◌, ◌≤◌, ◌==◌, nat_le, nat_lt, not, ◌&&◌, Bool, true, false, if◌then◌else◌, Option, Some, None, option_map, unwrap_or, List, [], ◌∷◌, length, get_or, map, refl, sym, ap, ◌∙◌, subst, arith, eq-eqb}
 use Rattle.std.specs.List.{sum_by}
 use Rattle.std.proofs.Math.Nat.{le-div_iff_mul-le, mul_comm}
-use Rattle.std.proofs.lemmas.Bool.{cases_lt, lt-ltb, ltb-true, ltb-false, false≢true}
+use Rattle.std.proofs.lemmas.Bool.{cases_eq, cases_lt, eqb-true, lt-ltb, ltb-true, ltb-false, false≢true}
+use Rattle.std.proofs.lemmas.Option.{none-some, same_Some}
 use Rattle.mh_table_laws.proofs.Lists.{below_length}
 use Rattle.std.proofs.lemmas.List.Sums.{sum_by-cons}
 use Rattle.mh_model.specs.Batches.{NoneTwice}
@@ -16,21 +17,27 @@ use Rattle.mh_table_laws.proofs.PageMapLemmas.{page_below}
 use Rattle.mh_sizing_laws.proofs.cycles.Classes.{HasClasses}
 use Rattle.mh_sizing_laws.proofs.openings.MadeParts.{IsAmong}
 use Rattle.mh_sizing_laws.specs.Anchors.{staying_in, is_anchored, anchor_count, anchor_blocks}
+use Rattle.mh_sizing_laws.specs.Filled.{class_blocks}
+use Rattle.mh_sizing_laws.proofs.pages_left.PlacedParts.{header_class, is_in_class, ArePlaced}
 use Rattle.mh_sizing_laws.proofs.openings.Rooms.{if_free, empties}
 use Rattle.mh_sizing_laws.proofs.Weighing.{place-of}
-use Rattle.mh_sizing_laws.proofs.filling.Weights.{weights, weigh, weigh-own, weigh-less}
+use Rattle.mh_sizing_laws.proofs.filling.Weights.{weights, weigh, weigh-own, weigh-other, weigh-less}
 use Rattle.mh_sizing_laws.proofs.filling.Slots.{youngs, olds, olds-youngs}
 use Rattle.mh_sizing_laws.proofs.filling.Beside.{beside}
 use Rattle.mh_sizing_laws.proofs.filling.PageWeights.{traced_by, traced, roomy}
 use Rattle.mh_sizing_laws.proofs.filling.Ages.{birth_of, ages}
 use Rattle.mh_sizing_laws.proofs.sharp_pages.SweptWeights.{aged}
-use Rattle.mh_sizing_laws.proofs.anchors.GivenAnchors.{Anchors, is_anchor, anchor_at, anchored_pages, staying_blocks}
+use Rattle.mh_sizing_laws.proofs.anchors.GivenAnchors.{Anchors, is_anchor, anchor_at, anchored_pages, class_staying, staying_blocks}
 use Rattle.mh_sizing_laws.proofs.anchors.AnchoredCounts.{weights-sum_by, balanced, used-beside, less-beside}
 use Rattle.mh_sizing_laws.proofs.sharp_pages.ClassSums.{sum-among, sum-once, weights-sum, weights-times, weights-same, sum-weights, weights-ages}
 
 -- a block that is no forwarder and was born before
 abbrev pub is_old : ℕ → Block → Bool
 is_old from block = is_plain block && not (nat_le from block.birth)
+
+-- those of a class
+abbrev pub is_old_in : ℕ → ℕ → Block → Bool
+is_old_in size from block = is_old from block && is_in_class size block
 
 -- the blocks of a page that were born before
 abbrev pub old_in : ℕ → ℕ → Page ℕ → ℕ
@@ -64,6 +71,7 @@ olds-plain from (Some block ∷ slots) plain = omega (arith, sum_by-cons (slot_c
 pub record HasOldAnchors (anchors : Anchors) (from : ℕ) (table : Table Block) : Type 0 where
   pub size : length anchors.first ≤ length table
   pub old : (number : ℕ) (page : Page Block) → page_at anchors.first number ≡ Some page → is_anchored anchors.stays page ≡ true → staying_in anchors.stays page ≤ page_count (is_old from) (page_at table number)
+  pub class : (number : ℕ) (page : Page Block) → page_at anchors.first number ≡ Some page → is_anchored anchors.stays page ≡ true → (now : Page Block) × (page_at table number ≡ Some now) × (now.class_size ≡ page.class_size)
 
 -- a number at which a page was anchored
 record WasAnchored (stays : ℕ → Bool) (content : Option (Page Block)) : Type 0 where
@@ -168,6 +176,16 @@ module _ (anchors : Anchors) (sizes : List ℕ) (from passed entered : ℕ) (tab
   pub new-few : (size base : ℕ) → is_class_size size ≡ true → total size (beside out (traced from passed entered 0 (slots_in size))) ≤ base → total size (new_page from) ≤ base / slots_in size
   new-few size base class weight = (le-div_iff_mul-le (slots_in-class_size size class).0).1 (omega (arith, new-weighed size class, weight, mul_comm (slots_in size) (total size (new_page from))))
 
+  -- a page has no fewer old blocks than count beside those that stay
+  by_first : (number : ℕ) (content : Option (Page Block)) → page_at table number ≡ content → (count : ℕ) → count ≤ page_count (is_old from) content → (old : Option (Page Block)) → page_at anchors.first number ≡ old
+      → (if is_anchor anchors.stays old then 0 else count) + anchor_blocks anchors.stays old ≤ page_count (is_old from) content
+  by_first number content at count few None first = omega (arith, few)
+  by_first number content at count few (Some page) first = go (is_anchored anchors.stays page) refl
+    where
+      go : (test : Bool) → is_anchored anchors.stays page ≡ test → (if test then 0 else count) + (if test then staying_in anchors.stays page else 0) ≤ page_count (is_old from) content
+      go true is = omega (arith, has.old number page first is, ap (page_count (is_old from)) at)
+      go false is = omega (arith, few)
+
   -- the old blocks of all classes beside anchored pages are no more than those that are no forwarders, less the blocks that stay
   pub olds-few : NoneTwice sizes → sum_by (λ k. total k (beside out (old_in from))) sizes + staying_blocks anchors ≤ count_blocks (is_old from) table
   olds-few once =
@@ -175,7 +193,7 @@ module _ (anchors : Anchors) (sizes : List ℕ) (from passed entered : ℕ) (tab
         arith,
         sum-weights (λ k. beside out (old_in from)) sizes (ages table),
         weights-ages (λ number content. sum_by (λ k. weigh k (beside out (old_in from)) number content) sizes) table,
-        less-beside anchors.stays olded (λ number. page_count (is_old from)) anchors.first table has.size (λ number. each number (page_at table number) refl),
+        less-beside (anchor_blocks anchors.stays) olded (λ number. page_count (is_old from)) anchors.first table has.size (λ number. each number (page_at table number) refl),
         weights-sum_by (page_count (is_old from)) table,
       )
     where
@@ -186,15 +204,6 @@ module _ (anchors : Anchors) (sizes : List ℕ) (from passed entered : ℕ) (tab
       zeros [] = refl
       zeros (k ∷ list) = omega (arith, sum_by-cons (λ (j : ℕ). 0) k list, zeros list)
 
-      by_first : (number : ℕ) (content : Option (Page Block)) → page_at table number ≡ content → (count : ℕ) → count ≤ page_count (is_old from) content → (old : Option (Page Block)) → page_at anchors.first number ≡ old
-          → (if is_anchor anchors.stays old then 0 else count) + anchor_blocks anchors.stays old ≤ page_count (is_old from) content
-      by_first number content at count few None first = omega (arith, few)
-      by_first number content at count few (Some page) first = go (is_anchored anchors.stays page) refl
-        where
-          go : (test : Bool) → is_anchored anchors.stays page ≡ test → (if test then 0 else count) + (if test then staying_in anchors.stays page else 0) ≤ page_count (is_old from) content
-          go true is = omega (arith, has.old number page first is, ap (page_count (is_old from)) at)
-          go false is = omega (arith, few)
-
       each : (number : ℕ) (content : Option (Page Block)) → page_at table number ≡ content → olded number content + anchor_blocks anchors.stays (page_at anchors.first number) ≤ page_count (is_old from) content
       each number None at = omega (arith, by_first number None at 0 (omega arith) (page_at anchors.first number) refl, zeros sizes)
       each number (Some page) at =
@@ -203,6 +212,70 @@ module _ (anchors : Anchors) (sizes : List ℕ) (from passed entered : ℕ) (tab
             by_first number (Some page) at (olds from (aged page).slots) (omega (arith, page-plain number page at)) (page_at anchors.first number) refl,
             sum-once page.class_size (beside out (old_in from) number (aged page)) sizes once,
           )
+
+  -- so are those of each class
+  module _ (placed : ArePlaced table) (size : ℕ) where
+    -- the old blocks of a page of a class are of this class
+    page-class : (number : ℕ) (page : Page Block) → page_at table number ≡ Some page → page.class_size ≡ size → page_count (is_old_in size from) (Some page) ≡ page_count (is_old from) (Some page)
+    page-class number page at own = go page.slots (λ slot block there. placed number page at slot block there)
+      where
+        one : (old same : Bool) → same ≡ true → ◌≡◌ {A = ℕ} (if old && same then 1 else 0) (if old then 1 else 0)
+        one true true e = refl
+        one false true e = refl
+        one old false e = absurd (false≢true e)
+
+        go : (slots : List (Option Block)) → ((slot : ℕ) (block : Block) → get_or slots slot None ≡ Some block → header_class block.header ≡ Some page.class_size) → sum_by (slot_count (is_old_in size from)) slots ≡ sum_by (slot_count (is_old from)) slots
+        go [] of_class = refl
+        go (None ∷ slots) of_class = omega (arith, sum_by-cons (slot_count (is_old_in size from)) None slots, sum_by-cons (slot_count (is_old from)) None slots, go slots (λ slot. of_class (suc slot)))
+        go (Some block ∷ slots) of_class =
+            let mine : is_in_class size block ≡ true = ap (λ (o : Option ℕ). unwrap_or (option_map (λ class. class == size) o) false) (of_class 0 block refl) ∙ eq-eqb page.class_size size own in
+            omega (arith, sum_by-cons (slot_count (is_old_in size from)) (Some block) slots, sum_by-cons (slot_count (is_old from)) (Some block) slots, go slots (λ slot. of_class (suc slot)), one (is_old from block) (is_in_class size block) mine)
+
+    -- an anchored page that is free or of another class has no blocks of this one
+    none-staying : (number : ℕ) (old : Option (Page Block)) → page_at anchors.first number ≡ old → ((page : Page Block) → page_at table number ≡ Some page → page.class_size ≡ size → ⊥) → class_blocks anchors.stays size old ≡ 0
+    none-staying number None first none = refl
+    none-staying number (Some page) first none = go (page.class_size == size) refl (is_anchored anchors.stays page) refl
+      where
+        go : (same : Bool) → (page.class_size == size) ≡ same → (test : Bool) → is_anchored anchors.stays page ≡ test → ◌≡◌ {A = ℕ} (if same then (if test then staying_in anchors.stays page else 0) else 0) 0
+        go true own true is = let (now, at, class) = has.class number page first is in absurd (none now at (class ∙ eqb-true page.class_size size own))
+        go true own false is = refl
+        go false own test is = refl
+
+    class-below : (old : Option (Page Block)) → class_blocks anchors.stays size old ≤ anchor_blocks anchors.stays old
+    class-below None = omega arith
+    class-below (Some page) = go (page.class_size == size)
+      where
+        go : (same : Bool) → (if same then anchor_blocks anchors.stays (Some page) else 0) ≤ anchor_blocks anchors.stays (Some page)
+        go true = omega arith
+        go false = omega arith
+
+    pub class-few : total size (beside out (old_in from)) + class_staying anchors size ≤ count_blocks (is_old_in size from) table
+    class-few =
+        omega (
+          arith,
+          weights-ages (weigh size (beside out (old_in from))) table,
+          less-beside (class_blocks anchors.stays size) (λ number content. weigh size (beside out (old_in from)) number (option_map aged content)) (λ number. page_count (is_old_in size from)) anchors.first table has.size (λ number. each number (page_at table number) refl),
+          weights-sum_by (page_count (is_old_in size from)) table,
+        )
+      where
+        each : (number : ℕ) (content : Option (Page Block)) → page_at table number ≡ content → weigh size (beside out (old_in from)) number (option_map aged content) + class_blocks anchors.stays size (page_at anchors.first number) ≤ page_count (is_old_in size from) content
+        each number None at = omega (arith, none-staying number (page_at anchors.first number) refl (λ page is. absurd (none-some page (sym at ∙ is))))
+        each number (Some page) at = elim (cases_eq page.class_size size) [
+          | inl own ↦
+              omega (
+                arith,
+                weigh-own size (beside out (old_in from)) number (aged page) own,
+                by_first number (Some page) at (olds from (aged page).slots) (omega (arith, page-plain number page at)) (page_at anchors.first number) refl,
+                class-below (page_at anchors.first number),
+                page-class number page at own,
+              )
+          | inr apart ↦
+              omega (
+                arith,
+                weigh-other size (beside out (old_in from)) number (aged page) apart,
+                none-staying number (page_at anchors.first number) refl (λ other is own. apart (ap (λ (p : Page Block). p.class_size) (same_Some page other (sym at ∙ is)) ∙ own)),
+              )
+        ]
 
   -- the blocks of pages with room are old and young ones
   pub roomy-few : (size : ℕ) → total size (beside out roomy) ≤ total size (beside out (old_in from)) + total size (young_in from)

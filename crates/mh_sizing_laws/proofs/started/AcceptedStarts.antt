@@ -1,5 +1,5 @@
 -- A startup and what follows it without what the world refuses: they make the same, lead to the same run, and need the same.
-use Rattle.std.proofs.Common.{◌≡◌, ℕ, ◌+◌, ◌≤◌, Bool, true, false, if◌then◌else◌, Option, Some, None, is_none, List, [], ◌∷◌, ◌++◌, length, replicate, flat_map, refl, sym, ap, ap₂, ◌∙◌, subst}
+use Rattle.std.proofs.Common.{◌≡◌, ℕ, ◌+◌, ◌≤◌, Bool, true, false, if◌then◌else◌, Option, Some, None, is_none, List, [], ◌∷◌, ◌++◌, length, replicate, flat_map, refl, sym, ap, ap₂, ◌∙◌, subst, arith}
 use Rattle.std.specs.List.{AllByRecursion}
 use Rattle.mh_model.specs.declared.command.Event.{Event}
 use Rattle.mh_model.specs.declared.command.Event.TheVariants as event
@@ -13,17 +13,19 @@ use Rattle.mh_model.specs.LiveParts.{HasAtMostLive}
 use Rattle.mh_model.specs.Needs.{WorldRun, first_run, next_run, run_worlds}
 use Rattle.mh_model.specs.Openings.{asked_parts, class_parts, pages_of_parts}
 use Rattle.mh_sizing_laws.specs.Anchors.{ReachesThoseThatStay}
+use Rattle.mh_sizing_laws.specs.Filled.{FillsAtMost}
 use Rattle.mh_sizing_laws.specs.Made.{intervals_made_in, made_parts, parts_made, parts_made_in, run_after}
-use Rattle.mh_sizing_laws.specs.Startup.{anchored_by, anchored_of, asks_for_cycle, births_made, births_made_in, staying_by, staying_of}
-use Rattle.mh_sizing_laws.specs.Started.{MakeNoMoreAfter}
+use Rattle.mh_sizing_laws.specs.Startup.{anchored_by, anchored_of, asks_for_cycle, births_made, births_made_in, staying_by, staying_of, staying_parts}
+use Rattle.mh_sizing_laws.specs.Started.{FillNoMoreAfter, MakeNoMoreAfter}
 use Rattle.mh_sizing_laws.proofs.ClassWeights.{sum-same}
 use Rattle.mh_sizing_laws.proofs.needs.Accepted.{accepted, accepted_command, accepted_event, accepted_in, all-mapped, intervals-accepted, next-accepted, next-config, parts-made, worlds-accepted}
 use Rattle.mh_sizing_laws.proofs.needs.AskedNeeds.{AskNoMoreAfter, run_intervals}
+use Rattle.mh_sizing_laws.proofs.sharp_needs.FewerPages.{all-beside}
 use Rattle.mh_sizing_laws.proofs.started.ReachedThroughout.{reached-throughout}
 
 -- Runs -------------------------------------------------------------------------------------------
 
-run-joined : (first more : List Event) (run : WorldRun) → run_after run (first ++ more) ≡ run_after (run_after run first) more
+pub run-joined : (first more : List Event) (run : WorldRun) → run_after run (first ++ more) ≡ run_after (run_after run first) more
 run-joined [] more run = refl
 run-joined (event ∷ first) more run = run-joined first more (next_run run event)
 
@@ -84,9 +86,11 @@ module _ (config : Config) (start : List Event) where
   start-anchored stays = sum-same (λ size. anchored_by stays (slots_in size) (births_made size config (accepted config start))) (λ size. anchored_by stays (slots_in size) (births_made size config start)) class_sizes
       (λ size among. ap (anchored_by stays (slots_in size)) (births-accepted size start (first_run config)))
 
+  start-parts : (stays : ℕ → Bool) (size : ℕ) → staying_parts stays config (accepted config start) size ≡ staying_parts stays config start size
+  start-parts stays size = ap (staying_by stays (slots_in size)) (births-accepted size start (first_run config))
+
   start-staying : (stays : ℕ → Bool) → staying_of stays config (accepted config start) ≡ staying_of stays config start
-  start-staying stays = sum-same (λ size. staying_by stays (slots_in size) (births_made size config (accepted config start))) (λ size. staying_by stays (slots_in size) (births_made size config start)) class_sizes
-      (λ size among. ap (staying_by stays (slots_in size)) (births-accepted size start (first_run config)))
+  start-staying stays = sum-same (staying_parts stays config (accepted config start)) (staying_parts stays config start) class_sizes (λ size among. start-parts stays size)
 
   -- what follows, without what is refused
   abbrev run : WorldRun
@@ -111,6 +115,12 @@ module _ (config : Config) (start : List Event) where
     intervals-after P all =
         subst (λ (r : WorldRun). AllByRecursion (λ interval. P (flat_map (asked_parts config) interval)) (run_intervals [] r (accepted_after rest))) (sym after-accepted)
         (all-mapped P (flat_map (asked_parts config)) (run_intervals [] run (accepted_after rest)) (subst (AllByRecursion P) (sym (intervals-accepted config rest [] run (run-config start (first_run config)))) all))
+
+    -- live parts fill no more pages
+    pub fills-after : (most : ℕ) (stays : ℕ → Bool) → FillNoMoreAfter most config start rest stays → FillNoMoreAfter most config (accepted config start) (accepted_after rest) stays
+    fills-after most stays fills =
+        worlds-after (FillsAtMost (staying_parts stays config (accepted config start)) most)
+        (all-beside (staying_parts stays config start) (staying_parts stays config (accepted config start)) most (λ size class. omega (arith, start-parts stays size)) (run_worlds run rest) fills)
 
     pub all-parts : flat_map (asked_parts config) (accepted config start ++ accepted_after rest) ≡ parts_made config (start ++ rest)
     all-parts = ap (flat_map (asked_parts config)) (sym both-accepted) ∙ parts-made config (start ++ rest)

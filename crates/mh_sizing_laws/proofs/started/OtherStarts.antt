@@ -1,5 +1,5 @@
 -- A startup and what follows it in two configurations with the same rules and scheduler: what is made and needed is the same.
-use Rattle.std.proofs.Common.{◌≡◌, ℕ, ◌+◌, ◌<◌, ◌≤◌, Bool, true, List, [], ◌∷◌, ◌++◌, length, replicate, refl, sym, ap, ap₂, ◌∙◌, subst}
+use Rattle.std.proofs.Common.{◌≡◌, ℕ, ◌+◌, ◌<◌, ◌≤◌, Bool, true, List, [], ◌∷◌, ◌++◌, length, replicate, refl, sym, ap, ap₂, ◌∙◌, subst, arith}
 use Rattle.std.specs.List.{AllByRecursion}
 use Rattle.mh_model.specs.declared.command.Event.{Event}
 use Rattle.mh_model.specs.declared.config.Config.{Config}
@@ -11,12 +11,14 @@ use Rattle.mh_model.specs.CycleUnits.{ReachesAtMost, most_slots, most_moves}
 use Rattle.mh_model.specs.LiveParts.{HasAtMostLive}
 use Rattle.mh_model.specs.Needs.{WorldRun, first_run, next_run, run_worlds}
 use Rattle.mh_model.specs.Openings.{class_parts, pages_of_parts}
+use Rattle.mh_sizing_laws.specs.Filled.{FillsAtMost}
 use Rattle.mh_sizing_laws.specs.Made.{intervals_made_in, made_parts, run_after}
 use Rattle.mh_sizing_laws.specs.Needs.{HasSameScheduler}
-use Rattle.mh_sizing_laws.specs.Started.{IsStartupWithin, MakeNoMoreAfter, StartedNeedsAreOfTheScheduler}
-use Rattle.mh_sizing_laws.specs.Startup.{anchored_by, anchored_of, births_made, births_made_in, staying_by, staying_of}
+use Rattle.mh_sizing_laws.specs.Started.{FillNoMoreAfter, IsStartupWithin, MakeNoMoreAfter, StartedNeedsAreOfTheScheduler}
+use Rattle.mh_sizing_laws.specs.Startup.{anchored_by, anchored_of, births_made, births_made_in, staying_by, staying_of, staying_parts}
 use Rattle.mh_sizing_laws.proofs.ClassWeights.{sum-same}
 use Rattle.mh_sizing_laws.proofs.needs.OtherConfigs.{in_other, run_in, next-same, stays-same, made-same, all-same, intervals-same, all-reached, worlds-same}
+use Rattle.mh_sizing_laws.proofs.sharp_needs.FewerPages.{all-beside}
 use Rattle.mh_sizing_laws.proofs.started.AcceptedStarts.{run-config}
 
 -- Runs -------------------------------------------------------------------------------------------
@@ -44,10 +46,12 @@ module _ (config other : Config) (start : List Event) (same : HasSameScheduler c
       sum-same (λ size. anchored_by stays (slots_in size) (births_made size other start)) (λ size. anchored_by stays (slots_in size) (births_made size config start)) class_sizes
       (λ size among. ap (anchored_by stays (slots_in size)) (births-same other size start (first_run config) same))
 
+  parts-same : (stays : ℕ → Bool) (size : ℕ) → staying_parts stays other start size ≡ staying_parts stays config start size
+  parts-same stays size = ap (staying_by stays (slots_in size)) (births-same other size start (first_run config) same)
+
   staying-same : (stays : ℕ → Bool) → staying_of stays other start ≡ staying_of stays config start
   staying-same stays =
-      sum-same (λ size. staying_by stays (slots_in size) (births_made size other start)) (λ size. staying_by stays (slots_in size) (births_made size config start)) class_sizes
-      (λ size among. ap (staying_by stays (slots_in size)) (births-same other size start (first_run config) same))
+      sum-same (staying_parts stays other start) (staying_parts stays config start) class_sizes (λ size among. parts-same stays size)
 
   within-same : (anchored_pages startup_pages : ℕ) (stays : ℕ → Bool) → IsStartupWithin anchored_pages startup_pages config start stays → IsStartupWithin anchored_pages startup_pages other start stays
   within-same anchored_pages startup_pages stays within = record {
@@ -73,6 +77,11 @@ module _ (config other : Config) (start : List Event) (same : HasSameScheduler c
   intervals-after : (P : List Part → Type 0) (rest : List Event) → AllByRecursion P (intervals_made_in [] run rest) → AllByRecursion P (intervals_made_in [] (run_after (first_run other) start) rest)
   intervals-after P rest all = subst (AllByRecursion P) (sym (ap (λ (r : WorldRun). intervals_made_in [] r rest) after-same ∙ intervals-same other rest [] run run-scheduled)) all
 
+  fills-same : (most : ℕ) (rest : List Event) (stays : ℕ → Bool) → FillNoMoreAfter most config start rest stays → FillNoMoreAfter most other start rest stays
+  fills-same most rest stays fills =
+      all-beside (staying_parts stays config start) (staying_parts stays other start) most (λ size class. omega (arith, parts-same stays size)) (run_worlds (run_after (first_run other) start) rest)
+      (worlds-after (FillsAtMost (staying_parts stays config start) most) (λ world few list once reached. few list once (all-reached other world list reached)) rest fills)
+
   needs-same : (needs : Needs) (rest : List Event) (stays : ℕ → Bool) → MakeNoMoreAfter needs config start rest stays → MakeNoMoreAfter needs other start rest stays
   needs-same needs rest stays make = record {
     stay = stay;
@@ -96,6 +105,7 @@ module _ (config other : Config) (start : List Event) (same : HasSameScheduler c
 pub started-of-scheduler : StartedNeedsAreOfTheScheduler
 started-of-scheduler = record {
   needs = λ needs config other start rest stays same make. needs-same config other start same needs rest stays make;
+  filled = λ most config other start rest stays same fills. fills-same config other start same most rest stays fills;
   within = λ anchored_pages startup_pages config other start stays same within. within-same config other start same anchored_pages startup_pages stays within;
   anchored = λ config other start stays same. anchored-same config other start same stays;
   staying = λ config other start stays same. staying-same config other start same stays;

@@ -14,10 +14,11 @@ use Rattle.mh_model.specs.Snapshot.{Moment, first_moment}
 use Rattle.mh_model.specs.Table.{Block}
 use Rattle.mh_run_laws.proofs.worlds.Moments.{machine-moment_after}
 use Rattle.mh_sizing_laws.specs.Anchors.{anchored, staying, started, started_table, ReachesThoseThatStay, IsStartup, HasPagesBesideAnchors}
+use Rattle.mh_sizing_laws.specs.Filled.{FillsAtMost, staying_of_class}
 use Rattle.mh_sizing_laws.specs.Made.{parts_made, run_after}
 use Rattle.mh_sizing_laws.specs.Needs.{StaysInRoom}
-use Rattle.mh_sizing_laws.specs.Started.{HasEnoughBeside, EnoughAfterStartupSuffices, IsStartupWithin, MakeNoMoreAfter}
-use Rattle.mh_sizing_laws.specs.Startup.{anchored_of, staying_of, FillsPages}
+use Rattle.mh_sizing_laws.specs.Started.{HasEnoughBeside, EnoughAfterStartupSuffices, FillNoMoreAfter, IsStartupWithin, MakeNoMoreAfter}
+use Rattle.mh_sizing_laws.specs.Startup.{anchored_of, staying_of, staying_parts, FillsPages}
 use Rattle.mh_sizing_laws.proofs.anchors.AnchoredRuns.{anchored-pages-suffice}
 use Rattle.mh_sizing_laws.proofs.anchors.MarkedAnchors.{reached-anchored-suffice}
 use Rattle.mh_sizing_laws.proofs.needs.Accepted.{accepted}
@@ -26,6 +27,7 @@ use Rattle.mh_sizing_laws.proofs.needs.AskedNeeds.{AskNoMoreAfter}
 use Rattle.mh_sizing_laws.proofs.needs.BesideRuns.{first_of}
 use Rattle.mh_sizing_laws.proofs.needs.NeededParts.{IsStart, start-worlds, start-intervals, start-opens, run-stays}
 use Rattle.mh_sizing_laws.proofs.needs.NeededRuns.{asked-start}
+use Rattle.mh_sizing_laws.proofs.sharp_needs.FewerPages.{all-beside}
 use Rattle.mh_sizing_laws.proofs.startup.Startups.{startups-fill}
 use Rattle.mh_sizing_laws.proofs.started.AcceptedStarts.{accepted_after, both-accepted, needs-asked-after, start-anchored, start-pages, start-unasked, stay-reached}
 
@@ -68,6 +70,13 @@ module _ (needs : Needs) (config : Config) (startup rest : List Event) (stays : 
   part-live done more start =
       subst (λ n. AllByRecursion (HasAtMostLive (needs.live + n)) (worlds from (done ++ first_of more))) (sym from-staying)
       (start-worlds needs (needs.live + staying_of stays config startup) config startup rest known.need (HasAtMostLive (needs.live + staying_of stays config startup)) done more start known.need.live)
+
+  -- and fill no more pages
+  pub part-fills : (filled : ℕ) → FillNoMoreAfter filled config startup rest stays → (done more : List Event) → IsStart config startup rest done more → AllByRecursion (FillsAtMost (staying_of_class stays table) filled) (worlds from (done ++ first_of more))
+  part-fills filled fills done more start =
+      all-beside (staying_parts stays config startup) (staying_of_class stays table) filled
+      (λ size class. omega (arith, ap (λ (m : Machine). staying_of_class stays m.heap.collector.table size) same, known.fills.staying_class stays size class)) (worlds from (done ++ first_of more))
+      (start-worlds needs (needs.live + staying_of stays config startup) config startup rest known.need (FillsAtMost (staying_parts stays config startup) filled) done more start fills)
 
 -- Pages ------------------------------------------------------------------------------------------
 

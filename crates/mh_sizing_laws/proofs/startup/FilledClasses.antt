@@ -60,7 +60,7 @@ module _ (all rest : ℕ → List ℕ) (table : Table ℕ) (are : AreFilled all 
 
 -- When no birth is to come, the table weighs what the pages do that all births fill
 module _ (all : ℕ → List ℕ) (table : Table ℕ) (are : AreFilled all (λ size. []) table) (weight : ℕ → List ℕ → ℕ) where
-  class-weighs : (size : ℕ) → IsAmong size class_sizes → weights (weigh size (λ number page. weight (length page.slots) (births_in page.slots))) table ≡ sum_by (weight (slots_in size)) (filled_pages (slots_in size) (all size))
+  pub class-weighs : (size : ℕ) → IsAmong size class_sizes → weights (weigh size (λ number page. weight (length page.slots) (births_in page.slots))) table ≡ sum_by (weight (slots_in size)) (filled_pages (slots_in size) (all size))
   class-weighs size among = omega (arith, by_size, is.weighs (weight (slots_in size)), begun-alone (weight (slots_in size)) (slots_in size) is.run (slots_in-class_size size class).0 is.short)
     where
       class : is_class_size size ≡ true

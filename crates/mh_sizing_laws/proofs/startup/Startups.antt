@@ -1,12 +1,12 @@
 -- The table after a startup, by the births of each class: how many pages are in use, and how many are anchored.
-use Rattle.std.proofs.Common.{◌≡◌, ℕ, ◌+◌, ◌*◌, nat_lt, if◌then◌else◌, Bool, Option, Some, None, option_map, List, [], ◌∷◌, length, map, replicate, cond, refl, sym, ap, ap₂, ◌∙◌, subst, arith, length-append}
+use Rattle.std.proofs.Common.{◌≡◌, ℕ, ◌+◌, ◌*◌, ◌==◌, true, nat_lt, if◌then◌else◌, Bool, Option, Some, None, option_map, List, [], ◌∷◌, length, map, replicate, cond, refl, sym, ap, ap₂, ◌∙◌, subst, arith, length-append}
 use Rattle.std.specs.List.{count_by, sum_by}
 use Rattle.std.proofs.lemmas.List.{length-map, length-replicate}
 use Rattle.std.proofs.lemmas.List.Sums.{sum_by-cons}
 use Rattle.mh_model.specs.declared.command.Event.{Event}
 use Rattle.mh_model.specs.declared.config.Config.{Config}
 use Rattle.mh_model.specs.World.{births}
-use Rattle.mh_model.specs.Classes.{class_sizes}
+use Rattle.mh_model.specs.Classes.{class_sizes, is_class_size}
 use Rattle.mh_model.specs.Pages.{Page, Table}
 use Rattle.mh_model.specs.Table.{Block}
 use Rattle.mh_model.specs.LiveParts.{slot_count}
@@ -22,15 +22,18 @@ use Rattle.mh_run_laws.proofs.following.AllCommands.{commands-follow}
 use Rattle.mh_run_laws.proofs.runs.FaithfulMoments.{moments-faithful}
 use Rattle.mh_run_laws.proofs.worlds.Moments.{machine-moment_after}
 use Rattle.mh_sizing_laws.specs.Anchors.{staying_in, anchor_count, anchor_blocks, anchored, staying}
+use Rattle.mh_sizing_laws.specs.Filled.{class_blocks, staying_of_class}
 use Rattle.mh_sizing_laws.specs.Made.{made_parts, parts_made, parts_made_in, run_after}
-use Rattle.mh_sizing_laws.specs.Startup.{births_made, births_made_in, anchored_of, staying_of, StartupsFillPages}
+use Rattle.mh_sizing_laws.specs.Startup.{births_made, births_made_in, anchored_of, staying_of, staying_parts, StartupsFillPages}
 use Rattle.mh_sizing_laws.proofs.openings.Intervals.{class_parts-append}
+use Rattle.mh_sizing_laws.proofs.openings.MadeParts.{among-classes}
 use Rattle.mh_sizing_laws.proofs.filling.Ages.{birth_of, ages}
+use Rattle.mh_sizing_laws.proofs.filling.Weights.{weights, weigh}
 use Rattle.mh_sizing_laws.proofs.needs.BesideRuns.{NoneIsFull, first-beside}
 use Rattle.mh_sizing_laws.proofs.triggers.WorldReplies.{never-full-world}
 use Rattle.mh_sizing_laws.proofs.startup.LastPages.{births_in}
 use Rattle.mh_sizing_laws.proofs.ClassWeights.{sum-same, table_weight, used-pages}
-use Rattle.mh_sizing_laws.proofs.startup.FilledClasses.{AreFilled, all-used, all-weigh, filled-first, pages_by}
+use Rattle.mh_sizing_laws.proofs.startup.FilledClasses.{AreFilled, all-used, all-weigh, class-weighs, filled-first, pages_by}
 use Rattle.mh_sizing_laws.proofs.startup.FilledRuns.{IsStarting, starting-run, unflagged-at}
 
 -- Births -----------------------------------------------------------------------------------------
@@ -78,11 +81,31 @@ module _ (stays : ℕ → Bool) where
   abbrev staying_weight : ℕ → ℕ → ℕ
   staying_weight slots count = if nat_lt slots (4 * count) then count else 0
 
+  -- the blocks that stay of the anchored pages of a class
+  class-births : (size : ℕ) (table : Table Block) → staying_of_class stays table size ≡ weights (weigh size (λ number page. staying_weight (length page.slots) (count_by stays (births_in page.slots)))) (ages table)
+  unfolding table_map
+  class-births size table = go 0 table
+    where
+      go : (from : ℕ) (pages : Table Block) → sum_by (class_blocks stays size) pages ≡ weights (λ number. weigh size (λ n page. staying_weight (length page.slots) (count_by stays (births_in page.slots))) (from + number)) (ages pages)
+      go from [] = refl
+      go from (None ∷ pages) = omega (arith, sum_by-cons (class_blocks stays size) None pages, go from pages)
+      go from (Some page ∷ pages) = omega (
+        arith,
+        sum_by-cons (class_blocks stays size) (Some page) pages,
+        ap (λ n. if page.class_size == size then n else 0) (ap₂ staying_weight (sym (length-map page.slots (option_map birth_of))) (staying-births page.slots)),
+        go from pages,
+      )
+
   module _ (config : Config) (events : List Event) (table : Table Block) (are : AreFilled (λ size. births_made size config events) (λ size. []) (ages table)) where
     anchored-births : anchored stays table ≡ anchored_of stays config events
     anchored-births =
         pages-births anchor_weight (anchor_count stays) refl (λ page. refl) table
         ∙ all-weigh (λ size. births_made size config events) (ages table) are (λ slots list. anchor_weight slots (count_by stays list))
+
+    class-staying : (size : ℕ) → is_class_size size ≡ true → staying_of_class stays table size ≡ staying_parts stays config events size
+    class-staying size class =
+        class-births size table
+        ∙ class-weighs (λ size. births_made size config events) (ages table) are (λ slots list. staying_weight slots (count_by stays list)) size (among-classes size class)
 
     staying-is : staying stays table ≡ staying_of stays config events
     staying-is =
@@ -105,6 +128,7 @@ startups-fill config start none room = record {
   unflagged = unflagged-at table filled.unflagged;
   in_use = omega (arith, used-pages (ages table), all-used all (ages table) filled, length-table_map birth_of table, free_pages-table_map birth_of table, pages-made config start, ap (λ (m : Machine). length m.heap.collector.table) same, is.whole);
   anchored = λ stays. anchored-births stays config start table filled;
+  staying_class = λ stays. class-staying stays config start table filled;
   staying = λ stays. staying-is stays config start table filled;
 }
   where

@@ -1,6 +1,6 @@
 use Rattle.std.proofs.Common.{codes, lit≤}
 use Rattle.clap.specs.Words.{found_of, one_of, rows_of}
-use Rattle.mh_command_line.proofs.ReadingLemmas.{given-number, no-number, widened}
+use Rattle.mh_command_line.proofs.ReadingLemmas.{widened}
 use Rattle.mh_command_line.proofs.size_options.kind_asked.Goals as goal
 
 pub number-requires : goal.number-requires

@@ -1,4 +1,4 @@
-use Rattle.std.proofs.Common.{◌∙◌, ◌||◌, not, codes, lit≤, rules, sym}
+use Rattle.std.proofs.Common.{◌∙◌, codes, lit≤, rules, sym}
 use Rattle.clap.specs.Words.{found_of, one_of, rows_of}
 use Rattle.mh_command_line.specs.Sizes.{has_blocks, has_size, is_given}
 use Rattle.mh_command_line.proofs.ReadingLemmas.{no-blocks, widened}

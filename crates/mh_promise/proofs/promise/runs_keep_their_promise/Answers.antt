@@ -19,7 +19,7 @@ use Rattle.mh_run_laws.specs.Utilisation.{HasShare}
 use Rattle.mh_laws.proofs.bounds.CyclesInTime.{run-stays}
 use Rattle.mh_model.specs.Intervals as run
 use Rattle.mh_sizing_laws.specs.Triggers.{NeverFullIsTheWorld}
-use Rattle.mh_sizing_laws.specs.Made.{MakeOfClasses}
+use Rattle.mh_sizing_laws.specs.Made.{MakeOfKinds}
 use Rattle.mh_sizing_laws.specs.Needs.{StaysInRoom}
 use Rattle.mh_promise.specs.Promise.{HasRoom, NeverAnswersFull}
 use Rattle.mh_run_laws.specs.Replays.{machine_at, moment_at}
@@ -116,16 +116,16 @@ returns c config events outcome is = record {
     room = λ quanta opened some takes has. never-full config events outcome.replies is.replies c.never_full_is_the_world.ensures (c.room_suffices.ensures config events quanta opened some takes has);
     needs = λ needs quanta make has.
         has-room config events outcome.replies quanta needs.opened is.replies c.never_full_is_the_world.ensures (c.enough_for_needs_suffices.ensures needs config events quanta make has);
-    shared = λ needs least kinds quanta make few has.
-        has-room config events outcome.replies quanta needs.opened is.replies c.never_full_is_the_world.ensures (c.sharp_enough_for_needs_suffices.ensures needs least kinds config events quanta make few has);
+    shared = λ needs filled kinds quanta make fills few has.
+        has-room config events outcome.replies quanta needs.opened is.replies c.never_full_is_the_world.ensures (c.sharp_enough_for_needs_suffices.ensures needs filled kinds config events quanta make fills few has);
     started = λ needs anchored startup_pages quanta start rest stays split make within has.
         has-room config events outcome.replies quanta needs.opened is.replies c.never_full_is_the_world.ensures
         (subst (λ list. StaysInRoom config list quanta needs.opened) (sym split) (c.enough_after_startup_suffices.ensures needs anchored startup_pages config start rest stays quanta make within has));
-    started_shared = λ needs least kinds anchored startup_pages quanta start rest stays split make few within has.
+    started_shared = λ needs filled kinds anchored startup_pages quanta start rest stays split make fills few within has.
         has-room config events outcome.replies quanta needs.opened is.replies c.never_full_is_the_world.ensures
         (subst (λ list. StaysInRoom config list quanta needs.opened) (sym split)
-        (c.sharp_enough_after_startup_suffices.ensures needs least kinds anchored startup_pages config start rest stays quanta make (subst (MakeOfClasses least kinds config) split few) within has));
-    demanded = λ few. never-full config events outcome.replies is.replies c.never_full_is_the_world.ensures (c.pages_for_demand_suffice.ensures config events few);
+        (c.sharp_enough_after_startup_suffices.ensures needs filled kinds anchored startup_pages config start rest stays quanta make fills (subst (MakeOfKinds kinds config) split few) within has));
+    fits = λ few. never-full config events outcome.replies is.replies c.never_full_is_the_world.ensures (c.pages_for_footprint_suffice.ensures config events few);
   };
   share = λ often. subst (HasShare config) (sym is.trace) (c.mutator_has_its_share.ensures.after_events config events often);
 }

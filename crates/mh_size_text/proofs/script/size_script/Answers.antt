@@ -8,17 +8,17 @@ use Rattle.mh_size_text.proofs.script.size_script.Goals as goal
 pub returns-in-Ok-write_size-clause-full : goal.returns-in-Ok-write_size-clause-full
 returns-in-Ok-write_size-clause-full g c = λ is.
     let reads = reads_slice _ _ script_bounded _ _ _ _ c.as_slice-bytes.ensures.value c.in_ok-text.ensures.read c.in_ok-text.ensures.whole in
-    sizes_many c.args.rules reads _ _ _ c.in-Ok.ensures.script c.in-Ok-write_size.ensures.done (many_entries _ c.events.result.now c.events.ensures c.if-events-gt-MOST_ENTRIES.true)
+    sizes_many c.args.options.now reads _ _ _ c.in-Ok.ensures.script c.in-Ok-write_size.ensures.done (many_entries _ c.events.result.now c.events.ensures c.if-events-gt-MOST_ENTRIES.true)
 
 pub returns-in-Ok-2-clause-ends : goal.returns-in-Ok-2-clause-ends
 returns-in-Ok-2-clause-ends g c =
     let reads = reads_slice _ _ script_bounded _ _ _ _ c.as_slice-bytes.ensures.value c.in_ok-text.ensures.read c.in_ok-text.ensures.whole in
-    sizes_few c.args.rules reads _ _ _ c.in-Ok.ensures.script c.in-Ok-2.ensures.done (few_entries _ c.events.result.now c.events.ensures c.if-events-gt-MOST_ENTRIES.false)
+    sizes_few c.args.options.now reads _ _ _ c.in-Ok.ensures.script c.in-Ok-2.ensures.done (few_entries _ c.events.result.now c.events.ensures c.if-events-gt-MOST_ENTRIES.false)
 
 pub returns-in-Err-Device-clause-begun : goal.returns-in-Err-Device-clause-begun
 returns-in-Err-Device-clause-begun g c = λ is.
     let reads = reads_slice _ _ script_bounded _ _ _ _ c.as_slice-bytes.ensures.value c.in_ok-text.ensures.read c.in_ok-text.ensures.whole in
-    begins_reads c.args.rules reads _ _ _ c.in-Ok.ensures.script (c.in-Err-Device.ensures.begun (ap Err c.in-Err-Device.field-0-is))
+    begins_reads c.args.options.now reads _ _ _ c.in-Ok.ensures.script (c.in-Err-Device.ensures.begun (ap Err c.in-Err-Device.field-0-is))
 
 pub returns-in-Ok-clause-memory : goal.returns-in-Ok-clause-memory
 returns-in-Ok-clause-memory g c =
@@ -28,7 +28,7 @@ pub returns-in-Ok-write_verdict-clause-ends : goal.returns-in-Ok-write_verdict-c
 returns-in-Ok-write_verdict-clause-ends g c =
     let reads = reads_slice _ _ script_bounded _ _ _ _ c.as_slice-bytes.ensures.value c.in_ok-text.ensures.read c.in_ok-text.ensures.whole in
     let bad = rw c.in-Err-Line.field-0-is at c.in-Err-Line.ensures.line in
-    rw c.of.ensures.line (sizes_bad c.args.rules reads _ _ _ (bad ∙ ap BadLine (sym c.in-Err-Line.line-is)) c.in-Ok-write_verdict.ensures.done)
+    rw c.of.ensures.line (sizes_bad c.args.options.now reads _ _ _ (bad ∙ ap BadLine (sym c.in-Err-Line.line-is)) c.in-Ok-write_verdict.ensures.done)
 
 pub returns-in-Ok-write_verdict-clause-reason : goal.returns-in-Ok-write_verdict-clause-reason
 returns-in-Ok-write_verdict-clause-reason g c =
@@ -39,4 +39,4 @@ pub returns-in-Err-Line-clause-begun : goal.returns-in-Err-Line-clause-begun
 returns-in-Err-Line-clause-begun g c = λ is.
     let reads = reads_slice _ _ script_bounded _ _ _ _ c.as_slice-bytes.ensures.value c.in_ok-text.ensures.read c.in_ok-text.ensures.whole in
     let bad = rw c.in-Err-Line.field-0-is at c.in-Err-Line.ensures.line in
-    begins_bad c.args.rules reads _ _ _ (bad ∙ ap BadLine (sym c.in-Err-Line.line-is)) c.in-Err.ensures.begun
+    begins_bad c.args.options.now reads _ _ _ (bad ∙ ap BadLine (sym c.in-Err-Line.line-is)) c.in-Err.ensures.begun

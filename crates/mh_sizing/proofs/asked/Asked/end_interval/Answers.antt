@@ -8,5 +8,5 @@ returns c = λ all running ended has. record {
   counted = c.clear.ensures _ _ has.counted;
   parts = c.max-self.ensures ∙ ap₂ max has.parts (c.total.ensures ∙ has.counted.total) ∙ sym (most_of-push length ended running);
   pages = c.max-self-2.ensures ∙ ap₂ max has.pages (c.pages.ensures _ _ has.counted) ∙ sym (most_of-push pages_of_parts ended running);
-  demand = c.add.ensures all running ended has.counted has.demand;
+  footprint = c.add.ensures all running ended has.counted has.footprint;
 }

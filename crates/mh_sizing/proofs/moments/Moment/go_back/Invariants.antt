@@ -9,7 +9,6 @@ invariant-loop-self l = record {
   births : min l.births l.self.births ≡ min l.births l.initial.self.births;
   set : l.self.set ≡ l.initial.self.set;
   looked : l.self.looked ≡ l.initial.self.looked;
-  most : l.self.most ≡ l.initial.self.most;
 }
 
 abbrev pub decreases-loop-self : goal.decreases-loop-self

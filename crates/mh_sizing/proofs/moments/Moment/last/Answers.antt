@@ -21,6 +21,7 @@ look_through-requires-clause-counted c =
       looked_few = omega arith;
       parts = refl;
       units = refl;
+      classes = c.new.ensures;
     }
 
 pub returns-clause-moment : goal.returns-clause-moment

@@ -10,7 +10,6 @@ invariant-loop-self l = record {
   counted : IsCounted (world_of l.heap) l.self;
   search : (cuts : List Cut) → IsSearch (world_of l.heap) cuts l.initial.self.set.births l.initial.self.looked → IsSearch (world_of l.heap) cuts l.self.set.births l.self.looked;
   births : l.self.births ≡ l.initial.self.births;
-  most : l.self.most ≡ l.initial.self.most;
 }
 
 abbrev pub decreases-loop-self : goal.decreases-loop-self

@@ -26,5 +26,5 @@ returns-in_err-opened-clause-none c = λ config events walked reached none needs
 
 pub returns-clause-needs : goal.returns-clause-needs
 returns-clause-needs c = λ config events walked reached.
-    needs-are c.args.self.now config events walked c.args.most reached _ c.in_ok-live.ensures c.in_ok-marked.ensures (c.in_ok-asked.ensures ∙ c.parts.ensures _ _ _ walked.asks)
+    needs-are c.args.self.now config events walked (λ size. 0) c.args.most reached _ c.in_ok-live.ensures c.in_ok-marked.ensures (c.in_ok-asked.ensures ∙ c.parts.ensures _ _ _ walked.asks)
     (c.in_ok-opened.ensures ∙ c.pages.ensures _ _ _ walked.asks) (c.page_units.ensures _ _ _ walked.asks)

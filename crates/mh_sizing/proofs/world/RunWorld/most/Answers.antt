@@ -1,32 +1,47 @@
-use Rattle.std.proofs.Common.{Result, Ok, Err, List, IfOk, subst}
+use Rattle.std.proofs.Common.{◌≡◌, ℕ, Result, Ok, Err, List, IfOk, subst}
+use Rattle.std.specs.List.{AllByRecursion}
 use Rattle.mh_model.specs.declared.memory.NoMemory.{NoMemory}
 use Rattle.mh_model.specs.CycleUnits.{object_units}
 use Rattle.mh_model.specs.LiveParts.{object_parts}
 use Rattle.mh_model.specs.World.{World}
 use Rattle.mh_shadow.specs.ShadowHeap.{outline_of, world_of}
-use Rattle.mh_sizing.specs.declared.counts.Counts.{Counts}
 use Rattle.mh_sizing.specs.declared.cuts.Cut.{Cut}
+use Rattle.mh_sizing.specs.declared.moments.Amounts.{Amounts}
 use Rattle.mh_sizing.specs.declared.world.RunWorld.{RunWorld}
+use Rattle.mh_sizing.specs.ByClass.{AreByClass}
+use Rattle.mh_sizing.specs.Cuts.{IsKept, IsLogOf}
 use Rattle.mh_sizing.specs.Moments.{HasMostFrom}
-use Rattle.mh_sizing.specs.Worlds.{AreMostOf, HasLogOf}
+use Rattle.mh_sizing.specs.Reached.{pages_beside, sum_of}
+use Rattle.mh_sizing.specs.Worlds.{AreMostOf, HasLogOf, IsMostOf}
 use Rattle.mh_sizing.proofs.AlikeLemmas.{log-alike}
 use Rattle.mh_sizing.proofs.HeapLemmas.{outlines-world}
 use Rattle.mh_sizing.proofs.StepLemmas.{parts-by_shape, units-by_shape}
-use Rattle.mh_sizing.proofs.WorldLemmas.{log-most}
+use Rattle.mh_sizing.proofs.WorldLemmas.{filled-kept, log-most, sum-kept}
 use Rattle.mh_sizing.proofs.world.RunWorld.most.Goals as goal
 
-found : (result : Result Counts NoMemory) (run : RunWorld) → IfOk result (λ most. HasMostFrom object_parts most.parts (world_of run.heap) run.cuts.items 0) → IfOk result (λ most. HasMostFrom object_units most.units (world_of run.heap) run.cuts.items 0)
-    → IfOk result (λ most. (worlds : List World) (last : World) → HasLogOf run worlds last → AreMostOf most worlds)
-found (Ok most) run parts units = λ worlds last has.
-    let world = world_of run.heap in
-    let log = log-alike (outline_of run.heap) last world has.outlines (outlines-world run.heap) worlds run.cuts.items has.log in
-    record { parts = log-most object_parts parts-by_shape world worlds run.cuts.items most.parts log parts; units = log-most object_units units-by_shape world worlds run.cuts.items most.units log units }
-found (Err refused) run parts units = tt
+module _ (run : RunWorld) (worlds : List World) (last : World) (has : HasLogOf run worlds last) where
+  log : IsLogOf worlds run.cuts.items (world_of run.heap)
+  log = log-alike (outline_of run.heap) last (world_of run.heap) has.outlines (outlines-world run.heap) worlds run.cuts.items has.log
+
+  found : (measure : World → List ℕ → ℕ) (most : ℕ) → ((world : World) (list : List ℕ) → AllByRecursion (IsKept world (world_of run.heap)) list → measure world list ≡ measure (world_of run.heap) list) → HasMostFrom measure most (world_of run.heap) run.cuts.items 0
+      → IsMostOf measure most worlds
+  found measure most kept held = log-most measure (world_of run.heap) kept worlds run.cuts.items most log held
+
+all-found : (beside : List ℕ) (result : Result Amounts NoMemory) (run : RunWorld) → IfOk result (λ most. HasMostFrom (sum_of object_parts) most.parts (world_of run.heap) run.cuts.items 0)
+    → IfOk result (λ most. HasMostFrom (sum_of object_units) most.units (world_of run.heap) run.cuts.items 0) → IfOk result (λ most. (others : ℕ → ℕ) → AreByClass others beside → HasMostFrom (pages_beside others) most.filled (world_of run.heap) run.cuts.items 0)
+    → IfOk result (λ most. (others : ℕ → ℕ) (worlds : List World) (last : World) → AreByClass others beside → HasLogOf run worlds last → AreMostOf others most worlds)
+all-found beside (Ok most) run parts units filled = λ others worlds last by_class has. record {
+  parts = found run worlds last has (sum_of object_parts) most.parts (sum-kept (world_of run.heap) object_parts parts-by_shape) parts;
+  units = found run worlds last has (sum_of object_units) most.units (sum-kept (world_of run.heap) object_units units-by_shape) units;
+  filled = found run worlds last has (pages_beside others) most.filled (filled-kept (world_of run.heap) others) (filled others by_class);
+}
+all-found beside (Err refused) run parts units filled = tt
 
 pub returns : goal.returns
 returns c =
     let cuts = c.deref.ensures.value in
     let world = world_of c.args.self.now.heap in
-    found c.most_held.result c.args.self.now
-    (subst (λ (cuts : List Cut). IfOk c.most_held.result (λ most. HasMostFrom object_parts most.parts world cuts 0)) cuts c.most_held.ensures.parts)
-    (subst (λ (cuts : List Cut). IfOk c.most_held.result (λ most. HasMostFrom object_units most.units world cuts 0)) cuts c.most_held.ensures.units)
+    all-found c.args.beside.now c.most_held.result c.args.self.now
+    (subst (λ (cuts : List Cut). IfOk c.most_held.result (λ most. HasMostFrom (sum_of object_parts) most.parts world cuts 0)) cuts c.most_held.ensures.parts)
+    (subst (λ (cuts : List Cut). IfOk c.most_held.result (λ most. HasMostFrom (sum_of object_units) most.units world cuts 0)) cuts c.most_held.ensures.units)
+    (subst (λ (cuts : List Cut). IfOk c.most_held.result (λ most. (others : ℕ → ℕ) → AreByClass others c.args.beside.now → HasMostFrom (pages_beside others) most.filled world cuts 0)) cuts c.most_held.ensures.filled)

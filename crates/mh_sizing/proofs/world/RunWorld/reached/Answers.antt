@@ -1,4 +1,4 @@
-use Rattle.std.proofs.Common.{◌≡◌, ℕ, true, List, [], length, Result, Ok, Err, IfOk, sym, ◌∙◌}
+use Rattle.std.proofs.Common.{◌≡◌, ◌↔◌, ℕ, true, List, [], length, Result, Ok, Err, IfOk, sym, ◌∙◌}
 use Rattle.mh_model.specs.declared.memory.NoMemory.{NoMemory}
 use Rattle.mh_model.specs.Paths.{Reachable}
 use Rattle.mh_model.specs.World.{World, births}
@@ -9,13 +9,16 @@ use Rattle.mh_sizing.specs.Births.{InOrder, is_among}
 use Rattle.mh_sizing.specs.Reached.{IsSearch}
 use Rattle.mh_sizing.specs.Worlds.{HasLogOf}
 use Rattle.mh_sizing.proofs.HeapLemmas.{heap-closed, outlines-world}
-use Rattle.mh_sizing.proofs.ReachedLemmas.{search-reached}
+use Rattle.mh_sizing.proofs.ReachedLemmas.{reached-search, search-reached}
 use Rattle.mh_sizing.proofs.world.RunWorld.reached.Goals as goal
 
 found : (result : Result InOrder NoMemory) (run : RunWorld) → IfOk result (λ set. IsSearch (world_of run.heap) [] set.births (length set.births))
-    → IfOk result (λ set. (worlds : List World) (last : World) → HasLogOf run worlds last → (birth : ℕ) → is_among set.births birth ≡ true → Reachable last birth)
-found (Ok set) run search = λ worlds last is.
-    search-reached (outline_of run.heap) (world_of run.heap) last (outlines-world run.heap) is.outlines (heap-closed run.heap) (closed-world (outline_of run.heap) last is.outlines run.heap.sound) set.births _ search
+    → IfOk result (λ set. (worlds : List World) (last : World) → HasLogOf run worlds last → (birth : ℕ) → (is_among set.births birth ≡ true) ↔ Reachable last birth)
+found (Ok set) run search = λ worlds last is birth.
+    let closed = closed-world (outline_of run.heap) last is.outlines run.heap.sound in (
+      search-reached (outline_of run.heap) (world_of run.heap) last (outlines-world run.heap) is.outlines (heap-closed run.heap) closed set.births _ search birth,
+      reached-search (outline_of run.heap) (world_of run.heap) last (outlines-world run.heap) is.outlines (heap-closed run.heap) closed set.births search birth,
+    )
 found (Err refused) run search = tt
 
 room : (result : Result InOrder NoMemory) (run : RunWorld) → IfOk result (λ set. set.room ≡ births (world_of run.heap)) → IfOk result (λ set. (worlds : List World) (last : World) → HasLogOf run worlds last → set.room ≡ births last)

@@ -1,0 +1,3 @@
+pub mod BoundLemmas
+pub mod SeenLemmas
+pub mod EdgeLemmas
