@@ -1,18 +1,14 @@
 -- The live parts of a run, and the pages in use.
-use Rattle.std.specs.Prelude.{ℕ, ◌+◌, ◌*◌, ◌≤◌, Bool, not, if◌then◌else◌, length, Option, Some, None, List, [], ◌∷◌, drop}
+use Rattle.std.specs.Prelude.{ℕ, ◌≤◌, Bool, not, if◌then◌else◌, length, Option, Some, None, List, [], ◌∷◌, drop}
 use Rattle.std.specs.List.{AllByRecursion, sum_by}
 use Rattle.mh_model.specs.declared.command.Event.{Event}
-use Rattle.mh_model.specs.declared.config.Config.{Config}
 use Rattle.mh_model.specs.World.{Object, World, births, object_at}
 use Rattle.mh_model.specs.Paths.{Reachable}
 use Rattle.mh_model.specs.Classes.{parts}
 use Rattle.mh_model.specs.Pages.{Page, Table}
 use Rattle.mh_model.specs.Table.{Block, is_forwarder}
-use Rattle.mh_model.specs.Machine.{first_machine}
-use Rattle.mh_model.specs.Snapshot.{Moment, first_moment, next_moment}
+use Rattle.mh_model.specs.Snapshot.{Moment, next_moment}
 use Rattle.mh_model.specs.Batches.{NoneTwice}
-use Rattle.mh_model.specs.Openings.{asked_count, opens_at_most}
-use Rattle.mh_model.specs.Intervals.{intervals}
 
 -- Live parts -------------------------------------------------------------------------------------
 
@@ -56,12 +52,3 @@ count_blocks test table = sum_by (page_count test) table
 -- a block is no forwarder
 abbrev pub is_plain : Block → Bool
 is_plain block = not (is_forwarder block)
-
--- a run has pages for cycles of so many quanta: for so many live parts at each moment, for what each interval but one asks for, and for the pages
--- that each opens; and a trigger with which a cycle starts in time
-pub record HasPagesFor (config : Config) (events : List Event) (quanta opened asked most : ℕ) : Type 0 where
-  pub pages : most + (quanta * asked + quanta * opened) ≤ config.pages + asked
-  pub trigger : quanta * opened ≤ config.trigger + 1
-  pub parts : AllByRecursion (λ interval. asked_count config interval ≤ asked) (intervals [] (first_machine config) events)
-  pub intervals : AllByRecursion (λ interval. opens_at_most config interval ≤ opened) (intervals [] (first_machine config) events)
-  pub live : AllByRecursion (HasAtMostLive most) (worlds (first_moment config) events)

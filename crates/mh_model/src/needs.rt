@@ -3,7 +3,7 @@
 /// What sessions need of a heap. A heap has 2^20 words at most, so 32 bits are enough for each.
 #[derive(Clone, Copy, Debug, PartialEq, Eq)]
 pub struct Needs {
-    /// The most parts of objects that are reachable at a time.
+    /// The most parts of objects that are reachable as a quantum is run, or before the command that makes it due.
     pub live: u32,
     /// The most marking units of those parts: 1 for each, and 1 for each of its references.
     pub marking_units: u32,

@@ -148,10 +148,10 @@ pub record HasRoom (config : Config) (events : List Event) (replies : List Reply
   pub left : AllByRecursion (λ machine. quanta * opened ≤ free_of machine) (cycle_ends (first_machine config) events)
   pub never_full : NeverAnswersFull config events replies
 
--- A run is never full whose trigger and pages are enough: for what its cycles take and leave, or for what its sessions make and hold, by the
--- ever-growing world alone. What that refuses counts nothing. For these needs each new part may keep a page, or small parts share pages. If its first
--- events make what stays, and ask for no cycle, the needs may be those of what follows, beside the pages that are anchored. Nor is it full if its pages
--- are as many as its classes take at most, by their parts. No cycle takes more quanta than its bound
+-- A run is never full whose trigger and pages are enough: for what its cycles take and leave, or for what its sessions make and hold, by the ever-growing
+-- world alone. What that refuses counts nothing, nor does what is held between two quanta alone. For these needs each new part may keep a page, or small
+-- parts share pages. If its first events make what stays, and ask for no cycle, the needs may be those of what follows, beside the pages that are
+-- anchored. Nor is it full if its pages are as many as its classes take at most, by their parts. No cycle takes more quanta than its bound
 pub record RoomIsEnough (config : Config) (events : List Event) (replies : List Reply) : Type 0 where
   pub bound : CyclesTakeAtMost (most_quanta config) config events
   pub room : (quanta opened : ℕ) → 1 ≤ quanta → CyclesTakeAtMost quanta config events → HasRoomFor config events quanta opened → NeverAnswersFull config events replies

@@ -4,4 +4,5 @@ pub mod ReachedUnits
 pub mod SharpNeeds
 pub mod MetPremises
 pub mod MadeParts
+pub mod HeldBetween
 pub mod Startups

@@ -1,5 +1,5 @@
 -- Worlds of one outline, which differ in numbers alone: what was held of one was held of another, and it counts the same.
-use Rattle.std.proofs.Common.{◌≡◌, inl, inr, ℕ, Option, List, [], ◌∷◌, drop, refl, sym, ap, ◌∙◌, arith}
+use Rattle.std.proofs.Common.{◌≡◌, inl, inr, ℕ, Option, List, [], ◌∷◌, drop, refl, sym, ◌∙◌, arith}
 use Rattle.std.proofs.lemmas.List.Sums.{sum_by-cons}
 use Rattle.mh_model.specs.CycleUnits.{object_units}
 use Rattle.mh_model.specs.LiveParts.{object_parts}
@@ -8,23 +8,20 @@ use Rattle.mh_model.specs.World.{Object, World, births, object_at}
 use Rattle.mh_shadow.specs.Outline.{Outline, Outlines}
 use Rattle.mh_shadow.proofs.OutlineLemmas.{slot-same}
 use Rattle.mh_sizing.specs.declared.counts.Counts.{Counts}
-use Rattle.mh_sizing.specs.declared.cuts.Cut.{Cut}
-use Rattle.mh_sizing.specs.Cuts.{IsHeldOnce, HoldsAll, IsKept, IsLogOf, IsRoot, ReachedFrom, WasHeld, births_before}
+use Rattle.mh_sizing.specs.declared.cuts.Mark.{Mark}
+use Rattle.mh_sizing.specs.Cuts.{mark_of, IsHeldAt, IsKept, IsLogOf, IsRoot, ReachedFrom}
 use Rattle.mh_sizing.specs.Reached.{sum_of, AreAtMost}
 use Rattle.mh_sizing.specs.Within.{IsWithin}
-use Rattle.mh_sizing.proofs.ListLemmas.{all-more, any-more}
+use Rattle.mh_sizing.proofs.CutLemmas.{log-each, order-grows}
 use Rattle.mh_sizing.proofs.PathLemmas.{from-in, from-begin, from-step}
 use Rattle.mh_sizing.proofs.StepLemmas.{IsByShape, same-number, parts-by_shape, units-by_shape}
 
 births-alike : (outline : Outline) (one other : World) → Outlines outline one → Outlines outline other → births one ≡ births other
 births-alike outline one other is is' = is.births ∙ sym is'.births
 
--- what was held
-held-alike : (outline : Outline) (one other : World) → Outlines outline one → Outlines outline other → (cuts : List Cut) (birth : ℕ) → WasHeld one cuts birth → WasHeld other cuts birth
-held-alike outline one other is is' cuts birth was = record {
-  made = omega (arith, was.made, ap (λ n. births_before n cuts) (births-alike outline one other is is'));
-  reached = from-in one (IsRoot one cuts) (ReachedFrom other (IsRoot other cuts)) first along was.reached.0 birth was.reached.1;
-}
+-- what is reached from slots and cuts
+pub reached-alike : (outline : Outline) (one other : World) → Outlines outline one → Outlines outline other → (cuts : List ℕ) (birth : ℕ) → ReachedFrom one (IsRoot one cuts) birth → ReachedFrom other (IsRoot other cuts) birth
+reached-alike outline one other is is' cuts birth reached = from-in one (IsRoot one cuts) (ReachedFrom other (IsRoot other cuts)) first along reached.0 birth reached.1
   where
     first : (b : ℕ) → IsRoot one cuts b → ReachedFrom other (IsRoot other cuts) b
     first b root = from-begin other (IsRoot other cuts) b (elim root [
@@ -43,18 +40,15 @@ module _ (outline : Outline) (one other : World) (is : Outlines outline one) (is
   }
 
   -- logs
-  pub log-alike : (worlds : List World) (cuts : List Cut) → IsLogOf worlds cuts one → IsLogOf worlds cuts other
-  log-alike worlds cuts log = record {
-    worlds_held = all-more (IsHeldOnce one cuts) (IsHeldOnce other cuts) held worlds log.worlds_held;
-    moments_reached = λ index. any-more (HoldsAll one (drop index cuts)) (HoldsAll other (drop index cuts)) (holds (drop index cuts)) worlds (log.moments_reached index);
-  }
+  pub log-alike : (worlds : List World) (cuts : List ℕ) (marks : List Mark) → IsLogOf worlds cuts marks one → IsLogOf worlds cuts marks other
+  log-alike worlds cuts marks log = log-each one other cuts cuts each worlds marks log
     where
-      held : (world : World) → IsHeldOnce one cuts world → IsHeldOnce other cuts world
-      held world (index, inside, each) =
-          (index, inside, λ birth reachable. let (was, kept) = each birth reachable in (held-alike outline one other is is' (drop index cuts) birth was, kept-alike world birth kept))
-
-      holds : (left : List Cut) (world : World) → HoldsAll one left world → HoldsAll other left world
-      holds left world each birth was = let (reachable, kept) = each birth (held-alike outline other one is' is left birth was) in (reachable, kept-alike world birth kept)
+      each : (mark : Mark) (world : World) → IsHeldAt one cuts mark world → IsHeldAt other cuts mark world
+      each mark world at = record {
+        held = λ birth reachable. let was = at.held birth reachable in record { few = was.few; reached = reached-alike outline one other is is' (drop mark.cuts cuts) birth was.reached };
+        reached = λ birth was. at.reached birth (record { few = was.few; reached = reached-alike outline other one is' is (drop mark.cuts cuts) birth was.reached });
+        kept = λ birth reachable. kept-alike world birth (at.kept birth reachable);
+      }
 
   -- what objects count
   sum-alike : (number : Option Object → ℕ) → IsByShape number → (list : List ℕ) → sum_of number one list ≡ sum_of number other list
@@ -65,12 +59,10 @@ module _ (outline : Outline) (one other : World) (is : Outlines outline one) (is
   most-alike : (number : Option Object → ℕ) → IsByShape number → (most : ℕ) → AreAtMost number most one → AreAtMost number most other
   most-alike number by_shape most few list once = omega (arith, few list once, sum-alike number by_shape list)
 
-  pub within-alike : (cuts : List Cut) (all : Counts) → IsWithin one cuts all → IsWithin other cuts all
-  within-alike cuts all within = record {
-    cuts_in = λ index cut inside. let cut_in = within.cuts_in index cut inside in record {
-      birth = omega (arith, cut_in.birth, births-alike outline one other is is');
-      births_few = omega (arith, cut_in.births_few, births-alike outline one other is is');
-    };
+  pub within-alike : (cuts : List ℕ) (marks : List Mark) (all : Counts) → IsWithin one cuts marks all → IsWithin other cuts marks all
+  within-alike cuts marks all within = record {
+    cuts_in = λ index cut inside. omega (arith, within.cuts_in index cut inside, births-alike outline one other is is');
+    order = order-grows marks (mark_of one cuts) (mark_of other cuts) (record { cuts = omega arith; births = omega (arith, births-alike outline one other is is') }) within.order;
     parts = most-alike object_parts parts-by_shape all.parts within.parts;
     units = most-alike object_units units-by_shape all.units within.units;
     parts_few = within.parts_few;

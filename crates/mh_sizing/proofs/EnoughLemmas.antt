@@ -1,5 +1,5 @@
 -- Whether a configuration is enough, which is tested for the fewest quanta that its cycles may take.
-use Rattle.std.proofs.Common.{◌≡◌, ◌⊎◌, inl, inr, ℕ, ◌*◌, ◌≤◌, ◌||◌, min, nat_le, true, false, Option, Some, None, refl, sym, subst, IsSomeAnd, arith}
+use Rattle.std.proofs.Common.{◌≡◌, ◌⊎◌, inl, inr, ℕ, ◌*◌, ◌≤◌, min, nat_le, true, Option, Some, None, refl, sym, subst, IsSomeAnd, arith}
 use Rattle.std.proofs.Math.Nat.{mul-le-mul_right}
 use Rattle.std.proofs.lemmas.Bool.{and_parts, and_from, cases_lt, false≢true, leb-true, le-leb, or_cases, or_left, or_right}
 use Rattle.mh_model.specs.declared.config.Config.{Config}

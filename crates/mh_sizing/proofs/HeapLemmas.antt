@@ -1,5 +1,5 @@
 -- The world of a heap in which all numbers are 0: one of those that the heap outlines.
-use Rattle.std.proofs.Common.{◌≡◌, ℕ, zero, suc, ◌+◌, Option, Some, None, option_map, List, [], length, drop, refl, sym, ap, ◌∙◌}
+use Rattle.std.proofs.Common.{◌≡◌, ℕ, zero, suc, ◌+◌, Option, Some, None, option_map, List, [], length, drop, refl, sym, ap, ap₂, ◌∙◌}
 use Rattle.std.specs.List.{fold}
 use Rattle.std.proofs.lemmas.Option.{none-some}
 use Rattle.mh_model.specs.declared.command.Command.{Command}
@@ -16,7 +16,9 @@ use Rattle.mh_shadow.proofs.FoldLemmas.{fold-first, fold-last}
 use Rattle.mh_shadow.proofs.OutlineLemmas.{blank-shape}
 use Rattle.mh_shadow.proofs.OutlinedLemmas.{outlined-world}
 use Rattle.mh_shadow.proofs.WorldLemmas.{closed-world, first-refers}
+use Rattle.mh_sizing.specs.declared.cuts.Mark.{Mark}
 use Rattle.mh_sizing.specs.Births.{with_birth_named}
+use Rattle.mh_sizing.specs.Cuts.{mark_of}
 use Rattle.mh_sizing.specs.Reached.{references_of}
 use Rattle.mh_sizing.specs.Steps.{made}
 
@@ -25,6 +27,10 @@ outlines-world heap = outlined-world (outline_of heap) heap.sound
 
 pub births-are : (heap : ShadowHeap) → births (world_of heap) ≡ length (outline_of heap).shapes
 births-are heap = (outlines-world heap).births
+
+-- the mark of what a heap outlines
+pub mark-is : (heap : ShadowHeap) (last : World) → Outlines (outline_of heap) last → (cuts : List ℕ) (count made : ℕ) → count ≡ length cuts → made ≡ length (outline_of heap).shapes → mark_of last cuts ≡ record { cuts = count; births = made }
+mark-is heap last outlines cuts count made counted born = ap₂ {C = Mark} (λ cuts births. record { cuts = cuts; births = births }) (sym counted) (outlines.births ∙ sym born)
 
 pub heap-closed : (heap : ShadowHeap) → IsClosed (world_of heap)
 heap-closed heap = closed-world (outline_of heap) (world_of heap) (outlines-world heap) heap.sound

@@ -1,5 +1,5 @@
 -- What a startup leaves to the rest of a run, of the numbers that were found.
-use Rattle.std.proofs.Common.{◌≡◌, ◌↔◌, ℕ, ◌+◌, ◌-◌, ◌^◌, ◌≤◌, nat_lt, Bool, true, false, Option, Some, None, IfSome, MatchOption, List, [], take, drop, ◌∷◌, ◌++◌, length, get_or, replicate, refl, sym, ap, ap₂, ◌∙◌, subst, arith, length-append}
+use Rattle.std.proofs.Common.{◌≡◌, ◌↔◌, ℕ, ◌+◌, ◌-◌, ◌^◌, ◌≤◌, nat_lt, Bool, true, Option, Some, None, IfSome, MatchOption, List, [], take, drop, ◌∷◌, ◌++◌, length, get_or, replicate, refl, sym, ap, ap₂, ◌∙◌, subst, arith, length-append}
 use Rattle.std.specs.Int.{div_ceil}
 use Rattle.std.specs.List.{AllByRecursion, sum_by}
 use Rattle.std.proofs.lemmas.Bool.{and_from, and_parts, lt-ltb, ltb-true}
@@ -9,12 +9,13 @@ use Rattle.mh_model.specs.declared.command.Event.TheVariants as event
 use Rattle.mh_model.specs.declared.config.Config.{Config}
 use Rattle.mh_model.specs.declared.needs.Needs.{Needs}
 use Rattle.mh_model.specs.Classes.{class_sizes, slots_in}
-use Rattle.mh_model.specs.CycleUnits.{ReachesAtMost, most_slots, most_moves}
+use Rattle.mh_model.specs.CycleUnits.{ReachesAtMost}
 use Rattle.mh_model.specs.LiveParts.{HasAtMostLive, object_parts}
-use Rattle.mh_model.specs.Needs.{WorldRun, first_run, next_run, run_worlds}
+use Rattle.mh_model.specs.Needs.{WorldRun, first_run, next_run}
 use Rattle.mh_model.specs.Openings.{class_parts, pages_of_parts}
 use Rattle.mh_model.specs.Paths.{Reachable}
 use Rattle.mh_model.specs.World.{births, world_step}
+use Rattle.mh_sizing_laws.specs.AtQuanta.{worlds_at_quanta}
 use Rattle.mh_sizing_laws.specs.Made.{MakeOfClasses, footprint, intervals_made_in, made_parts, parts_made, parts_made_in, run_after}
 use Rattle.mh_sizing_laws.specs.Started.{FillNoMoreAfter}
 use Rattle.mh_sizing_laws.specs.Startup.{anchored_by, births_made, births_made_in, staying_by, staying_of, staying_parts}
@@ -122,8 +123,8 @@ startup-keeps startup kinds config start rest events whole is classes = record {
   parts = whole;
   needs = record {
     stay = λ birth stayed. (is.stay birth).0 stayed;
-    live = all-more (HasAtMost object_parts is.later.live) (HasAtMostLive (startup.needs.live + staying_of is.stays config start)) (λ world few all once each. omega (arith, few all once each, is.live)) (run_worlds (run_after (first_run config) start) rest) is.after.live.enough;
-    marked = subst (λ (n : ℕ). AllByRecursion (ReachesAtMost n) (run_worlds (first_run config) (start ++ rest))) (sym is.marked) is.needs.enough.marked;
+    live = all-more (HasAtMost object_parts is.later.live) (HasAtMostLive (startup.needs.live + staying_of is.stays config start)) (λ world few all once each. omega (arith, few all once each, is.live)) (worlds_at_quanta (run_after (first_run config) start) rest) is.after.live.enough;
+    marked = subst (λ (n : ℕ). AllByRecursion (ReachesAtMost n) (worlds_at_quanta (first_run config) (start ++ rest))) (sym is.marked) is.needs.enough.marked;
     asked = most_of-enough length (intervals_made_in [] (run_after (first_run config) start) rest) startup.needs.asked (omega (arith, is.asked, is.after.asked));
     opened = most_of-enough pages_of_parts (intervals_made_in [] (run_after (first_run config) start) rest) startup.needs.opened (omega (arith, is.opened, is.after.opened));
     page = omega (arith, is.needs.enough.page, is.page);

@@ -1,19 +1,19 @@
 -- What is counted of what was held at a moment, as it goes back.
 use Rattle.std.proofs.Common.{◌≡◌, inl, inr, ℕ, ◌+◌, ◌-◌, ◌<◌, ◌≤◌, ◌==◌, ◌||◌, max, nat_lt, Bool, true, false, if◌then◌else◌, Option, List, [], ◌∷◌, length, get_or, take, drop, refl, sym, ap, ◌∙◌, subst, arith}
-use Rattle.std.specs.List.{AllByRecursion, IsDistinct}
+use Rattle.std.specs.List.{AllByRecursion, Any, IsDistinct}
 use Rattle.std.proofs.Math.Seq.{take-length}
 use Rattle.std.proofs.lemmas.Bool.{cases_eq, cases_lt, eq-eqb, ne_eqb, lt-ltb, le-ltb, ltb-true, ltb-false}
 use Rattle.std.proofs.lemmas.List.Sums.{sum_by-cons, sum_by-take-le, sum_by_more}
 use Rattle.mh_model.specs.Batches.{NoneTwice}
 use Rattle.mh_model.specs.World.{Object, World, births, object_at}
 use Rattle.mh_sizing_laws.specs.Filled.{object_class_parts, pages_filled, parts_of_class}
-use Rattle.mh_sizing.specs.declared.cuts.Cut.{Cut}
+use Rattle.mh_sizing.specs.declared.cuts.Mark.{Mark}
 use Rattle.mh_sizing.specs.declared.moments.Moment.{Moment}
 use Rattle.mh_sizing.specs.Births.{is_among}
-use Rattle.mh_sizing.specs.Cuts.{IsRoot, ReachedFrom, WasHeld}
-use Rattle.mh_sizing.specs.Moments.{HasMostFrom, HeldAtMost, HeldJust, IsMoment, sum_before}
+use Rattle.mh_sizing.specs.Cuts.{IsRoot, ReachedFrom, WasHeldAt}
+use Rattle.mh_sizing.specs.Moments.{HasMostAt, HeldAtMost, HeldJust, IsMoment, sum_before}
 use Rattle.mh_sizing.specs.Reached.{AreAtMost, pages_beside, sum_of}
-use Rattle.mh_sizing.proofs.ListLemmas.{drop-past}
+use Rattle.mh_sizing.proofs.ListLemmas.{all-more, any-here, any-later, drop-past}
 use Rattle.mh_sizing.proofs.CountLemmas.{sum-part}
 use Rattle.mh_sizing.proofs.FilledLemmas.{fewer-filled, same-filled}
 use Rattle.mh_sizing.proofs.SearchLemmas.{search-ends}
@@ -120,38 +120,38 @@ module _ (number : Option Object → ℕ) (world : World) where
 
 -- Moments ----------------------------------------------------------------------------------------
 
-module _ (world : World) (cuts : List Cut) (moment : Moment) (is : IsMoment world cuts moment) (once : NoneTwice moment.set.births) where
+module _ (world : World) (cuts : List ℕ) (mark : Mark) (moment : Moment) (is : IsMoment world (drop mark.cuts cuts) moment) (births_are : moment.births ≡ mark.births) (once : NoneTwice moment.set.births) where
   all-counted : (number : Option Object → ℕ) (held : ℕ) → held ≡ sum_before number world moment.births (take moment.looked moment.set.births) → held ≡ sum_before number world moment.births moment.set.births
   all-counted number held counts = counts ∙ ap (λ n. sum_before number world moment.births (take n moment.set.births)) is.all_looked ∙ ap (λ (list : List ℕ). sum_before number world moment.births list) (take-length moment.set.births)
 
   -- what was held counts no more than all that was found
-  found-most : (number : Option Object → ℕ) → HeldAtMost (sum_of number) (sum_before number world moment.births moment.set.births) world cuts
+  found-most : (number : Option Object → ℕ) → HeldAtMost (sum_of number) (sum_before number world moment.births moment.set.births) world cuts mark
   found-most number list distinct all = omega (arith, all-before number world moment.births list (made list all), sum-part (counted number world moment.births) list moment.set.births distinct (found list all))
     where
-      made : (births : List ℕ) → AllByRecursion (WasHeld world cuts) births → AllByRecursion (λ birth. birth < moment.births) births
+      made : (births : List ℕ) → AllByRecursion (WasHeldAt world cuts mark) births → AllByRecursion (λ birth. birth < moment.births) births
       made [] all = tt
-      made (birth ∷ births) all = (omega (arith, all.0.made, is.births_are), made births all.1)
+      made (birth ∷ births) all = (omega (arith, all.0.few, births_are), made births all.1)
 
-      found : (births : List ℕ) → AllByRecursion (WasHeld world cuts) births → AllByRecursion (λ birth. is_among moment.set.births birth ≡ true) births
+      found : (births : List ℕ) → AllByRecursion (WasHeldAt world cuts mark) births → AllByRecursion (λ birth. is_among moment.set.births birth ≡ true) births
       found [] all = tt
-      found (birth ∷ births) all = (search-ends world cuts moment.set.births moment.looked is.search (omega (arith, is.all_looked)) birth all.0.reached, found births all.1)
+      found (birth ∷ births) all = (search-ends world (drop mark.cuts cuts) moment.set.births moment.looked is.search (omega (arith, is.all_looked)) birth all.0.reached, found births all.1)
 
   -- and what was found of it measures just what it does
-  found-just : (measure : World → List ℕ → ℕ) (count : ℕ) → measure world (below moment.births moment.set.births) ≡ count → HeldJust measure count world cuts
+  found-just : (measure : World → List ℕ → ℕ) (count : ℕ) → measure world (below moment.births moment.set.births) ≡ count → HeldJust measure count world cuts mark
   found-just measure count sum = record {
     list = below moment.births moment.set.births;
     once = below-once moment.births moment.set.births once;
-    held = below-all moment.births (ReachedFrom world (IsRoot world cuts)) (WasHeld world cuts) (λ birth few reached. record { made = omega (arith, few, is.births_are); reached = reached }) moment.set.births is.search.reached;
+    held = below-all moment.births (ReachedFrom world (IsRoot world (drop mark.cuts cuts))) (WasHeldAt world cuts mark) (λ birth few reached. record { few = omega (arith, few, births_are); reached = reached }) moment.set.births is.search.reached;
     sum = sum;
   }
 
   module _ (number : Option Object → ℕ) (held : ℕ) (counts : held ≡ sum_before number world moment.births (take moment.looked moment.set.births)) where
     -- what was held counts no more
-    pub held-most : HeldAtMost (sum_of number) held world cuts
+    pub held-most : HeldAtMost (sum_of number) held world cuts mark
     held-most list distinct all = omega (arith, all-counted number held counts, found-most number list distinct all)
 
     -- and just so much
-    pub held-just : HeldJust (sum_of number) held world cuts
+    pub held-just : HeldJust (sum_of number) held world cuts mark
     held-just = found-just (sum_of number) held (below-sum number world moment.births moment.set.births ∙ sym (all-counted number held counts))
 
   module _ (others : ℕ → ℕ) (filled : ℕ) (counts : filled ≡ pages_filled (λ size. sum_before (object_class_parts size) world moment.births (take moment.looked moment.set.births) - others size)) where
@@ -166,41 +166,40 @@ module _ (world : World) (cuts : List Cut) (moment : Moment) (is : IsMoment worl
         (λ size. ap (λ n. n - others size) (all-counted (object_class_parts size) (sum_before (object_class_parts size) world moment.births (take moment.looked moment.set.births)) refl))
 
     -- what was held fills no more pages
-    pub filled-most : HeldAtMost (pages_beside others) filled world cuts
+    pub filled-most : HeldAtMost (pages_beside others) filled world cuts mark
     filled-most list distinct all = omega (arith, all-filled, fewer-filled (λ size. parts_of_class size world list - others size) (λ size. class_found size - others size) (λ size. omega (arith, found-most (object_class_parts size) list distinct all)))
 
     -- and just so many
-    pub filled-just : HeldJust (pages_beside others) filled world cuts
+    pub filled-just : HeldJust (pages_beside others) filled world cuts mark
     filled-just =
         found-just (pages_beside others) filled
         (same-filled (λ size. parts_of_class size world (below moment.births moment.set.births) - others size) (λ size. class_found size - others size) (λ size. ap (λ n. n - others size) (below-sum (object_class_parts size) world moment.births moment.set.births)) ∙ sym all-filled)
 
 -- The most ---------------------------------------------------------------------------------------
 
-module _ (measure : World → List ℕ → ℕ) (world : World) where
-  -- of the last moment
-  pub most-last : (cuts : List Cut) (index most : ℕ) → length cuts ≤ index → HeldAtMost measure most world [] → HeldJust measure most world [] → HasMostFrom measure most world cuts index
-  most-last cuts index most past enough just = record {
-    enough = λ later after. subst (λ (left : List Cut). HeldAtMost measure most world left) (sym (drop-past cuts later (omega (arith, past, after)))) enough;
-    just = (index, subst (λ (left : List Cut). HeldJust measure most world left) (sym (drop-past cuts index past)) just);
+module _ (measure : World → List ℕ → ℕ) (world : World) (cuts : List ℕ) where
+  -- of no mark
+  pub most-none : (marks : List Mark) (index : ℕ) → length marks ≤ index → HasMostAt measure 0 world cuts (drop index marks)
+  most-none marks index past = subst (HasMostAt measure 0 world cuts) (sym (drop-past marks index past)) (record { enough = tt; just = inl (refl, refl) })
+
+  -- of one more mark
+  pub most-back : (mark : Mark) (marks : List Mark) (old count most : ℕ) → most ≡ max old count → HasMostAt measure old world cuts marks → HeldAtMost measure count world cuts mark → HeldJust measure count world cuts mark
+      → HasMostAt measure most world cuts (mark ∷ marks)
+  most-back mark marks old count most is before enough just = record {
+    enough = (
+      λ list once held. omega (arith, is, enough list once held),
+      all-more (HeldAtMost measure old world cuts) (HeldAtMost measure most world cuts) (λ other few list once held. omega (arith, is, few list once held)) marks before.enough,
+    );
+    just = inr (elim (cases_lt old count) [
+      | inl more ↦ here (omega (arith, is, more))
+      | inr few ↦
+          let same : most ≡ old = omega (arith, is, few) in
+          elim before.just [
+            | inl none ↦ here (omega (arith, same, none.1, few))
+            | inr some ↦ subst (λ (n : ℕ). Any (HeldJust measure n world cuts) (mark ∷ marks)) (sym same) (any-later (HeldJust measure old world cuts) mark marks some)
+          ]
+    ]);
   }
-
-  -- of one more moment
-  pub most-back : (cuts : List Cut) (index next old count most : ℕ) → next ≡ index + 1 → most ≡ max old count → HasMostFrom measure old world cuts next → HeldAtMost measure count world (drop index cuts) → HeldJust measure count world (drop index cuts)
-      → HasMostFrom measure most world cuts index
-  most-back cuts index next old count most is greater before enough just = record { enough = all; just = some }
     where
-      all : (later : ℕ) → index ≤ later → HeldAtMost measure most world (drop later cuts)
-      all later after list once held = elim (cases_eq later index) [
-        | inl same ↦ omega (arith, greater, enough list once (subst (λ (n : ℕ). AllByRecursion (WasHeld world (drop n cuts)) list) same held))
-        | inr other ↦ omega (arith, greater, before.enough later (beyond other) list once held)
-      ]
-        where
-          beyond : (later ≡ index → ⊥) → next ≤ later
-          beyond other = elim (cases_lt index later) [ inl more ↦ omega (arith, more, is) | inr few ↦ absurd (other (omega (arith, few, after))) ]
-
-      some : (later : ℕ) × HeldJust measure most world (drop later cuts)
-      some = elim (cases_lt old count) [
-        | inl more ↦ let same : most ≡ count = omega (arith, greater, more) in (index, subst (λ (n : ℕ). HeldJust measure n world (drop index cuts)) (sym same) just)
-        | inr few ↦ let same : most ≡ old = omega (arith, greater, few) in (before.just.0, subst (λ (n : ℕ). HeldJust measure n world (drop before.just.0 cuts)) (sym same) before.just.1)
-      ]
+      here : most ≡ count → Any (HeldJust measure most world cuts) (mark ∷ marks)
+      here same = any-here (HeldJust measure most world cuts) mark marks (subst (λ (n : ℕ). HeldJust measure n world cuts mark) (sym same) just)

@@ -4,8 +4,9 @@ use Rattle.std.specs.List.{AllByRecursion}
 use Rattle.mh_model.specs.declared.command.Event.{Event}
 use Rattle.mh_model.specs.World.{World}
 use Rattle.mh_model.specs.Classes.{Part}
-use Rattle.mh_model.specs.Needs.{WorldRun, runs_quantum, next_run, run_worlds}
+use Rattle.mh_model.specs.Needs.{WorldRun, runs_quantum, next_run}
 pub use Rattle.mh_sizing_laws.proofs.needs.Windows.{after-push, made-push}
+use Rattle.mh_sizing_laws.specs.AtQuanta.{worlds_at_quanta}
 use Rattle.mh_sizing_laws.specs.Made.{made_parts, intervals_made_in}
 use Rattle.mh_sizing.specs.Runs.{run_after, ended_in, running_in, most_of}
 
@@ -25,9 +26,37 @@ most_of-few number (x ∷ list) most all = omega (arith, all.0, most_of-few numb
 
 -- Events -----------------------------------------------------------------------------------------
 
-pub worlds-push : (run : WorldRun) (events : List Event) (event : Event) → run_worlds run (events ++ event ∷ []) ≡ run_worlds run events ++ (next_run (run_after run events) event).world ∷ []
-worlds-push run [] event = refl
-worlds-push run (first ∷ events) event = ap (λ (worlds : List World). run.world ∷ worlds) (worlds-push (next_run run first) events event)
+-- an event with a quantum adds the world before it and that after it
+pub quanta-push : (quantum : Bool) (run : WorldRun) (events : List Event) (event : Event) → runs_quantum (run_after run events) event ≡ quantum
+    → worlds_at_quanta run (events ++ event ∷ []) ≡ (if quantum then (worlds_at_quanta run events ++ (run_after run events).world ∷ []) ++ (next_run (run_after run events) event).world ∷ [] else worlds_at_quanta run events)
+quanta-push true run [] event is = ap (λ (b : Bool). if b then run.world ∷ (next_run run event).world ∷ [] else []) is
+quanta-push false run [] event is = ap (λ (b : Bool). if b then run.world ∷ (next_run run event).world ∷ [] else []) is
+quanta-push true run (first ∷ events) event is = go (runs_quantum run first) (quanta-push true (next_run run first) events event is)
+  where
+    next : WorldRun
+    next = next_run run first
+
+    at : World
+    at = (run_after next events).world
+
+    after : World
+    after = (next_run (run_after next events) event).world
+
+    go : (cut : Bool) → worlds_at_quanta next (events ++ event ∷ []) ≡ (worlds_at_quanta next events ++ at ∷ []) ++ after ∷ []
+        → (if cut then run.world ∷ next.world ∷ worlds_at_quanta next (events ++ event ∷ []) else worlds_at_quanta next (events ++ event ∷ []))
+        ≡ ((if cut then run.world ∷ next.world ∷ worlds_at_quanta next events else worlds_at_quanta next events) ++ at ∷ []) ++ after ∷ []
+    go true on = ap (λ (worlds : List World). run.world ∷ next.world ∷ worlds) on
+    go false on = on
+quanta-push false run (first ∷ events) event is = go (runs_quantum run first) (quanta-push false (next_run run first) events event is)
+  where
+    next : WorldRun
+    next = next_run run first
+
+    go : (cut : Bool) → worlds_at_quanta next (events ++ event ∷ []) ≡ worlds_at_quanta next events
+        → (if cut then run.world ∷ next.world ∷ worlds_at_quanta next (events ++ event ∷ []) else worlds_at_quanta next (events ++ event ∷ []))
+        ≡ (if cut then run.world ∷ next.world ∷ worlds_at_quanta next events else worlds_at_quanta next events)
+    go true on = ap (λ (worlds : List World). run.world ∷ next.world ∷ worlds) on
+    go false on = on
 
 -- the intervals are those that have ended and the running one
 pub intervals-cut : (before : List Part) (run : WorldRun) (events : List Event) → intervals_made_in before run events ≡ ended_in before run events ++ running_in before run events ∷ []

@@ -10,7 +10,6 @@ use Rattle.std.proofs.lemmas.Option.{none-some, same_Some}
 use Rattle.mh_model.specs.Paths.{Refers}
 use Rattle.mh_model.specs.World.{Object, World, births, object_at, reference_of, IsClosed}
 use Rattle.mh_table_laws.proofs.Lists.{there_below}
-use Rattle.mh_sizing.specs.declared.cuts.Cut.{Cut}
 use Rattle.mh_sizing.specs.Births.{InOrder, is_among, with_birth, with_birth_named}
 use Rattle.mh_sizing.specs.Cuts.{IsRoot, ReachedFrom}
 use Rattle.mh_sizing.specs.Reached.{references_of, IsSearch, NamesBelow}
@@ -125,15 +124,15 @@ module _ (world : World) where
   }
 
   -- it goes on with what was cut
-  pub search-cut : (cuts : List Cut) (list : List ℕ) (cut : Cut) → IsSearch world cuts list (length list) → IsSearch world (cut ∷ cuts) (with_birth list cut.birth) (length list)
+  pub search-cut : (cuts : List ℕ) (list : List ℕ) (cut : ℕ) → IsSearch world cuts list (length list) → IsSearch world (cut ∷ cuts) (with_birth list cut) (length list)
   search-cut cuts list cut search = record {
-    reached = name-all list (ReachedFrom world (IsRoot world (cut ∷ cuts))) (Some cut.birth) (all-more (ReachedFrom world (IsRoot world cuts)) (ReachedFrom world (IsRoot world (cut ∷ cuts))) later list search.reached) new;
+    reached = name-all list (ReachedFrom world (IsRoot world (cut ∷ cuts))) (Some cut) (all-more (ReachedFrom world (IsRoot world cuts)) (ReachedFrom world (IsRoot world (cut ∷ cuts))) later list search.reached) new;
     roots = roots;
-    looked = λ index field target before is. name-keeps list (Some cut.birth) target (search.looked index field target before (sym (ap (λ (b : ℕ). reference_of (object_at world b) field) (name-at list (Some cut.birth) index before)) ∙ is));
+    looked = λ index field target before is. name-keeps list (Some cut) target (search.looked index field target before (sym (ap (λ (b : ℕ). reference_of (object_at world b) field) (name-at list (Some cut) index before)) ∙ is));
   }
     where
-      new : (birth : ℕ) → Some cut.birth ≡ Some birth → ReachedFrom world (IsRoot world (cut ∷ cuts)) birth
-      new birth is = from-begin world (IsRoot world (cut ∷ cuts)) birth (inr (inl (same_Some cut.birth birth is)))
+      new : (birth : ℕ) → Some cut ≡ Some birth → ReachedFrom world (IsRoot world (cut ∷ cuts)) birth
+      new birth is = from-begin world (IsRoot world (cut ∷ cuts)) birth (inr (inl (same_Some cut birth is)))
 
       later : (birth : ℕ) → ReachedFrom world (IsRoot world cuts) birth → ReachedFrom world (IsRoot world (cut ∷ cuts)) birth
       later birth reached = from-in world (IsRoot world cuts) (ReachedFrom world (IsRoot world (cut ∷ cuts))) first (from-step world (IsRoot world (cut ∷ cuts))) reached.0 birth reached.1
@@ -141,17 +140,17 @@ module _ (world : World) where
           first : (b : ℕ) → IsRoot world cuts b → ReachedFrom world (IsRoot world (cut ∷ cuts)) b
           first b root = from-begin world (IsRoot world (cut ∷ cuts)) b (elim root [ inl named ↦ inl named | inr is_cut ↦ inr (inr is_cut) ])
 
-      roots : (birth : ℕ) → IsRoot world (cut ∷ cuts) birth → is_among (with_birth list cut.birth) birth ≡ true
+      roots : (birth : ℕ) → IsRoot world (cut ∷ cuts) birth → is_among (with_birth list cut) birth ≡ true
       roots birth root = elim root [
-        | inl named ↦ name-keeps list (Some cut.birth) birth (search.roots birth (inl named))
+        | inl named ↦ name-keeps list (Some cut) birth (search.roots birth (inl named))
         | inr is_cut ↦ elim is_cut [
-          | inl here ↦ subst (λ (b : ℕ). is_among (with_birth list cut.birth) b ≡ true) here (name-there list cut.birth)
-          | inr old ↦ name-keeps list (Some cut.birth) birth (search.roots birth (inr old))
+          | inl here ↦ subst (λ (b : ℕ). is_among (with_birth list cut) b ≡ true) here (name-there list cut)
+          | inr old ↦ name-keeps list (Some cut) birth (search.roots birth (inr old))
         ]
       ]
 
   -- and with the references of the next birth
-  pub search-more : (cuts : List Cut) (list : List ℕ) (next birth : ℕ) → IsSearch world cuts list next → next < length list → birth ≡ get_or list next 0
+  pub search-more : (cuts : List ℕ) (list : List ℕ) (next birth : ℕ) → IsSearch world cuts list next → next < length list → birth ≡ get_or list next 0
       → IsSearch world cuts (fold with_birth_named list (references_of (object_at world birth))) (next + 1)
   search-more cuts list next birth search inside at = record {
     reached = names-all (ReachedFrom world (IsRoot world cuts)) list references search.reached each;
@@ -182,7 +181,7 @@ module _ (world : World) where
       ]
 
   -- when all births are looked through, all that is reached is found
-  pub search-ends : (cuts : List Cut) (list : List ℕ) (next : ℕ) → IsSearch world cuts list next → length list ≤ next → (birth : ℕ) → ReachedFrom world (IsRoot world cuts) birth → is_among list birth ≡ true
+  pub search-ends : (cuts : List ℕ) (list : List ℕ) (next : ℕ) → IsSearch world cuts list next → length list ≤ next → (birth : ℕ) → ReachedFrom world (IsRoot world cuts) birth → is_among list birth ≡ true
   search-ends cuts list next search all birth reached = from-in world (IsRoot world cuts) (λ b. is_among list b ≡ true) search.roots along reached.0 birth reached.1
     where
       along : (near target : ℕ) → is_among list near ≡ true → Refers world near target → is_among list target ≡ true

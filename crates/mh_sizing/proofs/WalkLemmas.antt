@@ -1,5 +1,5 @@
 -- Walks with one more event.
-use Rattle.std.proofs.Common.{◌≡◌, ℕ, zero, suc, ◌+◌, ◌==◌, ◌<◌, ◌≤◌, ◌&&◌, not, nat_le, nat_lt, Bool, true, false, if◌then◌else◌, Option, Some, None, is_none, List, [], ◌∷◌, ◌++◌, length, refl, sym, ap, ap₂, ◌∙◌, subst, arith}
+use Rattle.std.proofs.Common.{◌≡◌, inl, inr, ℕ, zero, suc, ◌+◌, ◌==◌, ◌<◌, ◌≤◌, ◌&&◌, not, nat_le, nat_lt, Bool, true, false, if◌then◌else◌, Option, Some, None, is_none, List, [], ◌∷◌, ◌++◌, length, refl, sym, ap, ap₂, ◌∙◌, subst, arith}
 use Rattle.std.specs.List.{AllByRecursion, Any}
 use Rattle.std.proofs.lemmas.Bool.{eq-eqb, ne_eqb, lt-leb, lt-ltb, le-leb}
 use Rattle.std.proofs.lemmas.List.{append-nil, length-replicate}
@@ -19,20 +19,18 @@ use Rattle.mh_model.specs.declared.needs.Needs.{Needs}
 use Rattle.mh_model.specs.CycleUnits.{object_units, most_slots, most_moves}
 use Rattle.mh_model.specs.LiveParts.{object_parts}
 use Rattle.mh_model.specs.Machine.{new_units, command_units}
-use Rattle.mh_model.specs.Needs.{WorldRun, first_run, half_run, runs_quantum, next_run, run_worlds}
+use Rattle.mh_model.specs.Needs.{WorldRun, first_run, half_run, runs_quantum, next_run}
 use Rattle.mh_model.specs.Openings.{asked_parts, pages_of_parts}
 use Rattle.mh_model.specs.World.{Object, World, Answer, blank, refusal, with_change, effect, says, unless_refused, sight_of, never_full, heap_step, slot_at, own_slot, with_reference, with_number, world_step, Performs}
 use Rattle.mh_table_laws.proofs.objects.Parts.{some_parts}
-use Rattle.mh_shadow.specs.ShadowHeap.{outline_of}
-use Rattle.mh_shadow.proofs.WorldLemmas.{closed-world}
+use Rattle.mh_sizing_laws.specs.AtQuanta.{worlds_at_quanta}
 use Rattle.mh_sizing_laws.specs.Made.{footprint, intervals_made, made_parts, parts_made, parts_made_in}
 use Rattle.mh_sizing.specs.declared.asked.Asked.{Asked}
 use Rattle.mh_sizing.specs.declared.moments.Amounts.{Amounts}
-use Rattle.mh_sizing.specs.declared.world.RunWorld.{RunWorld}
 use Rattle.mh_sizing.specs.declared.walk.Walk.{Walk}
 use Rattle.mh_sizing.specs.Asked.{HasAsked}
 use Rattle.mh_sizing.specs.Needed.{AreTheNeeds}
-use Rattle.mh_sizing.specs.Reached.{HasAtMost, HasJust}
+use Rattle.mh_sizing.specs.Reached.{HasAtMost, HasJust, IsAttained}
 use Rattle.mh_sizing.specs.Runs.{run_after, ended_in, running_in, most_of}
 use Rattle.mh_sizing.specs.Steps.{made}
 use Rattle.mh_sizing.specs.Units.{units_made}
@@ -40,8 +38,7 @@ use Rattle.mh_sizing.specs.Walk.{HasWalked, HasWalkedFrom}
 use Rattle.mh_sizing.specs.Worlds.{AreMostOf, HasLogOf, Performed}
 use Rattle.mh_sizing.specs.Footprints.{footprint_of}
 use Rattle.mh_sizing.proofs.FootprintLemmas.{footprint-is}
-use Rattle.mh_sizing.proofs.RunLemmas.{most_of-enough, most_of-few, after-push, worlds-push, made-push, intervals-cut, ended-push, running-push}
-use Rattle.mh_sizing.proofs.CutLemmas.{log-again}
+use Rattle.mh_sizing.proofs.RunLemmas.{most_of-enough, most_of-few, after-push, quanta-push, made-push, intervals-cut, ended-push, running-push}
 
 -- Commands ---------------------------------------------------------------------------------------
 
@@ -172,15 +169,16 @@ module _ (new : Walk) (config : Config) (from : WorldRun) (events : List Event) 
 
   pub walked-on : new.config ≡ config → (world : World) → world.config ≡ config → runs_quantum run event ≡ quantum → world ≡ (half_run run event).world
       → ((config.every ≡ 0 → ⊥) → new.units ≡ (if quantum then 0 else (half_run run event).units))
-      → HasLogOf new.world (run_worlds from events ++ world ∷ []) world
+      → HasLogOf new.world (if quantum then (worlds_at_quanta from events ++ run.world ∷ []) ++ world ∷ [] else worlds_at_quanta from events) world
       → HasAsked new.asked (parts_made_in from events ++ now) (if quantum then [] else running_now ++ now) (if quantum then ended_before ++ (running_now ++ now) ∷ [] else ended_before)
       → HasWalkedFrom new config from (events ++ event ∷ [])
   walked-on configured world at_config is half units log asks = record {
     configured = configured;
     at_config = ap (λ (w : World). w.config) (next ∙ sym half) ∙ at_config;
     at_units = λ some. units some ∙ sym (ap (λ (r : WorldRun). r.units) after ∙ next-units run event quantum);
-    log = subst (HasLogOf new.world (run_worlds from (events ++ event ∷ []))) (half ∙ sym next)
-        (subst (λ (worlds : List World). HasLogOf new.world worlds world) (ap (λ (w : World). run_worlds from events ++ w ∷ []) (half ∙ sym last) ∙ sym (worlds-push from events event)) log);
+    log = subst (HasLogOf new.world (worlds_at_quanta from (events ++ event ∷ []))) (half ∙ sym next)
+        (subst (λ (worlds : List World). HasLogOf new.world worlds world)
+        (ap (λ (w : World). if quantum then (worlds_at_quanta from events ++ run.world ∷ []) ++ w ∷ [] else worlds_at_quanta from events) (half ∙ sym last) ∙ sym (quanta-push quantum from events event is)) log);
     asks = subst (λ (all : List Part). HasAsked new.asked all (running_in [] from (events ++ event ∷ [])) (ended_in [] from (events ++ event ∷ []))) (sym (made-push from events event))
         (subst (λ (list : List Part). HasAsked new.asked (parts_made_in from events ++ now) list (ended_in [] from (events ++ event ∷ []))) (sym (running-push quantum [] from events event is))
         (subst (HasAsked new.asked (parts_made_in from events ++ now) (if quantum then [] else running_now ++ now)) (sym (ended-push quantum [] from events event is)) asks));
@@ -209,8 +207,7 @@ made-list old config from before walked who c count performed list is =
     made-are run config who c (world_step run.world who c).state count list walked.at_config performed is
 
 module _ (old new : Walk) (config : Config) (from : WorldRun) (before : List Event) (walked : HasWalkedFrom old config from before) (who : ℕ) (c : Command) (count : ℕ) (configured : new.config ≡ old.config)
-    (did : Performed (run_after from before).world (world_step (run_after from before).world who c).state who c count)
-    (log : HasLogOf new.world (run_worlds from before ++ (world_step (run_after from before).world who c).state ∷ []) (world_step (run_after from before).world who c).state) where
+    (did : Performed (run_after from before).world (world_step (run_after from before).world who c).state who c count) where
   abbrev at : WorldRun
   at = run_after from before
 
@@ -223,9 +220,13 @@ module _ (old new : Walk) (config : Config) (from : WorldRun) (before : List Eve
   every-same : old.config.every ≡ config.every
   every-same = ap (λ (k : Config). k.every) walked.configured
 
-  pub unscheduled : old.config.every ≡ 0 → HasAsked new.asked (parts_made_in from before ++ made_now) (running_in [] from before ++ made_now) (ended_in [] from before)
+  -- no quantum is run, and no world is marked
+  abbrev IsUnmarked : Type 0
+  IsUnmarked = HasLogOf new.world (worlds_at_quanta from before) next
+
+  pub unscheduled : old.config.every ≡ 0 → IsUnmarked → HasAsked new.asked (parts_made_in from before ++ made_now) (running_in [] from before ++ made_now) (ended_in [] from before)
       → HasWalkedFrom new config from (before ++ event.Session who c ∷ [])
-  unscheduled none asks =
+  unscheduled none log asks =
       let never : config.every ≡ 0 = sym every-same ∙ none in
       walked-on new config from before (event.Session who c) false (configured ∙ walked.configured) next (half-config at config who c next count walked.at_config did) (quantum-never at config who c next count walked.at_config did never)
       (sym (half-world at config who c next count walked.at_config did)) (λ some. absurd (some never)) log asks
@@ -234,40 +235,33 @@ module _ (old new : Walk) (config : Config) (from : WorldRun) (before : List Eve
     sum-is : old.units + units ≡ at.units + units_made config.rules count
     sum-is = ap₂ (λ a b. a + b) (walked.at_units (λ none. some (every-same ∙ none))) (units_is ∙ ap (λ (k : Config). units_made k.rules count) walked.configured)
 
-    pub scheduled-on : new.units ≡ old.units + units → new.units < old.config.every → HasAsked new.asked (parts_made_in from before ++ made_now) (running_in [] from before ++ made_now) (ended_in [] from before)
+    pub scheduled-on : new.units ≡ old.units + units → new.units < old.config.every → IsUnmarked → HasAsked new.asked (parts_made_in from before ++ made_now) (running_in [] from before ++ made_now) (ended_in [] from before)
         → HasWalkedFrom new config from (before ++ event.Session who c ∷ [])
-    scheduled-on sum few asks =
+    scheduled-on sum few log asks =
         walked-on new config from before (event.Session who c) false (configured ∙ walked.configured) next (half-config at config who c next count walked.at_config did)
         (quantum-is at config who c next count walked.at_config did false (λ none. some (every-same ∙ none)) (lt-leb config.every (at.units + units_made config.rules count) (omega (arith, few, sum, sum-is, every-same))))
         (sym (half-world at config who c next count walked.at_config did)) (λ _. sum ∙ sum-is ∙ sym (half-units at config who c next count walked.at_config did)) log asks
 
-    pub scheduled-due : new.units ≡ 0 → old.config.every ≤ old.units + units
+    pub scheduled-due : new.units ≡ 0 → old.config.every ≤ old.units + units → HasLogOf new.world ((worlds_at_quanta from before ++ at.world ∷ []) ++ next ∷ []) next
         → HasAsked new.asked (parts_made_in from before ++ made_now) [] (ended_in [] from before ++ (running_in [] from before ++ made_now) ∷ [])
         → HasWalkedFrom new config from (before ++ event.Session who c ∷ [])
-    scheduled-due none due asks =
+    scheduled-due none due log asks =
         walked-on new config from before (event.Session who c) true (configured ∙ walked.configured) next (half-config at config who c next count walked.at_config did)
         (quantum-is at config who c next count walked.at_config did true (λ never. some (every-same ∙ never)) (le-leb config.every (at.units + units_made config.rules count) (omega (arith, due, sum-is, every-same))))
         (sym (half-world at config who c next count walked.at_config did)) (λ _. none) log asks
 
 -- Controls ---------------------------------------------------------------------------------------
 
-module _ (old new : Walk) (config : Config) (from : WorldRun) (before : List Event) (walked : HasWalkedFrom old config from before) (control : Control) (configured : new.config ≡ old.config) (same : new.world ≡ old.world) where
+module _ (old new : Walk) (config : Config) (from : WorldRun) (before : List Event) (walked : HasWalkedFrom old config from before) (control : Control) (configured : new.config ≡ old.config) where
   run-config : (run_after from before).world.config ≡ old.config
   run-config = walked.at_config ∙ sym walked.configured
 
-  -- the same world once more
-  log-same : HasLogOf new.world (run_worlds from before ++ (run_after from before).world ∷ []) (run_after from before).world
-  log-same =
-      let world = (run_after from before).world in
-      let outlines = walked.log.outlines in
-      subst (λ (w : RunWorld). HasLogOf w (run_worlds from before ++ world ∷ []) world) (sym same)
-      (record { outlines = outlines; log = log-again (run_worlds from before) old.world.cuts.items world (closed-world (outline_of old.world.heap) world outlines old.world.heap.sound) walked.log.log })
-
   pub control-on : (quantum : Bool) → runs_quantum (run_after from before) (event.Control control) ≡ quantum → new.units ≡ (if quantum then 0 else old.units)
+      → (let world = (run_after from before).world in HasLogOf new.world (if quantum then (worlds_at_quanta from before ++ world ∷ []) ++ world ∷ [] else worlds_at_quanta from before) world)
       → HasAsked new.asked (parts_made_in from before ++ []) (if quantum then [] else running_in [] from before ++ []) (if quantum then ended_in [] from before ++ (running_in [] from before ++ []) ∷ [] else ended_in [] from before)
       → HasWalkedFrom new config from (before ++ event.Control control ∷ [])
-  control-on quantum is units asks =
-      walked-on new config from before (event.Control control) quantum (configured ∙ walked.configured) (run_after from before).world walked.at_config is refl (λ some. units ∙ ap (λ n. if quantum then 0 else n) (walked.at_units some)) log-same asks
+  control-on quantum is units log asks =
+      walked-on new config from before (event.Control control) quantum (configured ∙ walked.configured) (run_after from before).world walked.at_config is refl (λ some. units ∙ ap (λ n. if quantum then 0 else n) (walked.at_units some)) log asks
 
   -- whether it has a quantum run
   pub control-quantum : (asks : Bool) → runs_quantum (run_after from before) (event.Control control) ≡ (asks && ((run_after from before).world.config.every == 0)) → (due : Bool) → (asks && (old.config.every == 0)) ≡ due
@@ -277,11 +271,15 @@ module _ (old new : Walk) (config : Config) (from : WorldRun) (before : List Eve
 -- Needs ------------------------------------------------------------------------------------------
 
 -- what all worlds have at most is no less than what one has
-pub attained-few : (number : Option Object → ℕ) (few most : ℕ) (worlds : List World) → AllByRecursion (HasAtMost number most) worlds → Any (HasJust number few) worlds → few ≤ most
-attained-few number few most [] all (index, world, inside, at, just) = absurd (omega (arith, inside))
-attained-few number few most (first ∷ worlds) all (zero, world, inside, at, just) =
-    let reached = subst (HasAtMost number most) at all.0 in omega (arith, reached just.list just.once just.reached, just.sum)
-attained-few number few most (first ∷ worlds) all (suc index, world, inside, at, just) = attained-few number few most worlds all.1 (index, world, omega (arith, inside), at, just)
+pub attained-few : (number : Option Object → ℕ) (few most : ℕ) (worlds : List World) → AllByRecursion (HasAtMost number most) worlds → IsAttained (HasJust number few) few worlds → few ≤ most
+attained-few number few most worlds all (inl none) = omega (arith, none.1)
+attained-few number few most worlds all (inr some) = of-one worlds all some
+  where
+    of-one : (list : List World) → AllByRecursion (HasAtMost number most) list → Any (HasJust number few) list → few ≤ most
+    of-one [] all (index, world, inside, at, just) = absurd (omega (arith, inside))
+    of-one (first ∷ list) all (zero, world, inside, at, just) =
+        let reached = subst (HasAtMost number most) at all.0 in omega (arith, reached just.list just.once just.reached, just.sum)
+    of-one (first ∷ list) all (suc index, world, inside, at, just) = of-one list all.1 (index, world, omega (arith, inside), at, just)
 
 module _ (walk : Walk) (config : Config) (events : List Event) (walked : HasWalked walk config events) where
   cut : intervals_made config events ≡ ended_in [] (first_run config) events ++ running_in [] (first_run config) events ∷ []
@@ -297,20 +295,20 @@ module _ (walk : Walk) (config : Config) (events : List Event) (walked : HasWalk
   all-footprints = footprint-is config events ∙ ap footprint_of cut
 
   -- the numbers that were found are the needs
-  pub needs-are : (others : ℕ → ℕ) (most : Amounts) → AreMostOf others most (run_worlds (first_run config) events) → (needs : Needs) → needs.live ≡ most.parts → needs.marking_units ≡ most.units
+  pub needs-are : (others : ℕ → ℕ) (most : Amounts) → AreMostOf others most (worlds_at_quanta (first_run config) events) → (needs : Needs) → needs.live ≡ most.parts → needs.marking_units ≡ most.units
       → needs.asked ≡ most_of length (ended_in [] (first_run config) events ++ running_in [] (first_run config) events ∷ [])
       → needs.opened ≡ most_of pages_of_parts (ended_in [] (first_run config) events ++ running_in [] (first_run config) events ∷ [])
       → needs.page_units ≡ most_slots (parts_made config events) + most_moves (parts_made config events) → AreTheNeeds needs config events
   needs-are others most reached needs live marked asked opened page = record {
     enough = record {
-      live = subst (λ (n : ℕ). AllByRecursion (HasAtMost object_parts n) (run_worlds (first_run config) events)) (sym live) reached.parts.enough;
-      marked = subst (λ (n : ℕ). AllByRecursion (HasAtMost object_units n) (run_worlds (first_run config) events)) (sym marked) reached.units.enough;
+      live = subst (λ (n : ℕ). AllByRecursion (HasAtMost object_parts n) (worlds_at_quanta (first_run config) events)) (sym live) reached.parts.enough;
+      marked = subst (λ (n : ℕ). AllByRecursion (HasAtMost object_units n) (worlds_at_quanta (first_run config) events)) (sym marked) reached.units.enough;
       asked = most_of-enough length (intervals_made config events) needs.asked (omega (arith, all-asked));
       opened = most_of-enough pages_of_parts (intervals_made config events) needs.opened (omega (arith, all-pages));
       page = omega (arith, page);
     };
-    live = subst (λ (n : ℕ). Any (HasJust object_parts n) (run_worlds (first_run config) events)) (sym live) reached.parts.just;
-    marked = subst (λ (n : ℕ). Any (HasJust object_units n) (run_worlds (first_run config) events)) (sym marked) reached.units.just;
+    live = subst (λ (n : ℕ). IsAttained (HasJust object_parts n) n (worlds_at_quanta (first_run config) events)) (sym live) reached.parts.just;
+    marked = subst (λ (n : ℕ). IsAttained (HasJust object_units n) n (worlds_at_quanta (first_run config) events)) (sym marked) reached.units.just;
     asked = all-asked;
     opened = all-pages;
     page = page;

@@ -1,6 +1,7 @@
 -- Logs of runs, and the most that their worlds reach.
-use Rattle.std.proofs.Common.{◌≡◌, ℕ, ◌+◌, ◌-◌, ◌<◌, ◌≤◌, ◌^◌, Option, Some, None, option_map, List, [], ◌∷◌, ◌++◌, length, drop, refl, sym, ap, ◌∙◌, subst, arith}
-use Rattle.std.specs.List.{All, AllByRecursion, sum_by}
+use Rattle.std.proofs.Common.{◌≡◌, inl, inr, ℕ, zero, suc, ◌+◌, ◌-◌, ◌<◌, ◌≤◌, ◌^◌, Option, Some, None, option_map, List, [], ◌∷◌, ◌++◌, length, refl, sym, ap, ◌∙◌, subst, arith}
+use Rattle.std.specs.List.{AllByRecursion, Any, sum_by}
+use Rattle.std.proofs.lemmas.List.{length-append}
 use Rattle.std.proofs.lemmas.List.Elements.{All-from_recursion, recursion_from_All}
 use Rattle.std.proofs.lemmas.List.Sums.{sum_by-cons}
 use Rattle.std.proofs.lemmas.Option.{none-some}
@@ -16,17 +17,17 @@ use Rattle.mh_model.specs.Paths.{Reachable}
 use Rattle.mh_model.specs.World.{Object, World, first_world, births, object_at, shape_of, never_full, IsClosed, Performs}
 use Rattle.mh_sizing_laws.specs.Filled.{object_class_parts, parts_of_class}
 use Rattle.mh_sizing.specs.declared.counts.Counts.{Counts}
-use Rattle.mh_sizing.specs.declared.cuts.Cut.{Cut}
-use Rattle.mh_sizing.specs.Cuts.{cuts_of, overwritten, HasLogged, HoldsAll, IsCutIn, IsCutNow, IsHeldOnce, IsKept, IsLogOf, WasHeld}
-use Rattle.mh_sizing.specs.Moments.{HasMostFrom}
+use Rattle.mh_sizing.specs.declared.cuts.Mark.{Mark}
+use Rattle.mh_sizing.specs.Cuts.{cuts_of, mark_of, overwritten, AreIn, AreInOrder, IsHeldAt, IsKept, IsLogOf, WasHeldAt}
+use Rattle.mh_sizing.specs.Moments.{HasMostAt, HeldAtMost, HeldJust}
 use Rattle.mh_sizing.specs.Objects.{field_count}
 use Rattle.mh_sizing.specs.Reached.{sum_of, pages_beside, ReachesAtMost, ReachesJust}
 use Rattle.mh_sizing.specs.Steps.{made}
 use Rattle.mh_sizing.specs.Within.{HasRoomToMake, IsWithin}
 use Rattle.mh_sizing.specs.Worlds.{IsMostOf}
-use Rattle.mh_sizing.proofs.ListLemmas.{all-append, all-more, any-more}
+use Rattle.mh_sizing.proofs.ListLemmas.{all-append, all-more, any-here, any-later}
 use Rattle.mh_sizing.proofs.CountLemmas.{by-shape}
-use Rattle.mh_sizing.proofs.CutLemmas.{cuts-now, log-cuts, log-step, name-cut, now-in}
+use Rattle.mh_sizing.proofs.CutLemmas.{cuts-reached, log-step, name-cut, order-grows, reached-in}
 use Rattle.mh_sizing.proofs.FilledLemmas.{classes-by_shape, same-filled}
 use Rattle.mh_sizing.proofs.FollowLemmas.{overwritten-reached, step-follows}
 use Rattle.mh_sizing.proofs.StepLemmas.{IsByShape, same-number, most-grows, step-births, made-small, first-most, parts-by_shape, units-by_shape}
@@ -44,43 +45,64 @@ module _ (last : World) where
   pub filled-kept : (others : ℕ → ℕ) (world : World) (list : List ℕ) → AllByRecursion (IsKept world last) list → pages_beside others world list ≡ pages_beside others last list
   filled-kept others world list all = same-filled (λ size. parts_of_class size world list - others size) (λ size. parts_of_class size last list - others size) (λ size. ap (λ n. n - others size) (sum-kept (object_class_parts size) (classes-by_shape size) world list all))
 
-module _ (measure : World → List ℕ → ℕ) (last : World) (kept : (world : World) (list : List ℕ) → AllByRecursion (IsKept world last) list → measure world list ≡ measure last list) where
-  -- the most that was held at a moment of a log is the most that a world reached
-  pub log-most : (worlds : List World) (cuts : List Cut) (most : ℕ) → IsLogOf worlds cuts last → HasMostFrom measure most last cuts 0 → IsMostOf measure most worlds
-  log-most worlds cuts most log held = record {
-    enough = all-more (IsHeldOnce last cuts) (ReachesAtMost measure most) enough worlds log.worlds_held;
-    just = any-more (HoldsAll last (drop held.just.0 cuts)) (ReachesJust measure most) just worlds (log.moments_reached held.just.0);
+module _ (measure : World → List ℕ → ℕ) (last : World) (kept : (world : World) (list : List ℕ) → AllByRecursion (IsKept world last) list → measure world list ≡ measure last list) (cuts : List ℕ) (most : ℕ) where
+  reaches-most : (mark : Mark) (world : World) → IsHeldAt last cuts mark world → HeldAtMost measure most last cuts mark → ReachesAtMost measure most world
+  reaches-most mark world is few list once reached =
+      omega (arith, kept world list (all-more (Reachable world) (IsKept world last) is.kept list reached), few list once (all-more (Reachable world) (WasHeldAt last cuts mark) is.held list reached))
+
+  reaches-just : (mark : Mark) (world : World) → IsHeldAt last cuts mark world → HeldJust measure most last cuts mark → ReachesJust measure most world
+  reaches-just mark world is just = record {
+    list = just.list;
+    once = just.once;
+    reached = reached;
+    sum = kept world just.list (all-more (Reachable world) (IsKept world last) is.kept just.list reached) ∙ just.sum;
   }
     where
-      enough : (world : World) → IsHeldOnce last cuts world → ReachesAtMost measure most world
-      enough world (index, inside, is) list once reached =
-          omega (arith, kept world list (all-more (Reachable world) (IsKept world last) (λ b r. (is b r).1) list reached), held.enough index (omega arith) list once (all-more (Reachable world) (WasHeld last (drop index cuts)) (λ b r. (is b r).0) list reached))
+      reached : AllByRecursion (Reachable world) just.list
+      reached = all-more (WasHeldAt last cuts mark) (Reachable world) is.reached just.list just.held
 
-      just : (world : World) → HoldsAll last (drop held.just.0 cuts) world → ReachesJust measure most world
-      just world is = record {
-        list = held.just.1.list;
-        once = held.just.1.once;
-        reached = all-more (WasHeld last (drop held.just.0 cuts)) (Reachable world) (λ b was. (is b was).0) held.just.1.list held.just.1.held;
-        sum = kept world held.just.1.list (all-more (WasHeld last (drop held.just.0 cuts)) (IsKept world last) (λ b was. (is b was).1) held.just.1.list held.just.1.held) ∙ held.just.1.sum;
-      }
+  all-reach : (worlds : List World) (marks : List Mark) → IsLogOf worlds cuts marks last → AllByRecursion (HeldAtMost measure most last cuts) marks → AllByRecursion (ReachesAtMost measure most) worlds
+  all-reach [] marks log all = tt
+  all-reach (world ∷ worlds) [] log all = absurd log
+  all-reach (world ∷ worlds) (mark ∷ marks) log all = (reaches-most mark world log.0 all.0, all-reach worlds marks log.1 all.1)
+
+  one-reaches : (worlds : List World) (marks : List Mark) → IsLogOf worlds cuts marks last → Any (HeldJust measure most last cuts) marks → Any (ReachesJust measure most) worlds
+  one-reaches worlds [] log (index, mark, inside, at, just) = absurd (omega (arith, inside))
+  one-reaches [] (first ∷ marks) log some = absurd log
+  one-reaches (world ∷ worlds) (first ∷ marks) log (zero, mark, inside, at, just) = any-here (ReachesJust measure most) world worlds (reaches-just first world log.0 (subst (HeldJust measure most last cuts) (sym at) just))
+  one-reaches (world ∷ worlds) (first ∷ marks) log (suc index, mark, inside, at, just) = any-later (ReachesJust measure most) world worlds (one-reaches worlds marks log.1 (index, mark, omega (arith, inside), at, just))
+
+  none-reach : (worlds : List World) (marks : List Mark) → IsLogOf worlds cuts marks last → marks ≡ [] → worlds ≡ []
+  none-reach [] marks log none = refl
+  none-reach (world ∷ worlds) [] log none = absurd log
+  none-reach (world ∷ worlds) (mark ∷ marks) log none = let same = ap (λ (l : List Mark). length l) none in absurd (omega (arith, same))
+
+  -- the most that was held at a mark of a log is the most that a world reached
+  pub log-most : (worlds : List World) (marks : List Mark) → IsLogOf worlds cuts marks last → HasMostAt measure most last cuts marks → IsMostOf measure most worlds
+  log-most worlds marks log held = record {
+    enough = all-reach worlds marks log held.enough;
+    just = elim held.just [ inl none ↦ inl (none-reach worlds marks log none.0, none.1) | inr some ↦ inr (one-reaches worlds marks log some) ];
+  }
 
 -- Logs that grow ---------------------------------------------------------------------------------
 
--- names logged in vain
-pub log-stopped : (worlds : List World) (cuts new : List Cut) (world : World) → HasLogged world cuts new → IsLogOf worlds cuts world → IsLogOf worlds new world
-log-stopped worlds cuts new world logged log = subst (λ (all : List Cut). IsLogOf worlds all world) (sym logged.grown) (log-cuts worlds cuts logged.now world logged.are_now log)
-
--- what a command may overwrite
-pub logged-names : (world : World) (who : ℕ) (c : Command) (cuts new : List Cut) → new ≡ cuts ++ cuts_of (births world) (overwritten world who c) → HasLogged world cuts new
-logged-names world who c cuts new grown = record {
-  now = cuts_of (births world) (overwritten world who c);
-  are_now = cuts-now world (overwritten world who c) (overwritten-reached world who c);
-  grown = grown;
+-- what a command may overwrite is of objects of the world
+pub within-logged : (world : World) (who : ℕ) (c : Command) (cuts new : List ℕ) (marks : List Mark) (all : Counts) → IsClosed world → new ≡ cuts ++ cuts_of (overwritten world who c) → IsWithin world cuts marks all → IsWithin world new marks all
+within-logged world who c cuts new marks all closed grown within = record {
+  cuts_in = subst (AreIn world) (sym grown) (All-from_recursion (λ birth. birth < births world) (cuts ++ cuts_of (overwritten world who c))
+      (all-append (λ birth. birth < births world) cuts (cuts_of (overwritten world who c)) (recursion_from_All (λ birth. birth < births world) cuts within.cuts_in) (reached-in world closed (cuts_of (overwritten world who c)) (cuts-reached world (overwritten world who c) (overwritten-reached world who c)))));
+  order = order-grows marks (mark_of world cuts) (mark_of world new) (record { cuts = omega (arith, ap (λ (l : List ℕ). length l) grown, length-append cuts (cuts_of (overwritten world who c))); births = omega arith }) within.order;
+  parts = within.parts;
+  units = within.units;
+  parts_few = within.parts_few;
+  units_few = within.units_few;
 }
 
-pub within-logged : (world : World) (cuts new : List Cut) (all : Counts) → IsClosed world → HasLogged world cuts new → IsWithin world cuts all → IsWithin world new all
-within-logged world cuts new all closed logged within = record {
-  cuts_in = subst (All (IsCutIn world)) (sym logged.grown) (All-from_recursion (IsCutIn world) (cuts ++ logged.now) (all-append (IsCutIn world) cuts logged.now (recursion_from_All (IsCutIn world) cuts within.cuts_in) (now-in world closed logged.now logged.are_now)));
+-- marks that are in order with what there is
+pub within-marked : (world : World) (cuts : List ℕ) (marks new : List Mark) (all : Counts) → AreInOrder new (mark_of world cuts) → IsWithin world cuts marks all → IsWithin world cuts new all
+within-marked world cuts marks new all order within = record {
+  cuts_in = within.cuts_in;
+  order = order;
   parts = within.parts;
   units = within.units;
   parts_few = within.parts_few;
@@ -98,24 +120,19 @@ made-some None shape is = absurd (none-some shape is)
 made-some (Some o) shape is = (o, refl)
 
 module _ (old new : World) (who : ℕ) (command : Command) (answer : Reply) (performs : Performs never_full old who command answer new) where
-  -- the log of one more world
-  pub log-on : (worlds : List World) (cuts logged : List Cut) (all : Counts) → IsClosed old → IsClosed new → IsWithin old cuts all → logged ≡ cuts ++ cuts_of (births old) (overwritten old who command)
-      → IsLogOf worlds cuts old → IsLogOf (worlds ++ new ∷ []) logged new
-  log-on worlds cuts logged all closed_old closed within grown log =
-      subst (λ (cuts : List Cut). IsLogOf (worlds ++ new ∷ []) cuts new) (sym grown)
-      (log-step old new (overwritten old who command) (made command answer) (step-follows old who command answer new performs) worlds cuts now closed (all-append (IsCutIn old) cuts now (recursion_from_All (IsCutIn old) cuts within.cuts_in) (now-in old closed_old now are_now)) are_now (name-cut (births old) (overwritten old who command)) log)
-    where
-      now : List Cut
-      now = cuts_of (births old) (overwritten old who command)
-
-      are_now : AllByRecursion (IsCutNow old) now
-      are_now = cuts-now old (overwritten old who command) (overwritten-reached old who command)
+  -- the log after the command
+  pub log-on : (worlds : List World) (cuts logged : List ℕ) (marks : List Mark) (all : Counts) → IsWithin old cuts marks all → logged ≡ cuts ++ cuts_of (overwritten old who command) → IsLogOf worlds cuts marks old → IsLogOf worlds logged marks new
+  log-on worlds cuts logged marks all within grown log =
+      subst (λ (cuts : List ℕ). IsLogOf worlds cuts marks new) (sym grown)
+      (log-step old new (overwritten old who command) (made command answer) (step-follows old who command answer new performs) cuts (cuts_of (overwritten old who command)) (cuts-reached old (overwritten old who command) (overwritten-reached old who command))
+      (name-cut (overwritten old who command)) worlds marks within.order log)
 
   -- what is always so, with what was made counted
-  pub within-on : (cuts : List Cut) (all counted : Counts) → IsWithin old cuts all → counted.parts ≡ all.parts + object_parts (made command answer) → counted.units ≡ all.units + object_units (made command answer)
-      → counted.parts ≤ 2 ^ 63 → counted.units ≤ 2 ^ 63 → IsWithin new cuts counted
-  within-on cuts all counted within parts_are units_are parts_few units_few = record {
-    cuts_in = λ index cut inside. let is = within.cuts_in index cut inside in record { birth = omega (arith, is.birth, step-births old who command answer new performs); births_few = omega (arith, is.births_few, step-births old who command answer new performs) };
+  pub within-on : (cuts : List ℕ) (marks : List Mark) (all counted : Counts) → IsWithin old cuts marks all → counted.parts ≡ all.parts + object_parts (made command answer) → counted.units ≡ all.units + object_units (made command answer)
+      → counted.parts ≤ 2 ^ 63 → counted.units ≤ 2 ^ 63 → IsWithin new cuts marks counted
+  within-on cuts marks all counted within parts_are units_are parts_few units_few = record {
+    cuts_in = λ index cut inside. omega (arith, within.cuts_in index cut inside, step-births old who command answer new performs);
+    order = order-grows marks (mark_of old cuts) (mark_of new cuts) (record { cuts = omega arith; births = omega (arith, step-births old who command answer new performs) }) within.order;
     parts = λ list once. omega (arith, parts_are, most-grows object_parts parts-by_shape old new (overwritten old who command) (made command answer) (step-follows old who command answer new performs) all.parts within.parts list once);
     units = λ list once. omega (arith, units_are, most-grows object_units units-by_shape old new (overwritten old who command) (made command answer) (step-follows old who command answer new performs) all.units within.units list once);
     parts_few = parts_few;
@@ -123,9 +140,9 @@ module _ (old new : World) (who : ℕ) (command : Command) (answer : Reply) (per
   }
 
   -- nothing was made
-  pub within-none : (cuts : List Cut) (all : Counts) → IsWithin old cuts all → made command answer ≡ None → IsWithin new cuts all
-  within-none cuts all within none =
-      within-on cuts all all within (omega (arith, ap object_parts none)) (omega (arith, ap object_units none)) within.parts_few within.units_few
+  pub within-none : (cuts : List ℕ) (marks : List Mark) (all : Counts) → IsWithin old cuts marks all → made command answer ≡ None → IsWithin new cuts marks all
+  within-none cuts marks all within none =
+      within-on cuts marks all all within (omega (arith, ap object_parts none)) (omega (arith, ap object_units none)) within.parts_few within.units_few
 
   -- an object was made
   module _ (shape : Shape) (some : option_map shape_of (made command answer) ≡ Some shape) where
@@ -146,9 +163,10 @@ module _ (old new : World) (who : ℕ) (command : Command) (answer : Reply) (per
 
 -- The first world --------------------------------------------------------------------------------
 
-pub first-within : (config : Config) (all : Counts) → all.parts ≡ 0 → all.units ≡ 0 → IsWithin (first_world config) [] all
+pub first-within : (config : Config) (all : Counts) → all.parts ≡ 0 → all.units ≡ 0 → IsWithin (first_world config) [] [] all
 first-within config all parts units = record {
   cuts_in = λ index cut inside. absurd (omega (arith, inside));
+  order = λ index inside. absurd (omega (arith, inside));
   parts = λ list once. omega (arith, parts, first-most object_parts parts-by_shape config list once);
   units = λ list once. omega (arith, units, first-most object_units units-by_shape config list once);
   parts_few = omega (arith, parts);

@@ -6,8 +6,9 @@ use Rattle.mh_model.specs.declared.command.Event.{Event}
 use Rattle.mh_model.specs.declared.config.Config.{Config}
 use Rattle.mh_model.specs.CycleUnits.{ReachesAtMost, occurs}
 use Rattle.mh_model.specs.LiveParts.{HasAtMostLive}
-use Rattle.mh_model.specs.Needs.{first_run, run_worlds}
+use Rattle.mh_model.specs.Needs.{first_run}
 use Rattle.mh_model.specs.Openings.{class_parts}
+use Rattle.mh_sizing_laws.specs.AtQuanta.{worlds_at_quanta}
 use Rattle.mh_sizing_laws.specs.Made.{intervals_made, objects_made, parts_made}
 use Rattle.mh_sizing.specs.declared.kinds.Kinds.{Kinds}
 use Rattle.mh_sizing.specs.declared.openings.ClassParts.{ClassParts}
@@ -20,11 +21,11 @@ use Rattle.mh_sizing.specs.PageUnits.{page_units_of}
 abbrev pub parts_in : ℕ → List ClassParts → ℕ
 parts_in size counts = sum_by (λ count. if count.class == size then count.parts else 0) counts
 
--- The sessions of a run keep to counts: they hold at most so many live parts with so many references at a time, and no interval makes more parts of a
+-- The sessions of a run keep to counts: they hold at most so many live parts with so many references at a quantum. No interval makes more parts of a
 -- class than are counted
 pub record KeepToCounts (counts : List ClassParts) (live references : ℕ) (config : Config) (events : List Event) : Type 0 where
-  pub held : AllByRecursion (HasAtMostLive live) (run_worlds (first_run config) events)
-  pub marked : AllByRecursion (ReachesAtMost (live + references)) (run_worlds (first_run config) events)
+  pub held : AllByRecursion (HasAtMostLive live) (worlds_at_quanta (first_run config) events)
+  pub marked : AllByRecursion (ReachesAtMost (live + references)) (worlds_at_quanta (first_run config) events)
   pub made : AllByRecursion (λ interval. (size : ℕ) → class_parts size interval ≤ parts_in size counts) (intervals_made config events)
 
 -- how many classes there are, and the fewest slots of a page of them: one at least
@@ -40,10 +41,11 @@ kinds_counted counts = kinds_of_classes (counted_classes counts)
 abbrev pub profile_of_counts : List ClassParts → ℕ → ℕ → Profile
 profile_of_counts counts live references = record { needs = needs_of_counts counts live references; kinds = kinds_counted counts; filled = live / (kinds_counted counts).fewest_slots; footprint = None; startup = None }
 
--- The sessions of a run keep to classes: they hold no more than so much, no object has more than so many parts, and all parts are of these classes
+-- The sessions of a run keep to classes: they hold no more than so much at a quantum, and no object has more than so many parts. All parts are of these
+-- classes
 pub record KeepToClasses (classes : List ℕ) (most live references : ℕ) (config : Config) (events : List Event) : Type 0 where
-  pub held : AllByRecursion (HasAtMostLive live) (run_worlds (first_run config) events)
-  pub marked : AllByRecursion (ReachesAtMost (live + references)) (run_worlds (first_run config) events)
+  pub held : AllByRecursion (HasAtMostLive live) (worlds_at_quanta (first_run config) events)
+  pub marked : AllByRecursion (ReachesAtMost (live + references)) (worlds_at_quanta (first_run config) events)
   pub objects : AllByRecursion (λ object. length object ≤ most) (objects_made config events)
   pub classes_are : (size : ℕ) → occurs (parts_made config events) size ≡ true → list_any (λ class. class == size) classes ≡ true
 

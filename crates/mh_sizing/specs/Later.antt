@@ -5,10 +5,11 @@ use Rattle.mh_model.specs.declared.command.Event.{Event}
 use Rattle.mh_model.specs.declared.config.Config.{Config}
 use Rattle.mh_model.specs.declared.needs.Needs.{Needs}
 use Rattle.mh_model.specs.LiveParts.{object_parts}
-use Rattle.mh_model.specs.Needs.{WorldRun, first_run, run_worlds}
+use Rattle.mh_model.specs.Needs.{WorldRun, first_run}
 use Rattle.mh_model.specs.Openings.{pages_of_parts}
 use Rattle.mh_model.specs.Paths.{Reachable}
 use Rattle.mh_model.specs.World.{births}
+use Rattle.mh_sizing_laws.specs.AtQuanta.{worlds_at_quanta}
 use Rattle.mh_sizing_laws.specs.Made.{intervals_made_in, parts_made, run_after}
 use Rattle.mh_sizing_laws.specs.Startup.{anchored_of, asks_for_cycle, staying_of, staying_parts}
 use Rattle.mh_sizing.specs.declared.after.Startup.{Startup}
@@ -19,11 +20,11 @@ use Rattle.mh_sizing.specs.Reached.{pages_beside, sum_of}
 use Rattle.mh_sizing.specs.Runs.{most_of}
 use Rattle.mh_sizing.specs.Worlds.{IsMostOf}
 
--- The most live parts of a world from a run on, and the most pages that these fill beside some parts of each class; and the most parts that an interval makes
+-- The most live parts at a quantum from a run on, and the most pages that these fill beside some parts of each class; and the most parts that an interval makes
 -- and pages that it opens
 pub record IsLater (later : Later) (beside : ℕ → ℕ) (from : WorldRun) (events : List Event) : Type 0 where
-  pub live : IsMostOf (sum_of object_parts) later.live (run_worlds from events)
-  pub filled : IsMostOf (pages_beside beside) later.filled (run_worlds from events)
+  pub live : IsMostOf (sum_of object_parts) later.live (worlds_at_quanta from events)
+  pub filled : IsMostOf (pages_beside beside) later.filled (worlds_at_quanta from events)
   pub asked : later.asked ≡ most_of length (intervals_made_in [] from events)
   pub opened : later.opened ≡ most_of pages_of_parts (intervals_made_in [] from events)
 
@@ -46,7 +47,7 @@ abbrev pub AreThoseThatStay : (ℕ → Bool) → Config → List Event → List 
 AreThoseThatStay stays config start rest = (birth : ℕ) → (stays birth ≡ true) ↔ ((birth < births (run_after (first_run config) start).world) × Reachable (run_after (first_run config) (start ++ rest)).world birth)
 
 -- The first events of a run are a startup, since they ask for no cycle. It has just these numbers: the pages that its parts fill, and those that the objects
--- that stay anchor; the most live parts of a world after it beside those that stay in these, the pages that they fill, and what intervals make and open after it;
+-- that stay anchor; the most live parts at a quantum after it beside those that stay in these, the pages that they fill, and what intervals make and open after it;
 -- and what the whole run needs to mark and for a page
 pub record IsTheStartup (startup : Startup) (config : Config) (start rest : List Event) : Type 0 where
   pub stays : ℕ → Bool

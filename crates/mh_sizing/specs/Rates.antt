@@ -6,8 +6,9 @@ use Rattle.mh_model.specs.declared.command.Event.{Event}
 use Rattle.mh_model.specs.declared.config.Config.{Config}
 use Rattle.mh_model.specs.CycleUnits.{ReachesAtMost}
 use Rattle.mh_model.specs.LiveParts.{HasAtMostLive}
-use Rattle.mh_model.specs.Needs.{first_run, run_worlds}
+use Rattle.mh_model.specs.Needs.{first_run}
 use Rattle.mh_model.specs.Openings.{class_parts}
+use Rattle.mh_sizing_laws.specs.AtQuanta.{worlds_at_quanta}
 use Rattle.mh_sizing_laws.specs.Made.{objects_made, parts_made_in, run_after, units_in}
 use Rattle.mh_orders.specs.declared.target_options.Target.{Target}
 use Rattle.mh_sizing.specs.declared.openings.ClassParts.{ClassParts}
@@ -28,11 +29,11 @@ count_at units rate = record { class = rate.class; parts = parts_at rate units }
 abbrev pub counts_at : List ClassRate → ℕ → List ClassParts
 counts_at rates units = map (count_at units) rates
 
--- The sessions of a run keep to rates: they hold no more than so much, no object has more than so many parts, and no window of the run makes more parts
--- of a class than the rates allow for its units
+-- The sessions of a run keep to rates: they hold no more than so much at a quantum, and no object has more than so many parts. No window of the run makes
+-- more parts of a class than the rates allow for its units
 pub record KeepToRates (rates : List ClassRate) (most live references : ℕ) (config : Config) (events : List Event) : Type 0 where
-  pub held : AllByRecursion (HasAtMostLive live) (run_worlds (first_run config) events)
-  pub marked : AllByRecursion (ReachesAtMost (live + references)) (run_worlds (first_run config) events)
+  pub held : AllByRecursion (HasAtMostLive live) (worlds_at_quanta (first_run config) events)
+  pub marked : AllByRecursion (ReachesAtMost (live + references)) (worlds_at_quanta (first_run config) events)
   pub objects : AllByRecursion (λ object. length object ≤ most) (objects_made config events)
   pub made : (before window later : List Event) → before ++ (window ++ later) ≡ events →
       let run = run_after (first_run config) before in

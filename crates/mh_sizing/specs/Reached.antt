@@ -1,11 +1,10 @@
 -- The births that a search finds, those that a world reaches, and how much their objects count.
-use Rattle.std.specs.Prelude.{◌≡◌, ℕ, ◌-◌, ◌<◌, ◌≤◌, true, Option, Some, None, List, [], get_or}
-use Rattle.std.specs.List.{AllByRecursion, sum_by}
+use Rattle.std.specs.Prelude.{◌≡◌, ◌⊎◌, ℕ, ◌-◌, ◌<◌, ◌≤◌, true, Option, Some, None, List, [], get_or}
+use Rattle.std.specs.List.{AllByRecursion, Any, sum_by}
 use Rattle.mh_model.specs.Batches.{NoneTwice}
 use Rattle.mh_model.specs.Paths.{Reachable}
 use Rattle.mh_model.specs.World.{Object, World, object_at, reference_of}
 use Rattle.mh_sizing_laws.specs.Filled.{pages_filled, parts_of_class}
-use Rattle.mh_sizing.specs.declared.cuts.Cut.{Cut}
 use Rattle.mh_sizing.specs.Births.{is_among}
 use Rattle.mh_sizing.specs.Cuts.{IsRoot, ReachedFrom}
 
@@ -19,7 +18,7 @@ abbrev pub NamesBelow : ℕ → List (Option ℕ) → Type 0
 NamesBelow room names = (index birth : ℕ) → get_or names index None ≡ Some birth → birth < room
 
 -- A search has found these births, all roots among them, each of which is reached from a root, and has looked through the references of the first so many
-pub record IsSearch (world : World) (cuts : List Cut) (list : List ℕ) (next : ℕ) : Type 0 where
+pub record IsSearch (world : World) (cuts : List ℕ) (list : List ℕ) (next : ℕ) : Type 0 where
   pub reached : AllByRecursion (ReachedFrom world (IsRoot world cuts)) list
   pub roots : (birth : ℕ) → IsRoot world cuts birth → is_among list birth ≡ true
   pub looked : (index field target : ℕ) → index < next → reference_of (object_at world (get_or list index 0)) field ≡ Some target → is_among list target ≡ true
@@ -58,3 +57,7 @@ FillsJust beside count world = ReachesJust (pages_beside beside) count world
 -- all objects of a world together count no more than this
 abbrev pub AreAtMost : (Option Object → ℕ) → ℕ → World → Type 0
 AreAtMost number most world = (list : List ℕ) → NoneTwice list → sum_of number world list ≤ most
+
+-- one of a list has the property, or the list is empty and the number is 0
+abbrev pub IsAttained : {X : Type 0} → (X → Type 0) → ℕ → List X → Type 0
+IsAttained Has number list = ((list ≡ []) × (number ≡ 0)) ⊎ Any Has list

@@ -34,7 +34,7 @@ fn kinds_counted(counts: &[ClassParts]) -> Kinds
     kinds_of(&classes[..kinds])
 }
 
-/// What sessions ask of a heap of which only counts are known: so many live parts with so many references at a time, and
+/// What sessions ask of a heap of which only counts are known: so many live parts with so many references at a quantum, and
 /// intervals that make no more parts of each class than are counted. How many intervals there are isn't known, nor what
 /// they open together. Each class is listed once at most.
 pub fn profile_of_counts(counts: &[ClassParts], live: u32, references: u32) -> Profile

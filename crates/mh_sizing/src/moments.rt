@@ -1,29 +1,27 @@
-//! What was held at the moments of a log. The method is Merlin's (Hertz, Blackburn, Moss, McKinley and Stefanović,
+//! What was held at the marks of a log. The method is Merlin's (Hertz, Blackburn, Moss, McKinley and Stefanović,
 //! SIGMETRICS 2002), which finds when objects cease to be reached. Nothing is searched for while commands are performed:
 //! what was held is found afterwards, from the last world back.
 //!
 //! A heap that keeps all objects has the references of those that aren't reached any more as they last were. So what
-//! was held before a cut is what was held after it, with all that the cut name leads to. Objects that were made later
-//! count no longer. Each object is found once, and each reference is looked at once.
-ghost use Rattle.std.specs.Prelude.{◌≡◌, ◌+◌, ◌-◌, ◌<◌, ◌≤◌, ◌^◌, if◌then◌else◌, min, max, ℕ, List, [], ◌∷◌, IfOk, get_or, length};
-ghost use Rattle.std.specs.List.{All};
+//! was held before a cut is what was held after it, with all that the cut name leads to. Objects that were made after a
+//! mark don't count there. Each object is found once, and each reference is looked at once.
+ghost use Rattle.std.specs.Prelude.{◌≡◌, ◌+◌, ◌-◌, ◌<◌, ◌≤◌, ◌^◌, if◌then◌else◌, min, max, ℕ, List, [], ◌∷◌, ◌++◌, IfOk, get_or, length};
 ghost use Rattle.mh_model.specs.Batches.{NoneTwice};
 ghost use Rattle.mh_model.specs.CycleUnits.{object_units};
 ghost use Rattle.mh_model.specs.LiveParts.{object_parts};
 ghost use Rattle.mh_model.specs.World.{births, object_at};
 ghost use Rattle.mh_shadow.specs.ShadowHeap.{world_of};
 ghost use Rattle.mh_sizing_laws.specs.Filled.{object_class_parts, pages_filled};
-ghost use Rattle.mh_sizing.specs.declared.cuts.Cut.{Cut};
 ghost use Rattle.mh_sizing.specs.Births.{with_birth};
 ghost use Rattle.mh_sizing.specs.ByClass.{AreByClass};
-ghost use Rattle.mh_sizing.specs.Cuts.{IsCutIn};
-ghost use Rattle.mh_sizing.specs.Moments.{HasMostFrom, IsCounted, IsMoment};
+ghost use Rattle.mh_sizing.specs.Cuts.{AreIn, AreInOrder, mark_of};
+ghost use Rattle.mh_sizing.specs.Moments.{HasMostAt, IsCounted, IsMoment};
 ghost use Rattle.mh_sizing.specs.Reached.{AreAtMost, IsSearch, pages_beside, sum_of};
 
 use crate::births::BirthSet;
 use crate::classes::ClassCounts;
 use crate::counts::{Counts, HeldClasses, count_classes, count_object};
-use crate::cuts::Cut;
+use crate::cuts::Mark;
 use crate::reach::{insert_all, insert_roots};
 use mh_classes::class::CLASSES;
 use mh_model::birth::Birth;
@@ -98,7 +96,7 @@ impl Moment {
         requires few_parts { AreAtMost object_parts (2 ^ 63) (world_of heap.now) }
         requires few_units { AreAtMost object_units (2 ^ 63) (world_of heap.now) }
         ensures counted { IsCounted (world_of heap.now) self.new }
-        ensures search { (cuts : List Cut) → IsSearch (world_of heap.now) cuts self.old.set.births self.old.looked → IsSearch (world_of heap.now) cuts self.new.set.births self.new.looked }
+        ensures search { (cuts : List ℕ) → IsSearch (world_of heap.now) cuts self.old.set.births self.old.looked → IsSearch (world_of heap.now) cuts self.new.set.births self.new.looked }
         ensures all { self.new.looked ≡ length self.new.set.births }
         ensures once { NoneTwice self.new.set.births }
         ensures births { self.new.births ≡ self.old.births }
@@ -122,6 +120,7 @@ impl Moment {
         ensures counted { IfOk result (IsCounted (world_of heap.now)) }
         ensures moment { IfOk result (IsMoment (world_of heap.now) []) }
         ensures once { IfOk result (λ moment. NoneTwice moment.set.births) }
+        ensures births { IfOk result (λ moment. moment.births ≡ births (world_of heap.now)) }
     {
         let mut set = BirthSet::with_room(alloc, heap.births() as usize)?;
         insert_roots(&mut set, heap);
@@ -136,7 +135,7 @@ impl Moment {
         Ok(moment)
     }
 
-    /// Counts no longer what was made when there were so many births or more.
+    /// Counts no longer what was made once there were so many births.
     fn go_back(&mut self, heap: &ShadowHeap, births: u64)
         requires counted { IsCounted (world_of heap.now) self.old }
         requires all { self.old.looked ≡ length self.old.set.births }
@@ -158,20 +157,39 @@ impl Moment {
     }
 
     /// Goes back to before a cut.
-    fn undo(&mut self, heap: &ShadowHeap, cut: Cut)
+    fn undo(&mut self, heap: &ShadowHeap, cut: Birth)
+        requires counted { IsCounted (world_of heap.now) self.old }
+        requires few_parts { AreAtMost object_parts (2 ^ 63) (world_of heap.now) }
+        requires few_units { AreAtMost object_units (2 ^ 63) (world_of heap.now) }
+        requires all { self.old.looked ≡ length self.old.set.births }
+        requires there { cut < births (world_of heap.now) }
+        ensures counted { IsCounted (world_of heap.now) self.new }
+        ensures moment { (cuts : List ℕ) → IsMoment (world_of heap.now) cuts self.old → IsMoment (world_of heap.now) (cut ∷ cuts) self.new }
+        ensures all { self.new.looked ≡ length self.new.set.births }
+        ensures once { NoneTwice self.new.set.births }
+        ensures births { self.new.births ≡ self.old.births }
+    {
+        self.set.insert(cut);
+        self.look_through(heap);
+    }
+
+    /// Goes back to before these cuts, from the last to the first.
+    fn undo_all(&mut self, heap: &ShadowHeap, cuts: &[Birth])
         requires counted { IsCounted (world_of heap.now) self.old }
         requires few_parts { AreAtMost object_parts (2 ^ 63) (world_of heap.now) }
         requires few_units { AreAtMost object_units (2 ^ 63) (world_of heap.now) }
         requires all { self.old.looked ≡ length self.old.set.births }
         requires once { NoneTwice self.old.set.births }
-        requires there { cut.birth < births (world_of heap.now) }
+        requires there { AreIn (world_of heap.now) cuts.now }
         ensures counted { IsCounted (world_of heap.now) self.new }
-        ensures moment { (cuts : List Cut) → IsMoment (world_of heap.now) cuts self.old → IsMoment (world_of heap.now) (cut ∷ cuts) self.new }
+        ensures moment { (later : List ℕ) → IsMoment (world_of heap.now) later self.old → IsMoment (world_of heap.now) (cuts.now ++ later) self.new }
+        ensures all { self.new.looked ≡ length self.new.set.births }
         ensures once { NoneTwice self.new.set.births }
+        ensures births { self.new.births ≡ self.old.births }
     {
-        self.go_back(heap, cut.births);
-        self.set.insert(cut.birth);
-        self.look_through(heap);
+        for index in (0..cuts.len()).rev() {
+            self.undo(heap, cuts[index]);
+        }
     }
 
     /// How much is held, beside so many parts of each class.
@@ -189,25 +207,35 @@ impl Moment {
     }
 }
 
-/// The most that was held at a moment of a log, and the most pages that it filled beside so many parts of each class.
+/// The most that was held at a mark of a log, and the most pages that it filled beside so many parts of each class.
 pub(crate) fn most_held(
     alloc: Global,
     heap: &ShadowHeap,
-    cuts: &[Cut],
+    cuts: &[Birth],
+    marks: &[Mark],
     beside: &[u64; CLASSES],
 ) -> Result<Amounts, NoMemory>
     requires few_parts { AreAtMost object_parts (2 ^ 63) (world_of heap.now) }
     requires few_units { AreAtMost object_units (2 ^ 63) (world_of heap.now) }
-    requires cuts { All (IsCutIn (world_of heap.now)) cuts.now }
-    ensures parts { IfOk result (λ most. HasMostFrom (sum_of object_parts) most.parts (world_of heap.now) cuts.now 0) }
-    ensures units { IfOk result (λ most. HasMostFrom (sum_of object_units) most.units (world_of heap.now) cuts.now 0) }
-    ensures filled { IfOk result (λ most. (others : ℕ → ℕ) → AreByClass others beside.now → HasMostFrom (pages_beside others) most.filled (world_of heap.now) cuts.now 0) }
+    requires cuts { AreIn (world_of heap.now) cuts.now }
+    requires marks { AreInOrder marks.now (mark_of (world_of heap.now) cuts.now) }
+    ensures parts { IfOk result (λ most. HasMostAt (sum_of object_parts) most.parts (world_of heap.now) cuts.now marks.now) }
+    ensures units { IfOk result (λ most. HasMostAt (sum_of object_units) most.units (world_of heap.now) cuts.now marks.now) }
+    ensures filled { IfOk result (λ most. (others : ℕ → ℕ) → AreByClass others beside.now → HasMostAt (pages_beside others) most.filled (world_of heap.now) cuts.now marks.now) }
 {
     let mut moment = Moment::last(alloc, heap)?;
-    let mut most = moment.amounts(beside);
-    for index in (0..cuts.len()).rev() {
-        moment.undo(heap, cuts[index]);
+    let mut most = Amounts {
+        parts: 0,
+        units: 0,
+        filled: 0,
+    };
+    let mut end = cuts.len();
+    for index in (0..marks.len()).rev() {
+        let mark = marks[index];
+        moment.undo_all(heap, &cuts[mark.cuts..end]);
+        moment.go_back(heap, mark.births);
         most = most.max(moment.amounts(beside));
+        end = mark.cuts;
     }
     Ok(most)
 }

@@ -1,27 +1,30 @@
 //! The walk of a run's events through the ever-growing world, which finds what its sessions need, as the model counts
 //! it.
 //!
-//! It finds the most live parts at a time, and the most that marking them costs. Of an interval it finds the most parts
+//! It finds the most live parts at a quantum, before its event and after it, and the most that marking them costs. Both
+//! are 0 if no quantum is run. Of an interval it finds the most parts
 //! that it makes, and the most pages that these open. By the classes that occur it finds what a page costs a cycle.
 //! None are given exactly if a number has more than 32 bits: no heap of 4,096 pages is enough for such needs.
 //! `Walk::kinds` says how many classes occur, and the fewest slots of their pages, and `Walk::footprint` how many pages
 //! they take at most, all together.
 //!
-//! A command that the world refuses makes nothing, and counts nothing. Only a command may be refused memory, since the
-//! walk logs what it overwrites. A walk that is refused memory is as it was, but for names in its log that do no harm.
-ghost use Rattle.std.specs.Prelude.{◌≡◌, ◌+◌, ◌≤◌, ℕ, true, [], ◌∷◌, ◌++◌, ◌↔◌, not, ◌&&◌, ◌==◌, List, ◌^◌, IfOk, IfSome, IsNone, MatchOption, OnErr, OnOk, length};
+//! A command that the world refuses makes nothing, and counts nothing. Only commands and quanta may be refused memory,
+//! since the walk logs what a command overwrites, and marks the worlds at a quantum. A walk that is refused memory is as
+//! it was.
+ghost use Rattle.std.specs.Prelude.{◌≡◌, ◌+◌, ◌≤◌, ℕ, true, [], ◌∷◌, ◌++◌, ◌↔◌, not, ◌&&◌, ◌==◌, List, ◌^◌, IfOk, IfSome, IsNone, IsTrue, MatchOption, OnErr, OnOk, length};
 ghost use Rattle.mh_model.specs.declared.command.Event.{Event};
 ghost use Rattle.mh_model.specs.declared.command.Event.TheVariants as events;
 ghost use Rattle.mh_model.specs.declared.config.Config.{Config};
 ghost use Rattle.mh_model.specs.declared.needs.Needs.{Needs};
-ghost use Rattle.mh_model.specs.Needs.{WorldRun, first_run, run_worlds, runs_quantum};
+ghost use Rattle.mh_model.specs.Needs.{WorldRun, first_run, runs_quantum};
 ghost use Rattle.mh_model.specs.Paths.{Reachable};
 ghost use Rattle.mh_model.specs.World.{births};
+ghost use Rattle.mh_sizing_laws.specs.AtQuanta.{worlds_at_quanta};
 ghost use Rattle.mh_sizing_laws.specs.Made.{MakeNoMore, MakeOfClasses, footprint, parts_made, run_after};
 ghost use Rattle.mh_sizing_laws.specs.SharpPages.{fewest_slots, occurring};
 ghost use Rattle.mh_sizing.specs.Births.{is_among};
 ghost use Rattle.mh_sizing.specs.ByClass.{AreByClass};
-ghost use Rattle.mh_sizing.specs.Needed.{AreTheNeeds, IsCommand, IsTooLarge};
+ghost use Rattle.mh_sizing.specs.Needed.{AreTheNeeds, IsTooLarge, IsCommandOrQuantum};
 ghost use Rattle.mh_sizing.specs.Units.{units_made};
 ghost use Rattle.mh_sizing.specs.Worlds.{AreMostOf};
 
@@ -51,7 +54,8 @@ fn mutator_units(rules: Rules, made: u64) -> u64
 
 /// Whether a control asks for a quantum.
 fn asks_for_quantum(control: Control) -> bool
-    ensures { (run : WorldRun) → runs_quantum run (events.Control control) ≡ (result && (run.world.config.every == 0)) }
+    ensures quantum { (run : WorldRun) → runs_quantum run (events.Control control) ≡ (result && (run.world.config.every == 0)) }
+    ensures walked { IsTrue result → IsCommandOrQuantum (events.Control control) }
 {
     matches!(control, Control::Quantum)
 }
@@ -66,7 +70,7 @@ fn in_32_bits(number: u64) -> Option<u32>
 /// The most that the sessions of a run hold and make from some event on.
 #[derive(Clone, Copy)]
 pub(crate) struct Later {
-    /// Live parts at a time.
+    /// Live parts at a quantum.
     pub(crate) live: u64,
     /// Parts that an interval makes.
     pub(crate) asked: u64,
@@ -113,30 +117,37 @@ impl Walk {
         if !self.asked.has_room(&parts) {
             return Err(NoMemory);
         }
-        let made = self.world.perform(who, command)?;
+        let made = self.world.perform_marked(who, command)?;
         self.asked.ask(&parts, made > 0);
         if self.config.every == 0 {
+            self.world.unmark_twice();
             return Ok(());
         }
         let units = self.units + mutator_units(self.config.rules, made);
         if units < u64::from(self.config.every) {
             self.units = units;
+            self.world.unmark_twice();
             return Ok(());
         }
         self.units = 0;
+        self.world.move_mark();
         self.asked.end_interval();
         Ok(())
     }
 
     /// Does a control, of which only a quantum bears on what is needed.
-    fn control(&mut self, control: Control)
-        ensures { (config : Config) (from : WorldRun) (before : List Event) → HasWalkedFrom self.old config from before → HasWalkedFrom self.new config from (before ++ events.Control control ∷ []) }
+    fn control(&mut self, control: Control) -> Result<(), NoMemory>
+        ensures walked { OnOk result ((config : Config) (from : WorldRun) (before : List Event) → HasWalkedFrom self.old config from before → HasWalkedFrom self.new config from (before ++ events.Control control ∷ [])) }
+        ensures stopped { OnErr result ((config : Config) (from : WorldRun) (before : List Event) → HasWalkedFrom self.old config from before → HasWalkedFrom self.new config from before) }
+        ensures memory { OnErr result (IsCommandOrQuantum (events.Control control)) }
     {
         if !asks_for_quantum(control) || self.config.every != 0 {
-            return;
+            return Ok(());
         }
+        self.world.mark_twice()?;
         self.units = 0;
         self.asked.end_interval();
+        Ok(())
     }
 
     /// Goes on with the next event. If memory is refused, or there is no room to count on, the walk is as it was. There is
@@ -144,14 +155,11 @@ impl Walk {
     pub fn event(&mut self, event: &Event) -> Result<(), NoMemory>
         ensures walked { OnOk result ((config : Config) (from : WorldRun) (before : List Event) → HasWalkedFrom self.old config from before → HasWalkedFrom self.new config from (before ++ event.now ∷ [])) }
         ensures stopped { OnErr result ((config : Config) (from : WorldRun) (before : List Event) → HasWalkedFrom self.old config from before → HasWalkedFrom self.new config from before) }
-        ensures memory { OnErr result (IsCommand event.now) }
+        ensures memory { OnErr result (IsCommandOrQuantum event.now) }
     {
         match *event {
             Event::Session(who, command) => self.session(who, &command),
-            Event::Control(control) => {
-                self.control(control);
-                Ok(())
-            }
+            Event::Control(control) => self.control(control),
         }
     }
 
@@ -191,17 +199,17 @@ impl Walk {
         })
     }
 
-    /// The most that the worlds of the events so far reach, and the most pages that this fills.
+    /// The most that the worlds at quanta of the events so far reach, and the most pages that this fills.
     pub(crate) fn most(&self) -> Result<Amounts, NoMemory>
-        ensures { IfOk result (λ most. (config : Config) (events : List Event) → HasWalked self.now config events → AreMostOf (λ size. 0) most (run_worlds (first_run config) events)) }
+        ensures { IfOk result (λ most. (config : Config) (events : List Event) → HasWalked self.now config events → AreMostOf (λ size. 0) most (worlds_at_quanta (first_run config) events)) }
     {
         self.world.most(&[0; CLASSES])
     }
 
     /// What the sessions of the events so far need, if so much is reached at most. None if a number has more than 32 bits.
     pub(crate) fn needs_with(&self, most: Amounts) -> Option<Needs>
-        ensures needs { (config : Config) (events : List Event) → HasWalked self.now config events → AreMostOf (λ size. 0) most (run_worlds (first_run config) events) → IfSome result (λ needs. AreTheNeeds needs config events) }
-        ensures none { (config : Config) (events : List Event) → HasWalked self.now config events → AreMostOf (λ size. 0) most (run_worlds (first_run config) events) → IsNone result → (needs : Needs) → MakeNoMore needs config events → IsTooLarge needs }
+        ensures needs { (config : Config) (events : List Event) → HasWalked self.now config events → AreMostOf (λ size. 0) most (worlds_at_quanta (first_run config) events) → IfSome result (λ needs. AreTheNeeds needs config events) }
+        ensures none { (config : Config) (events : List Event) → HasWalked self.now config events → AreMostOf (λ size. 0) most (worlds_at_quanta (first_run config) events) → IsNone result → (needs : Needs) → MakeNoMore needs config events → IsTooLarge needs }
     {
         let live = in_32_bits(most.parts)?;
         let marked = in_32_bits(most.units)?;

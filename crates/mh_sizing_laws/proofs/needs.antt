@@ -10,6 +10,7 @@ pub mod OpenedInAll
 pub mod OtherConfigs
 pub mod FullWorlds
 pub mod Accepted
+pub mod QuantumWorlds
 pub mod AcceptedRuns
 pub mod MadeRuns
 pub mod ShortIntervals

@@ -12,7 +12,7 @@ use Rattle.mh_model.specs.Machine.{first_machine, machine_replies}
 use Rattle.mh_model.specs.Snapshot.{Moment, first_moment, moment_after, is_heap_full}
 use Rattle.mh_model.specs.Openings.{asked_parts, asked_count, opens_at_most, free_of}
 use Rattle.mh_model.specs.Intervals.{intervals, cycle_ends, CyclesTakeAtMost, IsNeverFull}
-use Rattle.mh_model.specs.CycleUnits.{CyclesReachAtMost, quanta_for}
+use Rattle.mh_model.specs.CycleUnits.{snapshots, CyclesReachAtMost, quanta_for}
 use Rattle.mh_model.specs.LiveParts.{HasAtMostLive, worlds, slot_count}
 use Rattle.mh_model.specs.Limits.{quantum_overhead}
 
@@ -62,16 +62,16 @@ pub record IsStartup (config : Config) (start rest : List Event) (stays : ℕ �
   pub replies : AllByRecursion (λ answer. is_heap_full answer ≡ false) (machine_replies (first_machine config) start)
   pub stay : AllByRecursion (ReachesThoseThatStay stays) (worlds (started config start) rest)
 
--- What follows a startup has pages for cycles of so many quanta: a page for each anchored page and for each live part but the blocks that stay in these,
--- pages for what each interval but one asks for, and those that each opens; as many free pages as these to begin with; and a trigger with which a cycle
--- starts in time
+-- What follows a startup has pages for cycles of so many quanta: a page for each anchored page, and for each part that is live as a cycle starts beside
+-- the blocks that stay in these; pages for what each interval but one asks for, and those that each opens; as many free pages as these to begin with; and
+-- a trigger with which a cycle starts in time
 pub record HasPagesBesideAnchors (config : Config) (start rest : List Event) (stays : ℕ → Bool) (quanta opened asked most : ℕ) : Type 0 where
   pub pages : anchored stays (started_table config start) + most + (quanta * asked + quanta * opened) ≤ config.pages + asked
   pub trigger : quanta * opened ≤ config.trigger + 1
   pub free : quanta * opened ≤ free_pages (started_table config start)
   pub parts : AllByRecursion (λ interval. asked_count config interval ≤ asked) (intervals [] (started config start).machine rest)
   pub intervals : AllByRecursion (λ interval. opens_at_most config interval ≤ opened) (intervals [] (started config start).machine rest)
-  pub live : AllByRecursion (HasAtMostLive (most + staying stays (started_table config start))) (worlds (started config start) rest)
+  pub live : AllByRecursion (HasAtMostLive (most + staying stays (started_table config start))) (snapshots (started config start) rest)
 
 -- a run that is never full, and of which each cycle that ends leaves so many pages free
 pub record LeavesRoom (config : Config) (events : List Event) (room : ℕ) : Type 0 where
@@ -80,7 +80,7 @@ pub record LeavesRoom (config : Config) (events : List Event) (room : ℕ) : Typ
 
 -- Laws -------------------------------------------------------------------------------------------
 
--- Let a startup anchor `a` pages by objects that stay. Let each later moment have at most L live parts beside the blocks that stay in these pages.
+-- Let a startup anchor `a` pages by objects that stay. As each later cycle starts let at most L parts be live beside the blocks that stay in these pages.
 -- Let later intervals ask for q parts and open g pages at most, and let cycles take N quanta at most. With `a + L + (N - 1) * q + N * g` pages and a
 -- trigger of `N * g - 1` each cycle leaves `N * g` pages free, and no reply is `heap full`
 abbrev pub AnchoredPagesSuffice : Type 0

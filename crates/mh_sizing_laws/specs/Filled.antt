@@ -6,12 +6,13 @@ use Rattle.mh_model.specs.declared.config.Config.{Config}
 use Rattle.mh_model.specs.World.{Object, World, object_at}
 use Rattle.mh_model.specs.Batches.{NoneTwice}
 use Rattle.mh_model.specs.Classes.{class_sizes, parts, slots_in}
-use Rattle.mh_model.specs.Needs.{first_run, run_worlds}
+use Rattle.mh_model.specs.Needs.{first_run}
 use Rattle.mh_model.specs.Openings.{class_parts}
 use Rattle.mh_model.specs.Pages.{Page, Table}
 use Rattle.mh_model.specs.Paths.{Reachable}
 use Rattle.mh_model.specs.Table.{Block}
 use Rattle.mh_sizing_laws.specs.Anchors.{anchor_blocks}
+use Rattle.mh_sizing_laws.specs.AtQuanta.{worlds_at_quanta}
 
 -- how many parts of a class an object has, if one is there
 abbrev pub object_class_parts : ℕ → Option Object → ℕ
@@ -32,9 +33,9 @@ FillsAtMost beside most world = (list : List ℕ) → NoneTwice list → AllByRe
 
 -- Runs -------------------------------------------------------------------------------------------
 
--- the live parts of a run fill no more pages at each moment
+-- the live parts of a run fill no more pages at each quantum
 abbrev pub FillNoMore : ℕ → Config → List Event → Type 0
-FillNoMore most config events = AllByRecursion (FillsAtMost (λ size. 0) most) (run_worlds (first_run config) events)
+FillNoMore most config events = AllByRecursion (FillsAtMost (λ size. 0) most) (worlds_at_quanta (first_run config) events)
 
 -- Anchored pages ---------------------------------------------------------------------------------
 

@@ -3,6 +3,7 @@ pub mod Triggers
 pub mod Cycles
 pub mod PagesLeft
 pub mod Reached
+pub mod AtQuanta
 pub mod Made
 pub mod Needs
 pub mod Filling

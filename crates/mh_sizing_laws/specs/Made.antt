@@ -11,8 +11,9 @@ use Rattle.mh_model.specs.Classes.{Part, class_sizes, slots_in}
 use Rattle.mh_model.specs.CycleUnits.{ReachesAtMost, most_slots, most_moves}
 use Rattle.mh_model.specs.LiveParts.{HasAtMostLive}
 use Rattle.mh_model.specs.Machine.{command_units}
-use Rattle.mh_model.specs.Needs.{WorldRun, first_run, runs_quantum, next_run, run_worlds}
+use Rattle.mh_model.specs.Needs.{WorldRun, first_run, runs_quantum, next_run}
 use Rattle.mh_model.specs.Openings.{asked_parts, class_parts, pages_for, pages_of_parts}
+use Rattle.mh_sizing_laws.specs.AtQuanta.{worlds_at_quanta}
 use Rattle.mh_sizing_laws.specs.SharpPages.{occurring, fewest_slots}
 
 -- Parts ------------------------------------------------------------------------------------------
@@ -65,11 +66,11 @@ intervals_made config events = intervals_made_in [] (first_run config) events
 
 -- Needs ------------------------------------------------------------------------------------------
 
--- the sessions of a run make and hold no more than this: live parts at each moment, and what marking them costs; parts of each interval, and the pages
+-- the sessions of a run make and hold no more than this: live parts at each quantum, and what marking them costs; parts of each interval, and the pages
 -- that these open; and what a page costs a cycle, for the classes of the parts that are made
 pub record MakeNoMore (needs : Needs) (config : Config) (events : List Event) : Type 0 where
-  pub live : AllByRecursion (HasAtMostLive needs.live) (run_worlds (first_run config) events)
-  pub marked : AllByRecursion (ReachesAtMost needs.marking_units) (run_worlds (first_run config) events)
+  pub live : AllByRecursion (HasAtMostLive needs.live) (worlds_at_quanta (first_run config) events)
+  pub marked : AllByRecursion (ReachesAtMost needs.marking_units) (worlds_at_quanta (first_run config) events)
   pub asked : AllByRecursion (λ interval. length interval ≤ needs.asked) (intervals_made config events)
   pub opened : AllByRecursion (λ interval. pages_of_parts interval ≤ needs.opened) (intervals_made config events)
   pub page : let list = parts_made config events in most_slots list + most_moves list ≤ needs.page_units

@@ -23,8 +23,8 @@ pub record StaysInRoom (config : Config) (events : List Event) (quanta opened : 
   pub left : AllByRecursion (λ machine. quanta * opened ≤ free_of machine) (cycle_ends (first_machine config) events)
   pub never_full : IsNeverFull config events
 
--- Let the sessions of a run make and hold no more than some numbers, by the ever-growing world alone: L live parts, which cost M to mark, and P units
--- for the sweep and defragmentation of a page; and in each interval q parts on g pages. With `L + (N - 1) * q + N * g` pages and a trigger of
+-- Let the sessions of a run make and hold no more than some numbers, by the ever-growing world alone: L live parts at quanta, which cost M to mark, and P
+-- units for the sweep and defragmentation of a page; and in each interval q parts on g pages. With `L + (N - 1) * q + N * g` pages and a trigger of
 -- `N * g - 1`, no cycle takes more than N quanta, each leaves `N * g` pages free, and no reply is `heap full`. N is at least the bound of a cycle; or
 -- quanta have at least 353 units, and N is at least `(288 + M + P * pages) / (quantum - 352) + 1`
 abbrev pub EnoughForNeedsSuffices : Type 0

@@ -9,8 +9,9 @@ use Rattle.mh_model.specs.World.{births}
 use Rattle.mh_model.specs.Paths.{Reachable}
 use Rattle.mh_model.specs.CycleUnits.{ReachesAtMost, most_slots, most_moves}
 use Rattle.mh_model.specs.LiveParts.{HasAtMostLive}
-use Rattle.mh_model.specs.Needs.{first_run, run_worlds, AreEnoughQuanta}
+use Rattle.mh_model.specs.Needs.{first_run, AreEnoughQuanta}
 use Rattle.mh_model.specs.Openings.{pages_of_parts}
+use Rattle.mh_sizing_laws.specs.AtQuanta.{worlds_at_quanta}
 use Rattle.mh_sizing_laws.specs.Filled.{FillsAtMost}
 use Rattle.mh_sizing_laws.specs.Made.{MakeOfClasses, MakeOfKinds, intervals_made_in, parts_made, run_after}
 use Rattle.mh_sizing_laws.specs.Needs.{HasSameScheduler, StaysInRoom}
@@ -19,20 +20,20 @@ use Rattle.mh_sizing_laws.specs.Startup.{anchored_of, asks_for_cycle, staying_of
 -- Needs ------------------------------------------------------------------------------------------
 
 -- After a startup the sessions of a run make and hold no more than this, by the ever-growing world alone. The objects that stay are made in the startup,
--- and the run's last world reaches them. Live parts are counted from the startup's end on, beside those parts that stay in its anchored pages. What
--- intervals make and open is counted from there on too. What cycles mark, and what a page costs them, is that of the whole run
+-- and the run's last world reaches them. Live parts are counted at the quanta from the startup's end on, beside those parts that stay in its anchored
+-- pages. What intervals make and open is counted from there on too. What cycles mark, and what a page costs them, is that of the whole run
 pub record MakeNoMoreAfter (needs : Needs) (config : Config) (start rest : List Event) (stays : ℕ → Bool) : Type 0 where
   pub stay : (birth : ℕ) → stays birth ≡ true → (birth < births (run_after (first_run config) start).world) × Reachable (run_after (first_run config) (start ++ rest)).world birth
-  pub live : AllByRecursion (HasAtMostLive (needs.live + staying_of stays config start)) (run_worlds (run_after (first_run config) start) rest)
-  pub marked : AllByRecursion (ReachesAtMost needs.marking_units) (run_worlds (first_run config) (start ++ rest))
+  pub live : AllByRecursion (HasAtMostLive (needs.live + staying_of stays config start)) (worlds_at_quanta (run_after (first_run config) start) rest)
+  pub marked : AllByRecursion (ReachesAtMost needs.marking_units) (worlds_at_quanta (first_run config) (start ++ rest))
   pub asked : AllByRecursion (λ interval. length interval ≤ needs.asked) (intervals_made_in [] (run_after (first_run config) start) rest)
   pub opened : AllByRecursion (λ interval. pages_of_parts interval ≤ needs.opened) (intervals_made_in [] (run_after (first_run config) start) rest)
   pub page : let list = parts_made config (start ++ rest) in most_slots list + most_moves list ≤ needs.page_units
 
--- the live parts fill no more pages at each moment from the startup's end on, each class by itself, beside those parts of the class that stay in its
+-- the live parts fill no more pages at each quantum from the startup's end on, each class by itself, beside those parts of the class that stay in its
 -- anchored pages
 abbrev pub FillNoMoreAfter : ℕ → Config → List Event → List Event → (ℕ → Bool) → Type 0
-FillNoMoreAfter most config start rest stays = AllByRecursion (FillsAtMost (staying_parts stays config start) most) (run_worlds (run_after (first_run config) start) rest)
+FillNoMoreAfter most config start rest stays = AllByRecursion (FillsAtMost (staying_parts stays config start) most) (worlds_at_quanta (run_after (first_run config) start) rest)
 
 -- a startup that asks for no cycle, whose parts fill at most so many pages, of which the objects that stay anchor at most so many
 pub record IsStartupWithin (anchored startup_pages : ℕ) (config : Config) (start : List Event) (stays : ℕ → Bool) : Type 0 where
@@ -61,10 +62,10 @@ pub record HasSharpEnoughBeside (needs : Needs) (filled kinds anchored startup_p
 
 -- Laws -------------------------------------------------------------------------------------------
 
--- Let a startup ask for no cycle, and let it leave more pages free than the trigger by what all its parts fill. Let the sessions of a run make and hold
--- no more than some numbers after it, by the ever-growing world alone: L live parts beside those that stay in its a anchored pages; and in each interval q
--- parts on g pages. With `a + L + (N - 1) * q + N * g` pages and a trigger of `N * g - 1`, no cycle of the whole run takes more than N quanta, each leaves
--- `N * g` pages free, and no reply is `heap full`. N is at least the bound of a cycle; or quanta have at least 353 units, and N is at least
+-- Let a startup ask for no cycle, and let it leave more pages free than the trigger by what all its parts fill. Let the sessions of a run make and hold no
+-- more than some numbers after it, by the ever-growing world alone: L live parts at quanta, beside those that stay in its a anchored pages; and in each
+-- interval q parts on g pages. With `a + L + (N - 1) * q + N * g` pages and a trigger of `N * g - 1`, no cycle of the whole run takes more than N quanta,
+-- each leaves `N * g` pages free, and no reply is `heap full`. N is at least the bound of a cycle; or quanta have at least 353 units, and N is at least
 -- `(288 + M + P * pages) / (quantum - 352) + 1`, where marking live parts costs M, and the sweep and defragmentation of a page P
 abbrev pub EnoughAfterStartupSuffices : Type 0
 EnoughAfterStartupSuffices = (needs : Needs) (anchored startup_pages : ℕ) (config : Config) (start rest : List Event) (stays : ℕ → Bool) (quanta : ℕ) →
@@ -78,8 +79,8 @@ SharpEnoughAfterStartupSuffices = (needs : Needs) (filled kinds anchored startup
     MakeNoMoreAfter needs config start rest stays → FillNoMoreAfter filled config start rest stays → MakeOfKinds kinds config (start ++ rest) → IsStartupWithin anchored startup_pages config start stays
     → HasSharpEnoughBeside needs filled kinds anchored startup_pages config quanta → StaysInRoom config (start ++ rest) quanta needs.opened
 
--- Let sessions hold L live parts at most after a startup, beside those that stay in its anchored pages, and let the pages of the classes of all that they
--- make have s slots at least. The L parts fill `L / s` pages at most
+-- Let sessions hold L live parts at most at the quanta after a startup, beside those that stay in its anchored pages, and let the pages of the classes of
+-- all that they make have s slots at least. The L parts fill `L / s` pages at most
 abbrev pub LaterPartsFillFewPages : Type 0
 LaterPartsFillFewPages = (needs : Needs) (least kinds : ℕ) (config : Config) (start rest : List Event) (stays : ℕ → Bool) →
     MakeNoMoreAfter needs config start rest stays → MakeOfClasses least kinds config (start ++ rest) → FillNoMoreAfter (needs.live / least) config start rest stays

@@ -16,8 +16,9 @@ use Rattle.mh_model.specs.Intervals.{CyclesTakeAtMost}
 use Rattle.mh_model.specs.LiveParts.{object_parts, HasAtMostLive}
 use Rattle.mh_model.specs.Machine.{quantum_run, command_step, control_step, event_step}
 use Rattle.mh_model.specs.Mutator.{heap_effect, mutator_step}
-use Rattle.mh_model.specs.Paths.{IsPath}
-use Rattle.mh_model.specs.Snapshot.{Moment, first_moment, half_moment, next_moment}
+use Rattle.mh_model.specs.Batches.{NoneTwice}
+use Rattle.mh_model.specs.Paths.{IsPath, Reachable}
+use Rattle.mh_model.specs.Snapshot.{Moment, first_moment, half_moment, next_moment, snapshot_at}
 use Rattle.mh_model.specs.World.{Object, World, object_at, slot_at, reference_of, heap_step}
 use Rattle.mh_sizing_laws.specs.PagesLeft.{NeverFills}
 use Rattle.mh_table_laws.proofs.Lists.{member-passes, none_at}
@@ -32,7 +33,7 @@ use Rattle.mh_sizing_laws.proofs.sharp_pages.SharpRuns.{sharp-pages-suffice}
 -- Worlds of one root -----------------------------------------------------------------------------
 
 -- an object has no references
-abbrev IsFlat : Option Object → Type 0
+abbrev pub IsFlat : Option Object → Type 0
 IsFlat None = Unit {0}
 IsFlat (Some object) = object.references ≡ []
 
@@ -43,25 +44,29 @@ flat-refers (Some object ∷ objects) flat zero field target e = none-some targe
 flat-refers (object ∷ objects) flat (suc birth) field target e = flat-refers objects flat.1 birth field target e
 
 -- a world whose objects have no references, and of whose births slot 0 alone may name one
-record HasOneRoot (last : ℕ) (world : World) : Type 0 where
-  flat : AllByRecursion IsFlat world.objects
-  named : (slot birth : ℕ) → slot_at world slot ≡ Some birth → birth ≡ last
-  small : object_parts (object_at world last) ≤ 1
+pub record HasOneRoot (last : ℕ) (world : World) : Type 0 where
+  pub flat : AllByRecursion IsFlat world.objects
+  pub named : (slot birth : ℕ) → slot_at world slot ≡ Some birth → birth ≡ last
+  pub small : object_parts (object_at world last) ≤ 1
 
 one-reached : (last : ℕ) (world : World) → HasOneRoot last world → (path : List ℕ) (birth : ℕ) → IsPath world birth path → birth ≡ last
 one-reached last world has [] birth (slot, e) = has.named slot birth e
 one-reached last world has (nearest ∷ path) birth ((field, e), after) = absurd (flat-refers world.objects has.flat nearest field birth e)
 
-one-live : (last : ℕ) (world : World) → HasOneRoot last world → HasAtMostLive 1 world
+-- what counts one at most for that birth counts one at most for all that is reached
+pub one-counted : (count : ℕ → ℕ) (last : ℕ) (world : World) → HasOneRoot last world → count last ≤ 1 → (list : List ℕ) → NoneTwice list → AllByRecursion (Reachable world) list → sum_by count list ≤ 1
 unfolding IsDistinct
-one-live last world has [] once reached = omega arith
-one-live last world has (birth ∷ []) once reached =
+one-counted count last world has small [] once reached = omega arith
+one-counted count last world has small (birth ∷ []) once reached =
     let (path, is) = reached.0 in
-    omega (arith, has.small, ap (λ b. object_parts (object_at world b)) (one-reached last world has path birth is), sum_by-cons (λ b. object_parts (object_at world b)) birth [])
-one-live last world has (birth ∷ other ∷ list) once reached =
+    omega (arith, small, ap count (one-reached last world has path birth is), sum_by-cons count birth [])
+one-counted count last world has small (birth ∷ other ∷ list) once reached =
     let (path, is) = reached.0 in
     let (path', is') = reached.1.0 in
     absurd (true≢false (sym (eq-eqb birth other (one-reached last world has path birth is ∙ sym (one-reached last world has path' other is'))) ∙ once.0.0))
+
+pub one-live : (last : ℕ) (world : World) → HasOneRoot last world → HasAtMostLive 1 world
+one-live last world has = one-counted (λ b. object_parts (object_at world b)) last world has has.small
 
 -- it fills no page, since each has four slots at least
 one-filled : (last : ℕ) (world : World) → HasOneRoot last world → FillsAtMost (λ size. 0) 0 world
@@ -92,15 +97,12 @@ two = born ∷ born ∷ []
 abbrev later : Moment
 later = next_moment (first_moment small) born
 
--- what the worlds of the run name
-at-first : HasOneRoot 0 (first_moment small).world
-at-first = record { flat = tt; named = λ slot birth e. absurd (none-some birth (sym (none_at 144 slot) ∙ e)); small = omega arith }
-
-after-one : HasOneRoot 0 later.world
+-- what the snapshots of its two cycles name
+after-one : HasOneRoot 0 (snapshot_at (half_moment (first_moment small) born))
 unfolding step_cost collector_step steps quantum heap_effect mutator_step heap_step quantum_run command_step control_step event_step half_moment next_moment
 after-one = record { flat = (refl, tt); named = λ slot birth e. first-slot 0 slot birth e; small = omega arith }
 
-after-two : HasOneRoot 1 (next_moment later born).world
+after-two : HasOneRoot 1 (snapshot_at (half_moment later born))
 unfolding step_cost collector_step steps quantum heap_effect mutator_step heap_step quantum_run command_step control_step event_step half_moment next_moment
 after-two = record { flat = (refl, (refl, tt)); named = λ slot birth e. first-slot 1 slot birth e; small = omega arith }
 
@@ -111,8 +113,8 @@ has_pages = record {
   pages = omega arith;
   trigger = omega arith;
   intervals = (omega arith, (omega arith, (omega arith, tt)));
-  live = (one-live 0 (first_moment small).world at-first, (one-live 0 later.world after-one, (one-live 1 (next_moment later born).world after-two, tt)));
-  fills = (one-filled 0 (first_moment small).world at-first, (one-filled 0 later.world after-one, (one-filled 1 (next_moment later born).world after-two, tt)));
+  live = (one-live 0 (snapshot_at (half_moment (first_moment small) born)) after-one, (one-live 1 (snapshot_at (half_moment later born)) after-two, tt));
+  fills = (one-filled 0 (snapshot_at (half_moment (first_moment small) born)) after-one, (one-filled 1 (snapshot_at (half_moment later born)) after-two, tt));
 }
 
 -- each quantum ends the cycle that it starts

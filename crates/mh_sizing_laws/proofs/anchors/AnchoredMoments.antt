@@ -84,8 +84,8 @@ module _ (stays : ℕ → Bool) (first : Table Block) where
   pub next-standing : (moment : Moment) (event : Event) → IsFaithful (half_moment moment event) → ReachesThoseThatStay stays (next_moment moment event).world → IsStanding moment → IsStanding (next_moment moment event)
   unfolding next_moment
   next-standing moment event faithful now is = record {
-    reaches = running-snapshot (ReachesThoseThatStay stays) moment event is.reaches now;
-    older = running-snapshot AreOlder moment event is.older (λ birth stay. reached-older (heap_view (half_moment moment event).machine.heap) (half_moment moment event).world faithful.agrees birth (now birth stay));
+    reaches = running-snapshot (ReachesThoseThatStay stays) moment event is.reaches (λ runs due. now);
+    older = running-snapshot AreOlder moment event is.older (λ runs due birth stay. reached-older (heap_view (half_moment moment event).machine.heap) (half_moment moment event).world faithful.agrees birth (now birth stay));
     slots = (event-keeps moment.machine event).whole.slots is.slots;
     anchoring = next-anchoring moment event faithful now is;
   }

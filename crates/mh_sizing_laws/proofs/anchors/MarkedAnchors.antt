@@ -1,6 +1,6 @@
 -- Pages beside anchored ones that suffice for cycles whose snapshots reach little: each part of the run has room, so its cycles take few quanta, so the next one leaves enough.
 use Rattle.std.specs.Prelude.{◌<◌, ◌-◌}
-use Rattle.std.proofs.Common.{◌≡◌, ℕ, ◌+◌, ◌-◌, ◌*◌, ◌<◌, ◌≤◌, Bool, true, false, ◌&&◌, if◌then◌else◌, List, [], ◌∷◌, ◌++◌, flat_map, sym, ap, ◌∙◌, subst, arith}
+use Rattle.std.proofs.Common.{◌≡◌, ℕ, ◌+◌, ◌-◌, ◌*◌, ◌<◌, ◌≤◌, Bool, false, List, [], ◌∷◌, ◌++◌, flat_map, sym, ap, ◌∙◌, subst, arith}
 use Rattle.std.specs.List.{AllByRecursion}
 use Rattle.std.proofs.Math.Nat.{mul-le-mul_right}
 use Rattle.std.proofs.lemmas.Bool.{false≢true}
@@ -9,7 +9,6 @@ use Rattle.mh_model.specs.declared.command.Event.{Event}
 use Rattle.mh_model.specs.declared.config.Config.{Config}
 use Rattle.mh_model.specs.declared.cycle.Phase.TheVariants.{Idle}
 use Rattle.mh_model.specs.Classes.{Part}
-use Rattle.mh_model.specs.Collector.{is_start_due}
 use Rattle.mh_model.specs.CycleUnits.{ReachesAtMost, snapshots, CyclesReachAtMost, most_slots, most_moves, quanta_for}
 use Rattle.mh_model.specs.Intervals.{moments, intervals, cycle_ends, CyclesTakeAtMost, LeaveFlagged}
 use Rattle.mh_model.specs.Limits.{quantum_overhead}
@@ -17,7 +16,7 @@ use Rattle.mh_model.specs.Machine.{Machine, machine_replies}
 use Rattle.mh_model.specs.Mutator.{in_roots_or_mark}
 use Rattle.mh_model.specs.Openings.{asked_parts, free_of}
 use Rattle.mh_model.specs.Pages.{Table, free_pages}
-use Rattle.mh_model.specs.Snapshot.{Moment, first_moment, half_moment, next_moment, moment_after, has_quantum, is_heap_full, snapshot_at}
+use Rattle.mh_model.specs.Snapshot.{Moment, first_moment, next_moment, moment_after, is_heap_full}
 use Rattle.mh_model.specs.Table.{Block}
 use Rattle.mh_model.specs.World.{World}
 use Rattle.mh_laws.proofs.costs.QuantumStarts.{idle_is}
@@ -28,6 +27,7 @@ use Rattle.mh_sizing_laws.proofs.cycles.Classes.{PartsFit, FitsClass}
 use Rattle.mh_sizing_laws.proofs.cycles.Occurring.{some-slots, some-moves, parts-fit}
 use Rattle.mh_sizing_laws.proofs.cycles.SharperQuanta.{idle-sharp}
 use Rattle.mh_sizing_laws.proofs.cycles.SharperSteps.{FitsStage}
+use Rattle.mh_sizing_laws.proofs.pages_left.FinishedCycles.{snapshots-later}
 use Rattle.mh_sizing_laws.proofs.pages_left.MarkedPages.{quanta-more, snapshots-before, short-before, last-moment, weaker}
 use Rattle.mh_sizing_laws.proofs.reached.ReachedQuanta.{IsReaching}
 use Rattle.mh_sizing_laws.proofs.reached.ReachedRuns.{never-full}
@@ -41,17 +41,7 @@ use Rattle.mh_sizing_laws.proofs.anchors.StartedRuns.{from-fresh, from-stays, fr
 snapshots-after : (P : World → Type 0) (start rest : List Event) (moment : Moment) → AllByRecursion P (snapshots moment (start ++ rest)) → AllByRecursion P (snapshots (moment_after moment start) rest)
 unfolding moment_after
 snapshots-after P [] rest moment all = all
-snapshots-after P (event ∷ start) rest moment all = snapshots-after P start rest next (go (has_quantum moment.machine event && is_start_due half.machine.heap.config half.machine.heap.collector) all)
-  where
-    half : Moment
-    half = half_moment moment event
-
-    next : Moment
-    next = next_moment moment event
-
-    go : (starts : Bool) → AllByRecursion P (if starts then snapshot_at half ∷ snapshots next (start ++ rest) else snapshots next (start ++ rest)) → AllByRecursion P (snapshots next (start ++ rest))
-    go true h = h.1
-    go false h = h
+snapshots-after P (event ∷ start) rest moment all = snapshots-after P start rest (next_moment moment event) (snapshots-later P (start ++ rest) moment event all)
 
 -- After the startup ------------------------------------------------------------------------------
 

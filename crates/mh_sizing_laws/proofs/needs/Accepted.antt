@@ -23,6 +23,7 @@ use Rattle.mh_model.specs.Machine.{new_units, command_units}
 use Rattle.mh_model.specs.Needs.{WorldRun, first_run, half_run, runs_quantum, next_run, run_worlds}
 use Rattle.mh_model.specs.Openings.{asked_parts, pages_of_parts}
 use Rattle.mh_sizing_laws.proofs.needs.AskedNeeds.{AskNoMore, run_intervals}
+use Rattle.mh_sizing_laws.specs.AtQuanta.{worlds_at_quanta}
 use Rattle.mh_sizing_laws.specs.Made.{made_parts, parts_made, parts_made_in, intervals_made, intervals_made_in, MakeNoMore}
 use Rattle.mh_sizing_laws.proofs.needs.BesideRuns.{after-world, config-kept}
 
@@ -100,6 +101,15 @@ worlds-accepted (event ∷ events) run =
     ap (λ (next : WorldRun). run.world ∷ run_worlds next (accepted_in (next_run run event) events)) (next-accepted run event)
     ∙ ap (λ (worlds : List World). run.world ∷ worlds) (worlds-accepted events (next_run run event))
 
+pub quanta-accepted : (events : List Event) (run : WorldRun) → worlds_at_quanta run (accepted_in run events) ≡ worlds_at_quanta run events
+quanta-accepted [] run = refl
+quanta-accepted (event ∷ events) run =
+    ap₂ (λ (cut : Bool) (next : WorldRun). if cut then run.world ∷ next.world ∷ worlds_at_quanta next later else worlds_at_quanta next later) (quantum-accepted run event) (next-accepted run event)
+    ∙ ap (λ (worlds : List World). if runs_quantum run event then run.world ∷ (next_run run event).world ∷ worlds else worlds) (quanta-accepted events (next_run run event))
+  where
+    later : List Event
+    later = accepted_in (next_run run event) events
+
 -- Parts ------------------------------------------------------------------------------------------
 
 module _ (config : Config) where
@@ -160,8 +170,8 @@ module _ (config : Config) (events : List Event) where
 
   pub needs-asked : (needs : Needs) → MakeNoMore needs config events → AskNoMore needs config (accepted config events)
   needs-asked needs make = record {
-    live = subst (AllByRecursion (HasAtMostLive needs.live)) (sym (worlds-accepted events (first_run config))) make.live;
-    marked = subst (AllByRecursion (ReachesAtMost needs.marking_units)) (sym (worlds-accepted events (first_run config))) make.marked;
+    live = subst (AllByRecursion (HasAtMostLive needs.live)) (sym (quanta-accepted events (first_run config))) make.live;
+    marked = subst (AllByRecursion (ReachesAtMost needs.marking_units)) (sym (quanta-accepted events (first_run config))) make.marked;
     asked = intervals-asked (λ list. length list ≤ needs.asked) make.asked;
     opened = intervals-asked (λ list. pages_of_parts list ≤ needs.opened) make.opened;
     page = subst (λ (list : List Part). most_slots list + most_moves list ≤ needs.page_units) (sym parts-made) make.page;

@@ -10,11 +10,9 @@ use Rattle.mh_model.specs.declared.config.Config.{Config}
 use Rattle.mh_model.specs.declared.reply.Reply.{Reply}
 use Rattle.mh_model.specs.declared.reply.Reply.TheVariants as reply
 use Rattle.mh_model.specs.World.{World, world_step, says}
-use Rattle.mh_model.specs.Collector.{is_start_due}
 use Rattle.mh_model.specs.Machine.{Machine, command_units, is_quantum_due, quantum_run, command_step, control_step, half_step, event_step, machine_after, machine_replies}
 use Rattle.mh_model.specs.Snapshot.{Moment, first_moment, is_heap_full, world_beside_event, half_moment, next_moment, moment_after, has_quantum}
 use Rattle.mh_model.specs.Intervals.{intervals}
-use Rattle.mh_model.specs.CycleUnits.{snapshots}
 use Rattle.mh_model.specs.LiveParts.{worlds}
 use Rattle.mh_model.specs.Needs.{WorldRun, first_run, half_run, runs_quantum, next_run, run_worlds}
 use Rattle.mh_laws.proofs.bounds.CyclesInTime.{StaysInBounds, run-stays}
@@ -94,7 +92,7 @@ module _ (config : Config) where
     answers = λ more who command. replies-worlds commands-follow config more who command;
   }
 
-  half-config : (moment : Moment) (run : WorldRun) (event : Event) → IsBeside moment run → (half_step moment.machine event).heap.config ≡ run.world.config
+  pub half-config : (moment : Moment) (run : WorldRun) (event : Event) → IsBeside moment run → (half_step moment.machine event).heap.config ≡ run.world.config
   half-config moment run event beside = (half-stays config moment.machine event beside.stays).config_is ∙ sym beside.config_is
 
   half-units : (moment : Moment) (run : WorldRun) (event : Event) → IsBeside moment run → is_heap_full (event_step moment.machine event).reply ≡ false → (half_step moment.machine event).units ≡ (half_run run event).units
@@ -202,7 +200,7 @@ module _ (P : World → Type 0) where
   first-world (event ∷ events) run all = all.0
 
   -- the world after an event that a full heap may refuse
-  world-holds : (moment : Moment) (run : WorldRun) (event : Event) → moment.world ≡ run.world → P run.world → P (next_run run event).world → P (world_beside_event moment.world event (event_step moment.machine event).reply)
+  pub world-holds : (moment : Moment) (run : WorldRun) (event : Event) → moment.world ≡ run.world → P run.world → P (next_run run event).world → P (world_beside_event moment.world event (event_step moment.machine event).reply)
   world-holds moment run (event.Session who command) same old new = go (is_heap_full (event_step moment.machine (event.Session who command)).reply)
     where
       go : (full : Bool) → P (if full then moment.world else (world_step moment.world who command).state)
@@ -219,23 +217,3 @@ module _ (P : World → Type 0) where
       (subst P (sym beside.world) all.0, (world-holds moment run event beside.world all.0 (first-world more (next_run run event) all.1), tt))
   worlds-hold config (event ∷ done) more moment run beside none all =
       (subst P (sym beside.world) all.0, worlds-hold config done more (next_moment moment event) (next_run run event) (next-beside config moment run event beside none.0) none.1 all.1)
-
-  next-world : (events : List Event) (moment : Moment) → AllByRecursion P (worlds moment events) → P moment.world
-  next-world [] moment all = all.0
-  next-world (event ∷ events) moment all = all.0
-
-  -- and so of each snapshot, which is one of them
-  pub snapshots-hold : (events : List Event) (moment : Moment) → AllByRecursion P (worlds moment events) → AllByRecursion P (snapshots moment events)
-  unfolding next_moment
-  snapshots-hold [] moment all = tt
-  snapshots-hold (event ∷ events) moment all =
-      go (has_quantum moment.machine event) (is_start_due half.machine.heap.config half.machine.heap.collector) (next-world events (next_moment moment event) all.1) (snapshots-hold events (next_moment moment event) all.1)
-    where
-      half : Moment
-      half = half_moment moment event
-
-      go : (runs due : Bool) → P half.world → AllByRecursion P (snapshots (next_moment moment event) events)
-          → AllByRecursion P (if runs && due then (if due then half.world else half.snapshot) ∷ snapshots (next_moment moment event) events else snapshots (next_moment moment event) events)
-      go true true now rest = (now, rest)
-      go true false now rest = rest
-      go false due now rest = rest

@@ -16,11 +16,12 @@ use Rattle.mh_model.specs.Machine.{first_machine, machine_replies}
 use Rattle.mh_model.specs.Snapshot.{Moment, first_moment, moment_after}
 use Rattle.mh_model.specs.Openings.{asked_parts, opens_at_most}
 use Rattle.mh_model.specs.Intervals.{moments, intervals, CyclesTakeAtMost}
-use Rattle.mh_model.specs.CycleUnits.{ReachesAtMost, CyclesReachAtMost, most_slots, most_moves, units_for, quanta_for}
+use Rattle.mh_model.specs.CycleUnits.{ReachesAtMost, snapshots, CyclesReachAtMost, most_slots, most_moves, units_for, quanta_for}
 use Rattle.mh_model.specs.LiveParts.{worlds}
 use Rattle.mh_model.specs.Needs.{WorldRun, first_run, run_worlds, AreEnoughQuanta, units_needed, quanta_needed}
 use Rattle.mh_model.specs.Limits.{quantum_overhead}
 use Rattle.mh_sizing_laws.specs.Anchors.{LeavesRoom}
+use Rattle.mh_sizing_laws.specs.AtQuanta.{worlds_at_quanta}
 use Rattle.mh_sizing_laws.specs.Made.{run_after}
 use Rattle.mh_sizing_laws.specs.Needs.{StaysInRoom}
 use Rattle.mh_sizing_laws.proofs.needs.AskedNeeds.{AskNoMoreAfter, run_intervals}
@@ -28,7 +29,8 @@ use Rattle.mh_sizing_laws.proofs.openings.Intervals.{asked_of, asked-append}
 use Rattle.mh_sizing_laws.proofs.openings.MadeParts.{pages_of-more}
 use Rattle.mh_sizing_laws.proofs.triggers.SizedRuns.{some-quanta, cycles-bounded}
 use Rattle.mh_sizing_laws.proofs.pages_left.MarkedPages.{div-more, quanta-more, weaker}
-use Rattle.mh_sizing_laws.proofs.needs.BesideRuns.{NoneIsFull, IsBeside, first-beside, beside-after, none-split, first_of, intervals-hold, worlds-hold, snapshots-hold}
+use Rattle.mh_sizing_laws.proofs.needs.BesideRuns.{NoneIsFull, IsBeside, first-beside, beside-after, none-split, first_of, intervals-hold, worlds-hold}
+use Rattle.mh_sizing_laws.proofs.needs.QuantumWorlds.{snapshots-hold}
 
 opens-start : (config : Config) (opened : ℕ) (before later : List Event) → opens_at_most config (before ++ later) ≤ opened → opens_at_most config before ≤ opened
 opens-start config opened before later few = omega (arith, few, more)
@@ -79,6 +81,11 @@ module _ (needs : Needs) (most : ℕ) (config : Config) (startup rest : List Eve
   pub start-worlds : (P : World → Type 0) (done more : List Event) → IsStart config startup rest done more → AllByRecursion P (run_worlds run rest) → AllByRecursion P (worlds from (done ++ first_of more))
   start-worlds P done more start all = let beside = start-beside done more start in worlds-hold P config done more from run beside.0 beside.1 (subst (λ list. AllByRecursion P (run_worlds run list)) (sym start.split) all)
 
+  pub start-snapshots : (P : World → Type 0) (done more : List Event) → IsStart config startup rest done more → AllByRecursion P (worlds_at_quanta run rest) → AllByRecursion P (snapshots from (done ++ first_of more))
+  start-snapshots P done more start all =
+      let beside = start-beside done more start in
+      snapshots-hold P config done more from run beside.0 beside.1 (subst (λ list. AllByRecursion P (worlds_at_quanta run list)) (sym start.split) all)
+
   -- what holds of an interval's start holds of the intervals of a start
   pub start-intervals : (P : List Event → Type 0) → ((before later : List Event) → P (before ++ later) → P before) → (done more : List Event) → IsStart config startup rest done more → AllByRecursion P (run_intervals [] run rest)
       → AllByRecursion P (intervals [] from.machine (done ++ first_of more))
@@ -90,14 +97,12 @@ module _ (needs : Needs) (most : ℕ) (config : Config) (startup rest : List Eve
   start-opens done more start = start-intervals (λ interval. opens_at_most config interval ≤ needs.opened) (opens-start config needs.opened) done more start need.opened
 
   start-reached : (done more : List Event) → IsStart config startup rest done more → CyclesReachAtMost needs.marking_units config (startup ++ (done ++ first_of more))
-  start-reached done more start = snapshots-hold (ReachesAtMost needs.marking_units) (startup ++ (done ++ first_of more)) (first_moment config) (subst (λ list. AllByRecursion (ReachesAtMost needs.marking_units) (worlds (first_moment config) list)) (append_assoc startup done (first_of more)) all)
+  start-reached done more start = subst (λ list. AllByRecursion (ReachesAtMost needs.marking_units) (snapshots (first_moment config) list)) (append_assoc startup done (first_of more))
+      (snapshots-hold (ReachesAtMost needs.marking_units) config (startup ++ done) more (first_moment config) (first_run config) (first-beside config) start.none
+      (subst (λ list. AllByRecursion (ReachesAtMost needs.marking_units) (worlds_at_quanta (first_run config) list)) (sym whole) need.marked))
     where
       whole : (startup ++ done) ++ more ≡ startup ++ rest
       whole = append_assoc startup done more ∙ ap (λ list. startup ++ list) start.split
-
-      all : AllByRecursion (ReachesAtMost needs.marking_units) (worlds (first_moment config) ((startup ++ done) ++ first_of more))
-      all = worlds-hold (ReachesAtMost needs.marking_units) config (startup ++ done) more (first_moment config) (first_run config) (first-beside config) start.none
-          (subst (λ list. AllByRecursion (ReachesAtMost needs.marking_units) (run_worlds (first_run config) list)) (sym whole) need.marked)
 
   -- Let each start have pages for cycles of as many quanta as are needed or fewer, and let such pages suffice, as events and quanta go
   pub record PagesForStarts (HasPages : List Event → ℕ → Type 0) (quanta : ℕ) : Type 0 where

@@ -20,7 +20,8 @@ use Rattle.mh_model.specs.Openings.{asked_parts, class_parts, pages_for, pages_o
 use Rattle.mh_model.specs.CycleUnits.{ReachesAtMost, most_slots, most_moves}
 use Rattle.mh_model.specs.LiveParts.{HasAtMostLive}
 use Rattle.mh_model.specs.Machine.{command_units}
-use Rattle.mh_model.specs.Needs.{WorldRun, first_run, half_run, runs_quantum, next_run, run_worlds}
+use Rattle.mh_model.specs.Needs.{WorldRun, first_run, half_run, runs_quantum, next_run}
+use Rattle.mh_sizing_laws.specs.AtQuanta.{worlds_at_quanta}
 use Rattle.mh_sizing_laws.specs.Filled.{FillsAtMost}
 use Rattle.mh_sizing_laws.specs.Made.{births_less_slots, made_parts, parts_made_in, intervals_made_in}
 use Rattle.mh_sizing_laws.specs.Needs.{HasSameScheduler, NeedsAreOfTheScheduler}
@@ -163,23 +164,33 @@ module _ (other : Config) where
   all-reached world [] all = tt
   all-reached world (birth ∷ list) all = ((all.0.0, path-same world birth all.0.0 all.0.1), all-reached world list all.1)
 
-  -- what holds of each world of a run holds of each in the other configuration, if it is seen by what is reached
-  pub worlds-same : (P : World → Type 0) → ((world : World) → P world → P (in_other world)) → (events : List Event) (run : WorldRun) → HasSameScheduler run.world.config other → AllByRecursion P (run_worlds run events) → AllByRecursion P (run_worlds (run_in run) events)
-  worlds-same P sees [] run same all = (sees run.world all.0, tt)
-  worlds-same P sees (event ∷ events) run same all =
-      (sees run.world all.0, subst (λ (next : WorldRun). AllByRecursion P (run_worlds next events)) (sym (next-same run event same)) (worlds-same P sees events (next_run run event) (stays-same run event same) all.1))
+  -- what holds of each world at a quantum holds of each in the other configuration, if it is seen by what is reached
+  pub quanta-same : (P : World → Type 0) → ((world : World) → P world → P (in_other world)) → (events : List Event) (run : WorldRun) → HasSameScheduler run.world.config other → AllByRecursion P (worlds_at_quanta run events) → AllByRecursion P (worlds_at_quanta (run_in run) events)
+  quanta-same P sees [] run same all = tt
+  quanta-same P sees (event ∷ events) run same all =
+      subst (λ (cut : Bool). AllByRecursion P (if cut then in_other run.world ∷ (next_run (run_in run) event).world ∷ worlds_at_quanta (next_run (run_in run) event) events else worlds_at_quanta (next_run (run_in run) event) events)) (sym (quantum-same run event same))
+      (subst (λ (after : WorldRun). AllByRecursion P (if runs_quantum run event then in_other run.world ∷ after.world ∷ worlds_at_quanta after events else worlds_at_quanta after events)) (sym (next-same run event same))
+      (go (runs_quantum run event) all (λ rest. quanta-same P sees events next (stays-same run event same) rest)))
+    where
+      next : WorldRun
+      next = next_run run event
+
+      go : (cut : Bool) → AllByRecursion P (if cut then run.world ∷ next.world ∷ worlds_at_quanta next events else worlds_at_quanta next events) → (AllByRecursion P (worlds_at_quanta next events) → AllByRecursion P (worlds_at_quanta (run_in next) events))
+          → AllByRecursion P (if cut then in_other run.world ∷ in_other next.world ∷ worlds_at_quanta (run_in next) events else worlds_at_quanta (run_in next) events)
+      go true h rest = (sees run.world h.0, (sees next.world h.1.0, rest h.1.1))
+      go false h rest = rest h
 
 -- What is needed is of the scheduler
 pub of-scheduler : NeedsAreOfTheScheduler
 of-scheduler = record {
   needs = λ needs config other events same make. record {
-    live = worlds-same other (HasAtMostLive needs.live) (λ world few list once reached. few list once (all-reached other world list reached)) events (first_run config) same make.live;
-    marked = worlds-same other (ReachesAtMost needs.marking_units) (λ world few list once reached. few list once (all-reached other world list reached)) events (first_run config) same make.marked;
+    live = quanta-same other (HasAtMostLive needs.live) (λ world few list once reached. few list once (all-reached other world list reached)) events (first_run config) same make.live;
+    marked = quanta-same other (ReachesAtMost needs.marking_units) (λ world few list once reached. few list once (all-reached other world list reached)) events (first_run config) same make.marked;
     asked = subst (AllByRecursion (λ interval. length interval ≤ needs.asked)) (sym (intervals-same other events [] (first_run config) same)) make.asked;
     opened = subst (AllByRecursion (λ interval. pages_of_parts interval ≤ needs.opened)) (sym (intervals-same other events [] (first_run config) same)) make.opened;
     page = subst (λ (list : List Part). most_slots list + most_moves list ≤ needs.page_units) (sym (all-same other events (first_run config) same)) make.page;
   };
-  filled = λ most config other events same fills. worlds-same other (FillsAtMost (λ size. 0) most) (λ world few list once reached. few list once (all-reached other world list reached)) events (first_run config) same fills;
+  filled = λ most config other events same fills. quanta-same other (FillsAtMost (λ size. 0) most) (λ world few list once reached. few list once (all-reached other world list reached)) events (first_run config) same fills;
   footprints = λ config other events same.
       ap₂ (λ (intervals : List (List Part)) (list : List Part). sum_by (λ size. min (sum_by (λ interval. pages_for size (class_parts size interval)) intervals) (births_less_slots size (class_parts size list))) class_sizes)
       (intervals-same other events [] (first_run config) same) (all-same other events (first_run config) same);

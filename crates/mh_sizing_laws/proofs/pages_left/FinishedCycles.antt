@@ -1,6 +1,7 @@
 -- Events that end a cycle: how many pages they leave in use.
 use Rattle.std.proofs.Common.{◌≡◌, inl, inr, ℕ, ◌+◌, ◌≤◌, nat_lt, not, Bool, true, false, ◌&&◌, ◌||◌, if◌then◌else◌, List, [], ◌∷◌, length, refl, sym, ap, ◌∙◌, subst, arith}
-use Rattle.std.proofs.lemmas.Bool.{cases_Bool, and_parts, false≢true, true≢false, ltb-true}
+use Rattle.std.specs.List.{AllByRecursion}
+use Rattle.std.proofs.lemmas.Bool.{cases_Bool, and_from, and_parts, false≢true, true≢false, ltb-true}
 use Rattle.mh_model.specs.declared.command.Event.{Event}
 use Rattle.mh_model.specs.declared.config.Config.{Config}
 use Rattle.mh_model.specs.declared.cycle.Phase.{Phase}
@@ -19,6 +20,7 @@ use Rattle.mh_run_laws.proofs.runs.FaithfulMoments.{moments-faithful, finished-e
 use Rattle.mh_run_laws.proofs.showing.QuantaShow.{agrees-quantum}
 use Rattle.mh_run_laws.proofs.worlds.Moments.{machine-moment_after}
 use Rattle.mh_model.specs.Openings.{asked_parts}
+use Rattle.mh_model.specs.CycleUnits.{snapshots}
 use Rattle.mh_model.specs.LiveParts.{HasAtMostLive, parts_since, count_blocks, is_plain}
 use Rattle.mh_sizing_laws.specs.PagesLeft.{FinishedCyclesLeaveFewPages}
 use Rattle.mh_model.specs.Intervals.{has_ended}
@@ -26,6 +28,7 @@ use Rattle.mh_sizing_laws.proofs.openings.Intervals.{quiet-event, quantum-event}
 use Rattle.mh_sizing_laws.proofs.triggers.SizedRuns.{IsOnWay, half-on_way, run-collector}
 use Rattle.mh_sizing_laws.proofs.pages_left.BlocksInUse.{UsesWell, half-machine, event-uses}
 use Rattle.mh_sizing_laws.proofs.pages_left.GrownWorlds.{HasGrown, GrowsBy, grown-same, grown-more, event-grows}
+use Rattle.mh_sizing_laws.proofs.reached.ReachedRuns.{starts-here, starts-later}
 use Rattle.mh_sizing_laws.proofs.pages_left.KeptBlocks.{kept-few}
 
 -- Moments ----------------------------------------------------------------------------------------
@@ -138,23 +141,40 @@ module _ (P : World → Type 0) where
   abbrev pub HoldsOfSnapshot : Moment → Type 0
   HoldsOfSnapshot moment = is_idle moment.machine.heap.collector.phase ≡ false → P moment.snapshot
 
-  module _ (moment : Moment) (event : Event) (old : HoldsOfSnapshot moment) (now : P (next_moment moment event).world) where
+  -- the world is so if the event has a quantum run that starts a cycle
+  abbrev pub HoldsAtStart : Moment → Event → Type 0
+  HoldsAtStart moment event = has_quantum moment.machine event ≡ true → is_start_due (half_step moment.machine event).heap.config (half_step moment.machine event).heap.collector ≡ true → P (next_moment moment event).world
+
+  -- so it is if each snapshot is
+  pub snapshots-start : (events : List Event) (moment : Moment) (event : Event) → AllByRecursion P (snapshots moment (event ∷ events)) → HoldsAtStart moment event
+  unfolding half_moment next_moment
+  snapshots-start events moment event all runs due =
+      let half : Moment = half_moment moment event in
+      let starts : Bool = has_quantum moment.machine event && is_start_due half.machine.heap.config half.machine.heap.collector in
+      subst P (ap (λ b. if b then half.world else half.snapshot) due) (starts-here P (snapshot_at half) (snapshots (next_moment moment event) events) starts (and_from (has_quantum moment.machine event) (is_start_due half.machine.heap.config half.machine.heap.collector) runs due) all)
+
+  pub snapshots-later : (events : List Event) (moment : Moment) (event : Event) → AllByRecursion P (snapshots moment (event ∷ events)) → AllByRecursion P (snapshots (next_moment moment event) events)
+  snapshots-later events moment event all =
+      let half : Moment = half_moment moment event in
+      starts-later P (snapshot_at half) (snapshots (next_moment moment event) events) (has_quantum moment.machine event && is_start_due half.machine.heap.config half.machine.heap.collector) all
+
+  module _ (moment : Moment) (event : Event) (old : HoldsOfSnapshot moment) (now : HoldsAtStart moment event) where
     half-idle : is_idle (half_step moment.machine event).heap.collector.phase ≡ is_idle moment.machine.heap.collector.phase
     half-idle = ap is_idle (half-on_way moment.machine event).phase
 
-    pub snapshot-within : IsInCycle (half_step moment.machine event).heap → P (snapshot_at (half_moment moment event))
+    pub snapshot-within : has_quantum moment.machine event ≡ true → IsInCycle (half_step moment.machine event).heap → P (snapshot_at (half_moment moment event))
     unfolding half_moment next_moment
-    snapshot-within within = go (is_start_due (half_step moment.machine event).heap.config (half_step moment.machine event).heap.collector) refl within
+    snapshot-within runs within = go (is_start_due (half_step moment.machine event).heap.config (half_step moment.machine event).heap.collector) refl within
       where
         go : (due : Bool) → is_start_due (half_step moment.machine event).heap.config (half_step moment.machine event).heap.collector ≡ due → IsInCycle (half_step moment.machine event).heap
             → P (if due then (half_moment moment event).world else moment.snapshot)
-        go true is within = now
+        go true is within = now runs is
         go false is (inl ran) = old (sym half-idle ∙ ran)
         go false is (inr due) = absurd (true≢false (sym due ∙ is))
 
     -- so it is of the snapshot of a cycle as it ends
     pub ended-snapshot : has_quantum moment.machine event ≡ true → IsInCycle (half_step moment.machine event).heap → P (next_moment moment event).snapshot
-    ended-snapshot runs within = subst P (sym (next-snapshot moment event ∙ ap (λ b. if b then snapshot_at (half_moment moment event) else moment.snapshot) runs)) (snapshot-within within)
+    ended-snapshot runs within = subst P (sym (next-snapshot moment event ∙ ap (λ b. if b then snapshot_at (half_moment moment event) else moment.snapshot) runs)) (snapshot-within runs within)
 
     -- and of the next snapshot
     pub running-snapshot : HoldsOfSnapshot (next_moment moment event)

@@ -15,9 +15,8 @@ use Rattle.mh_model.specs.Openings.{class_parts, asked_parts, opens_at_most, fre
 use Rattle.mh_model.specs.Intervals.{moments, intervals, cycle_ends, CyclesTakeAtMost, HasRoomFor, IsNeverFull}
 use Rattle.mh_model.specs.CycleUnits.{marking_units, cycle_starts, CyclesMarkAtMost, occurs, greatest_of, most_slots, slots_and_moves, most_moves, units_for, quanta_for}
 use Rattle.mh_model.specs.CycleUnits.{ReachesAtMost, snapshots, CyclesReachAtMost}
-use Rattle.mh_model.specs.LiveParts.{HasPagesFor}
 use Rattle.mh_model.specs.Limits.{quantum_overhead}
-use Rattle.mh_sizing_laws.specs.PagesLeft.{NeverFills, PagesForMarkingSuffice, PagesForReachedSuffice}
+use Rattle.mh_sizing_laws.specs.PagesLeft.{HasPagesForCycles, NeverFills, PagesForMarkingSuffice, PagesForReachedSuffice}
 use Rattle.mh_sizing_laws.proofs.openings.Intervals.{asked_of, asked-append}
 use Rattle.mh_sizing_laws.proofs.openings.MadeParts.{pages_of-more}
 use Rattle.mh_sizing_laws.proofs.triggers.SizedRuns.{IsShort, event-short}
@@ -143,7 +142,7 @@ record IsFew (config : Config) (marked opened : ℕ) (Few : List Event → Type 
 
 -- pages suffice for such a run
 few-pages-suffice : (config : Config) (events : List Event) (marked opened asked most : ℕ) (Few : List Event → Type 0) → quantum_overhead < config.quantum → IsFew config marked opened Few → Few events
-    → HasPagesFor config events (quanta_of config marked events) opened asked most → CyclesTakeAtMost (quanta_of config marked events) config events × NeverFills config events (quanta_of config marked events) opened
+    → HasPagesForCycles config events (quanta_of config marked events) opened asked most → CyclesTakeAtMost (quanta_of config marked events) config events × NeverFills config events (quanta_of config marked events) opened
 few-pages-suffice config events marked opened asked most Few large is_few few has =
     let room : HasRoomFor config events quanta opened = room-of config events quanta opened asked most (omega arith) so_far has in
     let all = is_few.suffices events few room in

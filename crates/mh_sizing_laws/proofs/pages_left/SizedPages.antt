@@ -21,15 +21,16 @@ use Rattle.mh_laws.proofs.commands.LeftUnchanged.{event-keeps, machine_after-pag
 use Rattle.mh_laws.proofs.costs.QuantumStarts.{begins, quantum-rests}
 use Rattle.mh_run_laws.proofs.worlds.Moments.{machine-moment_after}
 use Rattle.mh_model.specs.Openings.{asked_count, asked_parts, free_of}
-use Rattle.mh_model.specs.LiveParts.{HasAtMostLive, parts_since, worlds, HasPagesFor}
-use Rattle.mh_sizing_laws.specs.PagesLeft.{PagesSuffice, PagesForTheBoundSuffice}
+use Rattle.mh_model.specs.CycleUnits.{snapshots}
+use Rattle.mh_model.specs.LiveParts.{HasAtMostLive, parts_since, worlds}
+use Rattle.mh_sizing_laws.specs.PagesLeft.{HasPagesForCycles, PagesSuffice, PagesForTheBoundSuffice}
 use Rattle.mh_model.specs.Intervals.{moments, intervals, has_ended, HasRoomFor}
 use Rattle.mh_model.specs.Intervals as run
 use Rattle.mh_sizing_laws.proofs.openings.Intervals.{quiet-event}
 use Rattle.mh_sizing_laws.proofs.triggers.Quanta.{IsAfter, quantum-after}
 use Rattle.mh_sizing_laws.proofs.triggers.SizedRuns.{half-on_way, next-stays, half-stays, room-suffices, some-quanta, cycles-bounded}
 use Rattle.mh_sizing_laws.proofs.pages_left.BlocksInUse.{half-machine}
-use Rattle.mh_sizing_laws.proofs.pages_left.FinishedCycles.{next-world, next-snapshot, half-snapshot, half-grows, next-grown, ran-collector, ended-run, HoldsOfSnapshot, ended-snapshot, running-snapshot, finished-few}
+use Rattle.mh_sizing_laws.proofs.pages_left.FinishedCycles.{next-world, next-snapshot, half-snapshot, half-grows, next-grown, ran-collector, ended-run, HoldsAtStart, HoldsOfSnapshot, snapshots-later, snapshots-start, ended-snapshot, running-snapshot, finished-few}
 use Rattle.mh_sizing_laws.proofs.pages_left.GrownWorlds.{HasGrown, grown-same, since-more, since-same}
 
 -- Lists ------------------------------------------------------------------------------------------
@@ -206,7 +207,7 @@ module _ (config : Config) (quanta opened asked most : ℕ) where
         ]
 
     -- a moment that goes on
-    goes-on : (now : List Event) → HasAtMostLive most next.world → (is_idle (event_step machine event).state.heap.collector.phase ≡ false → parts_since next.snapshot next.world + asked ≤ (event_step machine event).state.heap.collector.quanta * asked + asked_count config now) → IsSized now next
+    goes-on : (now : List Event) → HoldsAtStart (HasAtMostLive most) moment event → (is_idle (event_step machine event).state.heap.collector.phase ≡ false → parts_since next.snapshot next.world + asked ≤ (event_step machine event).state.heap.collector.quanta * asked + asked_count config now) → IsSized now next
     unfolding next_moment
     goes-on now live since = record {
       stays = next-stays config machine event sized.stays;
@@ -227,13 +228,13 @@ module _ (config : Config) (quanta opened asked most : ℕ) where
   -- Each cycle of a run leaves enough pages free, if no cycle has had all its quanta while those before it did
   module _ (few : ℕ) (some : 1 ≤ quanta) (pages : few + (quanta * asked + quanta * opened) ≤ config.pages + asked) (from : Moment) (all : List Event) (so_far : FewerSoFar from.machine all)
       (ends : (done : List Event) (event : Event) (rest : List Event) → done ++ event ∷ rest ≡ all → EndsWithFew few (moment_after from done) event) where
-    pub ends-enough : (events done before : List Event) (moment : Moment) → done ++ events ≡ all → moment ≡ moment_after from done → IsSized before moment → AllByRecursion AsksFew (intervals before moment.machine events) → AllByRecursion (HasAtMostLive most) (worlds moment events)
+    pub ends-enough : (events done before : List Event) (moment : Moment) → done ++ events ≡ all → moment ≡ moment_after from done → IsSized before moment → AllByRecursion AsksFew (intervals before moment.machine events) → AllByRecursion (HasAtMostLive most) (snapshots moment events)
         → AllByRecursion LeavesEnough (run.cycle_ends from.machine done) → AllByRecursion LeavesEnough (run.cycle_ends from.machine all)
     unfolding next_moment
     ends-enough [] done before moment split is sized asks live left = subst (λ list. AllByRecursion LeavesEnough (run.cycle_ends from.machine list)) (sym (append-nil done) ∙ split) left
     ends-enough (event ∷ events) done before moment split is sized asks live left =
         by_quantum-run (has_quantum moment.machine event) refl asks
-        (λ now there rest. ends-enough events (done ++ event ∷ []) now next' (append_assoc done (event ∷ []) events ∙ split) on there rest live.1 (ends-push LeavesEnough done from.machine event left left-here))
+        (λ now there rest. ends-enough events (done ++ event ∷ []) now next' (append_assoc done (event ∷ []) events ∙ split) on there rest (snapshots-later (HasAtMostLive most) events moment event live) (ends-push LeavesEnough done from.machine event left left-here))
       where
         next' : Moment
         next' = next_moment moment event
@@ -241,8 +242,8 @@ module _ (config : Config) (quanta opened asked most : ℕ) where
         now-few : AsksFew (before ++ event ∷ [])
         now-few = event-few events before moment.machine event asks
 
-        live-now : HasAtMostLive most next'.world
-        live-now = head-world (HasAtMostLive most) events next' live.1
+        live-now : HoldsAtStart (HasAtMostLive most) moment event
+        live-now = snapshots-start (HasAtMostLive most) events moment event live
 
         on : next' ≡ moment_after from (done ++ event ∷ [])
         on = ap (λ m. next_moment m event) is ∙ sym (moment-push done from event)
@@ -271,7 +272,7 @@ module _ (config : Config) (quanta opened asked most : ℕ) where
         by_quantum-run false quiet asks more = more (before ++ event ∷ []) (goes-on before moment event sized (before ++ event ∷ []) live-now (quiet-since before moment event sized quiet)) asks
 
 -- Runs with pages enough have room, if no cycle has had all its quanta while those before it left enough
-pub room-of : (config : Config) (events : List Event) (quanta opened asked most : ℕ) → 1 ≤ quanta → FewerSoFar config quanta opened asked most (first_machine config) events → HasPagesFor config events quanta opened asked most → HasRoomFor config events quanta opened
+pub room-of : (config : Config) (events : List Event) (quanta opened asked most : ℕ) → 1 ≤ quanta → FewerSoFar config quanta opened asked most (first_machine config) events → HasPagesForCycles config events quanta opened asked most → HasRoomFor config events quanta opened
 unfolding machine_after moment_after
 room-of config events quanta opened asked most some so_far has =
     let first : Moment = first_moment config in

@@ -59,11 +59,11 @@ module _ (moment : Moment) (event : Event) where
   next-snapshot = refl
 
 module _ {X : Type 0} (P : X → Type 0) (x : X) (rest : List X) where
-  starts-here : (starts : Bool) → starts ≡ true → AllByRecursion P (if starts then x ∷ rest else rest) → P x
+  pub starts-here : (starts : Bool) → starts ≡ true → AllByRecursion P (if starts then x ∷ rest else rest) → P x
   starts-here true is all = all.0
   starts-here false is all = absurd (false≢true is)
 
-  starts-later : (starts : Bool) → AllByRecursion P (if starts then x ∷ rest else rest) → AllByRecursion P rest
+  pub starts-later : (starts : Bool) → AllByRecursion P (if starts then x ∷ rest else rest) → AllByRecursion P rest
   starts-later true all = all.1
   starts-later false all = all
 

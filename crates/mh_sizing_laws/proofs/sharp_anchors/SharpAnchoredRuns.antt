@@ -4,8 +4,7 @@ use Rattle.mh_model.specs.declared.command.Event.{Event}
 use Rattle.mh_model.specs.declared.config.Config.{Config}
 use Rattle.mh_model.specs.Bound.{most_quanta}
 use Rattle.mh_model.specs.Classes.{Part}
-use Rattle.mh_model.specs.CycleUnits.{quanta_for}
-use Rattle.mh_model.specs.LiveParts.{worlds}
+use Rattle.mh_model.specs.CycleUnits.{snapshots, quanta_for}
 use Rattle.mh_model.specs.Openings.{class_parts}
 use Rattle.mh_model.specs.Snapshot.{moment_after}
 use Rattle.mh_sizing_laws.specs.Anchors.{started, started_table, IsStartup}
@@ -29,7 +28,7 @@ sharp-anchored-room config start rest stays quanta opened most filled some start
   free = has.free;
   intervals = has.intervals;
   left = λ fewer. ends-enough config anchors quanta opened most filled unit list refl start some (omega (arith, has.pages)) rest fewer rest [] [] (started config start) refl refl
-      (from-sharp config anchors quanta opened most filled unit list refl start startup.none_begins some before (from-standing config start rest stays startup)) after has.intervals (all-hold anchors most filled (worlds (started config start) rest) has.live has.fills) startup.stay tt;
+      (from-sharp config anchors quanta opened most filled unit list refl start startup.none_begins some before (from-standing config start rest stays startup)) after has.intervals (all-hold anchors most filled (snapshots (started config start) rest) has.live has.fills) startup.stay tt;
 }
   where
     anchors : Anchors

@@ -8,15 +8,17 @@ use Rattle.mh_model.specs.World.{Object, World, object_at}
 use Rattle.mh_model.specs.Batches.{NoneTwice}
 use Rattle.mh_model.specs.Classes.{Part, class_of, class_sizes, part_words, parts}
 use Rattle.mh_model.specs.LiveParts.{object_parts, parts_of_births, HasAtMostLive}
-use Rattle.mh_model.specs.Needs.{first_run, run_worlds}
+use Rattle.mh_model.specs.Needs.{first_run}
 use Rattle.mh_model.specs.Openings.{class_parts, is_of_class}
 use Rattle.mh_model.specs.Paths.{Reachable}
+use Rattle.mh_sizing_laws.specs.AtQuanta.{worlds_at_quanta}
 use Rattle.mh_sizing_laws.specs.Filled.{object_class_parts, pages_filled, parts_of_class, FillsAtMost}
 use Rattle.mh_sizing_laws.specs.Made.{parts_made}
 use Rattle.mh_sizing_laws.specs.SharpNeeds.{LivePartsFillFewPages}
 use Rattle.mh_sizing_laws.specs.SharpPages.{occurring, fewest_slots}
 use Rattle.mh_sizing_laws.proofs.openings.MadeParts.{among-is_class}
 use Rattle.mh_sizing_laws.proofs.needs.BornParts.{HasPartsOf, made-known}
+use Rattle.mh_sizing_laws.proofs.needs.QuantumWorlds.{at-quanta}
 use Rattle.mh_sizing_laws.proofs.pages_left.MarkedPages.{div-more}
 use Rattle.mh_sizing_laws.proofs.sharp_pages.ClassSums.{sum-below, sum-once}
 use Rattle.mh_sizing_laws.proofs.sharp_pages.ClassesThatOccur.{classes-once, fewest-least, occurring-parts, sum-both, sum-none, sum-slots}
@@ -90,7 +92,8 @@ live-few most world live births once reached =
 -- Live parts that are few fill few pages
 pub live-fill : LivePartsFillFewPages
 live-fill needs least kinds config events make of =
-    all-few (run_worlds (first_run config) events) make.live (made-known (λ size. class_parts size list) (λ size. 0) events (first_run config) (λ size birth. omega arith) (λ size. omega arith))
+    all-few (worlds_at_quanta (first_run config) events) make.live
+    (at-quanta (HasPartsOf (λ size. class_parts size list)) events (first_run config) (made-known (λ size. class_parts size list) (λ size. 0) events (first_run config) (λ size birth. omega arith) (λ size. omega arith)))
   where
     list : List Part
     list = parts_made config events

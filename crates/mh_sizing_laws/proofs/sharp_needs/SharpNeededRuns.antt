@@ -15,10 +15,10 @@ use Rattle.mh_sizing_laws.specs.Needs.{StaysInRoom}
 use Rattle.mh_sizing_laws.proofs.needs.AskedNeeds.{AskNoMore}
 use Rattle.mh_sizing_laws.specs.SharpNeeds.{HasSharpEnoughFor, SharpEnoughForNeedsSuffices}
 use Rattle.mh_sizing_laws.specs.SharpPages.{occurring, all_asked, HasSharpPagesFor}
-use Rattle.mh_sizing_laws.proofs.needs.Accepted.{accepted, needs-asked, parts-made, worlds-accepted}
+use Rattle.mh_sizing_laws.proofs.needs.Accepted.{accepted, needs-asked, parts-made, quanta-accepted}
 use Rattle.mh_sizing_laws.proofs.needs.AcceptedRuns.{stays-alike}
 use Rattle.mh_sizing_laws.proofs.needs.BesideRuns.{first_of}
-use Rattle.mh_sizing_laws.proofs.needs.NeededParts.{IsStart, asked-fewer, start-worlds, start-opens, run-stays}
+use Rattle.mh_sizing_laws.proofs.needs.NeededParts.{IsStart, asked-fewer, start-snapshots, start-opens, run-stays}
 use Rattle.mh_sizing_laws.proofs.triggers.SizedRuns.{some-quanta}
 use Rattle.mh_sizing_laws.proofs.sharp_pages.ClassesThatOccur.{fewer-classes}
 use Rattle.mh_sizing_laws.proofs.sharp_pages.MarkedRuns.{sharp-reached-suffices}
@@ -50,8 +50,8 @@ module _ (needs : Needs) (filled kinds : ℕ) (config : Config) (events : List E
         pages = omega (arith, opened, fewer, few_kinds, classes, few, has.pages);
         trigger = omega (arith, opened, has.trigger);
         intervals = start-opens needs needs.live config [] events need done more start;
-        live = start-worlds needs needs.live config [] events need (HasAtMostLive needs.live) done more start need.live;
-        fills = start-worlds needs needs.live config [] events need (FillsAtMost (λ size. 0) filled) done more start fills;
+        live = start-snapshots needs needs.live config [] events need (HasAtMostLive needs.live) done more start need.live;
+        fills = start-snapshots needs needs.live config [] events need (FillsAtMost (λ size. 0) filled) done more start fills;
       }
 
   -- Enough for what sessions ask for suffices, where small parts share pages
@@ -69,5 +69,5 @@ module _ (needs : Needs) (filled kinds : ℕ) (config : Config) (events : List E
 pub sharp-enough-suffices : SharpEnoughForNeedsSuffices
 sharp-enough-suffices needs filled kinds config events quanta make fills few_kinds has =
     stays-alike config events quanta needs.opened
-    (enough-asked needs filled kinds config (accepted config events) (needs-asked config events needs make) (subst (AllByRecursion (FillsAtMost (λ size. 0) filled)) (sym (worlds-accepted events (first_run config))) fills)
+    (enough-asked needs filled kinds config (accepted config events) (needs-asked config events needs make) (subst (AllByRecursion (FillsAtMost (λ size. 0) filled)) (sym (quanta-accepted events (first_run config))) fills)
     (subst (λ (list : List Part). length (occurring list) ≤ kinds) (sym (parts-made config events)) few_kinds) quanta has)

@@ -27,7 +27,7 @@ use Rattle.mh_sizing_laws.proofs.triggers.Quanta.{IsAfter, quantum-after}
 use Rattle.mh_sizing_laws.proofs.triggers.SizedRuns.{HasHadFewer, next-stays, half-stays}
 use Rattle.mh_sizing_laws.specs.Anchors.{ReachesThoseThatStay}
 use Rattle.mh_sizing_laws.proofs.pages_left.BlocksInUse.{half-machine}
-use Rattle.mh_sizing_laws.proofs.pages_left.FinishedCycles.{next-world, next-snapshot, half-snapshot, half-grows, next-grown, ran-collector, HoldsOfSnapshot, running-snapshot}
+use Rattle.mh_sizing_laws.proofs.pages_left.FinishedCycles.{next-world, next-snapshot, half-snapshot, half-grows, next-grown, ran-collector, HoldsAtStart, HoldsOfSnapshot, running-snapshot}
 use Rattle.mh_sizing_laws.proofs.pages_left.GrownWorlds.{HasGrown, grown-more}
 use Rattle.mh_sizing_laws.proofs.pages_left.PlacedParts.{ArePlaced, half-placed, run-placed}
 use Rattle.mh_sizing_laws.proofs.anchors.GivenAnchors.{Anchors, HoldsFew}
@@ -57,7 +57,7 @@ module _ (config : Config) (anchors : Anchors) (quanta opened most filled unit :
     pub rests : is_idle moment.machine.heap.collector.phase ≡ true → Rests config anchors quanta opened most filled unit list unit_is moment.machine.heap.collector
 
   module _ (done before : List Event) (moment : Moment) (event : Event) (is : moment ≡ moment_after (first_moment config) done) (sharp : IsSharp before moment) (fit : PartsFit Among (asked_parts config event))
-      (live : HoldsFew anchors most filled (next_moment moment event).world) (reach : ReachesThoseThatStay anchors.stays (next_moment moment event).world) (some : 1 ≤ quanta) (fewer : HasHadFewer config quanta opened moment.machine) (short : opens_at_most config (before ++ event ∷ []) ≤ opened) where
+      (live : HoldsAtStart (HoldsFew anchors most filled) moment event) (reach : ReachesThoseThatStay anchors.stays (next_moment moment event).world) (some : 1 ≤ quanta) (fewer : HasHadFewer config quanta opened moment.machine) (short : opens_at_most config (before ++ event ∷ []) ≤ opened) where
     abbrev machine : Machine
     machine = moment.machine
 
@@ -170,7 +170,7 @@ module _ (config : Config) (anchors : Anchors) (quanta opened most filled unit :
         let idle : is_idle half.heap.collector.phase ≡ true = (and_parts (is_idle half.heap.collector.phase) _ due).0 in
         subst (λ s. Counted (births s) next.heap.collector) (sym (snapshot-runs runs true due))
         (subst (Counted (births middle.world)) (sym (ran-collector machine event runs))
-        (counted-start config anchors quanta opened most filled unit list unit_is count moment.snapshot middle.world half.heap at_work (subst (HoldsFew anchors most filled) (next-world moment event) live) middle-reach
+        (counted-start config anchors quanta opened most filled unit list unit_is count moment.snapshot middle.world half.heap at_work (subst (HoldsFew anchors most filled) (next-world moment event) (live runs due)) middle-reach
         (λ birth stay. reached-older (heap_view middle.machine.heap) middle.world half-faithful.agrees birth (middle-reach birth stay)) due (idle_is half.heap.collector.phase idle) (half-rested idle)))
 
     counts : has_quantum machine event ≡ true → is_idle next.heap.collector.phase ≡ false → next.heap.collector.quanta ≡ suc count

@@ -12,6 +12,7 @@ use Rattle.mh_model.specs.declared.config.Config.{Config}
 use Rattle.mh_model.specs.Bound.{most_quanta}
 use Rattle.mh_model.specs.Classes.{Part}
 use Rattle.mh_model.specs.Collector.{is_idle}
+use Rattle.mh_model.specs.CycleUnits.{snapshots}
 use Rattle.mh_model.specs.LiveParts.{HasAtMostLive, worlds}
 use Rattle.mh_model.specs.World.{World}
 use Rattle.mh_model.specs.Machine.{Machine, first_machine, event_step, machine_after}
@@ -26,7 +27,7 @@ use Rattle.mh_sizing_laws.proofs.openings.Intervals.{asked-cons}
 use Rattle.mh_sizing_laws.proofs.openings.MadeParts.{IsAmong}
 use Rattle.mh_sizing_laws.proofs.triggers.SizedRuns.{IsShort, HasHadFewer, LeavesEnough, event-short, room-suffices, some-quanta, cycles-bounded}
 use Rattle.mh_sizing_laws.proofs.pages_left.BlocksInUse.{run-blocks}
-use Rattle.mh_sizing_laws.proofs.pages_left.FinishedCycles.{ended-run}
+use Rattle.mh_sizing_laws.proofs.pages_left.FinishedCycles.{HoldsAtStart, ended-run, snapshots-later, snapshots-start}
 use Rattle.mh_sizing_laws.specs.Anchors.{started, ReachesThoseThatStay}
 use Rattle.mh_sizing_laws.specs.Filled.{FillsAtMost}
 use Rattle.mh_sizing_laws.specs.SharpPages.{occurring, all_asked, HasSharpPagesFor, SharpPagesSuffice, SharpPagesForTheBoundSuffice}
@@ -68,12 +69,12 @@ module _ (config : Config) (anchors : Anchors) (quanta opened most filled unit :
     from = started config start
 
     pub ends-enough : (events done before : List Event) (moment : Moment) → done ++ events ≡ all → moment ≡ moment_after from done → IsSharp config anchors quanta opened most filled unit list unit_is before moment → AskAmong events → AllByRecursion Short (intervals before moment.machine events)
-        → AllByRecursion (HoldsFew anchors most filled) (worlds moment events) → AllByRecursion (ReachesThoseThatStay anchors.stays) (worlds moment events) → AllByRecursion Leaving (run.cycle_ends from.machine done) → AllByRecursion Leaving (run.cycle_ends from.machine all)
+        → AllByRecursion (HoldsFew anchors most filled) (snapshots moment events) → AllByRecursion (ReachesThoseThatStay anchors.stays) (worlds moment events) → AllByRecursion Leaving (run.cycle_ends from.machine done) → AllByRecursion Leaving (run.cycle_ends from.machine all)
     unfolding next_moment
     ends-enough [] done before moment split is sharp fit short live reach lefts = subst (λ l. AllByRecursion Leaving (run.cycle_ends from.machine l)) (sym (append-nil done) ∙ split) lefts
     ends-enough (event ∷ events) done before moment split is sharp fit short live reach lefts =
         by_quantum-run (has_quantum moment.machine event) refl short
-        (λ now there rest. ends-enough events (done ++ event ∷ []) now next' (append_assoc done (event ∷ []) events ∙ split) on there (λ size one. fit size (omega (arith, one, asked-cons config event events size))) rest live.1 reach.1
+        (λ now there rest. ends-enough events (done ++ event ∷ []) now next' (append_assoc done (event ∷ []) events ∙ split) on there (λ size one. fit size (omega (arith, one, asked-cons config event events size))) rest (snapshots-later (HoldsFew anchors most filled) events moment event live) reach.1
         (ends-push Leaving done from.machine event lefts left-here))
       where
         next' : Moment
@@ -82,8 +83,8 @@ module _ (config : Config) (anchors : Anchors) (quanta opened most filled unit :
         now-short : Short (before ++ event ∷ [])
         now-short = event-short config quanta opened events before moment.machine event short
 
-        live-now : HoldsFew anchors most filled next'.world
-        live-now = head-world (HoldsFew anchors most filled) events next' live.1
+        live-now : HoldsAtStart (HoldsFew anchors most filled) moment event
+        live-now = snapshots-start (HoldsFew anchors most filled) events moment event live
 
         reach-now : ReachesThoseThatStay anchors.stays next'.world
         reach-now = head-world (ReachesThoseThatStay anchors.stays) events next' reach.1
@@ -157,7 +158,7 @@ sharp-room config events quanta opened most filled some so_far has =
       intervals = has.intervals;
       left = ends-enough config no_anchors quanta opened most filled unit list refl [] some (omega (arith, has.pages)) events so_far events [] [] first refl refl
           (from-sharp config no_anchors quanta opened most filled unit list refl [] refl some (λ size one. occurring-parts list size (parts-class size [] one) (omega (arith, one))) (first-standing config))
-          (λ size one. occurring-parts list size (parts-class size list one) one) has.intervals (all-hold no_anchors most filled (worlds first events) (subst (λ n. AllByRecursion (HasAtMostLive n) (worlds first events)) (omega arith) has.live) has.fills)
+          (λ size one. occurring-parts list size (parts-class size list one) one) has.intervals (all-hold no_anchors most filled (snapshots first events) (subst (λ n. AllByRecursion (HasAtMostLive n) (snapshots first events)) (omega arith) has.live) has.fills)
           (worlds-all (ReachesThoseThatStay no_anchors.stays) (λ world birth stay. absurd (false≢true stay)) events first) tt;
     }
 

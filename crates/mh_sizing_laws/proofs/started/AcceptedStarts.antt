@@ -13,12 +13,13 @@ use Rattle.mh_model.specs.LiveParts.{HasAtMostLive}
 use Rattle.mh_model.specs.Needs.{WorldRun, first_run, next_run, run_worlds}
 use Rattle.mh_model.specs.Openings.{asked_parts, class_parts, pages_of_parts}
 use Rattle.mh_sizing_laws.specs.Anchors.{ReachesThoseThatStay}
+use Rattle.mh_sizing_laws.specs.AtQuanta.{worlds_at_quanta}
 use Rattle.mh_sizing_laws.specs.Filled.{FillsAtMost}
 use Rattle.mh_sizing_laws.specs.Made.{intervals_made_in, made_parts, parts_made, parts_made_in, run_after}
 use Rattle.mh_sizing_laws.specs.Startup.{anchored_by, anchored_of, asks_for_cycle, births_made, births_made_in, staying_by, staying_of, staying_parts}
 use Rattle.mh_sizing_laws.specs.Started.{FillNoMoreAfter, MakeNoMoreAfter}
 use Rattle.mh_sizing_laws.proofs.ClassWeights.{sum-same}
-use Rattle.mh_sizing_laws.proofs.needs.Accepted.{accepted, accepted_command, accepted_event, accepted_in, all-mapped, intervals-accepted, next-accepted, next-config, parts-made, worlds-accepted}
+use Rattle.mh_sizing_laws.proofs.needs.Accepted.{accepted, accepted_command, accepted_event, accepted_in, all-mapped, intervals-accepted, next-accepted, next-config, parts-made, quanta-accepted, worlds-accepted}
 use Rattle.mh_sizing_laws.proofs.needs.AskedNeeds.{AskNoMoreAfter, run_intervals}
 use Rattle.mh_sizing_laws.proofs.sharp_needs.FewerPages.{all-beside}
 use Rattle.mh_sizing_laws.proofs.started.ReachedThroughout.{reached-throughout}
@@ -109,6 +110,9 @@ module _ (config : Config) (start : List Event) where
     worlds-after : (P : World → Type 0) → AllByRecursion P (run_worlds run rest) → AllByRecursion P (run_worlds (run_after (first_run config) (accepted config start)) (accepted_after rest))
     worlds-after P all = subst (λ (r : WorldRun). AllByRecursion P (run_worlds r (accepted_after rest))) (sym after-accepted) (subst (AllByRecursion P) (sym (worlds-accepted rest run)) all)
 
+    quanta-after : (P : World → Type 0) → AllByRecursion P (worlds_at_quanta run rest) → AllByRecursion P (worlds_at_quanta (run_after (first_run config) (accepted config start)) (accepted_after rest))
+    quanta-after P all = subst (λ (r : WorldRun). AllByRecursion P (worlds_at_quanta r (accepted_after rest))) (sym after-accepted) (subst (AllByRecursion P) (sym (quanta-accepted rest run)) all)
+
     -- what holds of the parts that each interval makes holds of those that it asks for
     intervals-after : (P : List Part → Type 0) → AllByRecursion P (intervals_made_in [] run rest)
         → AllByRecursion (λ interval. P (flat_map (asked_parts config) interval)) (run_intervals [] (run_after (first_run config) (accepted config start)) (accepted_after rest))
@@ -119,8 +123,8 @@ module _ (config : Config) (start : List Event) where
     -- live parts fill no more pages
     pub fills-after : (most : ℕ) (stays : ℕ → Bool) → FillNoMoreAfter most config start rest stays → FillNoMoreAfter most config (accepted config start) (accepted_after rest) stays
     fills-after most stays fills =
-        worlds-after (FillsAtMost (staying_parts stays config (accepted config start)) most)
-        (all-beside (staying_parts stays config start) (staying_parts stays config (accepted config start)) most (λ size class. omega (arith, start-parts stays size)) (run_worlds run rest) fills)
+        quanta-after (FillsAtMost (staying_parts stays config (accepted config start)) most)
+        (all-beside (staying_parts stays config start) (staying_parts stays config (accepted config start)) most (λ size class. omega (arith, start-parts stays size)) (worlds_at_quanta run rest) fills)
 
     pub all-parts : flat_map (asked_parts config) (accepted config start ++ accepted_after rest) ≡ parts_made config (start ++ rest)
     all-parts = ap (flat_map (asked_parts config)) (sym both-accepted) ∙ parts-made config (start ++ rest)
@@ -128,8 +132,8 @@ module _ (config : Config) (start : List Event) where
     module _ (needs : Needs) (stays : ℕ → Bool) (make : MakeNoMoreAfter needs config start rest stays) where
       pub needs-asked-after : AskNoMoreAfter needs (needs.live + staying_of stays config (accepted config start)) config (accepted config start) (accepted_after rest)
       needs-asked-after = record {
-        live = worlds-after (HasAtMostLive (needs.live + staying_of stays config (accepted config start))) (subst (λ n. AllByRecursion (HasAtMostLive (needs.live + n)) (run_worlds run rest)) (sym (start-staying stays)) make.live);
-        marked = subst (λ (list : List Event). AllByRecursion (ReachesAtMost needs.marking_units) (run_worlds (first_run config) list)) both-accepted (subst (AllByRecursion (ReachesAtMost needs.marking_units)) (sym (worlds-accepted (start ++ rest) (first_run config))) make.marked);
+        live = quanta-after (HasAtMostLive (needs.live + staying_of stays config (accepted config start))) (subst (λ n. AllByRecursion (HasAtMostLive (needs.live + n)) (worlds_at_quanta run rest)) (sym (start-staying stays)) make.live);
+        marked = subst (λ (list : List Event). AllByRecursion (ReachesAtMost needs.marking_units) (worlds_at_quanta (first_run config) list)) both-accepted (subst (AllByRecursion (ReachesAtMost needs.marking_units)) (sym (quanta-accepted (start ++ rest) (first_run config))) make.marked);
         asked = intervals-after (λ list. length list ≤ needs.asked) make.asked;
         opened = intervals-after (λ list. pages_of_parts list ≤ needs.opened) make.opened;
         page = subst (λ (list : List Part). most_slots list + most_moves list ≤ needs.page_units) (sym all-parts) make.page;

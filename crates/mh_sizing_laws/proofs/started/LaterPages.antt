@@ -16,11 +16,13 @@ use Rattle.mh_model.specs.Needs.{WorldRun, first_run, next_run, run_worlds}
 use Rattle.mh_model.specs.Openings.{class_parts}
 use Rattle.mh_model.specs.Paths.{Reachable}
 use Rattle.mh_sizing_laws.specs.Anchors.{ReachesThoseThatStay}
+use Rattle.mh_sizing_laws.specs.AtQuanta.{worlds_at_quanta}
 use Rattle.mh_sizing_laws.specs.Filled.{object_class_parts, parts_of_class, FillsAtMost}
 use Rattle.mh_sizing_laws.specs.Made.{parts_made, run_after}
 use Rattle.mh_sizing_laws.specs.Started.{LaterPartsFillFewPages}
 use Rattle.mh_sizing_laws.specs.Startup.{are_anchoring, births_made, staying_by, staying_of, staying_parts}
 use Rattle.mh_sizing_laws.proofs.Sums.{sum_to, present, present-all, present-less, present-once, sum-distinct}
+use Rattle.mh_sizing_laws.proofs.needs.QuantumWorlds.{at-quanta}
 use Rattle.mh_sizing_laws.proofs.needs.BornParts.{HasPartsOf, births-counted, made-known, staying_at, worlds-grown}
 use Rattle.mh_sizing_laws.proofs.pages_left.GrownWorlds.{HasGrown, grown-same}
 use Rattle.mh_sizing_laws.proofs.sharp_needs.FewPages.{births-classes, world-few}
@@ -202,7 +204,8 @@ later-worlds P (event ∷ start) rest first all = later-worlds P start rest (nex
 
 -- Live parts beside those that stay fill few pages
 pub later-fill : LaterPartsFillFewPages
-later-fill needs least kinds config start rest stays make of = all-few (run_worlds from rest) make.live known (worlds-grown from.world rest from (grown-same from.world)) reach
+later-fill needs least kinds config start rest stays make of = all-few (worlds_at_quanta from rest) make.live known
+    (at-quanta (HasGrown from.world) rest from (worlds-grown from.world rest from (grown-same from.world))) reach
   where
     from : WorldRun
     from = run_after (first_run config) start
@@ -210,14 +213,16 @@ later-fill needs least kinds config start rest stays make of = all-few (run_worl
     list : List Part
     list = parts_made config (start ++ rest)
 
-    known : AllByRecursion (HasPartsOf (λ size. class_parts size list)) (run_worlds from rest)
-    known = later-worlds (HasPartsOf (λ size. class_parts size list)) start rest (first_run config) (made-known (λ size. class_parts size list) (λ size. 0) (start ++ rest) (first_run config) (λ size birth. omega arith) (λ size. omega arith))
+    known : AllByRecursion (HasPartsOf (λ size. class_parts size list)) (worlds_at_quanta from rest)
+    known = at-quanta (HasPartsOf (λ size. class_parts size list)) rest from
+        (later-worlds (HasPartsOf (λ size. class_parts size list)) start rest (first_run config) (made-known (λ size. class_parts size list) (λ size. 0) (start ++ rest) (first_run config) (λ size birth. omega arith) (λ size. omega arith)))
 
     before : (birth : ℕ) → stays birth ≡ true → birth < births from.world
     before birth stay = (make.stay birth stay).0
 
-    reach : AllByRecursion (ReachesThoseThatStay stays) (run_worlds from rest)
-    reach = reached-throughout stays rest from before (subst (λ (r : WorldRun). ReachesThoseThatStay stays r.world) (run-joined start rest (first_run config)) (λ birth stay. (make.stay birth stay).1))
+    reach : AllByRecursion (ReachesThoseThatStay stays) (worlds_at_quanta from rest)
+    reach = at-quanta (ReachesThoseThatStay stays) rest from
+        (reached-throughout stays rest from before (subst (λ (r : WorldRun). ReachesThoseThatStay stays r.world) (run-joined start rest (first_run config)) (λ birth stay. (make.stay birth stay).1)))
 
     all-few : (worlds : List World) → AllByRecursion (HasAtMostLive (needs.live + staying_of stays config start)) worlds → AllByRecursion (HasPartsOf (λ size. class_parts size list)) worlds → AllByRecursion (HasGrown from.world) worlds
         → AllByRecursion (ReachesThoseThatStay stays) worlds → AllByRecursion (FillsAtMost (staying_parts stays config start) (needs.live / least)) worlds

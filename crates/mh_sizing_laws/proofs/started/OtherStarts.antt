@@ -9,15 +9,16 @@ use Rattle.mh_model.specs.Paths.{IsPath, Reachable}
 use Rattle.mh_model.specs.Classes.{Part, class_sizes, slots_in}
 use Rattle.mh_model.specs.CycleUnits.{ReachesAtMost, most_slots, most_moves}
 use Rattle.mh_model.specs.LiveParts.{HasAtMostLive}
-use Rattle.mh_model.specs.Needs.{WorldRun, first_run, next_run, run_worlds}
+use Rattle.mh_model.specs.Needs.{WorldRun, first_run, next_run}
 use Rattle.mh_model.specs.Openings.{class_parts, pages_of_parts}
+use Rattle.mh_sizing_laws.specs.AtQuanta.{worlds_at_quanta}
 use Rattle.mh_sizing_laws.specs.Filled.{FillsAtMost}
 use Rattle.mh_sizing_laws.specs.Made.{intervals_made_in, made_parts, run_after}
 use Rattle.mh_sizing_laws.specs.Needs.{HasSameScheduler}
 use Rattle.mh_sizing_laws.specs.Started.{FillNoMoreAfter, IsStartupWithin, MakeNoMoreAfter, StartedNeedsAreOfTheScheduler}
 use Rattle.mh_sizing_laws.specs.Startup.{anchored_by, anchored_of, births_made, births_made_in, staying_by, staying_of, staying_parts}
 use Rattle.mh_sizing_laws.proofs.ClassWeights.{sum-same}
-use Rattle.mh_sizing_laws.proofs.needs.OtherConfigs.{in_other, run_in, next-same, stays-same, made-same, all-same, intervals-same, all-reached, worlds-same}
+use Rattle.mh_sizing_laws.proofs.needs.OtherConfigs.{in_other, run_in, next-same, stays-same, made-same, all-same, intervals-same, all-reached, quanta-same}
 use Rattle.mh_sizing_laws.proofs.sharp_needs.FewerPages.{all-beside}
 use Rattle.mh_sizing_laws.proofs.started.AcceptedStarts.{run-config}
 
@@ -71,23 +72,23 @@ module _ (config other : Config) (start : List Event) (same : HasSameScheduler c
   run-scheduled : HasSameScheduler run.world.config other
   run-scheduled = subst (λ (c : Config). HasSameScheduler c other) (sym (run-config start (first_run config))) same
 
-  worlds-after : (P : World → Type 0) → ((world : World) → P world → P (in_other other world)) → (rest : List Event) → AllByRecursion P (run_worlds run rest) → AllByRecursion P (run_worlds (run_after (first_run other) start) rest)
-  worlds-after P sees rest all = subst (λ (r : WorldRun). AllByRecursion P (run_worlds r rest)) (sym after-same) (worlds-same other P sees rest run run-scheduled all)
+  quanta-after : (P : World → Type 0) → ((world : World) → P world → P (in_other other world)) → (rest : List Event) → AllByRecursion P (worlds_at_quanta run rest) → AllByRecursion P (worlds_at_quanta (run_after (first_run other) start) rest)
+  quanta-after P sees rest all = subst (λ (r : WorldRun). AllByRecursion P (worlds_at_quanta r rest)) (sym after-same) (quanta-same other P sees rest run run-scheduled all)
 
   intervals-after : (P : List Part → Type 0) (rest : List Event) → AllByRecursion P (intervals_made_in [] run rest) → AllByRecursion P (intervals_made_in [] (run_after (first_run other) start) rest)
   intervals-after P rest all = subst (AllByRecursion P) (sym (ap (λ (r : WorldRun). intervals_made_in [] r rest) after-same ∙ intervals-same other rest [] run run-scheduled)) all
 
   fills-same : (most : ℕ) (rest : List Event) (stays : ℕ → Bool) → FillNoMoreAfter most config start rest stays → FillNoMoreAfter most other start rest stays
   fills-same most rest stays fills =
-      all-beside (staying_parts stays config start) (staying_parts stays other start) most (λ size class. omega (arith, parts-same stays size)) (run_worlds (run_after (first_run other) start) rest)
-      (worlds-after (FillsAtMost (staying_parts stays config start) most) (λ world few list once reached. few list once (all-reached other world list reached)) rest fills)
+      all-beside (staying_parts stays config start) (staying_parts stays other start) most (λ size class. omega (arith, parts-same stays size)) (worlds_at_quanta (run_after (first_run other) start) rest)
+      (quanta-after (FillsAtMost (staying_parts stays config start) most) (λ world few list once reached. few list once (all-reached other world list reached)) rest fills)
 
   needs-same : (needs : Needs) (rest : List Event) (stays : ℕ → Bool) → MakeNoMoreAfter needs config start rest stays → MakeNoMoreAfter needs other start rest stays
   needs-same needs rest stays make = record {
     stay = stay;
-    live = subst (λ n. AllByRecursion (HasAtMostLive (needs.live + n)) (run_worlds (run_after (first_run other) start) rest)) (sym (staying-same stays))
-        (worlds-after (HasAtMostLive (needs.live + staying_of stays config start)) (λ world few list once reached. few list once (all-reached other world list reached)) rest make.live);
-    marked = worlds-same other (ReachesAtMost needs.marking_units) (λ world few list once reached. few list once (all-reached other world list reached)) (start ++ rest) (first_run config) same make.marked;
+    live = subst (λ n. AllByRecursion (HasAtMostLive (needs.live + n)) (worlds_at_quanta (run_after (first_run other) start) rest)) (sym (staying-same stays))
+        (quanta-after (HasAtMostLive (needs.live + staying_of stays config start)) (λ world few list once reached. few list once (all-reached other world list reached)) rest make.live);
+    marked = quanta-same other (ReachesAtMost needs.marking_units) (λ world few list once reached. few list once (all-reached other world list reached)) (start ++ rest) (first_run config) same make.marked;
     asked = intervals-after (λ interval. length interval ≤ needs.asked) rest make.asked;
     opened = intervals-after (λ interval. pages_of_parts interval ≤ needs.opened) rest make.opened;
     page = subst (λ (list : List Part). most_slots list + most_moves list ≤ needs.page_units) (sym (all-same other (start ++ rest) (first_run config) same)) make.page;

@@ -5,7 +5,8 @@ use Rattle.std.proofs.Math.Nat.{mul-le-mul_right}
 use Rattle.mh_model.specs.declared.command.Event.{Event}
 use Rattle.mh_model.specs.declared.config.Config.{Config}
 use Rattle.mh_model.specs.declared.needs.Needs.{Needs}
-use Rattle.mh_model.specs.LiveParts.{HasAtMostLive, worlds}
+use Rattle.mh_model.specs.CycleUnits.{snapshots}
+use Rattle.mh_model.specs.LiveParts.{HasAtMostLive}
 use Rattle.mh_model.specs.Machine.{Machine, first_machine, machine_after}
 use Rattle.mh_model.specs.Needs.{first_run, run_worlds}
 use Rattle.mh_model.specs.Openings.{asked_count, free_of, pages_of_parts}
@@ -25,7 +26,7 @@ use Rattle.mh_sizing_laws.proofs.needs.Accepted.{accepted}
 use Rattle.mh_sizing_laws.proofs.needs.AcceptedRuns.{stays-alike}
 use Rattle.mh_sizing_laws.proofs.needs.AskedNeeds.{AskNoMoreAfter}
 use Rattle.mh_sizing_laws.proofs.needs.BesideRuns.{first_of}
-use Rattle.mh_sizing_laws.proofs.needs.NeededParts.{IsStart, start-worlds, start-intervals, start-opens, run-stays}
+use Rattle.mh_sizing_laws.proofs.needs.NeededParts.{IsStart, start-snapshots, start-worlds, start-intervals, start-opens, run-stays}
 use Rattle.mh_sizing_laws.proofs.needs.NeededRuns.{asked-start}
 use Rattle.mh_sizing_laws.proofs.sharp_needs.FewerPages.{all-beside}
 use Rattle.mh_sizing_laws.proofs.startup.Startups.{startups-fill}
@@ -66,17 +67,17 @@ module _ (needs : Needs) (config : Config) (startup rest : List Event) (stays : 
     stay = start-worlds needs (needs.live + staying_of stays config startup) config startup rest known.need (ReachesThoseThatStay stays) done more start known.stay;
   }
 
-  pub part-live : (done more : List Event) → IsStart config startup rest done more → AllByRecursion (HasAtMostLive (needs.live + staying stays table)) (worlds from (done ++ first_of more))
+  pub part-live : (done more : List Event) → IsStart config startup rest done more → AllByRecursion (HasAtMostLive (needs.live + staying stays table)) (snapshots from (done ++ first_of more))
   part-live done more start =
-      subst (λ n. AllByRecursion (HasAtMostLive (needs.live + n)) (worlds from (done ++ first_of more))) (sym from-staying)
-      (start-worlds needs (needs.live + staying_of stays config startup) config startup rest known.need (HasAtMostLive (needs.live + staying_of stays config startup)) done more start known.need.live)
+      subst (λ n. AllByRecursion (HasAtMostLive (needs.live + n)) (snapshots from (done ++ first_of more))) (sym from-staying)
+      (start-snapshots needs (needs.live + staying_of stays config startup) config startup rest known.need (HasAtMostLive (needs.live + staying_of stays config startup)) done more start known.need.live)
 
   -- and fill no more pages
-  pub part-fills : (filled : ℕ) → FillNoMoreAfter filled config startup rest stays → (done more : List Event) → IsStart config startup rest done more → AllByRecursion (FillsAtMost (staying_of_class stays table) filled) (worlds from (done ++ first_of more))
+  pub part-fills : (filled : ℕ) → FillNoMoreAfter filled config startup rest stays → (done more : List Event) → IsStart config startup rest done more → AllByRecursion (FillsAtMost (staying_of_class stays table) filled) (snapshots from (done ++ first_of more))
   part-fills filled fills done more start =
       all-beside (staying_parts stays config startup) (staying_of_class stays table) filled
-      (λ size class. omega (arith, ap (λ (m : Machine). staying_of_class stays m.heap.collector.table size) same, known.fills.staying_class stays size class)) (worlds from (done ++ first_of more))
-      (start-worlds needs (needs.live + staying_of stays config startup) config startup rest known.need (FillsAtMost (staying_parts stays config startup) filled) done more start fills)
+      (λ size class. omega (arith, ap (λ (m : Machine). staying_of_class stays m.heap.collector.table size) same, known.fills.staying_class stays size class)) (snapshots from (done ++ first_of more))
+      (start-snapshots needs (needs.live + staying_of stays config startup) config startup rest known.need (FillsAtMost (staying_parts stays config startup) filled) done more start fills)
 
 -- Pages ------------------------------------------------------------------------------------------
 

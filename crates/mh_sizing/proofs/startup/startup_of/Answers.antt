@@ -1,4 +1,4 @@
-use Rattle.std.proofs.Common.{◌≡◌, Option, Some, None, MatchOption, List, inl, inr, ◌≤◌, ◌-◌, ◌++◌, length, take, drop, take_all, true, ap, ap₂, sym, subst, ◌∙◌, arith}
+use Rattle.std.proofs.Common.{◌≡◌, Option, Some, None, MatchOption, List, inl, inr, ◌≤◌, ◌-◌, ◌++◌, length, take, drop, take_all, ap, sym, subst, ◌∙◌, arith}
 use Rattle.std.proofs.lemmas.List.{drop_min, length-drop, take-append-drop, take_min}
 use Rattle.mh_model.specs.declared.command.Event.{Event}
 use Rattle.mh_model.specs.declared.config.Config.{Config}

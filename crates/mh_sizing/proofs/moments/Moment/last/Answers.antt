@@ -29,7 +29,9 @@ returns-clause-moment c =
     let world = world_of c.args.heap.now in
     let list = ap (λ (set : InOrder). set.births) c.insert_roots.ensures ∙ ap (λ (set : InOrder). fold with_birth_named set.births world.slots) c.in_ok-set.ensures in
     record {
-      births_are = c.look_through.ensures.births ∙ c.births-2.ensures ∙ sym (births-are c.args.heap.now);
       search = c.look_through.ensures.search [] (subst (λ (list : List ℕ). IsSearch world [] list 0) (sym list) (search-begins world));
       all_looked = c.look_through.ensures.all;
     }
+
+pub returns-clause-births : goal.returns-clause-births
+returns-clause-births c = c.look_through.ensures.births ∙ c.births-2.ensures ∙ sym (births-are c.args.heap.now)

@@ -1,5 +1,5 @@
 use Rattle.std.proofs.Common.{[], length, ap, sym, ◌∙◌}
-use Rattle.mh_model.specs.Needs.{run_worlds}
+use Rattle.mh_sizing_laws.specs.AtQuanta.{worlds_at_quanta}
 use Rattle.mh_model.specs.Openings.{pages_of_parts}
 use Rattle.mh_sizing.specs.Runs.{most_of}
 use Rattle.mh_sizing.proofs.RunLemmas.{intervals-cut}
@@ -7,7 +7,7 @@ use Rattle.mh_sizing.proofs.walk.Walk.later.Goals as goal
 
 pub returns : goal.returns
 returns c = λ others config from events by_class walked.
-    let most = c.in_ok-most.ensures others (run_worlds from events) _ by_class walked.log in
+    let most = c.in_ok-most.ensures others (worlds_at_quanta from events) _ by_class walked.log in
     let cut = intervals-cut [] from events in
     record {
       live = most.parts;

@@ -1,9 +1,7 @@
 use Rattle.std.proofs.Common.{refl}
 use Rattle.mh_model.specs.World.{first_world}
 use Rattle.mh_shadow.specs.ShadowHeap.{outline_of, world_of}
-use Rattle.mh_shadow.proofs.WorldLemmas.{closed-world}
 use Rattle.mh_sizing.proofs.AlikeLemmas.{within-alike}
-use Rattle.mh_sizing.proofs.CutLemmas.{log-first}
 use Rattle.mh_sizing.proofs.HeapLemmas.{outlines-world}
 use Rattle.mh_sizing.proofs.WorldLemmas.{first-within}
 use Rattle.mh_sizing.proofs.world.RunWorld.open.Goals as goal
@@ -11,12 +9,7 @@ use Rattle.mh_sizing.proofs.world.RunWorld.open.Goals as goal
 pub invariant_of-result : goal.invariant_of-result
 invariant_of-result c =
     let heap = c.open.result in
-    record { within = rw c.new.ensures.items (within-alike (outline_of heap) (first_world c.args.config) (world_of heap) c.open.ensures (outlines-world heap) _ _ (first-within c.args.config _ refl refl)) }
+    record { within = rw c.new.ensures.items (rw c.new-2.ensures.items (within-alike (outline_of heap) (first_world c.args.config) (world_of heap) c.open.ensures (outlines-world heap) _ _ _ (first-within c.args.config _ refl refl))) }
 
 pub returns : goal.returns
-returns c =
-    let heap = c.open.result in
-    record {
-      outlines = c.open.ensures;
-      log = rw c.new.ensures.items (log-first (first_world c.args.config) (closed-world (outline_of heap) (first_world c.args.config) c.open.ensures heap.sound));
-    }
+returns c = record { outlines = c.open.ensures; log = rw c.new-2.ensures.items tt }

@@ -3,22 +3,20 @@ use Rattle.mh_model.specs.declared.memory.NoMemory.{NoMemory}
 use Rattle.mh_model.specs.Paths.{Reachable}
 use Rattle.mh_model.specs.World.{World, births}
 use Rattle.mh_shadow.specs.ShadowHeap.{outline_of, world_of}
-use Rattle.mh_shadow.proofs.WorldLemmas.{closed-world}
 use Rattle.mh_sizing.specs.declared.world.RunWorld.{RunWorld}
 use Rattle.mh_sizing.specs.Births.{InOrder, is_among}
 use Rattle.mh_sizing.specs.Reached.{IsSearch}
 use Rattle.mh_sizing.specs.Worlds.{HasLogOf}
-use Rattle.mh_sizing.proofs.HeapLemmas.{heap-closed, outlines-world}
+use Rattle.mh_sizing.proofs.HeapLemmas.{outlines-world}
 use Rattle.mh_sizing.proofs.ReachedLemmas.{reached-search, search-reached}
 use Rattle.mh_sizing.proofs.world.RunWorld.reached.Goals as goal
 
 found : (result : Result InOrder NoMemory) (run : RunWorld) → IfOk result (λ set. IsSearch (world_of run.heap) [] set.births (length set.births))
     → IfOk result (λ set. (worlds : List World) (last : World) → HasLogOf run worlds last → (birth : ℕ) → (is_among set.births birth ≡ true) ↔ Reachable last birth)
-found (Ok set) run search = λ worlds last is birth.
-    let closed = closed-world (outline_of run.heap) last is.outlines run.heap.sound in (
-      search-reached (outline_of run.heap) (world_of run.heap) last (outlines-world run.heap) is.outlines (heap-closed run.heap) closed set.births _ search birth,
-      reached-search (outline_of run.heap) (world_of run.heap) last (outlines-world run.heap) is.outlines (heap-closed run.heap) closed set.births search birth,
-    )
+found (Ok set) run search = λ worlds last is birth. (
+  search-reached (outline_of run.heap) (world_of run.heap) last (outlines-world run.heap) is.outlines set.births _ search birth,
+  reached-search (outline_of run.heap) (world_of run.heap) last (outlines-world run.heap) is.outlines set.births search birth,
+)
 found (Err refused) run search = tt
 
 room : (result : Result InOrder NoMemory) (run : RunWorld) → IfOk result (λ set. set.room ≡ births (world_of run.heap)) → IfOk result (λ set. (worlds : List World) (last : World) → HasLogOf run worlds last → set.room ≡ births last)
