@@ -37,10 +37,10 @@ fn events() -> [Event; 10] {
     ]
 }
 
-/// Four parts are live at a quantum, with 78 units to mark: the fifth comes after the last one. The first interval ends with the second object, so it makes four parts, on a page for two
-/// of 6 words and one each for the others. The second makes nothing, and the third one block: the object of a session that has
-/// ended is refused, and counts nothing. Blocks of 6, 7, 15 and 64 words are made; a page has four of the last. One of 6 words has
-/// the most slots, 42, and the most moves, 10 of 6 words.
+/// Four parts are live at a quantum, with 78 units to mark: the fifth comes after the last one. The first interval ends with the
+/// second object, so it makes four parts, on a page for two of 6 words and one each for the others. The second makes nothing, and
+/// the third one block: the object of a session that has ended is refused, and counts nothing. Blocks of 6, 7, 15 and 64 words are
+/// made; a page has four of the last. One of 6 words has the most slots, 42, and the most moves, 10 of 6 words.
 #[test]
 fn sessions_need_what_they_reach_and_make(rt: HostRuntime) -> Result<(), Fail> {
     let config = Config::new(100, 1000, 10, 4).ok_or("a configuration")?;
