@@ -7,9 +7,9 @@ _metroheap_judge() {
     done
     case ${COMP_WORDS[COMP_CWORD - 1]} in
         # A file or a folder follows.
-        --reference | --conformance | --script | --keep | --history) return ;;
+        --reference | --conformance | --script | --keep | --junit | --history) return ;;
         --protocol)
-            mapfile -t COMPREPLY < <(compgen -W 'run live' -- "$word")
+            mapfile -t COMPREPLY < <(compgen -W 'run live many' -- "$word")
             return
             ;;
         --profile)
@@ -17,6 +17,6 @@ _metroheap_judge() {
             return
             ;;
     esac
-    mapfile -t COMPREPLY < <(compgen -W '--exact --protocol --reference --seconds --jobs --progress --conformance --seeds --events --profile --script --keep --shrink-runs --shrink-seconds --history --sessions --help --' -- "$word")
+    mapfile -t COMPREPLY < <(compgen -W '--exact --reference --protocol --mode --seconds --event-seconds --jobs --conformance --seeds --events --profile --script --findings --keep --shrink-runs --shrink-seconds --repeat --tap --junit --progress --history --sessions --help --' -- "$word")
 }
 complete -o default -F _metroheap_judge metroheap-judge

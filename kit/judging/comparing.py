@@ -7,8 +7,9 @@ import signal
 import subprocess
 import sys
 from collections.abc import Sequence
-from dataclasses import dataclass, field
+from dataclasses import dataclass, field, replace
 
+from judging.modes import Mode
 from judging.programs import WELL, Answer, End, Ending, Limits, Patience, Protocol, ask
 from judging.scripts import CONTROL, HEAP_FULL, BadScript, Case, Event, Script, read_script
 
@@ -54,11 +55,21 @@ class Finding:
 
 
 @dataclass(frozen=True)
+class Asked:
+    """A script as it is sent, and the right reply to each of its events."""
+    script: Script
+    right: tuple[str, ...]
+
+
+@dataclass(frozen=True)
 class Judgement:
-    """A script as it was sent, the right reply to each of its events, and what was found."""
+    """A script as it was sent, the right reply to each of its events, what was found, and what was answered."""
     script: Script
     right: tuple[str, ...]
     finding: Finding | None
+    yours: tuple[str, ...] = ()
+    # How many scripts its process had before it, if the finding came only behind them.
+    behind: int = 0
 
 
 class Reference:
@@ -114,22 +125,32 @@ class Judge:
     program: tuple[str, ...]
     protocol: Protocol
     is_exact: bool
+    # How long the author's program may take for a script, and how much more for each of its events.
     seconds: float
+    event_seconds: float = 0.0
     patience: Patience = field(default_factory=Patience)
 
-    def examine(self, case: Case, seconds: float | None = None) -> Judgement:
-        """Judges a script by a run of each program, the author's of so many seconds at most."""
-        script, right = self.prepared(case)
-        size = 2 * sum(len(reply) + 1 for reply in right) + SPARE_BYTES
-        limits = Limits(self.seconds if seconds is None else seconds, len(right), size)
-        answer = ask(self.program, self.protocol, script.text, limits, self.patience)
-        found = self.difference(script, right, answer)
-        if len(answer.lines) > len(right):
-            # Some event has several lines, and which line is whose is not known.
-            return Judgement(script, right, more_lines(answer, found.index if found else len(right)))
-        return Judgement(script, right, found or stop(right, answer, limits))
+    def in_mode(self, mode: Mode) -> Judge:
+        return replace(self, program=mode.program)
 
-    def prepared(self, case: Case) -> tuple[Script, tuple[str, ...]]:
+    def compare(self, asked: Asked, share: float = 1.0) -> Judgement:
+        """Judges a script by a run of the author's program, which gets so much of its time."""
+        answer, limits = self.ask([asked], share)
+        return Judgement(asked.script, asked.right, self.finding(asked, answer, limits), answer.lines)
+
+    def time_for(self, events: int) -> float:
+        """How long a script of so many events may take."""
+        return self.seconds + self.event_seconds * events
+
+    def ask(self, scripts: Sequence[Asked], share: float = 1.0) -> tuple[Answer, Limits]:
+        """What the author's program answers to scripts that one process gets, and within which limits."""
+        counts = [len(asked.right) for asked in scripts]
+        size = 2 * sum(len(reply) + 1 for asked in scripts for reply in asked.right) + SPARE_BYTES
+        limits = Limits(share * sum(map(self.time_for, counts)), sum(counts), size)
+        text = "".join(asked.script.text for asked in scripts)
+        return ask(self.program, self.protocol, text, limits, self.patience), limits
+
+    def prepared(self, case: Case) -> Asked:
         """The script as it is sent, with its right replies.
 
         If sessions alone are compared, each event has to have one line whatever the collector, so the other controls
@@ -141,8 +162,16 @@ class Judge:
             require_stated(asked, right)
         if not self.is_exact and HEAP_FULL in right:
             count = right.index(HEAP_FULL)
-            return asked.script.prefix(count), right[:count]
-        return asked.script, right
+            return Asked(asked.script.prefix(count), right[:count])
+        return Asked(asked.script, right)
+
+    def finding(self, asked: Asked, answer: Answer, limits: Limits) -> Finding | None:
+        """What is wrong with the answer to a script."""
+        found = self.difference(asked.script, asked.right, answer)
+        if len(answer.lines) > len(asked.right):
+            # Some event has several lines, and which line is whose is not known.
+            return more_lines(answer, found.index if found else len(asked.right))
+        return found or stop(asked.right, answer, limits)
 
     def difference(self, script: Script, right: Sequence[str], answer: Answer) -> Finding | None:
         """The first reply that is not the right one."""

@@ -11,6 +11,7 @@ from judging.programs import Protocol
 Add = Callable[..., argparse.Action]
 # What stands for no scripts of a kind.
 NONE = "none"
+# They take turns.
 PROFILES = ("churn", "lists", "trees", "wide", "large", "frag", "refusals", "mixed")
 
 
@@ -34,9 +35,15 @@ def count(word: str) -> int:
     return int(word)
 
 
-def seconds(word: str) -> float:
-    if not re.fullmatch(r"[0-9]{1,6}(\.[0-9]+)?", word) or float(word) == 0:
+def some_seconds(word: str) -> float:
+    if not re.fullmatch(r"[0-9]{1,6}(\.[0-9]+)?", word):
         raise argparse.ArgumentTypeError(f"{word!r} is no time in seconds")
+    return float(word)
+
+
+def seconds(word: str) -> float:
+    if some_seconds(word) == 0:
+        raise argparse.ArgumentTypeError(f"{word!r} is no time above 0")
     return float(word)
 
 
@@ -44,38 +51,58 @@ def parser(description: str) -> argparse.ArgumentParser:
     made = argparse.ArgumentParser(prog="judge", description=description, usage=argparse.SUPPRESS, allow_abbrev=False,
                                    formatter_class=argparse.RawDescriptionHelpFormatter)
     add_judging(made.add_argument_group("how replies are compared").add_argument)
+    add_running(made.add_argument_group("how PROGRAM is run").add_argument)
     add_scripts(made.add_argument_group("which scripts").add_argument)
     add_findings(made.add_argument_group("findings").add_argument)
+    add_listings(made.add_argument_group("what is written").add_argument)
     add_histories(made.add_argument_group("histories").add_argument)
     return made
 
 
 def add_judging(add: Add) -> None:
     add("--exact", action="store_true", help="compare all replies: PROGRAM has the very rules of metroheap")
-    add("--protocol", choices=[protocol.value for protocol in Protocol], default=Protocol.RUN.value,
-        help="run: PROGRAM gets the whole script (the default); live: it gets a line when the one before is answered")
     add("--reference", metavar="CMD", help="metroheap with any words before the subcommand; if it isn't given, the one "
         "that is built or installed beside the judge, else the one in PATH")
+
+
+def add_running(add: Add) -> None:
+    add("--protocol", choices=[protocol.value for protocol in Protocol], default=Protocol.RUN.value,
+        help="run: PROGRAM gets the whole script (the default); live: it gets a line when the one before is answered; "
+        "many: a process gets several scripts one after the other, and begins anew at each `config`")
+    add("--mode", metavar="WORDS", action="append", default=[], help="judge PROGRAM with these words in the place of a "
+        "word {}, or behind its own; may be repeated: scripts with answers are asked in each mode, the others in turn")
     add("--seconds", metavar="S", type=seconds, default=10.0, help="how long PROGRAM may take for a script (10)")
-    add("--jobs", metavar="N", type=count, default=1, help="how many scripts are judged at once (1)")
-    add("--progress", action="store_true", help="say on standard error what is done, also if it is no terminal")
+    add("--event-seconds", metavar="S", type=some_seconds, default=0.0, help="how much longer for each event of it (0)")
+    add("--jobs", metavar="N", type=count, default=1, help="how many processes of PROGRAM are asked at once (1)")
 
 
 def add_scripts(add: Add) -> None:
     add("--conformance", metavar="DIR", action="append", default=[], help="a folder of scripts with answers, or "
         f"{NONE}; may be repeated; if it isn't given, the folder beside the judge")
     add("--seeds", metavar="A..B", type=seeds, help=f"seeds of generated scripts, or {NONE} (1..20)")
-    add("--events", metavar="M", type=count, default=2000, help="how many events a generated script has (2000)")
-    add("--profile", choices=PROFILES, help="what generated scripts are like; if it isn't given, all take turns")
+    add("--events", metavar="M", type=count, default=10000, help="how many events a generated script has (10000)")
+    add("--profile", choices=PROFILES, help="what generated scripts are like; if it isn't given, profiles take turns")
     add("--script", metavar="FILE", action="append", default=[], help="judge this script, and no others but those that "
         "are asked for; may be repeated")
 
 
 def add_findings(add: Add) -> None:
-    add("--keep", metavar="FILE", default="judge-finding.script", help="where a finding is kept, at once and "
-        "again when it is shrunk (judge-finding.script)")
+    add("--findings", metavar="N", type=count, help="go on until there are findings of so many groups (1): of "
+        "different rules, or of different kinds at different commands")
+    add("--keep", metavar="FILE", default="judge-finding.script", help="where a finding is kept, at once and again "
+        "when it is shrunk (judge-finding.script); that of the second group has -2 before the ending, and so on")
     add("--shrink-runs", metavar="R", type=count, default=4000, help="the most runs that shrinking takes (4000)")
     add("--shrink-seconds", metavar="T", type=seconds, default=120.0, help="the longest that shrinking takes (120)")
+    add("--repeat", metavar="N", type=count, default=1, help="while shrinking, ask each script up to so many times "
+        "until the finding comes (1); above 1, one that comes and goes is shrunk too")
+
+
+def add_listings(add: Add) -> None:
+    add("--tap", action="store_true", help="write a line for each script, by version 13 of TAP, and judge all scripts "
+        "if --findings isn't given")
+    add("--junit", metavar="FILE", help="write a test case for each script to this file, as JUnit's XML, and judge all "
+        "scripts if --findings isn't given")
+    add("--progress", action="store_true", help="say on standard error what is done, also if it is no terminal")
 
 
 def add_histories(add: Add) -> None:

@@ -50,9 +50,10 @@ class Patience:
 
 
 class Protocol(enum.Enum):
-    """How a program is asked: the whole script, or a line at a time."""
+    """How a program is asked: a whole script, a line at a time, or many scripts one after the other."""
     RUN = "run"
     LIVE = "live"
+    MANY = "many"
 
 
 class Ending(enum.Enum):
@@ -248,7 +249,7 @@ def converse(child: Child, lines: Sequence[bytes]) -> None:
 
 
 def ask(words: Sequence[str], protocol: Protocol, text: str, limits: Limits, patience: Patience) -> Answer:
-    """What the program answers to a script, of which the lines are the configuration and the events."""
+    """What the program answers to a script, of which the lines are the configuration and the events, or to several."""
     data = text.encode()
     with Child(words, limits, patience) as child:
         if protocol is Protocol.LIVE:

@@ -2,12 +2,13 @@
 from __future__ import annotations
 
 import enum
-from collections.abc import Iterable, Iterator
+from collections.abc import Iterable, Iterator, Sequence
 from dataclasses import dataclass
 from itertools import zip_longest
 
 from judging.comparing import Judge, Judgement, Kind
-from judging.manual import Manual, rules_of
+from judging.manual import Manual, Rule, rules_of
+from judging.outcomes import Outcome
 from judging.programs import Protocol
 from judging.scripts import RULE, Mark
 from judging.shrinking import Course, Shrunk
@@ -33,6 +34,8 @@ class Note(enum.Enum):
 NOTES = {Course.SPENT: Note.UNFINISHED, Course.STOPPED: Note.STOPPED, Course.UNDER_WAY: Note.UNDER_WAY}
 UNSTEADY = ("found in {} of {} runs of this script: the program doesn't answer the same each time. If that is because "
             "its addresses are others, `setarch -R` before the program keeps them the same")
+BEHIND = ("found only behind {}, in one process, and not alone: something is kept from one script to the next, or "
+          "`config` doesn't begin anew. So it isn't shrunk")
 
 
 def shown(text: str) -> str:
@@ -49,12 +52,12 @@ def place_of(judged: Judgement, protocol: Protocol) -> int:
     """The event at which to look. A program that gets the whole script may keep replies back as it stops. Then it is
     the last event, without which nothing is found."""
     index, last = judged.finding.index, len(judged.script.events) - 1
-    if protocol is Protocol.RUN and judged.finding.kind in (Kind.HANG, Kind.DEATH):
+    if protocol is not Protocol.LIVE and judged.finding.kind in (Kind.HANG, Kind.DEATH):
         return max(index, last)
     return index
 
 
-def notes_of(shrunk: Shrunk, protocol: Protocol) -> Iterator[str]:
+def notes_of(shrunk: Shrunk, protocol: Protocol, behind: Sequence[str]) -> Iterator[str]:
     finding, steadiness = shrunk.judgement.finding, shrunk.steadiness
     if finding.kind is Kind.FULL:
         yield Note.FULL.value
@@ -62,9 +65,12 @@ def notes_of(shrunk: Shrunk, protocol: Protocol) -> Iterator[str]:
         yield Note.FLUSH.value
     if finding.is_short:
         yield Note.SHORT.value
+    if behind:
+        several = f"{len(behind)} scripts, {behind[0]} to {behind[-1]}"
+        yield BEHIND.format(several if len(behind) > 1 else behind[0])
     if not steadiness.is_whole:
         yield UNSTEADY.format(steadiness.found, steadiness.asked)
-    elif shrunk.course in NOTES:
+    if shrunk.course in NOTES:
         yield NOTES[shrunk.course].value
 
 
@@ -79,10 +85,8 @@ def other_word(right: str, yours: str) -> str | None:
 class Report:
     """A finding with what it takes to tell of it."""
     judge: Judge
+    outcome: Outcome
     shrunk: Shrunk
-    origin: str
-    # The rule that the script says it shows in which this was found, if it says one.
-    rule: str
     manual: Manual
     # The reference's dump just before the event, if it is to be told.
     before: str | None = None
@@ -102,23 +106,29 @@ class Report:
             return f"{finding.kind.value} after the last of {len(events)} events"
         return f"{finding.kind.value} at event {self.index + 1} of {len(events)}, `{events[self.index].text}`"
 
-    def quotes(self) -> Iterator[str]:
-        """What the manual says of the event and of the two replies."""
+    def rules(self) -> list[Rule]:
+        """The rules of the manual on the event and on the two replies."""
         events, finding = self.judged.script.events, self.judged.finding
         event, right = None, ""
         if self.index < len(events):
             event, right = events[self.index], self.judged.right[self.index]
-        for rule in rules_of(finding, event, right, self.judge):
-            yield f"{rule.heading}: {self.manual.quote(rule) or 'see docs/MANUAL.md'}"
+        return rules_of(finding, event, right, self.judge)
+
+    def origin(self) -> str:
+        events = len(self.outcome.judged.script.events)
+        return f"{self.outcome.source.name}, {events} events, by {self.shrunk.runs} runs"
 
     def head(self) -> Iterator[str]:
         finding, right = self.judged.finding, self.judged.right
-        if self.rule:
-            yield f"{RULE}: {self.rule}"
-        yield from (f"manual: {quote}" for quote in self.quotes())
+        if self.outcome.rule:
+            yield f"{RULE}: {self.outcome.rule}"
+        for rule in self.rules():
+            yield f"manual: {rule.heading}: {self.manual.quote(rule) or 'see docs/MANUAL.md'}"
         yield f"catches: {self.summary()}"
         yield f"mark: {(Mark.EXACT if self.judge.is_exact else Mark.ANY).value}"
-        yield f"from: {self.origin}, by {self.shrunk.runs} runs"
+        if self.outcome.source.mode.name:
+            yield f"mode: {self.outcome.source.mode.name}"
+        yield f"from: {self.origin()}"
         if self.index < len(right):
             is_compared = self.judge.is_exact or self.judged.script.events[self.index].is_command
             yield f"right: {shortened(right[self.index]) if is_compared else 'any line'}"
@@ -127,7 +137,7 @@ class Report:
             yield f"other: {other}"
         if self.before is not None:
             yield f"before: {shortened(self.before)}"
-        yield from (f"note: {note}" for note in notes_of(self.shrunk, self.judge.protocol))
+        yield from (f"note: {note}" for note in notes_of(self.shrunk, self.judge.protocol, self.outcome.behind))
         yield from (f"standard error: {line}" for line in finding.errors.splitlines())
 
     def comments(self) -> list[str]:

@@ -16,9 +16,12 @@ HEAP_FULL = "refused 5 heap full"
 CONTROLS = ("start", "quantum", "stat", "dump", "left", "report")
 # The controls that a collector is asked without --exact. It may answer any line.
 PLAIN_CONTROLS = ("start", "quantum")
+# A long script has few events that differ, so that of each of so many there is one.
+EVENTS_KEPT = 1 << 16
 # The words with a colon that begin the comments above a configuration, in files of `conformance` and in findings.
 RULE = "rule"
-HEADS = (RULE, "manual", "catches", "mark", "from", "right", "yours", "other", "before", "note", "standard error")
+HEADS = (RULE, "manual", "catches", "mark", "mode", "from", "right", "yours", "other", "before", "note",
+         "standard error")
 
 
 class BadScript(Exception):
@@ -150,6 +153,7 @@ def read_number(word: str) -> int:
     return int(word)
 
 
+@functools.lru_cache(EVENTS_KEPT)
 def read_event(line: str) -> Event:
     words = line.split(" ")
     if len(words) < 2 or words[1] not in ROLES or (words[0] == CONTROL) != (words[1] in CONTROLS):

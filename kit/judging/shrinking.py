@@ -14,7 +14,7 @@ from judging.programs import CalledOff, Patience
 from judging.scripts import Case, Event, Role, Script
 
 # A hang is waited for at each run that has it, so these runs get a part of the time.
-SHARE_OF_A_HANG = 4
+SHARE_OF_A_HANG, WHOLE = 0.25, 1.0
 LEAST_QUANTUM = 209
 FIRST_PAGES = (64, 512)
 # Longer scripts have too many pairs of events, and too many numbers that are halved.
@@ -44,9 +44,11 @@ class Spent(Exception):
 
 @dataclass(frozen=True)
 class Effort:
-    """How many runs of the author's program shrinking takes at most, and how long."""
+    """How many runs of the author's program shrinking takes at most, how long, and how often a script is asked that
+    hasn't the finding."""
     runs: int
     seconds: float
+    repeat: int = 1
 
 
 @dataclass(frozen=True)
@@ -67,42 +69,52 @@ class Course(enum.Enum):
     SPENT = "it came to its limit"
     STOPPED = "it was stopped"
     LEFT_OUT = "the finding didn't come again"
+    UNTRIED = "it wasn't begun"
+
+
+# Nothing is spared for a last run.
+NOTHING_SPARED = Effort(0, 0)
 
 
 class Trials:
     """Runs of the author's program for one finding: none is begun, and none goes on, beyond the effort."""
 
-    def __init__(self, judge: Judge, goal: Finding, effort: Effort) -> None:
-        self.judge, self.goal, self.most = judge, goal, effort.runs
+    def __init__(self, judge: Judge, found: Judgement, effort: Effort) -> None:
+        self.judge, self.goal, self.effort = judge, found.finding, effort
         self.runs = 0
         self.deadline = time.monotonic() + effort.seconds
         # A last run of the script that is left, which a hang makes long.
-        hang = judge.seconds if goal.kind is Kind.HANG else 0
+        hang = judge.time_for(len(found.right)) if self.goal.kind is Kind.HANG else 0
         self.spare = Effort(1, min(hang + SPARE_SECONDS, effort.seconds / 2))
 
     def require(self, spare: Effort) -> float:
         """The time at which a run has to end, if what is spared is to be left."""
         until = self.deadline - spare.seconds
-        if self.runs + spare.runs >= self.most or time.monotonic() >= until:
+        if self.runs + spare.runs >= self.effort.runs or time.monotonic() >= until:
             raise Spent
         return until
 
-    def examine(self, script: Script, seconds: float, spare: Effort = Effort(0, 0)) -> Judgement | None:
-        """The judgement of a script by one more run, if it has a finding like the first one."""
+    def examine(self, script: Script, share: float, times: int = 1, spare: Effort = NOTHING_SPARED) -> Judgement | None:
+        """The judgement of a script by one more run, or up to so many, once it has a finding like the first one."""
         judge = replace(self.judge, patience=Patience(self.require(spare)))
-        self.runs += 1
         try:
-            judged = judge.examine(Case(script), seconds)
+            asked = judge.prepared(Case(script))
+            for _ in range(times):
+                self.require(spare)
+                self.runs += 1
+                judged = judge.compare(asked, share)
+                if judged.finding is not None and judged.finding.is_like(self.goal):
+                    return judged
         except CalledOff:
             raise Spent from None
-        return judged if judged.finding is not None and judged.finding.is_like(self.goal) else None
+        return None
 
-    def again(self, found: Judgement, most: int = MOST_ASKED) -> tuple[Judgement, Steadiness]:
-        """Asks a script once more. If it has no such finding then, it is asked some more times."""
+    def again(self, found: Judgement, least: int = TWICE, most: int = MOST_ASKED) -> tuple[Judgement, Steadiness]:
+        """Asks a script again, so often in all. If it hasn't the finding each time, it is asked some more times."""
         steadiness = Steadiness()
         try:
-            while steadiness.asked < (TWICE if steadiness.is_whole else most):
-                judged = self.examine(found.script, self.judge.seconds)
+            while steadiness.asked < (least if steadiness.is_whole else most):
+                judged = self.examine(found.script, WHOLE)
                 steadiness = Steadiness(steadiness.found + (judged is not None), steadiness.asked + 1)
                 found = judged or found
         except Spent:
@@ -113,8 +125,8 @@ class Trials:
 class Shrinker:
     """Holds the smallest script so far that has a finding like the first one."""
 
-    def __init__(self, trials: Trials, found: Judgement, seconds: float, notice: Notice) -> None:
-        self.trials, self.found, self.seconds, self.notice = trials, found, seconds, notice
+    def __init__(self, trials: Trials, found: Judgement, share: float, notice: Notice) -> None:
+        self.trials, self.found, self.share, self.notice = trials, found, share, notice
         self.best = found
         # The smallest script of the other order in which events were dropped.
         self.other: Judgement | None = None
@@ -139,7 +151,7 @@ class Shrinker:
         """A script's judgement, if it has a finding like the first one."""
         if script.digest in self.tried:
             return self.tried[script.digest]
-        judged = self.trials.examine(script, self.seconds, self.trials.spare)
+        judged = self.trials.examine(script, self.share, self.trials.effort.repeat, self.trials.spare)
         if judged is None or len(script.events) <= MOST_EVENTS_KEPT:
             self.tried[script.digest] = judged
         return judged
@@ -374,24 +386,29 @@ class Shrunk:
     steadiness: Steadiness = Steadiness()
 
 
-def tried_seconds(judge: Judge, goal: Finding) -> tuple[float, ...]:
-    """How long each run may take. A hang is tried with a part of the time first."""
-    return (judge.seconds / SHARE_OF_A_HANG, judge.seconds) if goal.kind is Kind.HANG else (judge.seconds,)
+def shares(goal: Finding, is_steady: bool, effort: Effort) -> tuple[float, ...]:
+    """Which share of its time each run may take while a finding is shrunk. A hang is tried with a part of the time
+    first. What comes and goes is shrunk only if scripts are asked repeatedly."""
+    if goal.kind is Kind.HANG and is_steady:
+        return (SHARE_OF_A_HANG, WHOLE)
+    return (WHOLE,) if is_steady or effort.repeat > 1 else ()
 
 
 def shrink(judge: Judge, found: Judgement, effort: Effort, notice: Notice) -> Shrunk:
-    """Shrinks what is found a second time. A hang that is none with all its time is shrunk again with all of it. Ends
-    with the smallest script so far once the effort is spent, or the judge is stopped."""
-    trials = Trials(judge, found.finding, effort)
-    shrinker, course = Shrinker(trials, found, judge.seconds, notice), Course.LEFT_OUT
+    """Shrinks what is found. A hang that is none with all its time is shrunk again with all of it. Ends with the
+    smallest script so far once the effort is spent, or the judge is stopped."""
+    trials = Trials(judge, found, effort)
+    shrinker, course = Shrinker(trials, found, WHOLE, notice), Course.LEFT_OUT
     try:
         best, steadiness = trials.again(found)
-        for seconds in tried_seconds(judge, found.finding) if steadiness.is_whole else ():
-            shrinker = Shrinker(trials, found, seconds, notice)
+        is_steady = steadiness.is_whole
+        for share in shares(found.finding, is_steady, effort):
+            shrinker = Shrinker(trials, found, share, notice)
             course = shrinker.shrink()
             if shrinker.smallest is found:
                 break
-            best, steadiness = trials.again(shrinker.smallest, MOST_ASKED if seconds == judge.seconds else TWICE)
+            most = MOST_ASKED if share == WHOLE else TWICE
+            best, steadiness = trials.again(shrinker.smallest, TWICE if is_steady else most, most)
             if steadiness.is_whole:
                 break
     except KeyboardInterrupt:

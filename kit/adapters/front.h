@@ -1,0 +1,47 @@
+/* What an adapter in C has to have. front.c has the rest: it reads scripts, refuses what is to be refused, and answers.
+**
+** A root is a slot: 16 of each of the eight sessions, and then the 16 of the board. The functions below get roots, and
+** fields that are there, of roots that name an object. So they refuse nothing.
+*/
+#ifndef FRONT_H
+#define FRONT_H
+
+#include <stdbool.h>
+#include <stdint.h>
+
+enum { SESSIONS = 8, SLOTS = 16, ROOTS = (SESSIONS + 1) * SLOTS };
+
+/* What is read off the collector between commands. It isn't stepwise if no command falls within its cycles. */
+struct progress {
+    uint64_t cycles;
+    bool is_stepwise;
+    bool is_under_way;
+};
+
+/* Of front.c: whether a word is among those of the command line, and what the first number among them is. */
+bool is_asked(const char *word);
+unsigned long number_asked(unsigned long otherwise);
+
+/* Of the adapter. */
+void heap_open(void);
+void heap_close(void);
+/* Says no if there is no memory. */
+bool heap_make(int root, uint64_t references, uint64_t numbers);
+/* Says no if the root names nothing. */
+bool heap_shape(int root, uint64_t *references, uint64_t *numbers);
+void heap_get(int to, int from, uint64_t reference);
+void heap_put(int to, uint64_t reference, int from);
+uint64_t heap_read(int root, uint64_t number);
+void heap_write(int root, uint64_t number, uint64_t value);
+void heap_copy(int to, int from);
+void heap_clear(int root);
+bool heap_same(int one, int other);
+/* Begins a cycle, if none is under way. */
+void heap_start(void);
+/* Brings the cycle that is under way to its end. If there is none, a whole one runs. */
+void heap_quantum(void);
+/* What the mode asks for after each command. */
+void heap_step(void);
+struct progress heap_progress(void);
+
+#endif

@@ -1,0 +1,1 @@
+"""Tests of the judge, and what they share."""
