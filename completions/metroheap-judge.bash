@@ -13,10 +13,10 @@ _metroheap_judge() {
             return
             ;;
         --profile)
-            mapfile -t COMPREPLY < <(compgen -W 'churn lists trees wide large frag refusals mixed' -- "$word")
+            mapfile -t COMPREPLY < <(compgen -W 'churn lists trees wide large frag refusals mixed barriers comb cycles race' -- "$word")
             return
             ;;
     esac
-    mapfile -t COMPREPLY < <(compgen -W '--exact --reference --protocol --mode --seconds --event-seconds --jobs --conformance --seeds --events --profile --script --findings --keep --shrink-runs --shrink-seconds --repeat --tap --junit --progress --history --sessions --help --' -- "$word")
+    mapfile -t COMPREPLY < <(compgen -W '--exact --reference --protocol --mode --seconds --event-seconds --jobs --conformance --seeds --events --profile --script --findings --keep --shrink-runs --shrink-seconds --repeat --tap --junit --progress --threads --most-states --history --sessions --help --' -- "$word")
 }
 complete -o default -F _metroheap_judge metroheap-judge

@@ -3,13 +3,13 @@ _metroheap() {
     local word=${COMP_WORDS[COMP_CWORD]} options=
     case ${COMP_WORDS[COMP_CWORD - 1]} in
         # A number follows.
-        --workers | --pages | --quantum | --trigger | --every | --seed | --events | --from | --to | --allocates | --rate | --classes | --parts | --live | --references | --target | --window | --startup) return ;;
+        --workers | --pages | --quantum | --trigger | --every | --seed | --events | --from | --to | --allocates | --rate | --classes | --parts | --live | --references | --target | --window | --startup | --controls) return ;;
         --rules)
             mapfile -t COMPREPLY < <(compgen -W '1 2' -- "$word")
             return
             ;;
         --profile)
-            mapfile -t COMPREPLY < <(compgen -W 'churn lists trees wide large frag refusals mixed' -- "$word")
+            mapfile -t COMPREPLY < <(compgen -W 'churn lists trees wide large frag refusals barriers comb race cycles mixed' -- "$word")
             return
             ;;
     esac
@@ -18,7 +18,7 @@ _metroheap() {
         steps) options='--from --to --json --rules --help' ;;
         show) options='--rules --help' ;;
         live | race) options='--workers --help' ;;
-        check) options='--pages --quantum --trigger --every --rules --sessions --help' ;;
+        check) options='--pages --quantum --trigger --every --rules --sessions --log --help' ;;
         migrate) options='--pages --quantum --trigger --every --help' ;;
         audit) options='--help' ;;
         curve) options='--history --svg --rules --help' ;;
@@ -26,7 +26,7 @@ _metroheap() {
         generate)
             # Here a number follows, as it doesn't after the `--sessions` of `check`.
             [[ ${COMP_WORDS[COMP_CWORD - 1]} == --sessions ]] && return
-            options='--seed --events --sessions --pages --quantum --every --profile --help'
+            options='--seed --events --sessions --pages --quantum --trigger --every --profile --controls --rules --help'
             ;;
         *) options='run steps show live race check audit migrate generate curve size --help --version' ;;
     esac

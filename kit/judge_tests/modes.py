@@ -8,7 +8,7 @@ from judge_tests.bench import JudgeCase
 from judging.comparing import Judgement, Kind, Reference
 from judging.cycles import Said, said_in
 from judging.modes import modes_of
-from judging.options import PROFILES, Usage
+from judging.options import TURNS, Usage
 from judging.scripts import read_case
 from judging.sources import Seeded
 
@@ -50,10 +50,10 @@ class Modes(JudgeCase):
             self.assertRaises(Usage, modes_of, ["{}"], [name])
 
     def test_each_profile_comes_to_each_mode(self) -> None:
-        for count in (2, 3, len(PROFILES)):
+        for count in (2, 3, len(TURNS)):
             modes = modes_of(["p"], [str(number) for number in range(count)])
             seeded = Seeded(range(0), [], None, Reference(["none"]))
-            made = [seeded.source(seed, modes) for seed in range(1, 1 + count * len(PROFILES))]
+            made = [seeded.source(seed, modes) for seed in range(1, 1 + count * len(TURNS))]
             self.assertEqual(len({(it.name.split()[-1], it.mode) for it in made}), len(made))
 
 

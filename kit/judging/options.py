@@ -11,8 +11,9 @@ from judging.programs import Protocol
 Add = Callable[..., argparse.Action]
 # What stands for no scripts of a kind.
 NONE = "none"
-# They take turns.
-PROFILES = ("churn", "lists", "trees", "wide", "large", "frag", "refusals", "mixed")
+# The profiles that take turns.
+TURNS = ("churn", "lists", "trees", "wide", "large", "frag", "refusals", "mixed", "barriers", "comb", "cycles")
+PROFILES = (*TURNS, "race")
 
 
 class Usage(Exception):
@@ -55,6 +56,7 @@ def parser(description: str) -> argparse.ArgumentParser:
     add_scripts(made.add_argument_group("which scripts").add_argument)
     add_findings(made.add_argument_group("findings").add_argument)
     add_listings(made.add_argument_group("what is written").add_argument)
+    add_threads(made.add_argument_group("threads").add_argument)
     add_histories(made.add_argument_group("histories").add_argument)
     return made
 
@@ -103,6 +105,12 @@ def add_listings(add: Add) -> None:
     add("--junit", metavar="FILE", help="write a test case for each script to this file, as JUnit's XML, and judge all "
         "scripts if --findings isn't given")
     add("--progress", action="store_true", help="say on standard error what is done, also if it is no terminal")
+
+
+def add_threads(add: Add) -> None:
+    add("--threads", action="store_true", help="PROGRAM does each session of a script in a thread of its own, and "
+        "answers with a log: look for an order of it in which each reply is right")
+    add("--most-states", metavar="N", type=count, default=200000, help="after so many states a log is undecided (200000)")
 
 
 def add_histories(add: Add) -> None:

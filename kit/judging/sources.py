@@ -9,7 +9,7 @@ from dataclasses import dataclass
 
 from judging.comparing import Asked, Judge, Reference, ReferenceFailure
 from judging.modes import Mode
-from judging.options import NONE, PROFILES, Usage
+from judging.options import NONE, TURNS, Usage
 from judging.scripts import Case, Mark, read_case, read_file, read_plain
 
 DEFAULT_SEEDS = range(1, 21)
@@ -52,8 +52,8 @@ class Seeded:
 
     def source(self, seed: int, modes: Sequence[Mode]) -> Source:
         """The script of a seed. Modes take turns, and so that each comes to each profile."""
-        turn, place = divmod(seed - 1, len(PROFILES))
-        profile = self.profile or PROFILES[place]
+        turn, place = divmod(seed - 1, len(TURNS))
+        profile = self.profile or TURNS[place]
         words = ["--seed", str(seed), "--profile", profile, *self.words]
 
         def prepare(judge: Judge) -> Prepared:

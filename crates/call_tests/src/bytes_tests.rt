@@ -1,4 +1,4 @@
-use crate::random_scripts::{PROFILES, script};
+use crate::random_scripts::{ACTS, MIXES, script};
 use mh_orders::profile::Profile;
 use std::alloc::Global;
 use std::test::Fail;
@@ -12,8 +12,8 @@ fn are_same(alloc: Global, one: (Profile, u64), other: (Profile, u64)) -> Result
 
 #[test]
 fn the_same_options_give_the_same_bytes(rt: HostRuntime) -> Result<(), Fail> {
-    for profile in PROFILES {
-        let one = (profile, 7);
+    for profile in MIXES.iter().chain(&ACTS) {
+        let one = (*profile, 7);
         assert!(rt; are_same(rt.alloc(), one, one)?, "{profile:?}");
     }
     Ok(())
@@ -21,11 +21,11 @@ fn the_same_options_give_the_same_bytes(rt: HostRuntime) -> Result<(), Fail> {
 
 #[test]
 fn other_seeds_and_profiles_give_other_bytes(rt: HostRuntime) -> Result<(), Fail> {
-    let mut before = (PROFILES[0], 8);
-    for profile in PROFILES {
-        let one = (profile, 7);
+    let mut before = (MIXES[0], 8);
+    for profile in MIXES.iter().chain(&ACTS) {
+        let one = (*profile, 7);
         let is_same = [
-            are_same(rt.alloc(), one, (profile, 8))?,
+            are_same(rt.alloc(), one, (*profile, 8))?,
             are_same(rt.alloc(), one, before)?,
         ];
         assert_eq!(rt; is_same, [false, false], "{profile:?}");

@@ -32,6 +32,8 @@ mod judge_tests;
 #[cfg(test)]
 mod lock_tests;
 #[cfg(test)]
+mod log_tests;
+#[cfg(test)]
 mod marks;
 #[cfg(test)]
 mod mix_tests;

@@ -1,7 +1,8 @@
 //! What scripts make the collector do, and how it answers them.
 
-use crate::random_scripts::{EVENTS, PROFILES, script};
-use mh_model::command::Event;
+use crate::random_scripts::{ACTS, EVENTS, MIXES, script};
+use mh_model::command::{Command, Event};
+use mh_model::cycle::Phase;
 use mh_model::reply::{Refusal, Reply};
 use mh_orders::profile::Profile;
 use mh_scan::scan::OneScan;
@@ -9,6 +10,9 @@ use mh_state::machine::{Machine, Stop};
 use mh_text::script::parse;
 use std::alloc::Global;
 use std::test::Fail;
+
+/// The slot that names nothing in scripts that come from acts.
+const EMPTY: u32 = 15;
 
 /// What was seen while a script was run.
 #[derive(Clone, Copy, Debug)]
@@ -20,6 +24,10 @@ struct Seen {
     /// How many events came while there were copies of blocks.
     moved: u32,
     cycles: u64,
+    /// The most blocks that there were while a cycle marked.
+    marked: u64,
+    /// How many references were set to null by a slot that names nothing.
+    cut: u32,
 }
 
 fn refusal_number(refusal: Refusal) -> usize {
@@ -46,10 +54,18 @@ impl Seen {
         if stat.old > 0 {
             self.moved = self.moved.saturating_add(1);
         }
+        if machine.heap().phase() == Phase::Mark {
+            self.marked = self.marked.max(stat.live);
+        }
         self.cycles = stat.cycle;
     }
 
-    fn hear(&mut self, reply: &Reply) {
+    fn hear(&mut self, event: &Event, reply: &Reply) {
+        if let Event::Session(_, Command::Put { value, .. }) = event {
+            if *value == EMPTY {
+                self.cut = self.cut.saturating_add(1);
+            }
+        }
         if let Reply::Refused(refusal) = reply {
             if let Some(heard) = self.refusals.get_mut(refusal_number(*refusal)) {
                 *heard = true;
@@ -66,10 +82,13 @@ fn seen_by(alloc: Global, machine: &mut Machine, events: &[Event]) -> Result<See
         refusals: [false; 7],
         moved: 0,
         cycles: 0,
+        marked: 0,
+        cut: 0,
     };
     for event in events {
         seen.look(machine);
-        seen.hear(&machine.step(*event, &mut scanner)?);
+        let reply = machine.step(*event, &mut scanner)?;
+        seen.hear(event, &reply);
     }
     Ok(seen)
 }
@@ -86,7 +105,7 @@ fn run(alloc: Global, profile: Profile) -> Result<(Seen, usize), Fail> {
 fn each_profile_has_many_cycles_with_moves_and_events_in_all_phases(
     rt: HostRuntime,
 ) -> Result<(), Fail> {
-    for profile in PROFILES {
+    for profile in MIXES {
         let (seen, events) = run(rt.alloc(), profile)?;
         let has_all = events == EVENTS as usize && seen.phases == [true; 5];
         let has_much = seen.cycles >= 20 && seen.moved >= 1_000;
@@ -104,5 +123,27 @@ fn commands_are_refused_for_each_reason(rt: HostRuntime) -> Result<(), Fail> {
         let (seen, _) = run(rt.alloc(), profile)?;
         assert_eq!(rt; seen.refusals, [true; 7]);
     }
+    Ok(())
+}
+
+#[test]
+fn acts_have_many_cycles(rt: HostRuntime) -> Result<(), Fail> {
+    for profile in ACTS {
+        let (seen, events) = run(rt.alloc(), profile)?;
+        let least = if profile == Profile::Cycles { 200 } else { 20 };
+        assert!(rt;
+            events == EVENTS as usize && seen.cycles >= least,
+            "{profile:?} has {events} events and {seen:?}"
+        );
+    }
+    Ok(())
+}
+
+#[test]
+fn references_are_cut_and_many_objects_are_marked_at_once(rt: HostRuntime) -> Result<(), Fail> {
+    let (barriers, _) = run(rt.alloc(), Profile::Barriers)?;
+    let (comb, _) = run(rt.alloc(), Profile::Comb)?;
+    assert!(rt; barriers.cut >= 300, "{barriers:?}");
+    assert!(rt; comb.marked >= 1_000, "{comb:?}");
     Ok(())
 }

@@ -1,10 +1,10 @@
 -- Faults of the options of a configuration that a subcommand wants.
-use Rattle.std.proofs.Common.{List}
+use Rattle.std.proofs.Common.{List, inl}
 use Rattle.clap.specs.Words.{Row, Text}
 use Rattle.mh_command_line.specs.Line.{WantsConfig}
 use Rattle.mh_command_line.specs.Orders.{HasOptionFault, IsNumberFault}
 use Rattle.mh_command_line.specs.declared.options.OptionFault.{OptionFault}
-use Rattle.mh_command_line.specs.declared.options.OptionFault.TheVariants.{NoNumber, NoProfile, NoBlocks, Missing, Lacking, Unwanted, Beside, Outside}
+use Rattle.mh_command_line.specs.declared.options.OptionFault.TheVariants.{NoNumber, NoProfile, NoBlocks, Missing, Lacking, Unwanted, SessionsOfLog, Beside, Outside}
 
 pub number_fault : (name : Text) (rows : List Row) (fault : OptionFault) → WantsConfig name rows → IsNumberFault rows fault → HasOptionFault name rows fault
 number_fault name rows (NoNumber option text) wants is = (wants, is)
@@ -12,6 +12,7 @@ number_fault name rows (NoProfile text) wants is = absurd is
 number_fault name rows (NoBlocks option text) wants is = absurd is
 number_fault name rows (Missing option) wants is = (wants, is)
 number_fault name rows (Lacking option) wants is = absurd is
-number_fault name rows (Unwanted option) wants is = absurd is
+number_fault name rows (Unwanted option flag) wants is = absurd is
+number_fault name rows SessionsOfLog wants is = absurd is
 number_fault name rows (Beside option other) wants is = absurd is
-number_fault name rows (Outside option) wants is = (wants, is)
+number_fault name rows (Outside option) wants is = inl (wants, is)

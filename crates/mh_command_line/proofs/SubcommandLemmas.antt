@@ -26,10 +26,10 @@ use Rattle.mh_orders.specs.declared.order.Order.{Order}
 use Rattle.mh_orders.specs.declared.order.Order.TheVariants.{Version}
 use Rattle.mh_orders.specs.declared.order.ConfigOption.{ConfigOption}
 use Rattle.mh_command_line.specs.declared.options.OptionFault.{OptionFault}
-use Rattle.mh_command_line.specs.declared.options.OptionFault.TheVariants.{NoNumber, NoProfile, NoBlocks, Missing, Lacking, Unwanted, Beside, Outside}
+use Rattle.mh_command_line.specs.declared.options.OptionFault.TheVariants.{NoNumber, NoProfile, NoBlocks, Missing, Lacking, Unwanted, SessionsOfLog, Beside, Outside}
 use Rattle.clap.specs.declared.error.kind.ErrorKind.{ErrorKind}
-use Rattle.mh_command_line.specs.Orders.{AreAmiss, AreNoBlocks, AskAmiss, AsksOutside, AsksVersion, GivesOrder, HasFewWorkers, HasFirstRules, HasOptionFault, IsBeside, IsFault, IsLacking, IsMissing, IsNoNumber, IsNoProfile, IsOrder, IsOutside, IsUnwanted, Named, NotMet, NotTaken, IsSaidOfRefusal, RefusesOptions, kind_of_fault}
-use Rattle.mh_command_line.specs.Line.{AsksForFew, AsksForRules, Checks, Generates, HasFlag, IsSubcommand, NamesOne, Nothing, Runs, Shows, TakesWorkers, Tells, Workers, any_text, check_app, event_numbers, every_numbers, flag_rule, generate_app, metroheap, page_numbers, quantum_numbers, rules_numbers, run_app, seeds, session_numbers, show_app, steps_app, step_numbers, worker_numbers, workers_app, Curves, curve_app, Sizes, block_numbers, part_numbers, percents, scheduled_numbers, size_app, startup_numbers, window_numbers}
+use Rattle.mh_command_line.specs.Orders.{AreAmiss, AreNoBlocks, AreSessionsOfLog, AskAmiss, AsksOutside, AsksVersion, GivesOrder, HasFewWorkers, HasFirstRules, HasOptionFault, IsBeside, IsFault, IsLacking, IsMissing, IsNoNumber, IsNoProfile, IsOrder, IsOutside, IsUnwanted, Named, NotMet, NotTaken, IsSaidOfRefusal, RefusesOptions, kind_of_fault}
+use Rattle.mh_command_line.specs.Line.{AsksForFew, AsksForRules, Checks, Generates, HasFlag, IsSubcommand, NamesOne, Nothing, Runs, Shows, TakesWorkers, Tells, Workers, any_text, check_app, controls_numbers, event_numbers, every_numbers, flag_rule, generate_app, metroheap, page_numbers, quantum_numbers, rules_numbers, run_app, seeds, session_numbers, show_app, steps_app, step_numbers, trigger_numbers, worker_numbers, workers_app, Curves, curve_app, Sizes, block_numbers, part_numbers, percents, scheduled_numbers, size_app, startup_numbers, window_numbers}
 use Rattle.mh_command_line.proofs.OptionLemmas.{AreRead, IsSafe, level-read, never, none-missing, none_first, none_next, safe-flag, safe-given, safe-help, safe-value, value-given, value-may, value_rule}
 
 -- Options ----------------------------------------------------------------------------------------
@@ -38,18 +38,17 @@ use Rattle.mh_command_line.proofs.OptionLemmas.{AreRead, IsSafe, level-read, nev
 abbrev option_parser : Text → ValueParser
 option_parser name =
     if bytes_eq name (codes "workers") then worker_numbers else (if bytes_eq name (codes "rules") then rules_numbers
-    else (if bytes_eq name (codes "history") then vp.Bool else (if bytes_eq name (codes "sessions") then vp.Bool else (if bytes_eq name (codes "svg") then vp.Bool else any_text))))
+    else (if bytes_eq name (codes "history") then vp.Bool else (if bytes_eq name (codes "svg") then vp.Bool else any_text)))
 
 -- each is read as it was written
 read_plain : (name : Text) → reading_of (option_parser name) ≡ AsWritten
-read_plain name = go (bytes_eq name (codes "workers")) (bytes_eq name (codes "rules")) (bytes_eq name (codes "history")) (bytes_eq name (codes "sessions")) (bytes_eq name (codes "svg")) where
-  go : (a b c d e : Bool) → reading_of (if a then worker_numbers else (if b then rules_numbers else (if c then vp.Bool else (if d then vp.Bool else (if e then vp.Bool else any_text))))) ≡ AsWritten
-  go true b c d e = refl
-  go false true c d e = refl
-  go false false true d e = refl
-  go false false false true e = refl
-  go false false false false true = refl
-  go false false false false false = refl
+read_plain name = go (bytes_eq name (codes "workers")) (bytes_eq name (codes "rules")) (bytes_eq name (codes "history")) (bytes_eq name (codes "svg")) where
+  go : (a b c d : Bool) → reading_of (if a then worker_numbers else (if b then rules_numbers else (if c then vp.Bool else (if d then vp.Bool else any_text)))) ≡ AsWritten
+  go true b c d = refl
+  go false true c d = refl
+  go false false true d = refl
+  go false false false true = refl
+  go false false false false = refl
 
 abbrev AllRead : List Row → Type 0
 AllRead rows = AreRead option_parser read_plain rows
@@ -70,9 +69,6 @@ rules-may rows all = value-may option_parser read_plain (codes "rules") rows all
 
 history-may : (rows : List Row) → AllRead rows → HasFlag (codes "history") rows
 history-may rows all = flag-may (one_of (codes "history") rows) (value-may option_parser read_plain (codes "history") rows all)
-
-sessions-may : (rows : List Row) → AllRead rows → HasFlag (codes "sessions") rows
-sessions-may rows all = flag-may (one_of (codes "sessions") rows) (value-may option_parser read_plain (codes "sessions") rows all)
 
 svg-may : (rows : List Row) → AllRead rows → HasFlag (codes "svg") rows
 svg-may rows all = flag-may (one_of (codes "svg") rows) (value-may option_parser read_plain (codes "svg") rows all)
@@ -118,15 +114,33 @@ sound-show words e =
     let all : AllRead rows = level-read option_parser read_plain s words (value-safe (codes "rules") 1, (help-safe, tt)) e in
     Shows refl (rules-may rows all)
 
+-- the parser of each option of `check`
+abbrev check_parser : Text → ValueParser
+check_parser name = if bytes_eq name (codes "rules") then rules_numbers else (if bytes_eq name (codes "sessions") then vp.Bool else (if bytes_eq name (codes "log") then vp.Bool else any_text))
+
+check_plain : (name : Text) → reading_of (check_parser name) ≡ AsWritten
+check_plain name = go (bytes_eq name (codes "rules")) (bytes_eq name (codes "sessions")) (bytes_eq name (codes "log")) where
+  go : (a b c : Bool) → reading_of (if a then rules_numbers else (if b then vp.Bool else (if c then vp.Bool else any_text))) ≡ AsWritten
+  go true b c = refl
+  go false true c = refl
+  go false false true = refl
+  go false false false = refl
+
 sound-check : IsSound (built_leaf check_app.top)
 sound-check words e =
     let s : Shape = built_leaf check_app.top in
     let rows : List Row = rows_after s.rules [] words in
-    let numbers : (name : Text) → _ = λ name. value-safe name 1 in
-    let all : AllRead rows =
-    level-read option_parser read_plain s words
-    (numbers (codes "pages"), (numbers (codes "quantum"), (numbers (codes "trigger"), (numbers (codes "every"), (value-safe (codes "rules") 1, (flag-safe (codes "sessions") 1 refl, (help-safe, tt))))))) e in
-    Checks refl (rules-may rows all, sessions-may rows all)
+    let value : (name : Text) → _ = λ name. safe-value check_parser check_plain name 1 in
+    let flag : (name : Text) → check_parser name ≡ vp.Bool → _ = λ name is. safe-flag check_parser check_plain name 1 is in
+    let all : AreRead check_parser check_plain rows =
+    level-read check_parser check_plain s words
+    (value (codes "pages"), (value (codes "quantum"), (value (codes "trigger"), (value (codes "every"), (value (codes "rules"), (flag (codes "sessions") refl, (flag (codes "log") refl, (safe-help check_parser check_plain 1, tt)))))))) e in
+    let may : (name : Text) → IfSome (one_of name rows) (Accepts false (check_parser name)) = λ name. value-may check_parser check_plain name rows all in
+    Checks refl (record {
+      rules = may (codes "rules");
+      sessions = flag-may (one_of (codes "sessions") rows) (may (codes "sessions"));
+      log = flag-may (one_of (codes "log") rows) (may (codes "log"));
+    })
 
 sound-curve : IsSound (built_leaf curve_app.top)
 sound-curve words e =
@@ -140,21 +154,27 @@ sound-curve words e =
 abbrev generate_parser : Text → ValueParser
 generate_parser name =
     if bytes_eq name (codes "seed") then seeds else (if bytes_eq name (codes "events") then event_numbers else (if bytes_eq name (codes "sessions") then session_numbers
-    else (if bytes_eq name (codes "pages") then page_numbers else (if bytes_eq name (codes "quantum") then quantum_numbers else (if bytes_eq name (codes "every") then every_numbers else any_text)))))
+    else (if bytes_eq name (codes "pages") then page_numbers else (if bytes_eq name (codes "quantum") then quantum_numbers else (if bytes_eq name (codes "trigger") then trigger_numbers
+    else (if bytes_eq name (codes "every") then every_numbers else (if bytes_eq name (codes "controls") then controls_numbers else (if bytes_eq name (codes "rules") then rules_numbers else any_text))))))))
 
 generate_plain : (name : Text) → reading_of (generate_parser name) ≡ AsWritten
 generate_plain name =
-    go (bytes_eq name (codes "seed")) (bytes_eq name (codes "events")) (bytes_eq name (codes "sessions")) (bytes_eq name (codes "pages")) (bytes_eq name (codes "quantum")) (bytes_eq name (codes "every"))
+    go (bytes_eq name (codes "seed")) (bytes_eq name (codes "events")) (bytes_eq name (codes "sessions")) (bytes_eq name (codes "pages")) (bytes_eq name (codes "quantum")) (bytes_eq name (codes "trigger")) (bytes_eq name (codes "every"))
+    (bytes_eq name (codes "controls")) (bytes_eq name (codes "rules"))
   where
-    go : (a b c d e f : Bool)
-        → reading_of (if a then seeds else (if b then event_numbers else (if c then session_numbers else (if d then page_numbers else (if e then quantum_numbers else (if f then every_numbers else any_text)))))) ≡ AsWritten
-    go true b c d e f = refl
-    go false true c d e f = refl
-    go false false true d e f = refl
-    go false false false true e f = refl
-    go false false false false true f = refl
-    go false false false false false true = refl
-    go false false false false false false = refl
+    go : (a b c d e f g h i : Bool)
+        → reading_of (if a then seeds else (if b then event_numbers else (if c then session_numbers else (if d then page_numbers else (if e then quantum_numbers else (if f then trigger_numbers
+        else (if g then every_numbers else (if h then controls_numbers else (if i then rules_numbers else any_text))))))))) ≡ AsWritten
+    go true b c d e f g h i = refl
+    go false true c d e f g h i = refl
+    go false false true d e f g h i = refl
+    go false false false true e f g h i = refl
+    go false false false false true f g h i = refl
+    go false false false false false true g h i = refl
+    go false false false false false false true h i = refl
+    go false false false false false false false true i = refl
+    go false false false false false false false false true = refl
+    go false false false false false false false false false = refl
 
 -- and that of each option of `steps`
 abbrev steps_parser : Text → ValueParser
@@ -195,7 +215,7 @@ sound-generate words e =
     let value : (name : Text) → _ = λ name. safe-value generate_parser generate_plain name 1 in
     let all : AreRead generate_parser generate_plain rows =
     level-read generate_parser generate_plain s words
-    (needed (codes "seed"), (needed (codes "events"), (value (codes "sessions"), (value (codes "pages"), (value (codes "quantum"), (value (codes "every"), (value (codes "profile"), (safe-help generate_parser generate_plain 1, tt)))))))) e in
+    (needed (codes "seed"), (needed (codes "events"), (value (codes "sessions"), (value (codes "pages"), (value (codes "quantum"), (value (codes "trigger"), (value (codes "every"), (value (codes "profile"), (value (codes "controls"), (value (codes "rules"), (safe-help generate_parser generate_plain 1, tt))))))))))) e in
     let may : (name : Text) → IfSome (one_of name rows) (Accepts false (generate_parser name)) = λ name. value-may generate_parser generate_plain name rows all in
     let given = both_given (is_given (codes "seed") rows) (is_given (codes "events") rows) false (none-missing s words e) in
     Generates refl (record {
@@ -204,7 +224,10 @@ sound-generate words e =
       sessions = may (codes "sessions");
       pages = may (codes "pages");
       quantum = may (codes "quantum");
+      trigger = may (codes "trigger");
       every = may (codes "every");
+      controls = may (codes "controls");
+      rules = may (codes "rules");
     })
 
 -- and that of each option of `size`
@@ -360,7 +383,8 @@ not_version (NoBlocks option text) k kinds = sym (ap is_version (same_some kinds
 not_version (Lacking name) k kinds = sym (ap is_version (same_some kinds))
 not_version (Beside name other) k kinds = sym (ap is_version (same_some kinds))
 not_version (Missing name) k kinds = sym (ap is_version (same_some kinds))
-not_version (Unwanted name) k kinds = sym (ap is_version (same_some kinds))
+not_version (Unwanted name flag) k kinds = sym (ap is_version (same_some kinds))
+not_version SessionsOfLog k kinds = sym (ap is_version (same_some kinds))
 not_version (Outside option) k kinds = absurd (none_some kinds)
 
 -- what `clap` matched, of a command that is the program's
@@ -396,7 +420,8 @@ module _ (a : App) (words : List Text) (m : ArgMatches) (is : a ≡ metroheap) (
   amiss_by name rows (Lacking option) k is kinds = subst (AreAmiss name rows) (same_some kinds) (IsLacking is.0 option.now is.1 is.2)
   amiss_by name rows (Beside option other) k is kinds = subst (AreAmiss name rows) (same_some kinds) (IsBeside is.0 option.now other.now is.1 is.2 is.3)
   amiss_by name rows (Missing option) k is kinds = subst (AreAmiss name rows) (same_some kinds) (IsMissing is.0 option.now is.1.0 is.1.1)
-  amiss_by name rows (Unwanted option) k is kinds = subst (AreAmiss name rows) (same_some kinds) (IsUnwanted is.0 option.now is.1 is.2 is.3)
+  amiss_by name rows (Unwanted option flag) k is kinds = subst (AreAmiss name rows) (same_some kinds) (IsUnwanted is.0 option.now flag.now is.1 is.2 is.3)
+  amiss_by name rows SessionsOfLog k is kinds = subst (AreAmiss name rows) (same_some kinds) (AreSessionsOfLog is.0 is.1)
   amiss_by name rows (Outside option) k is kinds = absurd (none_some kinds)
 
   has_amiss : (fault : OptionFault) (k : ErrorKind) (matched : Option (Text × List Row)) → IsSomeAnd matched (λ subcommand. HasOptionFault subcommand.0 subcommand.1 fault) → kind_of_fault fault ≡ Some k
@@ -415,7 +440,8 @@ module _ (a : App) (words : List Text) (m : ArgMatches) (is : a ≡ metroheap) (
   options_refused (Missing name) NotText has told = absurd told
   options_refused (Lacking name) NotText has told = absurd told
   options_refused (Beside name other) NotText has told = absurd told
-  options_refused (Unwanted name) NotText has told = absurd told
+  options_refused (Unwanted name flag) NotText has told = absurd told
+  options_refused SessionsOfLog NotText has told = absurd told
   options_refused (Outside option) NotText has told = absurd told
   options_refused (NoNumber name text) (Configuration option) has told = absurd told
   options_refused (NoProfile text) (Configuration option) has told = absurd told
@@ -423,7 +449,8 @@ module _ (a : App) (words : List Text) (m : ArgMatches) (is : a ≡ metroheap) (
   options_refused (Missing name) (Configuration option) has told = absurd told
   options_refused (Lacking name) (Configuration option) has told = absurd told
   options_refused (Beside name other) (Configuration option) has told = absurd told
-  options_refused (Unwanted name) (Configuration option) has told = absurd told
+  options_refused (Unwanted name flag) (Configuration option) has told = absurd told
+  options_refused SessionsOfLog (Configuration option) has told = absurd told
   options_refused (Outside option) (Configuration refused) has told =
       let P : ConfigOption → Type 0 = λ option. AsksOutside words option in
       subst P (sym told) (asks_outside option has)

@@ -37,15 +37,21 @@ session_numbers = Unsigned 1 8
 abbrev pub step_numbers : ValueParser
 step_numbers = Unsigned 0 4294967295
 
--- the numbers of a random script's configuration
+-- the numbers of a random script's configuration, and after how many events it asks for a quantum
 abbrev pub page_numbers : ValueParser
 page_numbers = Unsigned 1 4096
 
 abbrev pub quantum_numbers : ValueParser
 quantum_numbers = Unsigned least_quantum 1000000
 
+abbrev pub trigger_numbers : ValueParser
+trigger_numbers = Unsigned 0 4096
+
 abbrev pub every_numbers : ValueParser
 every_numbers = Unsigned 0 1000000
+
+abbrev pub controls_numbers : ValueParser
+controls_numbers = Unsigned 0 1000000
 
 -- the numbers after which the scheduler runs a quantum, those of blocks, and those of a share and its windows
 abbrev pub scheduled_numbers : ValueParser
@@ -130,17 +136,20 @@ steps_app = with_rule (with_rule (with_rule (with_rule (new_app (codes "steps"))
 abbrev pub show_app : App
 show_app = with_rule (new_app (codes "show")) rules_rule
 
--- `check`, with rules, under a configuration or by what sessions see
+-- `check`, with rules, under a configuration, by what sessions see, or of a log and its order
 abbrev pub check_app : App
-check_app = with_rule (with_rule (config_app (codes "check")) rules_rule) (flag_rule (codes "sessions"))
+check_app = with_rule (with_rule (with_rule (config_app (codes "check")) rules_rule) (flag_rule (codes "sessions"))) (flag_rule (codes "log"))
 
--- `generate`, whose seed and number of events have to be given; with the numbers of a configuration but the trigger
+-- `generate`, whose seed and number of events have to be given; with the numbers of a configuration, with rules, and with its controls
 abbrev pub seeded_app : App
 seeded_app = with_rule (with_rule (with_rule (new_app (codes "generate")) (required_rule (codes "seed") seeds)) (required_rule (codes "events") event_numbers)) (parsed_rule (codes "sessions") session_numbers)
 
+abbrev pub configured_app : App
+configured_app =
+    with_rule (with_rule (with_rule (with_rule seeded_app (parsed_rule (codes "pages") page_numbers)) (parsed_rule (codes "quantum") quantum_numbers)) (parsed_rule (codes "trigger") trigger_numbers)) (parsed_rule (codes "every") every_numbers)
+
 abbrev pub generate_app : App
-generate_app =
-    with_rule (with_rule (with_rule (with_rule seeded_app (parsed_rule (codes "pages") page_numbers)) (parsed_rule (codes "quantum") quantum_numbers)) (parsed_rule (codes "every") every_numbers)) profile_rule
+generate_app = with_rule (with_rule (with_rule configured_app profile_rule) (parsed_rule (codes "controls") controls_numbers)) rules_rule
 
 -- `curve`, of a script with rules or of a history, as a table or as a picture
 abbrev pub curve_app : App
@@ -275,8 +284,10 @@ pub record AsksToTell (rows : List Row) : Type 0 where
   pub rules : AsksForRules rows
 
 -- those of `check`
-abbrev pub AsksToCheck : List Row → Type 0
-AsksToCheck rows = AsksForRules rows × HasFlag (codes "sessions") rows
+pub record AsksToCheck (rows : List Row) : Type 0 where
+  pub rules : AsksForRules rows
+  pub sessions : HasFlag (codes "sessions") rows
+  pub log : HasFlag (codes "log") rows
 
 -- those of `curve`
 abbrev pub AsksToCurve : List Row → Type 0
@@ -289,7 +300,10 @@ pub record AsksToGenerate (rows : List Row) : Type 0 where
   pub sessions : IfSome (one_of (codes "sessions") rows) (IsUnsignedIn 1 8)
   pub pages : IfSome (one_of (codes "pages") rows) (IsUnsignedIn 1 4096)
   pub quantum : IfSome (one_of (codes "quantum") rows) (IsUnsignedIn 209 1000000)
+  pub trigger : IfSome (one_of (codes "trigger") rows) (IsUnsignedIn 0 4096)
   pub every : IfSome (one_of (codes "every") rows) (IsUnsignedIn 0 1000000)
+  pub controls : IfSome (one_of (codes "controls") rows) (IsUnsignedIn 0 1000000)
+  pub rules : AsksForRules rows
 
 -- and those of `size`
 pub record AsksToSize (rows : List Row) : Type 0 where
@@ -309,9 +323,9 @@ pub record AsksToSize (rows : List Row) : Type 0 where
 abbrev pub TakesWorkers : Text → Type 0
 TakesWorkers name = (name ≡ codes "live") ⊎ (name ≡ codes "race")
 
--- the subcommand wants a configuration: `migrate` does, and `check` without `--sessions`
+-- the subcommand wants a configuration: `migrate` does, and `check` without `--sessions` and `--log`
 abbrev pub WantsConfig : Text → List Row → Type 0
-WantsConfig name rows = ((name ≡ codes "check") × (is_flagged (codes "sessions") rows ≡ false)) ⊎ (name ≡ codes "migrate")
+WantsConfig name rows = ((name ≡ codes "check") × (is_flagged (codes "sessions") rows ≡ false) × (is_flagged (codes "log") rows ≡ false)) ⊎ (name ≡ codes "migrate")
 
 -- a subcommand of the program, with what its options may be
 pub data IsSubcommand (name : Text) (rows : List Row) : Type 0 where

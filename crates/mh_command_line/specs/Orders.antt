@@ -1,10 +1,12 @@
 -- The order that the matches of a command line give, and why other words give none.
-use Rattle.std.specs.Prelude.{◌≡◌, ◌≢◌, ◌⊎◌, ◌<◌, ◌≤◌, ◌/◌, ℕ, true, false, if◌then◌else◌, List, [], Option, Some, None, Result, Ok, Err, codes, IsSome, IsSomeAnd, MatchOption}
+use Rattle.std.specs.Prelude.{◌≡◌, ◌≢◌, ◌⊎◌, ◌<◌, ◌≤◌, ◌/◌, ℕ, zero, suc, true, false, if◌then◌else◌, List, [], Option, Some, None, Result, Ok, Err, codes, IsSome, IsSomeAnd, MatchOption}
 use Rattle.clap.specs.declared.error.kind.ErrorKind.{ErrorKind}
 use Rattle.clap.specs.declared.error.kind.ErrorKind.TheVariants.{ArgumentConflict, DisplayVersion, MissingRequiredArgument, OutOfMemory, ValueValidation}
 use Rattle.clap.specs.Words.{Row, Text, one_of, subcommand_of, fault_of, kind_of, IsAmong}
 use Rattle.mh_orders.specs.declared.curve.CurveForm.{CurveForm}
 use Rattle.mh_orders.specs.declared.curve.CurveForm.TheVariants.{Table, Picture}
+use Rattle.mh_orders.specs.declared.generate_options.Controls.{Controls}
+use Rattle.mh_orders.specs.declared.generate_options.Controls.TheVariants.{ByChance, Each, Never}
 use Rattle.mh_orders.specs.declared.generate_options.Options.{Options}
 use Rattle.mh_orders.specs.declared.profile.Profile.{Profile}
 use Rattle.mh_orders.specs.declared.profile.Profile.TheVariants.{Mixed}
@@ -17,7 +19,7 @@ use Rattle.mh_model.specs.Limits.{least_quantum}
 use Rattle.mh_command_line.specs.declared.fault.LineFault.{LineFault}
 use Rattle.mh_command_line.specs.declared.fault.LineFault.TheVariants.{Words, NotText, Configuration, NoMemory}
 use Rattle.mh_orders.specs.declared.order.Order.{Order}
-use Rattle.mh_orders.specs.declared.order.Order.TheVariants.{Run, Steps, Show, Live, Race, Check, CheckSessions, Audit, Migrate, Generate, Version, Curve, CurveHistory, Size, SizeRate, SizeTarget, SizeScript}
+use Rattle.mh_orders.specs.declared.order.Order.TheVariants.{Run, Steps, Show, Live, Race, Check, CheckSessions, CheckLog, Audit, Migrate, Generate, Version, Curve, CurveHistory, Size, SizeRate, SizeTarget, SizeScript}
 use Rattle.mh_orders.specs.declared.curve.CurveOptions.{CurveOptions}
 use Rattle.mh_orders.specs.declared.order.Form.{Form}
 use Rattle.mh_orders.specs.declared.order.Form.TheVariants.{Replies, History}
@@ -28,9 +30,9 @@ use Rattle.mh_orders.specs.declared.steps.Form.TheVariants as form
 use Rattle.mh_orders.specs.declared.order.ConfigOption.{ConfigOption}
 use Rattle.mh_orders.specs.declared.order.ConfigOption.TheVariants.{Pages, Quantum, Trigger, Every}
 use Rattle.mh_command_line.specs.declared.options.OptionFault.{OptionFault}
-use Rattle.mh_command_line.specs.declared.options.OptionFault.TheVariants.{NoNumber, NoProfile, NoBlocks, Missing, Lacking, Unwanted, Beside, Outside}
+use Rattle.mh_command_line.specs.declared.options.OptionFault.TheVariants.{NoNumber, NoProfile, NoBlocks, Missing, Lacking, Unwanted, SessionsOfLog, Beside, Outside}
 use Rattle.mh_command_line.specs.Sizes.{AreHeapOptions, AreRateOptions, AreScriptOptions, AreTargetOptions, HasNoScript, IsAlone, IsWanted, LacksBlocks, has_size}
-use Rattle.mh_command_line.specs.Line.{HasNumber, IsConfigOption, LacksNumber, WantsConfig, is_flagged, metroheap, number_or, rules_given, rules_chosen, workers_of}
+use Rattle.mh_command_line.specs.Line.{HasNumber, IsConfigOption, LacksNumber, WantsConfig, is_flagged, metroheap, number_or, optional_number, rules_given, rules_chosen, workers_of}
 
 -- Orders -----------------------------------------------------------------------------------------
 
@@ -95,9 +97,18 @@ pub record AreCurveOptions (rows : List Row) (options : CurveOptions) : Type 0 w
   pub rules : options.rules ≡ rules_chosen Second rows
   pub form : options.form ≡ curve_form_of rows
 
--- the configuration of a random script: what the matches don't say is by default, and cycles start once half of the pages are free at most
+-- the configuration of a random script: what the matches don't say is by default, of the trigger half of the pages
 abbrev pub generated_config : List Row → Option Config
-generated_config rows = let pages : ℕ = number_or 64 (codes "pages") rows in configured pages (number_or 250 (codes "quantum") rows) (pages / 2) (number_or 25 (codes "every") rows)
+generated_config rows =
+    let pages : ℕ = number_or 64 (codes "pages") rows in configured pages (number_or 250 (codes "quantum") rows) (number_or (pages / 2) (codes "trigger") rows) (number_or 25 (codes "every") rows)
+
+-- the controls of one: those of its mix if the matches don't say, and none if they say 0
+abbrev pub controls_of : List Row → Controls
+controls_of rows = asked (optional_number (codes "controls") rows) where
+  asked : Option ℕ → Controls
+  asked None = ByChance
+  asked (Some zero) = Never
+  asked (Some (suc more)) = Each (suc more)
 
 -- the profile that the matches ask for by its name, which is mixed if they don't say
 abbrev pub AsksProfile : List Row → Profile → Type 0
@@ -109,7 +120,9 @@ pub record AreGenerateOptions (rows : List Row) (options : Options) : Type 0 whe
   pub events : HasNumber rows (codes "events") options.events
   pub sessions : options.sessions ≡ number_or 4 (codes "sessions") rows
   pub config : generated_config rows ≡ Some options.config
+  pub rules : options.rules ≡ rules_chosen Second rows
   pub profile : AsksProfile rows options.profile
+  pub controls : options.controls ≡ controls_of rows
 
 -- the order of a subcommand with its matches
 abbrev pub IsOrder : Text → List Row → Order → Type 0
@@ -118,8 +131,9 @@ IsOrder name rows (Steps options) = (name ≡ codes "steps") × AreStepsOptions 
 IsOrder name rows (Show rules) = (name ≡ codes "show") × (rules ≡ rules_chosen Second rows)
 IsOrder name rows (Live workers) = (name ≡ codes "live") × (workers ≡ workers_of rows)
 IsOrder name rows (Race workers) = (name ≡ codes "race") × (workers ≡ workers_of rows)
-IsOrder name rows (Check config) = (name ≡ codes "check") × (is_flagged (codes "sessions") rows ≡ false) × MakesConfig (rules_chosen First rows) rows config
-IsOrder name rows (CheckSessions asked) = (name ≡ codes "check") × (is_flagged (codes "sessions") rows ≡ true) × HasNoConfig rows × (asked ≡ rules_given rows)
+IsOrder name rows (Check config) = (name ≡ codes "check") × (is_flagged (codes "sessions") rows ≡ false) × (is_flagged (codes "log") rows ≡ false) × MakesConfig (rules_chosen First rows) rows config
+IsOrder name rows (CheckSessions asked) = (name ≡ codes "check") × (is_flagged (codes "sessions") rows ≡ true) × (is_flagged (codes "log") rows ≡ false) × HasNoConfig rows × (asked ≡ rules_given rows)
+IsOrder name rows (CheckLog rules) = (name ≡ codes "check") × (is_flagged (codes "log") rows ≡ true) × (is_flagged (codes "sessions") rows ≡ false) × HasNoConfig rows × (rules ≡ rules_chosen Second rows)
 IsOrder name rows Audit = name ≡ codes "audit"
 IsOrder name rows (Migrate config) = (name ≡ codes "migrate") × MakesConfig First rows config
 IsOrder name rows (Curve options) = (name ≡ codes "curve") × (is_flagged (codes "history") rows ≡ false) × AreCurveOptions rows options
@@ -145,9 +159,13 @@ pub record AreOutside (rows : List Row) (option : ConfigOption) : Type 0 where
   pub none : (rules : Rules) → config_under rules numbers ≡ None
   pub outside : IsOutsideBy option numbers
 
+-- the trigger of a random script is above its pages
+abbrev pub IsAbovePages : List Row → ConfigOption → Type 0
+IsAbovePages rows option = (option ≡ Trigger) × (generated_config rows ≡ None)
+
 -- the subcommand wants a configuration, and this one of its numbers is outside its limits
 abbrev pub IsOutside : Text → List Row → ConfigOption → Type 0
-IsOutside name rows option = WantsConfig name rows × AreOutside rows option
+IsOutside name rows option = (WantsConfig name rows × AreOutside rows option) ⊎ ((name ≡ codes "generate") × IsAbovePages rows option)
 
 -- from 1 to 64 workers, if the order has workers
 abbrev pub HasFewWorkers : Order → Type 0
@@ -179,13 +197,24 @@ IsNumberFault rows (NoProfile text) = ⊥
 IsNumberFault rows (NoBlocks name text) = ⊥
 IsNumberFault rows (Missing name) = IsConfigOption name.now × (one_of name.now rows ≡ None)
 IsNumberFault rows (Lacking name) = ⊥
-IsNumberFault rows (Unwanted name) = ⊥
+IsNumberFault rows (Unwanted name flag) = ⊥
+IsNumberFault rows SessionsOfLog = ⊥
 IsNumberFault rows (Beside name other) = ⊥
 IsNumberFault rows (Outside option) = AreOutside rows option
 
--- what is wrong with those of a subcommand: these are, if it wants a configuration; or one is given beside `--sessions`; or a profile is none; or options of `size` don't go together
+-- the flag is `--sessions` or `--log`, and is given
+abbrev pub IsJudgingFlag : List Row → Text → Type 0
+IsJudgingFlag rows flag = ((flag ≡ codes "sessions") ⊎ (flag ≡ codes "log")) × (is_flagged flag rows ≡ true)
+
+-- both flags are given
+abbrev pub AreBothFlagged : List Row → Type 0
+AreBothFlagged rows = (is_flagged (codes "sessions") rows ≡ true) × (is_flagged (codes "log") rows ≡ true)
+
+-- what is wrong with those of a subcommand: these are, if it wants a configuration; or options of `check` don't go together; or a random script is amiss; or options of `size` don't go together
 abbrev pub HasOptionFault : Text → List Row → OptionFault → Type 0
-HasOptionFault subcommand rows (Unwanted name) = (subcommand ≡ codes "check") × IsConfigOption name.now × (is_flagged (codes "sessions") rows ≡ true) × IsSome (one_of name.now rows)
+HasOptionFault subcommand rows (Unwanted name flag) = (subcommand ≡ codes "check") × IsConfigOption name.now × IsJudgingFlag rows flag.now × IsSome (one_of name.now rows)
+HasOptionFault subcommand rows SessionsOfLog = (subcommand ≡ codes "check") × AreBothFlagged rows
+HasOptionFault subcommand rows (Outside option) = IsOutside subcommand rows option
 HasOptionFault subcommand rows (NoProfile text) = (subcommand ≡ codes "generate") × LacksProfile rows
 HasOptionFault subcommand rows (NoBlocks name text) = (subcommand ≡ codes "size") × LacksBlocks rows name.now
 HasOptionFault subcommand rows (Lacking name) = (subcommand ≡ codes "size") × IsWanted rows name.now × (one_of name.now rows ≡ None)
@@ -200,7 +229,8 @@ pub data AreAmiss (name : Text) (rows : List Row) : ErrorKind → Type 0 where
   AreNoBlocks : name ≡ codes "size" → (option : Text) → LacksBlocks rows option → AreAmiss name rows ValueValidation
   IsLacking : name ≡ codes "size" → (option : Text) → IsWanted rows option → one_of option rows ≡ None → AreAmiss name rows MissingRequiredArgument
   IsBeside : name ≡ codes "size" → (option other : Text) → IsAlone rows option other → IsSome (one_of option rows) → IsSome (one_of other rows) → AreAmiss name rows ArgumentConflict
-  IsUnwanted : name ≡ codes "check" → (option : Text) → IsConfigOption option → is_flagged (codes "sessions") rows ≡ true → IsSome (one_of option rows) → AreAmiss name rows ArgumentConflict
+  IsUnwanted : name ≡ codes "check" → (option flag : Text) → IsConfigOption option → IsJudgingFlag rows flag → IsSome (one_of option rows) → AreAmiss name rows ArgumentConflict
+  AreSessionsOfLog : name ≡ codes "check" → AreBothFlagged rows → AreAmiss name rows ArgumentConflict
 
 -- Words ------------------------------------------------------------------------------------------
 
@@ -259,7 +289,8 @@ kind_of_fault (NoProfile text) = Some ValueValidation
 kind_of_fault (NoBlocks name text) = Some ValueValidation
 kind_of_fault (Missing name) = Some MissingRequiredArgument
 kind_of_fault (Lacking name) = Some MissingRequiredArgument
-kind_of_fault (Unwanted name) = Some ArgumentConflict
+kind_of_fault (Unwanted name flag) = Some ArgumentConflict
+kind_of_fault SessionsOfLog = Some ArgumentConflict
 kind_of_fault (Beside name other) = Some ArgumentConflict
 kind_of_fault (Outside option) = None
 

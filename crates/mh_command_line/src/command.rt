@@ -5,7 +5,7 @@
 //! given.
 //!
 //! What it proves covers no rule between two options. So the program looks at such rules itself, as `clap` would, and
-//! none of the four is required here. `generate` has no `--trigger`, so no rule holds between its options.
+//! none of the four is required here. That the trigger of `generate` is no more than its pages, it sees to as well.
 //!
 //! `clap`'s own subcommand `help` is turned off, so the subcommand that it finds is one of the program's. Help, the
 //! word `help`, no words, unknown words and stray words are refused by `clap`, with status 2. The texts of help spell
@@ -14,7 +14,7 @@ ghost use Rattle.std.specs.Prelude.{◌≡◌, IfOk, IsOkAnd, Some, false, true,
 ghost use Rattle.clap.specs.Words.{app_of, new_app, rule_of, with_rule, with_subcommand};
 ghost use Rattle.clap.specs.declared.builder.command.Command.TheViews.{out-Command};
 ghost use Rattle.clap.specs.declared.builder.value_parser.ValueParser.TheVariants.{Unsigned};
-ghost use Rattle.mh_command_line.specs.Line.{check_app, config_app, flag_rule, generate_app, metroheap, named_rule, number_rule, option_rule, page_numbers, optional_app, parsed_rule, profile_rule, quantum_numbers, required_rule, rules_rule, run_app, seeded_app, show_app, step_numbers, steps_app, versioned, workers_app, workers_rule};
+ghost use Rattle.mh_command_line.specs.Line.{check_app, config_app, configured_app, flag_rule, generate_app, metroheap, named_rule, number_rule, option_rule, page_numbers, optional_app, parsed_rule, profile_rule, quantum_numbers, required_rule, rules_rule, run_app, seeded_app, show_app, step_numbers, steps_app, trigger_numbers, versioned, workers_app, workers_rule};
 
 use crate::curve::curve;
 use crate::size::size;
@@ -58,13 +58,16 @@ const ABOUT_MIGRATE: &str =
 const ABOUT_GENERATE: &str = "Print a random script. The same options print the same bytes";
 
 const PROFILES: &str =
-    "The mix of events: churn, lists, trees, wide, large, frag, refusals or mixed, which is all others in turn; mixed if it is not given";
+    "The mix of events: churn, lists, trees, wide, large, frag, refusals, barriers, comb, race, cycles or mixed, which is the first seven in turn; mixed if it is not given";
 
 pub(crate) const RULES_OF_A_RUN: &str =
     "The rules of large objects and of units, 1 or 2; 2 if it is not given";
 
+const RULES_OF_A_SCRIPT: &str =
+    "The rules under which it is to run, 1 or 2; 2 if it is not given. Under 1 no event asks `* left`";
+
 const RULES_OF_A_CHECK: &str =
-    "The rules of large objects and of units, 1 or 2; if it is not given 1, and with --sessions those that the history names";
+    "The rules of large objects and of units, 1 or 2; if it is not given 1, with --sessions those that the history names, and with --log 2";
 
 const SCRIPT_STATUSES: &str =
     "Exit status: 0 if all events were answered, 1 if the script was refused, 2 if the command line was, 3 if memory was refused, a device failed or the history was full";
@@ -174,6 +177,14 @@ pub(crate) fn quantum<'a>(alloc: Global, help: &'a str) -> Arg<'a>
 {
     let least = LEAST_QUANTUM.into();
     bounded(alloc, "quantum", "K", least, MOST_QUANTUM.into(), help)
+}
+
+/// The option `--trigger` with a number of pages, or none.
+fn trigger<'a>(alloc: Global, help: &'a str) -> Arg<'a>
+    ensures rule { rule_of result ≡ parsed_rule (codes "trigger") trigger_numbers }
+    ensures local { result.global ≡ false }
+{
+    bounded(alloc, "trigger", "T", 0, MOST_PAGES.into(), help)
 }
 
 /// The option `--every` with a number within the limits of a configuration, and no less than this.
@@ -365,11 +376,13 @@ fn check<'a>(alloc: Global) -> Result<Command<'a>, AllocError>
         alloc,
         "check",
         ABOUT_CHECK,
-        "metroheap check --pages <P> --quantum <K> --trigger <T> --every <E> [--rules <R>] < HISTORY\n       metroheap check --sessions [--rules <R>] < HISTORY",
+        "metroheap check --pages <P> --quantum <K> --trigger <T> --every <E> [--rules <R>] < HISTORY\n       metroheap check --sessions [--rules <R>] < HISTORY\n       metroheap check --log [--rules <R>] < LOG",
     );
     let command = with_option(command, rules(alloc, RULES_OF_A_CHECK));
     let help = "Judge only what sessions see, of any collector's history";
-    with_option(command, flag(alloc, "sessions", help))
+    let command = with_option(command, flag(alloc, "sessions", help));
+    let help = "Judge a log of threads by the order of its commands that stands below it";
+    with_option(command, flag(alloc, "log", help))
 }
 
 fn migrate<'a>(alloc: Global) -> Result<Command<'a>, AllocError>
@@ -406,7 +419,7 @@ fn seeded<'a>(alloc: Global) -> Result<Command<'a>, AllocError>
         alloc,
         "generate",
         ABOUT_GENERATE,
-        "metroheap generate --seed <N> --events <M> [--sessions <S>] [--pages <P>] [--quantum <K>] [--every <E>] [--profile <NAME>]",
+        "metroheap generate --seed <N> --events <M> [--sessions <S>] [--pages <P>] [--quantum <K>] [--trigger <T>] [--every <E>] [--profile <NAME>] [--controls <C>] [--rules <R>]",
         GENERATE_STATUSES,
     );
     let help = "What the random numbers begin with, from 0 to 18446744073709551615";
@@ -429,8 +442,9 @@ fn profile<'a>(alloc: Global) -> Arg<'a>
     parsed(option, ValueParser::string())
 }
 
-fn generate<'a>(alloc: Global) -> Result<Command<'a>, AllocError>
-    ensures app { IfOk result (λ command. app_of command ≡ generate_app) }
+/// `generate` with the numbers of a configuration too.
+fn configured<'a>(alloc: Global) -> Result<Command<'a>, AllocError>
+    ensures app { IfOk result (λ command. app_of command ≡ configured_app) }
     ensures local { IfOk result (λ command. (out-Command command).has_globals ≡ false) }
 {
     let command = seeded(alloc);
@@ -439,9 +453,24 @@ fn generate<'a>(alloc: Global) -> Result<Command<'a>, AllocError>
     let help = "The most units that a quantum spends, from 209 to 1000000; 250 if it is not given";
     let command = with_option(command, quantum(alloc, help));
     let help =
+        "A quantum starts a cycle if no more pages than these are free, from 0 to P; half of P if it is not given";
+    let command = with_option(command, trigger(alloc, help));
+    let help =
         "After how many units a quantum is run, from 0, for none, to 1000000; 25 if it is not given";
-    let command = with_option(command, every(alloc, "E", 0, help));
-    with_option(command, profile(alloc))
+    with_option(command, every(alloc, "E", 0, help))
+}
+
+fn generate<'a>(alloc: Global) -> Result<Command<'a>, AllocError>
+    ensures app { IfOk result (λ command. app_of command ≡ generate_app) }
+    ensures local { IfOk result (λ command. (out-Command command).has_globals ≡ false) }
+{
+    let command = configured(alloc);
+    let command = with_option(command, profile(alloc));
+    let help =
+        "Each C-th event is a quantum and no other a control, from 0, for none, to 1000000; all kinds by chance if it is not given";
+    let controls = bounded(alloc, "controls", "C", 0, MOST_EVENTS, help);
+    let command = with_option(command, controls);
+    with_option(command, rules(alloc, RULES_OF_A_SCRIPT))
 }
 
 /// The command with a subcommand more, if both were made.

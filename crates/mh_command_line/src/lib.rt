@@ -5,9 +5,11 @@
 #![tactic(auto)]
 
 mod blocks;
+mod check_options;
 mod command;
 mod curve;
 pub mod fault;
+mod generate_options;
 mod options;
 pub mod order;
 pub mod quoted;

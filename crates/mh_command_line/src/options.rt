@@ -5,31 +5,23 @@
 //! makes a bad configuration. Blamed is the first of pages, quantum and every that is outside, or else the trigger,
 //! whose limit is the number of pages.
 //!
-//! `check --sessions` wants none of these options, and refuses each.
-//!
-//! `--rules` is an option of `run`, `steps`, `show`, `curve`, `size` and `check`. Without it a script is under the
+//! `--rules` is an option of `run`, `steps`, `show`, `curve`, `size`, `generate` and `check`. Without it a script is under the
 //! second rules. A history of version 1 is then under the first, as before there was such an option. `live` and
 //! `race` are under the second.
 //!
-//! Of a random script half of the pages is the trigger, at which scripts collect. Its quantum has 250 units by
-//! default: with 288 or more no event comes while roots are scanned.
-ghost use Rattle.std.specs.Prelude.{◌≡◌, ◌<◌, ◌≤◌, ◌/◌, ◌↔◌, None, Some, true, codes, IfOk, IfErr, IfSome, IsSomeAnd, OnOk, IsTrue};
+ghost use Rattle.std.specs.Prelude.{◌≡◌, ◌<◌, ◌≤◌, ◌↔◌, None, Some, true, IfOk, IfErr, IfSome, IsTrue};
 ghost use Rattle.std.specs.Char.{is_digit};
 ghost use Rattle.std.specs.List.{list_all};
 ghost use Rattle.std.specs.Str.Parse.{without_leading_plus};
 ghost use Rattle.clap.specs.Words.{IsUnsignedIn, found_of, one_of, rows_of};
-ghost use Rattle.mh_model.specs.Configs.{configured};
 ghost use Rattle.mh_model.specs.declared.config.Rules.TheVariants.{Second};
-ghost use Rattle.mh_model.specs.Limits.{least_quantum};
-ghost use Rattle.mh_command_line.specs.Line.{AsksForFew, AsksForRules, AsksToCheck, AsksToGenerate, AsksToRun, AsksToTell, HasFlag, HasNumber, HoldsNumber, IsConfigOption, IsNumber, ReadsNumber, is_flagged, number_or, rules_given, rules_numbered, rules_chosen, workers_of};
-ghost use Rattle.mh_command_line.specs.Orders.{AreGenerateOptions, AreRunOptions, AreStepsOptions, AsksProfile, HasFewWorkers, HasFirstRules, HasOptionFault, IsBlamed, IsNumberFault, IsOrder, MakesConfig, generated_config};
+ghost use Rattle.mh_command_line.specs.Line.{AsksForFew, AsksForRules, AsksToRun, AsksToTell, HasFlag, HoldsNumber, IsConfigOption, IsNumber, ReadsNumber, is_flagged, number_or, optional_number, rules_given, rules_numbered, rules_chosen, workers_of};
+ghost use Rattle.mh_command_line.specs.Orders.{AreRunOptions, AreStepsOptions, IsBlamed, IsNumberFault, MakesConfig};
 
 use clap::ArgMatches;
 use mh_model::config::{Config, Rules};
 use mh_model::limits::{LEAST_QUANTUM, MOST_EVERY, MOST_PAGES, MOST_QUANTUM};
-use mh_orders::generate_options::Options;
-use mh_orders::order::{ConfigOption, Form, Order, RunOptions, StepsOptions};
-use mh_orders::profile::Profile;
+use mh_orders::order::{ConfigOption, Form, RunOptions, StepsOptions};
 use mh_orders::steps::{Form as StepsForm, Steps};
 use std::str::FromStr;
 
@@ -46,8 +38,10 @@ pub(crate) enum OptionFault<'a> {
     Missing(&'static str),
     /// The option of `size` with this name is not given, which the others want.
     Lacking(&'static str),
-    /// The option with this name is given beside `--sessions`.
-    Unwanted(&'static str),
+    /// The option with the first name is given beside the flag with the second.
+    Unwanted(&'static str, &'static str),
+    /// `--sessions` is given beside `--log`.
+    SessionsOfLog,
     /// The option with this name is given beside another.
     Beside(&'static str, &'static str),
     /// The number of this option is outside its limits.
@@ -120,7 +114,7 @@ fn rules_numbered(number: u8) -> Rules
 }
 
 /// The rules that are asked for, if any are.
-fn rules_given(matches: &ArgMatches<'_>) -> Option<Rules>
+pub(crate) fn rules_given(matches: &ArgMatches<'_>) -> Option<Rules>
     requires { AsksForRules (rows_of (found_of matches.now)) }
     ensures { result ≡ rules_given (rows_of (found_of matches.now)) }
 {
@@ -211,106 +205,20 @@ pub(crate) fn config_given<'a>(
     }
 }
 
-/// An option that is not to stand beside `--sessions`.
-fn unwanted<'a>(matches: &ArgMatches<'a>, name: &'static str) -> Result<(), OptionFault<'a>>
-    requires option { IsConfigOption name.now }
-    requires sessions { is_flagged (codes "sessions") (rows_of (found_of matches.now)) ≡ true }
-    ensures none { OnOk result (one_of name.now (rows_of (found_of matches.now)) ≡ None) }
-    ensures fault { IfErr result (HasOptionFault (codes "check") (rows_of (found_of matches.now))) }
+/// The number of an option, if it is given.
+pub(crate) fn number(matches: &ArgMatches<'_>, name: &str) -> Option<u32>
+    requires { IfSome (one_of name.now (rows_of (found_of matches.now))) (IsUnsignedIn 0 4294967295) }
+    ensures { result ≡ optional_number name.now (rows_of (found_of matches.now)) }
 {
-    match matches.get_str(name) {
-        None => Ok(()),
-        Some(_) => Err(OptionFault::Unwanted(name)),
-    }
-}
-
-/// What `check` is to do.
-pub(crate) fn check_asked<'a>(matches: &ArgMatches<'a>) -> Result<Order, OptionFault<'a>>
-    requires { AsksToCheck (rows_of (found_of matches.now)) }
-    ensures order { IfOk result (IsOrder (codes "check") (rows_of (found_of matches.now))) }
-    ensures few { IfOk result HasFewWorkers }
-    ensures rules { IfOk result HasFirstRules }
-    ensures fault { IfErr result (HasOptionFault (codes "check") (rows_of (found_of matches.now))) }
-{
-    if !is_flagged(matches, "sessions") {
-        let rules = rules_asked(matches, Rules::First);
-        return Ok(Order::Check(config_given(matches, rules)?));
-    }
-    unwanted(matches, "pages")?;
-    unwanted(matches, "quantum")?;
-    unwanted(matches, "trigger")?;
-    unwanted(matches, "every")?;
-    Ok(Order::CheckSessions(rules_given(matches)))
+    matches.get_one::<u32>(name)
 }
 
 /// The number of an option that may be left out, of 32 bits at most.
-fn number_or(matches: &ArgMatches<'_>, name: &str, other: u32) -> u32
+pub(crate) fn number_or(matches: &ArgMatches<'_>, name: &str, other: u32) -> u32
     requires { IfSome (one_of name.now (rows_of (found_of matches.now))) (IsUnsignedIn 0 4294967295) }
     ensures { result ≡ number_or other name.now (rows_of (found_of matches.now)) }
 {
     matches.get_one::<u32>(name).unwrap_or(other)
-}
-
-fn seed_asked(matches: &ArgMatches<'_>) -> u64
-    requires { IsSomeAnd (one_of (codes "seed") (rows_of (found_of matches.now))) (IsUnsignedIn 0 18446744073709551615) }
-    ensures { HasNumber (rows_of (found_of matches.now)) (codes "seed") result }
-{
-    matches.get_one::<u64>("seed").unwrap_or(0)
-}
-
-fn events_asked(matches: &ArgMatches<'_>) -> u32
-    requires { IsSomeAnd (one_of (codes "events") (rows_of (found_of matches.now))) (IsUnsignedIn 1 1000000) }
-    ensures number { HasNumber (rows_of (found_of matches.now)) (codes "events") result }
-    ensures few { result ≤ 1000000 }
-{
-    number_or(matches, "events", 1)
-}
-
-/// How many sessions are to do the work of a random script.
-fn sessions_asked(matches: &ArgMatches<'_>) -> u8
-    requires { IfSome (one_of (codes "sessions") (rows_of (found_of matches.now))) (IsUnsignedIn 1 8) }
-    ensures number { result ≡ number_or 4 (codes "sessions") (rows_of (found_of matches.now)) }
-    ensures few { (0 < result) × (result ≤ 8) }
-{
-    number_or(matches, "sessions", 4) as u8
-}
-
-/// The configuration of a random script, in which cycles start once half of the pages are free at most.
-fn script_config(pages: u32, quantum: u32, every: u32) -> Config
-    requires pages { (1 ≤ pages) × (pages ≤ 4096) }
-    requires quantum { (least_quantum ≤ quantum) × (quantum ≤ 1000000) }
-    requires every { every ≤ 1000000 }
-    ensures config { configured pages quantum (pages / 2) every ≡ Some result }
-    ensures second { result.rules ≡ Second }
-{
-    match Config::new(pages, quantum, pages / 2, every) {
-        Some(config) => config,
-        None => unreachable!(),
-    }
-}
-
-fn generated_config(matches: &ArgMatches<'_>) -> Config
-    requires { AsksToGenerate (rows_of (found_of matches.now)) }
-    ensures config { generated_config (rows_of (found_of matches.now)) ≡ Some result }
-    ensures second { result.rules ≡ Second }
-{
-    let pages = number_or(matches, "pages", 64);
-    let quantum = number_or(matches, "quantum", 250);
-    let every = number_or(matches, "every", 25);
-    script_config(pages, quantum, every)
-}
-
-fn profile_asked<'a>(matches: &ArgMatches<'a>) -> Result<Profile, OptionFault<'a>>
-    ensures profile { IfOk result (AsksProfile (rows_of (found_of matches.now))) }
-    ensures fault { IfErr result (HasOptionFault (codes "generate") (rows_of (found_of matches.now))) }
-{
-    if let Some(profile) = matches.get_one::<Profile>("profile") {
-        return Ok(profile);
-    }
-    match matches.get_str("profile") {
-        Some(text) => Err(OptionFault::NoProfile(text)),
-        None => Ok(Profile::Mixed),
-    }
 }
 
 /// How the steps of a script are to be written.
@@ -330,20 +238,4 @@ pub(crate) fn steps_asked(matches: &ArgMatches<'_>) -> StepsOptions
     };
     let rules = rules_asked(matches, Rules::Second);
     StepsOptions { steps, rules }
-}
-
-/// Which random script is to be written.
-pub(crate) fn generate_asked<'a>(matches: &ArgMatches<'a>) -> Result<Options, OptionFault<'a>>
-    requires { AsksToGenerate (rows_of (found_of matches.now)) }
-    ensures options { IfOk result (AreGenerateOptions (rows_of (found_of matches.now))) }
-    ensures fault { IfErr result (HasOptionFault (codes "generate") (rows_of (found_of matches.now))) }
-{
-    let profile = profile_asked(matches)?;
-    Ok(Options {
-        config: generated_config(matches),
-        seed: seed_asked(matches),
-        events: events_asked(matches),
-        sessions: sessions_asked(matches),
-        profile,
-    })
 }

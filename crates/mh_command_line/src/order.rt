@@ -9,7 +9,7 @@
 //! All other words are refused with one of the faults that `clap` finds first, or for their options. Then a number, a
 //! profile or blocks can't be read, an option is missing, or one may not stand beside another. Or the configuration
 //! is bad, with an option that is outside its limits. Numbers of a configuration may have any length. With
-//! `--sessions` none of them is missing.
+//! `--sessions` and `--log` none of them is missing.
 //!
 //! Any command line may be answered with `NoMemory`. Each is read by a command that is built in memory, and `clap`'s
 //! contract doesn't say when it asks for that.
@@ -20,12 +20,13 @@ ghost use Rattle.clap.specs.declared.error.kind.ErrorKind.TheVariants.{ArgumentC
 ghost use Rattle.mh_command_line.specs.Line.{IsSubcommand, NamesOne};
 ghost use Rattle.mh_command_line.specs.Orders.{GivesOrder, HasFewWorkers, HasFirstRules, HasOptionFault, IsFault, IsOrder, IsSaidOfRefusal, RefusesOptions};
 
+use crate::check_options::check_asked;
 use crate::command::{command, command_of};
 use crate::curve::curve_asked;
 use crate::fault::LineFault;
+use crate::generate_options::generate_asked;
 use crate::options::{
-    OptionFault, check_asked, config_given, generate_asked, rules_asked, run_asked, steps_asked,
-    workers_asked,
+    OptionFault, config_given, rules_asked, run_asked, steps_asked, workers_asked,
 };
 use crate::quoted::{are_plain, quoted, quoted_words};
 use crate::size_options::size_asked;
@@ -196,8 +197,10 @@ fn refused_options(alloc: Global, subcommand: Option<&str>, fault: OptionFault<'
         OptionFault::NoProfile(text) => no_profile(alloc, subcommand, text),
         OptionFault::NoBlocks(name, text) => no_blocks(alloc, subcommand, name, text),
         OptionFault::Missing(name) | OptionFault::Lacking(name) => missing(alloc, subcommand, name),
-        OptionFault::Unwanted(name) => beside(alloc, subcommand, name, "sessions"),
-        OptionFault::Beside(name, other) => beside(alloc, subcommand, name, other),
+        OptionFault::SessionsOfLog => beside(alloc, subcommand, "sessions", "log"),
+        OptionFault::Unwanted(name, other) | OptionFault::Beside(name, other) => beside(
+            alloc, subcommand, name, other,
+        ),
     };
     match refusal {
         Ok(error) => LineFault::Words(error),

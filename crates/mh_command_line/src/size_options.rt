@@ -14,7 +14,7 @@ ghost use Rattle.mh_command_line.specs.Sizes.{AreHeapOptions, AreRateOptions, Ar
 ghost use Rattle.mh_orders.specs.Given.{is_given_within, is_quantum_chosen, is_quantum_within};
 
 use crate::blocks::{AskedAllocations, AskedClasses, AskedRates, all_listed};
-use crate::options::{OptionFault, is_flagged, rules_asked};
+use crate::options::{OptionFault, is_flagged, number, rules_asked};
 use clap::ArgMatches;
 use mh_model::config::Rules;
 use mh_orders::allocation::Allocation;
@@ -25,14 +25,6 @@ use mh_orders::order::{Order, SizeOptions};
 use mh_orders::rate_options::RateOptions;
 use mh_orders::rates::Rates;
 use mh_orders::target_options::{Given, Target, TargetOptions};
-
-/// The number of an option, if it is given.
-fn number(matches: &ArgMatches<'_>, name: &str) -> Option<u32>
-    requires { IfSome (one_of name.now (rows_of (found_of matches.now))) (IsUnsignedIn 0 4294967295) }
-    ensures { result ≡ optional_number name.now (rows_of (found_of matches.now)) }
-{
-    matches.get_one::<u32>(name)
-}
 
 /// The number of an option that is wanted if it is not given.
 fn needed<'a>(matches: &ArgMatches<'a>, name: &'static str) -> Result<u32, OptionFault<'a>>

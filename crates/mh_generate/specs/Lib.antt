@@ -1,3 +1,5 @@
 pub mod Scripts
 pub mod Profiles
+pub mod Asked
+pub mod Taken
 pub mod Generated

@@ -3,6 +3,8 @@
 use crate::random::Random;
 use mh_model::command::Control;
 use mh_model::config::Config;
+use mh_orders::generate_options::Options;
+use mh_orders::profile::Profile;
 
 /// How many periods of a unit of mutator and a quantum a window has.
 const PERIODS: [u32; 6] = [1, 2, 3, 10, 100, 1_000];
@@ -54,18 +56,20 @@ fn requested(random: &mut Random, config: Config) -> Control {
     }
 }
 
-pub(crate) fn is_due(random: &mut Random, config: Config) -> bool {
-    if config.every == 0 {
-        random.chance(1, 8)
-    } else {
-        random.chance(1, 24)
+/// The control that an event is, if it is one. In the profile of cycles many are, so that cycles start soon.
+pub(crate) fn control(random: &mut Random, options: &Options) -> Option<Control> {
+    let config = options.config;
+    let each = match (config.every, options.profile) {
+        (_, Profile::Cycles) => 4,
+        (0, _) => 8,
+        _ => 24,
+    };
+    if !random.chance(1, each) {
+        return None;
     }
-}
-
-pub(crate) fn control(random: &mut Random, config: Config) -> Control {
     if config.every == 0 {
-        requested(random, config)
+        Some(requested(random, config))
     } else {
-        scheduled(random, config)
+        Some(scheduled(random, config))
     }
 }

@@ -2,8 +2,9 @@
 //!
 //! One that is written whole is within the grammar. It has the configuration and exactly as many events as are asked
 //! for, and its commands are those of no more sessions. Two profiles, `Refusals` and `Mixed`, name nine sessions,
-//! however many are asked for. A failed sink and out of memory leave a prefix of such a script. A device failed
-//! exactly when it is blamed.
+//! however many are asked for. Its controls are those that are asked for, and its rules know each. In four profiles a
+//! heap that never collects refuses no command, and a race writes no number twice. A failed sink and out of memory leave
+//! a prefix of such a script. A device failed exactly when it is blamed.
 //!
 //! Tests alone show that the same options give the same bytes, and what the scripts make the collector do.
 ghost use Rattle.std.specs.Prelude.{◌≡◌, ◌<◌, ◌^◌, OnOk, OnErr, IsErrOf};
@@ -28,11 +29,12 @@ pub fn generate<W: Sink>(alloc: Global, options: &Options, sink: &mut W) -> Resu
     ensures blamed { IsErrOf result WriteError.Device → W.failures sink.old < W.failures sink.new }
     ensures not_blamed { IsErrOf result WriteError.NoMemory → W.failures sink.new ≡ W.failures sink.old }
 {
-    let mut chooser = Chooser::new(*options);
+    let mut chooser = Chooser::new(alloc, *options);
     let mut text = String::new(alloc);
     push_config_line(&mut text, options.config)?;
-    for _ in 0..options.events {
-        push_event_line(&mut text, chooser.next())?;
+    for done in 0..options.events {
+        let event = chooser.next(options, done + 1)?;
+        push_event_line(&mut text, event)?;
         flush_full(sink, &mut text)?;
     }
     flush(sink, &mut text)?;

@@ -4,6 +4,8 @@ use crate::plan::Plan;
 use crate::random::Random;
 use crate::say::{clear, copy, get, make, put, read, shape, write};
 use crate::session::Session;
+use mh_model::config::Rules;
+use mh_model::limits::SPINE_FIELDS;
 use mh_model::shape::Shape;
 
 /// Fields of one block, of two arraylets and of three.
@@ -99,19 +101,24 @@ fn touch(session: &Session, random: &mut Random) -> Plan {
     }
 }
 
-/// A new object of some size, the larger the more rarely.
-fn grow(random: &mut Random) -> Plan {
+/// A new object of some size, the larger the more rarely. Under the second rules one more field is asked for now and then
+/// than an object may have.
+fn grow(rules: Rules, random: &mut Random) -> Plan {
+    let most = match rules {
+        Rules::First => SPINE_FIELDS,
+        Rules::Second => u32::MAX,
+    };
     match random.below(100) {
         0..=64 => enlarge(small_slot(random), random.one_of(&SMALL), random),
         65..=91 => enlarge(middle_slot(random), random.one_of(&MIDDLE), random),
-        92..=97 => enlarge(TALL_SLOT, random.one_of(&TALL), random),
-        _ => enlarge(TALL_SLOT, random.one_of(&TALLEST), random),
+        92..=97 => enlarge(TALL_SLOT, random.one_of(&TALL).min(most), random),
+        _ => enlarge(TALL_SLOT, random.one_of(&TALLEST).min(most), random),
     }
 }
 
-pub(crate) fn plan(session: &Session, random: &mut Random) -> Plan {
+pub(crate) fn plan(session: &Session, rules: Rules, random: &mut Random) -> Plan {
     match random.below(100) {
-        0..=44 => grow(random),
+        0..=44 => grow(rules, random),
         45..=79 => touch(session, random),
         80..=84 => Plan::of(&[copy(small_slot(random), middle_slot(random))]),
         85..=89 => Plan::of(&[clear(middle_slot(random)), clear(small_slot(random))]),

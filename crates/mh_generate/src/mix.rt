@@ -59,14 +59,10 @@ impl Mix {
         }
     }
 
-    /// Begins the next event, and gives the control that it is, if it is one.
+    /// Begins the next event, and gives the control that it is by chance, if it is one.
     pub(crate) fn begin_event(&mut self) -> Option<Control> {
         self.done = self.done.saturating_add(1);
-        if controls::is_due(&mut self.random, self.options.config) {
-            Some(controls::control(&mut self.random, self.options.config))
-        } else {
-            None
-        }
+        controls::control(&mut self.random, &self.options)
     }
 
     /// The profile whose turn it is.
@@ -103,6 +99,7 @@ impl Mix {
         let profile = self.profile();
         let Options {
             config,
+            rules,
             sessions,
             ..
         } = self.options;
@@ -113,11 +110,16 @@ impl Mix {
             return refusals::strange(session, random);
         }
         match profile {
-            Profile::Churn | Profile::Mixed => churn::plan(session, random),
+            Profile::Churn
+            | Profile::Barriers
+            | Profile::Comb
+            | Profile::Race
+            | Profile::Cycles
+            | Profile::Mixed => churn::plan(session, random),
             Profile::Lists => lists::plan(random),
             Profile::Trees => trees::plan(session, random),
             Profile::Wide => wide::plan(session, random),
-            Profile::Large => large::plan(session, random),
+            Profile::Large => large::plan(session, rules, random),
             Profile::Fragments => {
                 let entries = (config.pages / u32::from(sessions)).clamp(4, SPINE_FIELDS);
                 let fields = self.done / ROUND % SIZES * SIZE_STEP % SIZES;
@@ -145,10 +147,13 @@ impl Mix {
         if self.is_ending() {
             return Command::End;
         }
-        let command = match self.sessions[who].plan.take() {
+        let mut command = match self.sessions[who].plan.take() {
             Some(command) => command,
             None => self.begin_plan(who),
         };
+        if self.profile() != Profile::Refusals {
+            command = self.sessions[who].mended(command);
+        }
         self.sessions[who].note(command);
         command
     }

@@ -27,16 +27,20 @@ impl Names {
     }
 
     /// The session that is wished for, or one before it that was named, or is the next.
-    pub(crate) fn admit(&mut self, wished: u8) -> u8
-        ensures next { result ≤ self.old.named }
-        ensures below { result < self.old.most }
-        ensures named { self.new.named ≡ (if nat_lt result self.old.named || nat_le 8 self.old.named then self.old.named else suc self.old.named) }
+    pub(crate) fn nearest(&self, wished: u8) -> u8
+        ensures next { result ≤ self.now.named }
+        ensures below { result < self.now.most }
+    {
+        wished.min(self.named).min(self.most - 1)
+    }
+
+    /// Notes that a session has a command.
+    pub(crate) fn note(&mut self, who: u8)
+        ensures named { self.new.named ≡ (if nat_lt who self.old.named || nat_le 8 self.old.named then self.old.named else suc self.old.named) }
         ensures most { self.new.most ≡ self.old.most }
     {
-        let who = wished.min(self.named).min(self.most - 1);
-        if who == self.named && self.named < NAMES {
+        if who >= self.named && self.named < NAMES {
             self.named += 1;
         }
-        who
     }
 }

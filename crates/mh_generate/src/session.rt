@@ -3,6 +3,7 @@
 
 use crate::plan::Plan;
 use crate::random::SLOTS;
+use crate::say::make;
 use mh_model::command::Command;
 use mh_model::shape::Shape;
 
@@ -64,6 +65,23 @@ impl Session {
             Command::Take { slot, .. } => self.remember(slot, SOMETHING),
             Command::Clear { slot } => self.remember(slot, NOTHING),
             _ => {}
+        }
+    }
+
+    /// The command, or a new object in the slot that it would most likely find empty.
+    pub(crate) fn mended(&self, command: Command) -> Command {
+        let slot = match command {
+            Command::Get { source, .. } => source,
+            Command::Put { slot, .. }
+            | Command::Read { slot, .. }
+            | Command::Write { slot, .. }
+            | Command::Shape { slot } => slot,
+            _ => return command,
+        };
+        if self.shape(slot) == NOTHING {
+            make(slot, 2, 2)
+        } else {
+            command
         }
     }
 }

@@ -1,5 +1,7 @@
 -- What is given of a configuration, within its limits.
 use Rattle.std.specs.Prelude.{ℕ, nat_le, Bool, true, false, ◌&&◌, Option, None, Some}
+use Rattle.mh_orders.specs.declared.generate_options.Controls.{Controls}
+use Rattle.mh_orders.specs.declared.generate_options.Controls.TheVariants as controls
 use Rattle.mh_orders.specs.declared.heap_options.HeapQuantum.{HeapQuantum}
 use Rattle.mh_orders.specs.declared.heap_options.HeapQuantum.TheVariants as chosen
 use Rattle.mh_orders.specs.declared.target_options.Given.{Given}
@@ -32,3 +34,9 @@ abbrev pub is_quantum_chosen : HeapQuantum → Bool
 is_quantum_chosen chosen.Least = false
 is_quantum_chosen (chosen.Given quantum) = true
 is_quantum_chosen (chosen.Share target) = true
+
+-- and so is after how many events a script asks for a quantum
+abbrev pub is_controls_within : Controls → Bool
+is_controls_within controls.ByChance = true
+is_controls_within (controls.Each events) = is_between 1 1000000 events
+is_controls_within controls.Never = true

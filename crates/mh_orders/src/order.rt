@@ -63,6 +63,8 @@ pub enum Order {
     /// Check the history on standard input, of either version, by what its sessions see, under these rules or else those that
     /// it names.
     CheckSessions(Option<Rules>),
+    /// Check the log of threads on standard input, and its order, under these rules.
+    CheckLog(Rules),
     /// Audit the history on standard input, of version 2.
     Audit,
     /// Write the history on standard input, of version 1, as version 2.

@@ -21,13 +21,21 @@ pub enum Profile {
     Fragments,
     /// Commands that are refused, for each reason.
     Refusals,
-    /// The others in turn.
+    /// References that are moved, hidden and cut while the collector looks for them.
+    Barriers,
+    /// Objects with thousands of references, so that as many objects are grey at once.
+    Comb,
+    /// Sessions that share few objects, and never write one number twice.
+    Race,
+    /// Few objects that live, so that hundreds of cycles come.
+    Cycles,
+    /// The first seven in turn.
     Mixed,
 }
 
 /// A text that names no profile.
 #[derive(Clone, Copy, Debug, PartialEq, Eq, Error)]
-#[error("not churn, lists, trees, wide, large, frag, refusals or mixed")]
+#[error("not churn, lists, trees, wide, large, frag, refusals, barriers, comb, race, cycles or mixed")]
 pub struct UnknownProfile;
 
 impl FromStr for Profile {
@@ -46,6 +54,10 @@ impl FromStr for Profile {
             "large" => Ok(Profile::Large),
             "frag" => Ok(Profile::Fragments),
             "refusals" => Ok(Profile::Refusals),
+            "barriers" => Ok(Profile::Barriers),
+            "comb" => Ok(Profile::Comb),
+            "race" => Ok(Profile::Race),
+            "cycles" => Ok(Profile::Cycles),
             "mixed" => Ok(Profile::Mixed),
             _ => Err(UnknownProfile),
         }

@@ -4,8 +4,10 @@ use Rattle.std.specs.Io.KnownBytes.{Appends}
 use Rattle.std.specs.List.{All}
 use Rattle.mh_show.specs.OfCurve.CurveEnd.{CurveEnd}
 use Rattle.mh_show.specs.OfCurve.CurveEnd.TheVariants as curve
-use Rattle.mh_sessions.specs.OfJudging.Judgement.{Judgement}
-use Rattle.mh_sessions.specs.OfJudging.Judgement.TheVariants as judgement
+use Rattle.mh_log.specs.declared.judgement.LogJudgement.{LogJudgement}
+use Rattle.mh_log.specs.declared.judgement.LogJudgement.TheVariants as log
+use Rattle.mh_log.specs.OfSessions.Judgement.{Judgement}
+use Rattle.mh_log.specs.OfSessions.Judgement.TheVariants as judgement
 use Rattle.mh_model.specs.Bytes.{Text, line_text}
 use Rattle.mh_command_line.specs.declared.fault.LineFault.{LineFault}
 use Rattle.mh_command_line.specs.declared.fault.LineFault.TheVariants as line
@@ -64,6 +66,10 @@ line_place line = codes "metroheap: line " ++ decimal line ++ codes ": "
 abbrev pub entry_place : ℕ → Text
 entry_place number = codes "metroheap: line " ++ decimal (number + 1) ++ codes ", entry " ++ decimal number ++ codes ": "
 
+-- and one of an entry of an order
+abbrev pub order_place : ℕ → Text
+order_place number = codes "metroheap: entry " ++ decimal number ++ codes " of the order: "
+
 -- a complaint on one line: where, and what, of which each byte can be printed
 abbrev pub IsComplaint : Text → Text → Type 0
 IsComplaint place text = (what : Text) × All IsSign what × (text ≡ place ++ line_text what)
@@ -99,6 +105,12 @@ abbrev pub SaysJudgement : ErrorStream → ErrorStream → Judgement → Type 0
 SaysJudgement old new (judgement.Legal count) = SaysNothing old new
 SaysJudgement old new (judgement.Refused line reason) = SaysQuoted old new (IsComplaint (line_place line)) (line_text (codes "metroheap: the history is outside the grammar"))
 SaysJudgement old new (judgement.FirstBad number fault) = SaysQuoted old new (IsComplaint (entry_place number)) (line_text (codes "metroheap: an entry is bad"))
+
+-- of a log: nothing if its order is legal, and else where and why it isn't
+abbrev pub SaysLog : ErrorStream → ErrorStream → LogJudgement → Type 0
+SaysLog old new (log.Legal count) = SaysNothing old new
+SaysLog old new (log.Refused line reason) = SaysQuoted old new (IsComplaint (line_place line)) (line_text (codes "metroheap: the log is outside the grammar"))
+SaysLog old new (log.FirstBad number fault) = SaysQuoted old new (IsComplaint (order_place number)) (line_text (codes "metroheap: an entry is bad"))
 
 -- of the curve of a history: nothing if it was drawn, and else where and why it wasn't
 abbrev pub SaysCurve : ErrorStream → ErrorStream → CurveEnd → Type 0

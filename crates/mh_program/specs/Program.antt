@@ -5,7 +5,7 @@ use Rattle.mh_model.specs.Bytes.{Text, line_text}
 use Rattle.mh_live.specs.OfScript.ScriptFault.{ScriptFault}
 use Rattle.mh_command_line.specs.declared.fault.LineFault.{LineFault}
 use Rattle.mh_orders.specs.declared.order.Order.{Order}
-use Rattle.mh_orders.specs.declared.order.Order.TheVariants.{Run, Steps, Show, Live, Race, Check, CheckSessions, Audit, Migrate, Generate, Version, Curve, CurveHistory, Size, SizeRate, SizeTarget, SizeScript}
+use Rattle.mh_orders.specs.declared.order.Order.TheVariants.{Run, Steps, Show, Live, Race, Check, CheckSessions, CheckLog, Audit, Migrate, Generate, Version, Curve, CurveHistory, Size, SizeRate, SizeTarget, SizeScript}
 use Rattle.mh_orders.specs.declared.order.Form.{Form}
 use Rattle.mh_orders.specs.declared.order.Form.TheVariants.{Replies, History}
 use Rattle.mh_live.specs.OfScript.ScriptFault.TheVariants.{Write, NoMemory}
@@ -15,13 +15,14 @@ use Rattle.mh_live.specs.OfScript.End.TheVariants.{Done}
 use Rattle.mh_show.specs.OfCurve.Runs.{IsDrawing, curve_output}
 use Rattle.mh_orders.specs.declared.generate_options.Options.{Options}
 use Rattle.mh_generate.specs.Generated.{WritesAsked}
-use Rattle.mh_sessions.specs.OfJudging.Judged.{IsAuditing, IsChecking, IsMigrating}
+use Rattle.mh_log.specs.OfSessions.Judged.{IsAuditing, IsChecking, IsMigrating}
 use Rattle.mh_race_text.specs.Raced.{IsRaceRun}
-use Rattle.mh_sessions.specs.OfJudging.RunHistory.{IsHistoryRun}
+use Rattle.mh_log.specs.OfSessions.RunHistory.{IsHistoryRun}
 use Rattle.mh_live.specs.Feeding.{IsLiveRun}
 use Rattle.mh_model.specs.RunHistories.{output_under}
 use Rattle.mh_model.specs.declared.config.Rules.{Rules}
-use Rattle.mh_sessions.specs.Texts.{IsSessionsJudging}
+use Rattle.mh_log.specs.OfSessions.Texts.{IsSessionsJudging}
+use Rattle.mh_log.specs.Judgements.{IsLogJudging}
 use Rattle.mh_live.specs.OfScript.Run.{Device, IsRun, transcript}
 use Rattle.mh_show.specs.Page.{page_text}
 use Rattle.mh_size_text.specs.Heaps.{IsHeapText}
@@ -29,8 +30,8 @@ use Rattle.mh_size_text.specs.Rates.{IsRateText}
 use Rattle.mh_size_text.specs.Scripts.{IsSizing}
 use Rattle.mh_size_text.specs.Targets.{IsTargetText}
 use Rattle.mh_show.specs.OfTelling.Steps.{told_text}
-use Rattle.mh_program.specs.Status.{judgement_status_of, line_status_of, live_status_of, status_of, curve_status_of}
-use Rattle.mh_program.specs.Complaints.{ErrorStream, SaysEnd, SaysFault, SaysJudgement, SaysLine, SaysRefusals, SaysRun, SaysCurve}
+use Rattle.mh_program.specs.Status.{judgement_status_of, line_status_of, live_status_of, log_status_of, status_of, curve_status_of}
+use Rattle.mh_program.specs.Complaints.{ErrorStream, SaysEnd, SaysFault, SaysJudgement, SaysLine, SaysLog, SaysRefusals, SaysRun, SaysCurve}
 
 -- the line that names the version, the rules and the versions of histories, and what proved them
 abbrev pub version_text : Text
@@ -92,6 +93,7 @@ Serves (Ok (Live workers)) source source' sink sink' errors errors' status = Ans
 Serves (Ok (Race workers)) source source' sink sink' errors errors' status = Obeys (IsRaceRun source source' sink sink') (SaysRun SaysEnd) status_of errors errors' status
 Serves (Ok (Check config)) source source' sink sink' errors errors' status = Obeys (IsChecking config source source' sink sink') (SaysRun SaysJudgement) judgement_status_of errors errors' status
 Serves (Ok (CheckSessions asked)) source source' sink sink' errors errors' status = Obeys (IsSessionsJudging asked source source' sink sink') (SaysRun SaysJudgement) judgement_status_of errors errors' status
+Serves (Ok (CheckLog rules)) source source' sink sink' errors errors' status = Obeys (IsLogJudging rules source source' sink sink') (SaysRun SaysLog) log_status_of errors errors' status
 Serves (Ok Audit) source source' sink sink' errors errors' status = Obeys (IsAuditing source source' sink sink') (SaysRun SaysJudgement) judgement_status_of errors errors' status
 Serves (Ok (Migrate config)) source source' sink sink' errors errors' status = Obeys (IsMigrating config source source' sink sink') (SaysRun SaysJudgement) judgement_status_of errors errors' status
 Serves (Ok (Curve options)) source source' sink sink' errors errors' status = Obeys (IsRun (curve_output options.form options.rules) source source' sink sink') (SaysRun SaysEnd) status_of errors errors' status

@@ -2,8 +2,10 @@
 use Rattle.std.specs.Prelude.{ℕ, Result, Ok, Err}
 use Rattle.mh_show.specs.OfCurve.CurveEnd.{CurveEnd}
 use Rattle.mh_show.specs.OfCurve.CurveEnd.TheVariants as curve
-use Rattle.mh_sessions.specs.OfJudging.Judgement.{Judgement}
-use Rattle.mh_sessions.specs.OfJudging.Judgement.TheVariants as judgement
+use Rattle.mh_log.specs.declared.judgement.LogJudgement.{LogJudgement}
+use Rattle.mh_log.specs.declared.judgement.LogJudgement.TheVariants as log
+use Rattle.mh_log.specs.OfSessions.Judgement.{Judgement}
+use Rattle.mh_log.specs.OfSessions.Judgement.TheVariants as judgement
 use Rattle.mh_live.specs.OfScript.End.{End}
 use Rattle.mh_live.specs.OfScript.End.TheVariants.{Done, Refused}
 use Rattle.mh_command_line.specs.declared.fault.LineFault.{LineFault}
@@ -27,6 +29,13 @@ judgement_status_of (Ok (judgement.Legal entries)) = 0
 judgement_status_of (Ok (judgement.Refused line reason)) = 1
 judgement_status_of (Ok (judgement.FirstBad entry fault)) = 4
 judgement_status_of (Err fault) = 3
+
+-- the same for a log, with an order that is legal or isn't
+abbrev pub log_status_of : Result LogJudgement ScriptFault → ℕ
+log_status_of (Ok (log.Legal commands)) = 0
+log_status_of (Ok (log.Refused line reason)) = 1
+log_status_of (Ok (log.FirstBad entry fault)) = 4
+log_status_of (Err fault) = 3
 
 -- 0 for a curve of a history, 1 for a text that was refused as one, 3 for a fault
 abbrev pub curve_status_of : Result CurveEnd ScriptFault → ℕ

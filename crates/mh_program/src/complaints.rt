@@ -7,7 +7,7 @@ ghost use Rattle.std.specs.Prelude.{◌≡◌, ◌+◌, IfOk, MatchResult};
 ghost use Rattle.std.specs.String.{string_bytes};
 ghost use Rattle.mh_model.specs.Bytes.{line_text};
 ghost use Rattle.mh_command_line.specs.Printable.{IsPrintable};
-ghost use Rattle.mh_program.specs.Complaints.{IsComplaint, More, None, Says, SaysCurve, SaysEnd, SaysFault, SaysJudgement, SaysLine, SaysRefusal, SaysRefusals, SaysRun, SaysWords, entry_place, fault_text, line_place, outside_text};
+ghost use Rattle.mh_program.specs.Complaints.{IsComplaint, More, None, Says, SaysCurve, SaysEnd, SaysFault, SaysJudgement, SaysLine, SaysLog, SaysRefusal, SaysRefusals, SaysRun, SaysWords, entry_place, fault_text, line_place, order_place, outside_text};
 
 use crate::errors::Errors;
 use mh_command_line::fault::LineFault;
@@ -16,8 +16,9 @@ use mh_live::listener::Listener;
 use mh_live::mh_script::end::{End, LineRefusal};
 use mh_live::mh_script::fault::{HISTORY_FULL, NO_MEMORY, READ_FAILED, ScriptFault, WRITE_FAILED};
 use mh_live::mh_script::mh_reasons::history_reason::HistoryReason;
+use mh_log::judgement::LogJudgement;
+use mh_log::mh_sessions::mh_judging::judgement::Judgement;
 use mh_orders::order::ConfigOption;
-use mh_sessions::mh_judging::judgement::Judgement;
 use mh_show::mh_curve::end::CurveEnd;
 use mh_text::sink::Sink;
 use std::alloc::{AllocError, Global};
@@ -72,6 +73,12 @@ fn entry_place(alloc: Global, number: u64) -> Result<String, AllocError>
     Ok(place)
 }
 
+fn order_place(alloc: Global, number: u64) -> Result<String, AllocError>
+    ensures { IfOk result (λ place. string_bytes place ≡ order_place number) }
+{
+    format!(in alloc; "metroheap: entry {number} of the order: ")
+}
+
 /// A line that says at which place what is wrong.
 fn complaint<T: fmt::Display>(alloc: Global, place: String, what: &T) -> Result<Vec<u8>, AllocError>
     ensures { IfOk result (λ text. IsComplaint (string_bytes place) text.items) }
@@ -103,6 +110,17 @@ fn entry_complaint<T: fmt::Display>(
     ensures { IfOk result (λ text. IsComplaint (entry_place number) text.items) }
 {
     let place = entry_place(alloc, number)?;
+    complaint(alloc, place, what)
+}
+
+fn order_complaint<T: fmt::Display>(
+    alloc: Global,
+    number: u64,
+    what: &T,
+) -> Result<Vec<u8>, AllocError>
+    ensures { IfOk result (λ text. IsComplaint (order_place number) text.items) }
+{
+    let place = order_place(alloc, number)?;
     complaint(alloc, place, what)
 }
 
@@ -236,6 +254,32 @@ impl<E: Sink> Errors<E> {
     {
         match ended {
             Ok(judgement) => self.say_found(judgement),
+            Err(fault) => self.say(fault_line(*fault)),
+        }
+    }
+
+    fn say_log_found(&mut self, judgement: &LogJudgement)
+        ensures { SaysLog self.old self.new judgement.now }
+    {
+        match judgement {
+            LogJudgement::Legal(_) => {}
+            LogJudgement::Refused { line, reason } => {
+                let text = line_complaint(self.alloc(), *line, reason);
+                self.say_quoted(text, b"metroheap: the log is outside the grammar\n");
+            }
+            LogJudgement::FirstBad { number, fault } => {
+                let text = order_complaint(self.alloc(), *number, fault);
+                self.say_quoted(text, b"metroheap: an entry is bad\n");
+            }
+        }
+    }
+
+    /// Says what is wrong with a log, or the fault at which its judging ended.
+    pub(crate) fn say_log(&mut self, ended: &Result<LogJudgement, ScriptFault>)
+        ensures { SaysRun SaysLog self.old self.new ended.now }
+    {
+        match ended {
+            Ok(judgement) => self.say_log_found(judgement),
             Err(fault) => self.say(fault_line(*fault)),
         }
     }

@@ -8,6 +8,7 @@
 //! blamed. The exit status is that of an end which some text has. Over memory they are exact.
 #![tactic(auto)]
 
+pub use mh_live;
 pub use mh_show;
 
 mod complaints;

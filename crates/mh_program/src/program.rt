@@ -11,12 +11,13 @@ ghost use Rattle.mh_command_line.specs.declared.fault.LineFault.{LineFault};
 ghost use Rattle.mh_orders.specs.declared.order.Order.{Order};
 ghost use Rattle.mh_command_line.specs.Orders.{HasFewWorkers, HasFirstRules, OrdersBy};
 ghost use Rattle.mh_program.specs.Program.{AnswersLines, IsRunBy, Obeys, Serves, WritesScript, WritesVersion};
-ghost use Rattle.mh_program.specs.Complaints.{SaysEnd, SaysFault, SaysJudgement, SaysRun};
-ghost use Rattle.mh_program.specs.Status.{judgement_status_of, status_of};
+ghost use Rattle.mh_program.specs.Complaints.{SaysEnd, SaysFault, SaysJudgement, SaysLog, SaysRun};
+ghost use Rattle.mh_program.specs.Status.{judgement_status_of, log_status_of, status_of};
 ghost use Rattle.mh_model.specs.declared.config.Rules.TheVariants.{First};
-ghost use Rattle.mh_sessions.specs.OfJudging.Judged.{IsAuditing, IsChecking, IsMigrating};
+ghost use Rattle.mh_log.specs.OfSessions.Judged.{IsAuditing, IsChecking, IsMigrating};
 ghost use Rattle.mh_race_text.specs.Raced.{IsRaceRun};
-ghost use Rattle.mh_sessions.specs.Texts.{IsSessionsJudging};
+ghost use Rattle.mh_log.specs.Judgements.{IsLogJudging};
+ghost use Rattle.mh_log.specs.OfSessions.Texts.{IsSessionsJudging};
 ghost use Rattle.mh_live.specs.OfScript.Run.{IsRun, device, transcript};
 ghost use Rattle.mh_show.specs.Page.{page_text};
 ghost use Rattle.mh_show.specs.OfTelling.Steps.{told_text};
@@ -24,7 +25,7 @@ ghost use Rattle.mh_show.specs.OfTelling.Steps.{told_text};
 use crate::errors::Errors;
 use crate::run_curve::{draw_history, draw_script};
 use crate::run_size::{size_heap, size_needs, size_rate, size_target};
-use crate::status::{judgement_status, line_status, live_status, status};
+use crate::status::{judgement_status, line_status, live_status, log_status, status};
 use mh_command_line::fault::LineFault;
 use mh_command_line::order::line_order;
 use mh_command_line::version::VERSION_LINE;
@@ -34,14 +35,15 @@ use mh_live::mh_scan::crew_scan::CrewGate;
 use mh_live::mh_script::end::End;
 use mh_live::mh_script::fault::{ScriptFault, WriteError};
 use mh_live::mh_script::run::run_script;
+use mh_log::mh_sessions::mh_judging::judge::{audit_script, check_script};
+use mh_log::mh_sessions::mh_judging::migrate::migrate_script;
+use mh_log::mh_sessions::mh_judging::run_history::run_history;
+use mh_log::mh_sessions::texts::check_sessions;
+use mh_log::texts::check_log;
 use mh_model::config::{Config, Rules};
 use mh_orders::generate_options::Options;
 use mh_orders::order::{Form, Order, RunOptions, StepsOptions};
 use mh_race_text::race::race_script;
-use mh_sessions::mh_judging::judge::{audit_script, check_script};
-use mh_sessions::mh_judging::migrate::migrate_script;
-use mh_sessions::mh_judging::run_history::run_history;
-use mh_sessions::texts::check_sessions;
 use mh_show::mh_steps::run::tell_script;
 use mh_show::run::show_script;
 use mh_text::sink::Sink;
@@ -243,6 +245,26 @@ fn check_seen<S: Source, W: Sink, E: Sink>(
     judgement_status(&ended)
 }
 
+/// Checks a log with its order, and reports a fault of that.
+fn check_order<S: Source, W: Sink, E: Sink>(
+    alloc: Global,
+    rules: Rules,
+    source: &mut S,
+    sink: &mut W,
+    errors: &mut Errors<E>,
+) -> u8
+    requires source_count { S.failures source.old < 2 ^ 62 }
+    requires sink_count { W.failures sink.old < 2 ^ 62 }
+    ensures { Obeys (IsLogJudging rules
+        (device (S.rest source.old) (S.failures source.old)) (device (S.rest source.new) (S.failures source.new))
+        (device (W.written sink.old) (W.failures sink.old)) (device (W.written sink.new) (W.failures sink.new))) (SaysRun SaysLog) log_status_of
+        errors.old errors.new result }
+{
+    let ended = check_log(alloc, rules, source, sink);
+    errors.say_log(&ended);
+    log_status(&ended)
+}
+
 /// Audits a history, and reports a fault of that.
 fn audit<S: Source, W: Sink, E: Sink>(
     alloc: Global,
@@ -362,6 +384,7 @@ pub fn serve<R: Threads + Wait + Sync, S: Source, W: Sink, E: Sink, G: CrewGate 
         Ok(Order::Race(workers)) => race(rt, alloc, workers, source, sink, errors, gate),
         Ok(Order::Check(config)) => check(alloc, config, source, sink, errors),
         Ok(Order::CheckSessions(asked)) => check_seen(alloc, asked, source, sink, errors),
+        Ok(Order::CheckLog(rules)) => check_order(alloc, rules, source, sink, errors),
         Ok(Order::Audit) => audit(alloc, source, sink, errors),
         Ok(Order::Migrate(config)) => migrate(alloc, config, source, sink, errors),
         Ok(Order::Curve(options)) => { draw_script(rt, alloc, options, source, sink, errors, gate) }

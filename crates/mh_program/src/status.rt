@@ -1,12 +1,13 @@
 //! The exit status of each end. It is 0 if all went well, 1 for a text that is refused, 2 for words that are. It is 3
 //! for a fault, and 4 for a history that isn't legal.
 ghost use Rattle.std.specs.Prelude.{◌≡◌};
-ghost use Rattle.mh_program.specs.Status.{curve_status_of, judgement_status_of, line_status_of, live_status_of, status_of};
+ghost use Rattle.mh_program.specs.Status.{curve_status_of, judgement_status_of, line_status_of, live_status_of, log_status_of, status_of};
 
 use mh_command_line::fault::LineFault;
 use mh_live::mh_script::end::End;
 use mh_live::mh_script::fault::ScriptFault;
-use mh_sessions::mh_judging::judgement::Judgement;
+use mh_log::judgement::LogJudgement;
+use mh_log::mh_sessions::mh_judging::judgement::Judgement;
 use mh_show::mh_curve::end::CurveEnd;
 
 /// The exit status that a run of a script gives the program.
@@ -38,6 +39,18 @@ pub fn judgement_status(ended: &Result<Judgement, ScriptFault>) -> u8
         Ok(Judgement::Legal(_)) => 0,
         Ok(Judgement::Refused { .. }) => 1,
         Ok(Judgement::FirstBad { .. }) => 4,
+        Err(_) => 3,
+    }
+}
+
+/// The exit status that the judgement of a log gives the program.
+pub fn log_status(ended: &Result<LogJudgement, ScriptFault>) -> u8
+    ensures { result ≡ log_status_of ended.now }
+{
+    match ended {
+        Ok(LogJudgement::Legal(_)) => 0,
+        Ok(LogJudgement::Refused { .. }) => 1,
+        Ok(LogJudgement::FirstBad { .. }) => 4,
         Err(_) => 3,
     }
 }

@@ -366,7 +366,7 @@ s0 put 1 0 0
 s0 put 1 1 4
 s0 copy 0 1
 s1 put 3 0 9
-s0 write 13 0 12816369009886135965
+s0 new 13 2 2
 s1 new 0 16 0
 s0 new 1 2 3
 s0 put 1 0 0

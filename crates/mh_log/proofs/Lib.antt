@@ -1,0 +1,11 @@
+pub mod PendingLemmas
+pub mod LogLemmas
+pub mod TimedLemmas
+pub mod OrderLemmas
+pub mod LateLemmas
+pub mod LinearLemmas
+pub mod LawLemmas
+pub mod ReasonLemmas
+pub mod ReplayLemmas
+pub mod JudgedLemmas
+pub mod TextLemmas

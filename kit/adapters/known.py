@@ -1,0 +1,116 @@
+"""The adapters of kit/adapters: how each is built and run, and its modes."""
+from __future__ import annotations
+
+from dataclasses import dataclass
+
+
+@dataclass(frozen=True)
+class Mode:
+    """A way to run an adapter. Commands have the folder of the adapters as {here}, of what was built as {built}."""
+    name: str
+    words: str
+    # A command that fails where there is no such mode.
+    probe: str = "true"
+    # Whether it takes so long that it is judged with --all alone.
+    is_slow: bool = False
+
+
+@dataclass(frozen=True)
+class Adapter:
+    """How an adapter is built and run. In `program` two braces stand where the judge puts a mode's words."""
+    name: str
+    package: str
+    # A command that fails where its compiler or its library isn't there.
+    probe: str
+    builds: tuple[str, ...]
+    program: str
+    modes: tuple[Mode, ...]
+    # Whether a collection takes so long that only small scripts are judged without --all.
+    is_dear: bool = False
+    # Whether sessions are threads, so that it answers with logs.
+    has_threads: bool = False
+
+
+def header(name: str, folder: str = "/usr/include") -> str:
+    return f"cc -I{folder} -fsyntax-only -include {name} -x c /dev/null"
+
+
+LUA = Adapter("lua", "liblua5.4-dev", header("lua.h", "/usr/include/lua5.4"),
+              ("cc -O2 -I/usr/include/lua5.4 -o {built}/lua lua.c lua_fields.c front.c -llua5.4",), "{built}/lua", (
+                  Mode("incremental", "incremental"),
+                  Mode("incremental, few steps", "incremental 5"),
+                  Mode("generational", "generational 3"),
+                  Mode("switching", "switching"),
+                  Mode("emergency", "emergency")))
+
+BOEHM = Adapter("boehm", "libgc-dev", header("gc.h"),
+                ("cc -O2 -o {built}/boehm boehm.c front.c -lgc",), "{built}/boehm", (
+                    Mode("stopped", "stopped 3"),
+                    Mode("protected", "protected"),
+                    Mode("manual", "manual"),
+                    Mode("manual, few steps", "manual 3")))
+
+
+def ocaml(name: str, policy: int, words: str, program: str = "ocaml") -> Mode:
+    return Mode(name, f"OCAMLRUNPARAM=s=256,h=256,i=256,o=5,a={policy} {{built}}/{program} {words}")
+
+
+# Each compiler writes its files beside the source, so that is a copy.
+OCAML = Adapter("ocaml", "ocaml-nox", "ocamlopt -version",
+                ("cp ocaml.ml {built}/adapter.ml", "ocamlopt -o {built}/ocaml {built}/adapter.ml",
+                 "ocamlopt -runtime-variant d -o {built}/ocaml_debug {built}/adapter.ml"), "env {{}}", (
+                     ocaml("natural", 2, "natural"),
+                     ocaml("slices", 2, "slices 10"),
+                     ocaml("long slices, first fit", 1, "slices 50 3"),
+                     ocaml("minor, next fit", 0, "minor 3"),
+                     ocaml("compacting", 2, "compacting"),
+                     ocaml("debugging runtime", 2, "slices 20", "ocaml_debug")))
+
+
+JAVA_COMMAND = ("java -Xmx96m -XX:+UnlockDiagnosticVMOptions -XX:+UnlockExperimentalVMOptions -XX:-UsePerfData "
+                "-XX:TieredStopAtLevel=1")
+VERIFIED = "-XX:+VerifyBeforeGC -XX:+VerifyAfterGC"
+SHENANDOAH = "-XX:+UseShenandoahGC"
+AGGRESSIVE = f"{SHENANDOAH} -XX:ShenandoahGCHeuristics=aggressive"
+Z = "-XX:+UseZGC"
+G1 = "-XX:+UseG1GC -XX:G1HeapRegionSize=1m -XX:+ExplicitGCInvokesConcurrent -XX:MaxTenuringThreshold=0"
+
+
+def java(name: str, flags: str, words: str, is_slow: bool = False) -> Mode:
+    return Mode(name, f"{flags} Adapter {words}", f"{JAVA_COMMAND} {flags} -version", is_slow)
+
+
+JAVA = Adapter("java", "default-jdk-headless", "javac -version", ("javac -d {built} Adapter.java Heap.java Item.java",),
+               JAVA_COMMAND + " -cp {built} {{}}", (
+                   java("serial", "-XX:+UseSerialGC -Xmn1m", "100000"),
+                   java("serial, verified", f"-XX:+UseSerialGC -Xmn1m {VERIFIED}", "5000", is_slow=True),
+                   java("parallel", "-XX:+UseParallelGC -Xmn2m", "100000"),
+                   java("g1", G1, "always 20000"),
+                   java("g1, verified", f"{G1} {VERIFIED}", "always 20000", is_slow=True),
+                   java("shenandoah", AGGRESSIVE, "always 20000"),
+                   java("shenandoah, verified", f"{AGGRESSIVE} -XX:+ShenandoahVerify", "always 20000", is_slow=True),
+                   java("generational shenandoah", f"{SHENANDOAH} -XX:ShenandoahGCMode=generational", "always 20000"),
+                   java("z", Z, "always 20000"),
+                   java("z, verified", f"{Z} -XX:+ZVerifyRoots -XX:+ZVerifyObjects", "always 20000", is_slow=True)),
+               is_dear=True)
+
+GO = Adapter("go", "golang-go", "go version",
+             ("env GO111MODULE=off GOCACHE={built}/cache go build -o {built}/go adapter.go heap.go object.go",),
+             "env GOGC=1 {{}}", (
+                 Mode("always", "GODEBUG=clobberfree=1 {built}/go always 20000"),
+                 Mode("checked", "GODEBUG=clobberfree=1,gccheckmark=1 {built}/go always 20000"),
+                 Mode("litter", "GODEBUG=clobberfree=1 {built}/go 100000"),
+                 Mode("stopped", "GODEBUG=clobberfree=1,gcstoptheworld=1 {built}/go 100000")), is_dear=True)
+
+CPYTHON = Adapter("cpython", "python3", "true", (), "env PYTHONMALLOC=debug {python} -S {here}/cpython.py", (
+    Mode("young", "0"),
+    Mode("all", "2 3"),
+    Mode("automatic", "automatic")))
+
+THREADS = Adapter("threads", "default-jdk-headless", "javac -version", ("javac -d {built} Threads.java",),
+                  JAVA_COMMAND + " -cp {built} {{}}", (
+                      Mode("serial", "-XX:+UseSerialGC Threads"),
+                      Mode("shenandoah", f"{AGGRESSIVE} Threads 1000 20000", f"{JAVA_COMMAND} {AGGRESSIVE} -version"),
+                      Mode("z", f"{Z} Threads 1000 20000", f"{JAVA_COMMAND} {Z} -version")), has_threads=True)
+
+ALL = (LUA, BOEHM, OCAML, JAVA, GO, CPYTHON, THREADS)
