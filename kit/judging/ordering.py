@@ -5,7 +5,8 @@ The search is that of Wing and Gong (Testing and verifying concurrent objects, 1
 """
 from __future__ import annotations
 
-from collections.abc import Iterator
+import itertools
+from collections.abc import Iterator, Sequence
 from dataclasses import dataclass
 from typing import Union
 
@@ -46,12 +47,18 @@ class Spent(Exception):
     """As many states were looked at as may be."""
 
 
+def earliest_ends(commands: Sequence[Logged]) -> list[int]:
+    """Of each command the least end of it and those behind it."""
+    return [*itertools.accumulate((command.end for command in reversed(commands)), min)][::-1]
+
+
 class Search:
     """A walk through the orders of a log, from a state to those behind it."""
 
     def __init__(self, log: Log, most_states: int) -> None:
         self.most_states = most_states
         self.commands = log.of_sessions()
+        self.earliest = {session: earliest_ends(commands) for session, commands in self.commands.items()}
         self.done = {session: 0 for session in self.commands}
         self.world = World()
         self.order: list[Logged] = []
@@ -60,10 +67,10 @@ class Search:
         self.stopped = Stopped((), (), 0)
 
     def choices(self) -> list[Logged]:
-        """The commands that may come next: the next one of each session that began before any other had ended."""
-        heads = [commands[self.done[session]] for session, commands in self.commands.items()
-                 if self.done[session] < len(commands)]
-        limit = min((command.end for command in heads), default=0)
+        """The commands that may come next: the next one of each session that began before any that is left had ended."""
+        left = [session for session, commands in self.commands.items() if self.done[session] < len(commands)]
+        heads = [self.commands[session][self.done[session]] for session in left]
+        limit = min((self.earliest[session][self.done[session]] for session in left), default=0)
         return sorted((command for command in heads if command.begin <= limit), key=lambda it: it.end)
 
     def right_reply(self, command: Logged) -> str:
@@ -95,7 +102,8 @@ class Search:
 
     def note_stop(self, choices: list[Logged]) -> None:
         """Keeps the longest beginning, with what is right of the commands that may come next there."""
-        if self.stopped.next and len(self.order) <= len(self.stopped.beginning):
+        longest = len(self.stopped.beginning)
+        if len(self.order) < longest or (len(self.order) == longest and self.stopped.next):
             return
         rights = []
         for command in choices:

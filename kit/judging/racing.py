@@ -34,7 +34,8 @@ class Disordered:
 
     def text(self) -> Iterator[str]:
         commands, beginning = len(self.log.commands), len(self.stopped.beginning)
-        yield f"no order of {commands} commands is right; {beginning} can come first, and then each of these is wrong:"
+        then = "each of these is wrong:" if self.stopped.next else "each other began after one of them had ended"
+        yield f"no order of {commands} commands is right; {beginning} can come first, and then {then}"
         for command, right in self.stopped.next[:MOST_TOLD]:
             said = "which leads to no order" if right == command.reply else f"and right is `{right}`"
             yield f"`{command.text}`, {said}"
