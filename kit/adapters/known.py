@@ -80,7 +80,7 @@ def java(name: str, flags: str, words: str, is_slow: bool = False) -> Mode:
     return Mode(name, f"{flags} Adapter {words}", f"{JAVA_COMMAND} {flags} -version", is_slow)
 
 
-JAVA = Adapter("java", "default-jdk-headless", "javac -version", ("javac -d {built} Adapter.java Heap.java Item.java",),
+JAVA = Adapter("java", "default-jdk-headless", "javac --release 17 -version", ("javac -d {built} Adapter.java Heap.java Item.java",),
                JAVA_COMMAND + " -cp {built} {{}}", (
                    java("serial", "-XX:+UseSerialGC -Xmn1m", "100000"),
                    java("serial, verified", f"-XX:+UseSerialGC -Xmn1m {VERIFIED}", "5000", is_slow=True),
@@ -107,7 +107,7 @@ CPYTHON = Adapter("cpython", "python3", "true", (), "env PYTHONMALLOC=debug {pyt
     Mode("all", "2 3"),
     Mode("automatic", "automatic")))
 
-THREADS = Adapter("threads", "default-jdk-headless", "javac -version", ("javac -d {built} Threads.java",),
+THREADS = Adapter("threads", "default-jdk-headless", "javac --release 17 -version", ("javac -d {built} Threads.java",),
                   JAVA_COMMAND + " -cp {built} {{}}", (
                       Mode("serial", "-XX:+UseSerialGC Threads"),
                       Mode("shenandoah", f"{AGGRESSIVE} Threads 1000 20000", f"{JAVA_COMMAND} {AGGRESSIVE} -version"),
