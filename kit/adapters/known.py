@@ -43,8 +43,8 @@ LUA = Adapter("lua", "liblua5.4-dev", header("lua.h", "/usr/include/lua5.4"),
                   Mode("switching", "switching"),
                   Mode("emergency", "emergency")))
 
-BOEHM = Adapter("boehm", "libgc-dev", header("gc.h"),
-                ("cc -O2 -o {built}/boehm boehm.c front.c -lgc",), "{built}/boehm", (
+LIBGC = Adapter("libgc", "libgc-dev", header("gc.h"),
+                ("cc -O2 -o {built}/libgc libgc.c front.c -lgc",), "{built}/libgc", (
                     Mode("stopped", "stopped 3"),
                     Mode("protected", "protected"),
                     Mode("manual", "manual"),
@@ -113,4 +113,4 @@ THREADS = Adapter("threads", "default-jdk-headless", "javac --release 17 -versio
                       Mode("shenandoah", f"{AGGRESSIVE} Threads 1000 20000", f"{JAVA_COMMAND} {AGGRESSIVE} -version"),
                       Mode("z", f"{Z} Threads 1000 20000", f"{JAVA_COMMAND} {Z} -version")), has_threads=True)
 
-ALL = (LUA, BOEHM, OCAML, JAVA, GO, CPYTHON, THREADS)
+ALL = (LUA, LIBGC, OCAML, JAVA, GO, CPYTHON, THREADS)

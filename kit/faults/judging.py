@@ -74,7 +74,7 @@ def events_in(report: str) -> int:
 
 
 def adapter_of(collector: Collector) -> Adapter:
-    return next(each for each in ALL if each.name == collector.adapter)
+    return next(each for each in ALL if each.name == collector.name)
 
 
 class Bench:

@@ -83,7 +83,7 @@ FAULTS = (
 OPTIONS = "-O1 -w -fno-strict-aliasing -DGC_ATOMIC_UNCOLLECTABLE -DNO_EXECUTE_PERMISSION -DUSE_MMAP -DUSE_MUNMAP"
 
 LIBGC = Collector(
-    "libgc", "boehm", "libgc", (),
+    "libgc", "libgc", (),
     (f"cc {OPTIONS} -I{{tree}}/include -c -o {{built}}/gc.o {{tree}}/extra/gc.c",
-     "cc -O2 -I{tree}/include -o {built}/boehm {here}/boehm.c {here}/front.c {built}/gc.o"),
+     "cc -O2 -I{tree}/include -o {built}/libgc {here}/libgc.c {here}/front.c {built}/gc.o"),
     FAULTS)

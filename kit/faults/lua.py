@@ -89,7 +89,7 @@ SEEDED = "cc -O2 -w -DLUA_USE_POSIX '-Dluai_makeseed(L)=1' -I{tree}/src"
 EDITED = " ".join(sorted({f"{{tree}}/{fault.file}" for fault in FAULTS}))
 
 LUA = Collector(
-    "lua", "lua", "lua5.4",
+    "lua", "lua5.4",
     (f"mkdir -p {{built}}/objects && cd {{built}}/objects && {SEEDED} -c {{tree}}/src/l*.c && rm -f lua.o luac.o",),
     (f"cd {{built}}/objects && {SEEDED} -c {EDITED}",
      f"{SEEDED} -o {{built}}/lua {{here}}/lua.c {{here}}/lua_fields.c {{here}}/front.c {{built}}/objects/*.o -lm"),

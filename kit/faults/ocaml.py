@@ -96,7 +96,7 @@ FAULTS = (
 LINKED = "ocamlopt -I {built} -o {built}/"
 
 OCAML = Collector(
-    "ocaml", "ocaml", "ocaml",
+    "ocaml", "ocaml",
     ("./configure --disable-debugger --disable-ocamldoc",),
     ("make -C runtime libasmrun.a libasmrund.a",
      "cp runtime/libasmrun.a {built}/libasmrun_planted.a && cp runtime/libasmrund.a {built}/libasmrun_checked.a",

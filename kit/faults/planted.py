@@ -39,9 +39,8 @@ class Fault:
 class Collector:
     """A released collector. Commands have the folder of its source as {tree}, that of the adapters as {here}, and that
     of what is built as {built}."""
+    # That of its adapter in kit/adapters too.
     name: str
-    # What kit/adapters calls its adapter.
-    adapter: str
     # Debian's source package.
     package: str
     # What is run once, and what after each edit.

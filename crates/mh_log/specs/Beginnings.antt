@@ -53,7 +53,7 @@ left_in [] = []
 left_in (None ∷ slots) = left_in slots
 left_in (Some timed ∷ slots) = timed ∷ left_in slots
 
--- a slot has a command of this session
+-- a slot has a command of the session with a number
 abbrev pub has_of : ℕ → Option Timed → Bool
 has_of who None = false
 has_of who (Some timed) = is_of who timed

@@ -14,7 +14,7 @@ use Rattle.mh_log.specs.declared.timed.Timed.{Timed}
 
 -- Commands ---------------------------------------------------------------------------------------
 
--- an event is a session's, and a command is one of this session
+-- an event is a session's; and it is that of the session with a number, alone and with its times
 abbrev pub is_command : Event → Bool
 is_command (event.Session who command) = true
 is_command (event.Control control) = false

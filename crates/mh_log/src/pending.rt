@@ -15,7 +15,7 @@ use std::marker::Model;
 /// How many numbers sessions have: 0 to 8.
 const NUMBERS: usize = SESSIONS + 1;
 
-/// Whether a slot has a command of this session.
+/// Whether a slot has a command of the session with a number.
 fn has_of(slot: &Option<Timed>, who: u8) -> bool
     ensures { result ≡ has_of who slot.now }
 {

@@ -40,7 +40,7 @@ pub enum CommandReason {
     NoReply,
     /// A word that is no session.
     NoSession(Quoted),
-    /// The words after this session are no command.
+    /// The words after a session are no command.
     NoCommand(Quoted),
     /// The words from this one on are no reply.
     Reply(Quoted),

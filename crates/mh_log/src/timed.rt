@@ -24,7 +24,7 @@ pub struct Timed {
 }
 
 impl Timed {
-    /// Whether it is a command of this session.
+    /// Whether it is a command of the session with a number.
     pub fn is_of(&self, who: u8) -> bool
         ensures { result ≡ is_of who self.now }
     {

@@ -1,7 +1,7 @@
 /* Answers scripts by libgc, the collector of Boehm, Demers and Weiser.
 **
-**     cc -O2 -o boehm boehm.c front.c -lgc    (Debian: libgc-dev)
-**     boehm [stopped | protected | manual] [EVERY]
+**     cc -O2 -o libgc libgc.c front.c -lgc    (Debian: libgc-dev)
+**     libgc [stopped | protected | manual] [EVERY]
 **
 ** After each EVERY commands (1) the collector works:
 **   stopped    by a whole collection
