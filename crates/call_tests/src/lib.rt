@@ -1,5 +1,5 @@
 //! Tests of calls, below texts and above: words of pages, blocks, roots, the grey list, steps of the sweep and numbers that size a
-//! heap; the heaps that never collect, quanta, runs, judges, words that are quoted and random scripts; draws, crews, locks and
+//! heap; the heaps that never collect, quanta, runs, judges, words that are quoted, random scripts and logs of pauses; draws, crews, locks and
 //! services in several threads; and what each part does when memory is refused to it.
 //!
 //! They are one crate, since most of what a crate of tests costs is building all that it stands on.
@@ -43,6 +43,8 @@ mod needs_tests;
 mod opening_tests;
 #[cfg(test)]
 mod page_tests;
+#[cfg(test)]
+mod pause_tests;
 #[cfg(test)]
 mod plain_tests;
 #[cfg(test)]

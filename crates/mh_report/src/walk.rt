@@ -1,6 +1,6 @@
 //! A stretch that slides over a trace, by letters alike at once, and finds the least that it ever has of the mutator.
-ghost use Rattle.std.specs.Prelude.{◌≡◌, ◌+◌, ◌^◌, ◌<◌, ◌≤◌, ◌++◌, Some, List, length, replicate};
-ghost use Rattle.mh_model.specs.Trace.{Letter, least_mutator};
+ghost use Rattle.std.specs.Prelude.{◌≡◌, ◌+◌, ◌^◌, ◌<◌, ◌≤◌, ◌++◌, Some, List, length, replicate, take};
+ghost use Rattle.mh_model.specs.Trace.{Letter, least_mutator, mutator_count};
 ghost use Rattle.mh_report.specs.Segments.{letter_of, letters_of};
 ghost use Rattle.mh_report.specs.Walk.{HasSlid};
 
@@ -29,6 +29,7 @@ impl Walk {
         requires long { window ≤ length (letters_of segments.now) }
         ensures walk { IsWalk segments.now result }
         ensures window { result.window ≡ window }
+        ensures count { result.count ≡ mutator_count (take window (letters_of segments.now)) }
     {
         let start = Point {
             segment: 0,

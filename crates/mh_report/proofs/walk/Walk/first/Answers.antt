@@ -53,3 +53,9 @@ returns-clause-walk c =
       long = omega (arith, whole, left, first);
       count = omega (arith, c.loop-left.invariant.small);
     }
+
+pub returns-clause-count : goal.returns-clause-count
+returns-clause-count c =
+    let none : c.loop-left.left ≡ 0 = omega arith in
+    let taken : mutator_count (take c.loop-left.left (after c.args.segments.now c.loop-left.entering)) ≡ 0 = rw none refl in
+    omega (arith, taken, c.loop-left.invariant.counted)

@@ -1,0 +1,5 @@
+//! Logs of pauses of any collector, and the traces that they mean.
+#![tactic(auto)]
+
+pub mod line;
+pub mod log;

@@ -1,0 +1,3 @@
+pub mod StretchLemmas
+pub mod GrowthLemmas
+pub mod FloorLemmas

@@ -1,0 +1,4 @@
+pub mod LowestLemmas
+pub mod ShareLemmas
+pub mod PauseLemmas
+pub mod AlwaysLemmas

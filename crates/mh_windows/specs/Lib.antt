@@ -1,0 +1,6 @@
+pub mod Lowest
+pub mod Shares
+pub mod ShareRules
+pub mod Pauses
+pub mod PauseRules
+pub mod Always
