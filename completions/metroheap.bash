@@ -18,7 +18,7 @@ _metroheap() {
         steps) options='--from --to --json --rules --help' ;;
         show) options='--rules --help' ;;
         live | race) options='--workers --help' ;;
-        check) options='--pages --quantum --trigger --every --rules --sessions --log --help' ;;
+        check) options='--pages --quantum --trigger --every --rules --sessions --no-full --log --help' ;;
         migrate) options='--pages --quantum --trigger --every --help' ;;
         audit) options='--help' ;;
         curve) options='--history --svg --rules --help' ;;

@@ -26,9 +26,9 @@ use Rattle.mh_orders.specs.declared.order.Order.{Order}
 use Rattle.mh_orders.specs.declared.order.Order.TheVariants.{Version}
 use Rattle.mh_orders.specs.declared.order.ConfigOption.{ConfigOption}
 use Rattle.mh_command_line.specs.declared.options.OptionFault.{OptionFault}
-use Rattle.mh_command_line.specs.declared.options.OptionFault.TheVariants.{NoNumber, NoProfile, NoBlocks, Missing, Lacking, Unwanted, SessionsOfLog, Beside, Outside}
+use Rattle.mh_command_line.specs.declared.options.OptionFault.TheVariants.{NoNumber, NoProfile, NoBlocks, Missing, Lacking, Unwanted, OfLog, NoFullAlone, Beside, Outside}
 use Rattle.clap.specs.declared.error.kind.ErrorKind.{ErrorKind}
-use Rattle.mh_command_line.specs.Orders.{AreAmiss, AreNoBlocks, AreSessionsOfLog, AskAmiss, AsksOutside, AsksVersion, GivesOrder, HasFewWorkers, HasFirstRules, HasOptionFault, IsBeside, IsFault, IsLacking, IsMissing, IsNoNumber, IsNoProfile, IsOrder, IsOutside, IsUnwanted, Named, NotMet, NotTaken, IsSaidOfRefusal, RefusesOptions, kind_of_fault}
+use Rattle.mh_command_line.specs.Orders.{AreAmiss, AreNoBlocks, AreOfLog, AskAmiss, AsksOutside, AsksVersion, GivesOrder, HasFewWorkers, HasFirstRules, HasOptionFault, IsBeside, IsFault, IsLacking, IsMissing, IsNoNumber, IsNoProfile, IsOrder, IsOutside, IsUnwanted, LackSessions, Named, NotMet, NotTaken, IsSaidOfRefusal, RefusesOptions, kind_of_fault}
 use Rattle.mh_command_line.specs.Line.{AsksForFew, AsksForRules, Checks, Generates, HasFlag, IsSubcommand, NamesOne, Nothing, Runs, Shows, TakesWorkers, Tells, Workers, any_text, check_app, controls_numbers, event_numbers, every_numbers, flag_rule, generate_app, metroheap, page_numbers, quantum_numbers, rules_numbers, run_app, seeds, session_numbers, show_app, steps_app, step_numbers, trigger_numbers, worker_numbers, workers_app, Curves, curve_app, Sizes, block_numbers, part_numbers, percents, scheduled_numbers, size_app, startup_numbers, window_numbers}
 use Rattle.mh_command_line.proofs.OptionLemmas.{AreRead, IsSafe, level-read, never, none-missing, none_first, none_next, safe-flag, safe-given, safe-help, safe-value, value-given, value-may, value_rule}
 
@@ -116,15 +116,16 @@ sound-show words e =
 
 -- the parser of each option of `check`
 abbrev check_parser : Text → ValueParser
-check_parser name = if bytes_eq name (codes "rules") then rules_numbers else (if bytes_eq name (codes "sessions") then vp.Bool else (if bytes_eq name (codes "log") then vp.Bool else any_text))
+check_parser name = if bytes_eq name (codes "rules") then rules_numbers else (if bytes_eq name (codes "sessions") then vp.Bool else (if bytes_eq name (codes "no-full") then vp.Bool else (if bytes_eq name (codes "log") then vp.Bool else any_text)))
 
 check_plain : (name : Text) → reading_of (check_parser name) ≡ AsWritten
-check_plain name = go (bytes_eq name (codes "rules")) (bytes_eq name (codes "sessions")) (bytes_eq name (codes "log")) where
-  go : (a b c : Bool) → reading_of (if a then rules_numbers else (if b then vp.Bool else (if c then vp.Bool else any_text))) ≡ AsWritten
-  go true b c = refl
-  go false true c = refl
-  go false false true = refl
-  go false false false = refl
+check_plain name = go (bytes_eq name (codes "rules")) (bytes_eq name (codes "sessions")) (bytes_eq name (codes "no-full")) (bytes_eq name (codes "log")) where
+  go : (a b c d : Bool) → reading_of (if a then rules_numbers else (if b then vp.Bool else (if c then vp.Bool else (if d then vp.Bool else any_text)))) ≡ AsWritten
+  go true b c d = refl
+  go false true c d = refl
+  go false false true d = refl
+  go false false false true = refl
+  go false false false false = refl
 
 sound-check : IsSound (built_leaf check_app.top)
 sound-check words e =
@@ -134,11 +135,12 @@ sound-check words e =
     let flag : (name : Text) → check_parser name ≡ vp.Bool → _ = λ name is. safe-flag check_parser check_plain name 1 is in
     let all : AreRead check_parser check_plain rows =
     level-read check_parser check_plain s words
-    (value (codes "pages"), (value (codes "quantum"), (value (codes "trigger"), (value (codes "every"), (value (codes "rules"), (flag (codes "sessions") refl, (flag (codes "log") refl, (safe-help check_parser check_plain 1, tt)))))))) e in
+    (value (codes "pages"), (value (codes "quantum"), (value (codes "trigger"), (value (codes "every"), (value (codes "rules"), (flag (codes "sessions") refl, (flag (codes "no-full") refl, (flag (codes "log") refl, (safe-help check_parser check_plain 1, tt))))))))) e in
     let may : (name : Text) → IfSome (one_of name rows) (Accepts false (check_parser name)) = λ name. value-may check_parser check_plain name rows all in
     Checks refl (record {
       rules = may (codes "rules");
       sessions = flag-may (one_of (codes "sessions") rows) (may (codes "sessions"));
+      no_full = flag-may (one_of (codes "no-full") rows) (may (codes "no-full"));
       log = flag-may (one_of (codes "log") rows) (may (codes "log"));
     })
 
@@ -384,7 +386,8 @@ not_version (Lacking name) k kinds = sym (ap is_version (same_some kinds))
 not_version (Beside name other) k kinds = sym (ap is_version (same_some kinds))
 not_version (Missing name) k kinds = sym (ap is_version (same_some kinds))
 not_version (Unwanted name flag) k kinds = sym (ap is_version (same_some kinds))
-not_version SessionsOfLog k kinds = sym (ap is_version (same_some kinds))
+not_version (OfLog flag) k kinds = sym (ap is_version (same_some kinds))
+not_version NoFullAlone k kinds = sym (ap is_version (same_some kinds))
 not_version (Outside option) k kinds = absurd (none_some kinds)
 
 -- what `clap` matched, of a command that is the program's
@@ -421,7 +424,8 @@ module _ (a : App) (words : List Text) (m : ArgMatches) (is : a ≡ metroheap) (
   amiss_by name rows (Beside option other) k is kinds = subst (AreAmiss name rows) (same_some kinds) (IsBeside is.0 option.now other.now is.1 is.2 is.3)
   amiss_by name rows (Missing option) k is kinds = subst (AreAmiss name rows) (same_some kinds) (IsMissing is.0 option.now is.1.0 is.1.1)
   amiss_by name rows (Unwanted option flag) k is kinds = subst (AreAmiss name rows) (same_some kinds) (IsUnwanted is.0 option.now flag.now is.1 is.2 is.3)
-  amiss_by name rows SessionsOfLog k is kinds = subst (AreAmiss name rows) (same_some kinds) (AreSessionsOfLog is.0 is.1)
+  amiss_by name rows (OfLog flag) k is kinds = subst (AreAmiss name rows) (same_some kinds) (AreOfLog is.0 flag.now is.1)
+  amiss_by name rows NoFullAlone k is kinds = subst (AreAmiss name rows) (same_some kinds) (LackSessions is.0 is.1)
   amiss_by name rows (Outside option) k is kinds = absurd (none_some kinds)
 
   has_amiss : (fault : OptionFault) (k : ErrorKind) (matched : Option (Text × List Row)) → IsSomeAnd matched (λ subcommand. HasOptionFault subcommand.0 subcommand.1 fault) → kind_of_fault fault ≡ Some k
@@ -441,7 +445,8 @@ module _ (a : App) (words : List Text) (m : ArgMatches) (is : a ≡ metroheap) (
   options_refused (Lacking name) NotText has told = absurd told
   options_refused (Beside name other) NotText has told = absurd told
   options_refused (Unwanted name flag) NotText has told = absurd told
-  options_refused SessionsOfLog NotText has told = absurd told
+  options_refused (OfLog flag) NotText has told = absurd told
+  options_refused NoFullAlone NotText has told = absurd told
   options_refused (Outside option) NotText has told = absurd told
   options_refused (NoNumber name text) (Configuration option) has told = absurd told
   options_refused (NoProfile text) (Configuration option) has told = absurd told
@@ -450,7 +455,8 @@ module _ (a : App) (words : List Text) (m : ArgMatches) (is : a ≡ metroheap) (
   options_refused (Lacking name) (Configuration option) has told = absurd told
   options_refused (Beside name other) (Configuration option) has told = absurd told
   options_refused (Unwanted name flag) (Configuration option) has told = absurd told
-  options_refused SessionsOfLog (Configuration option) has told = absurd told
+  options_refused (OfLog flag) (Configuration option) has told = absurd told
+  options_refused NoFullAlone (Configuration option) has told = absurd told
   options_refused (Outside option) (Configuration refused) has told =
       let P : ConfigOption → Type 0 = λ option. AsksOutside words option in
       subst P (sym told) (asks_outside option has)

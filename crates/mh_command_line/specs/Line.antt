@@ -138,7 +138,7 @@ show_app = with_rule (new_app (codes "show")) rules_rule
 
 -- `check`, with rules, under a configuration, by what sessions see, or of a log and its order
 abbrev pub check_app : App
-check_app = with_rule (with_rule (with_rule (config_app (codes "check")) rules_rule) (flag_rule (codes "sessions"))) (flag_rule (codes "log"))
+check_app = with_rule (with_rule (with_rule (with_rule (config_app (codes "check")) rules_rule) (flag_rule (codes "sessions"))) (flag_rule (codes "no-full"))) (flag_rule (codes "log"))
 
 -- `generate`, whose seed and number of events have to be given; with the numbers of a configuration, with rules, and with its controls
 abbrev pub seeded_app : App
@@ -287,6 +287,7 @@ pub record AsksToTell (rows : List Row) : Type 0 where
 pub record AsksToCheck (rows : List Row) : Type 0 where
   pub rules : AsksForRules rows
   pub sessions : HasFlag (codes "sessions") rows
+  pub no_full : HasFlag (codes "no-full") rows
   pub log : HasFlag (codes "log") rows
 
 -- those of `curve`

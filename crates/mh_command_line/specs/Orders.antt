@@ -1,5 +1,5 @@
 -- The order that the matches of a command line give, and why other words give none.
-use Rattle.std.specs.Prelude.{◌≡◌, ◌≢◌, ◌⊎◌, ◌<◌, ◌≤◌, ◌/◌, ℕ, zero, suc, true, false, if◌then◌else◌, List, [], Option, Some, None, Result, Ok, Err, codes, IsSome, IsSomeAnd, MatchOption}
+use Rattle.std.specs.Prelude.{◌≡◌, ◌≢◌, ◌⊎◌, ◌<◌, ◌≤◌, ◌/◌, ℕ, zero, suc, true, false, not, if◌then◌else◌, List, [], Option, Some, None, Result, Ok, Err, codes, IsSome, IsSomeAnd, MatchOption}
 use Rattle.clap.specs.declared.error.kind.ErrorKind.{ErrorKind}
 use Rattle.clap.specs.declared.error.kind.ErrorKind.TheVariants.{ArgumentConflict, DisplayVersion, MissingRequiredArgument, OutOfMemory, ValueValidation}
 use Rattle.clap.specs.Words.{Row, Text, one_of, subcommand_of, fault_of, kind_of, IsAmong}
@@ -24,13 +24,14 @@ use Rattle.mh_orders.specs.declared.curve.CurveOptions.{CurveOptions}
 use Rattle.mh_orders.specs.declared.order.Form.{Form}
 use Rattle.mh_orders.specs.declared.order.Form.TheVariants.{Replies, History}
 use Rattle.mh_orders.specs.declared.order.RunOptions.{RunOptions}
+use Rattle.mh_orders.specs.declared.order.SessionsOptions.{SessionsOptions}
 use Rattle.mh_orders.specs.declared.order.StepsOptions.{StepsOptions}
 use Rattle.mh_orders.specs.declared.steps.Form as steps
 use Rattle.mh_orders.specs.declared.steps.Form.TheVariants as form
 use Rattle.mh_orders.specs.declared.order.ConfigOption.{ConfigOption}
 use Rattle.mh_orders.specs.declared.order.ConfigOption.TheVariants.{Pages, Quantum, Trigger, Every}
 use Rattle.mh_command_line.specs.declared.options.OptionFault.{OptionFault}
-use Rattle.mh_command_line.specs.declared.options.OptionFault.TheVariants.{NoNumber, NoProfile, NoBlocks, Missing, Lacking, Unwanted, SessionsOfLog, Beside, Outside}
+use Rattle.mh_command_line.specs.declared.options.OptionFault.TheVariants.{NoNumber, NoProfile, NoBlocks, Missing, Lacking, Unwanted, OfLog, NoFullAlone, Beside, Outside}
 use Rattle.mh_command_line.specs.Sizes.{AreHeapOptions, AreRateOptions, AreScriptOptions, AreTargetOptions, HasNoScript, IsAlone, IsWanted, LacksBlocks, has_size}
 use Rattle.mh_command_line.specs.Line.{HasNumber, IsConfigOption, LacksNumber, WantsConfig, is_flagged, metroheap, number_or, optional_number, rules_given, rules_chosen, workers_of}
 
@@ -124,6 +125,11 @@ pub record AreGenerateOptions (rows : List Row) (options : Options) : Type 0 whe
   pub profile : AsksProfile rows options.profile
   pub controls : options.controls ≡ controls_of rows
 
+-- the options of a history that is judged by what its sessions see
+pub record AreSessionsOptions (rows : List Row) (options : SessionsOptions) : Type 0 where
+  pub rules : options.rules ≡ rules_given rows
+  pub may_be_full : options.may_be_full ≡ not (is_flagged (codes "no-full") rows)
+
 -- the order of a subcommand with its matches
 abbrev pub IsOrder : Text → List Row → Order → Type 0
 IsOrder name rows (Run options) = (name ≡ codes "run") × AreRunOptions rows options
@@ -131,9 +137,9 @@ IsOrder name rows (Steps options) = (name ≡ codes "steps") × AreStepsOptions 
 IsOrder name rows (Show rules) = (name ≡ codes "show") × (rules ≡ rules_chosen Second rows)
 IsOrder name rows (Live workers) = (name ≡ codes "live") × (workers ≡ workers_of rows)
 IsOrder name rows (Race workers) = (name ≡ codes "race") × (workers ≡ workers_of rows)
-IsOrder name rows (Check config) = (name ≡ codes "check") × (is_flagged (codes "sessions") rows ≡ false) × (is_flagged (codes "log") rows ≡ false) × MakesConfig (rules_chosen First rows) rows config
-IsOrder name rows (CheckSessions asked) = (name ≡ codes "check") × (is_flagged (codes "sessions") rows ≡ true) × (is_flagged (codes "log") rows ≡ false) × HasNoConfig rows × (asked ≡ rules_given rows)
-IsOrder name rows (CheckLog rules) = (name ≡ codes "check") × (is_flagged (codes "log") rows ≡ true) × (is_flagged (codes "sessions") rows ≡ false) × HasNoConfig rows × (rules ≡ rules_chosen Second rows)
+IsOrder name rows (Check config) = (name ≡ codes "check") × (is_flagged (codes "sessions") rows ≡ false) × (is_flagged (codes "no-full") rows ≡ false) × (is_flagged (codes "log") rows ≡ false) × MakesConfig (rules_chosen First rows) rows config
+IsOrder name rows (CheckSessions options) = (name ≡ codes "check") × (is_flagged (codes "sessions") rows ≡ true) × (is_flagged (codes "log") rows ≡ false) × HasNoConfig rows × AreSessionsOptions rows options
+IsOrder name rows (CheckLog rules) = (name ≡ codes "check") × (is_flagged (codes "log") rows ≡ true) × (is_flagged (codes "sessions") rows ≡ false) × (is_flagged (codes "no-full") rows ≡ false) × HasNoConfig rows × (rules ≡ rules_chosen Second rows)
 IsOrder name rows Audit = name ≡ codes "audit"
 IsOrder name rows (Migrate config) = (name ≡ codes "migrate") × MakesConfig First rows config
 IsOrder name rows (Curve options) = (name ≡ codes "curve") × (is_flagged (codes "history") rows ≡ false) × AreCurveOptions rows options
@@ -198,7 +204,8 @@ IsNumberFault rows (NoBlocks name text) = ⊥
 IsNumberFault rows (Missing name) = IsConfigOption name.now × (one_of name.now rows ≡ None)
 IsNumberFault rows (Lacking name) = ⊥
 IsNumberFault rows (Unwanted name flag) = ⊥
-IsNumberFault rows SessionsOfLog = ⊥
+IsNumberFault rows (OfLog flag) = ⊥
+IsNumberFault rows NoFullAlone = ⊥
 IsNumberFault rows (Beside name other) = ⊥
 IsNumberFault rows (Outside option) = AreOutside rows option
 
@@ -206,14 +213,19 @@ IsNumberFault rows (Outside option) = AreOutside rows option
 abbrev pub IsJudgingFlag : List Row → Text → Type 0
 IsJudgingFlag rows flag = ((flag ≡ codes "sessions") ⊎ (flag ≡ codes "log")) × (is_flagged flag rows ≡ true)
 
--- both flags are given
-abbrev pub AreBothFlagged : List Row → Type 0
-AreBothFlagged rows = (is_flagged (codes "sessions") rows ≡ true) × (is_flagged (codes "log") rows ≡ true)
+-- a flag of histories is given beside `--log`
+abbrev pub IsOfLog : List Row → Text → Type 0
+IsOfLog rows flag = ((flag ≡ codes "sessions") ⊎ (flag ≡ codes "no-full")) × (is_flagged flag rows ≡ true) × (is_flagged (codes "log") rows ≡ true)
+
+-- `--no-full` is given without `--sessions`
+abbrev pub IsNoFullAlone : List Row → Type 0
+IsNoFullAlone rows = (is_flagged (codes "no-full") rows ≡ true) × (is_flagged (codes "sessions") rows ≡ false)
 
 -- what is wrong with those of a subcommand: these are, if it wants a configuration; or options of `check` don't go together; or a random script is amiss; or options of `size` don't go together
 abbrev pub HasOptionFault : Text → List Row → OptionFault → Type 0
 HasOptionFault subcommand rows (Unwanted name flag) = (subcommand ≡ codes "check") × IsConfigOption name.now × IsJudgingFlag rows flag.now × IsSome (one_of name.now rows)
-HasOptionFault subcommand rows SessionsOfLog = (subcommand ≡ codes "check") × AreBothFlagged rows
+HasOptionFault subcommand rows (OfLog flag) = (subcommand ≡ codes "check") × IsOfLog rows flag.now
+HasOptionFault subcommand rows NoFullAlone = (subcommand ≡ codes "check") × IsNoFullAlone rows
 HasOptionFault subcommand rows (Outside option) = IsOutside subcommand rows option
 HasOptionFault subcommand rows (NoProfile text) = (subcommand ≡ codes "generate") × LacksProfile rows
 HasOptionFault subcommand rows (NoBlocks name text) = (subcommand ≡ codes "size") × LacksBlocks rows name.now
@@ -230,7 +242,8 @@ pub data AreAmiss (name : Text) (rows : List Row) : ErrorKind → Type 0 where
   IsLacking : name ≡ codes "size" → (option : Text) → IsWanted rows option → one_of option rows ≡ None → AreAmiss name rows MissingRequiredArgument
   IsBeside : name ≡ codes "size" → (option other : Text) → IsAlone rows option other → IsSome (one_of option rows) → IsSome (one_of other rows) → AreAmiss name rows ArgumentConflict
   IsUnwanted : name ≡ codes "check" → (option flag : Text) → IsConfigOption option → IsJudgingFlag rows flag → IsSome (one_of option rows) → AreAmiss name rows ArgumentConflict
-  AreSessionsOfLog : name ≡ codes "check" → AreBothFlagged rows → AreAmiss name rows ArgumentConflict
+  AreOfLog : name ≡ codes "check" → (flag : Text) → IsOfLog rows flag → AreAmiss name rows ArgumentConflict
+  LackSessions : name ≡ codes "check" → IsNoFullAlone rows → AreAmiss name rows MissingRequiredArgument
 
 -- Words ------------------------------------------------------------------------------------------
 
@@ -290,7 +303,8 @@ kind_of_fault (NoBlocks name text) = Some ValueValidation
 kind_of_fault (Missing name) = Some MissingRequiredArgument
 kind_of_fault (Lacking name) = Some MissingRequiredArgument
 kind_of_fault (Unwanted name flag) = Some ArgumentConflict
-kind_of_fault SessionsOfLog = Some ArgumentConflict
+kind_of_fault (OfLog flag) = Some ArgumentConflict
+kind_of_fault NoFullAlone = Some MissingRequiredArgument
 kind_of_fault (Beside name other) = Some ArgumentConflict
 kind_of_fault (Outside option) = None
 

@@ -3,16 +3,16 @@
 //!
 //! `--sessions` and `--log` want none of the options of a configuration, and refuse each, as each refuses the other. A
 //! history by what its sessions see has the rules that it names, if none are asked for. A log names none, and has the
-//! second.
-ghost use Rattle.std.specs.Prelude.{◌≡◌, false, true, None, codes, IfOk, IfErr, OnOk};
+//! second. `--no-full` stands beside `--sessions` alone.
+ghost use Rattle.std.specs.Prelude.{◌≡◌, ◌⊎◌, false, true, None, codes, IfOk, IfErr, OnOk};
 ghost use Rattle.clap.specs.Words.{found_of, one_of, rows_of};
-ghost use Rattle.mh_command_line.specs.Line.{AsksToCheck, IsConfigOption, is_flagged};
+ghost use Rattle.mh_command_line.specs.Line.{AsksToCheck, HasFlag, IsConfigOption, is_flagged};
 ghost use Rattle.mh_command_line.specs.Orders.{HasFewWorkers, HasFirstRules, HasNoConfig, HasOptionFault, IsJudgingFlag, IsOrder};
 
 use crate::options::{OptionFault, config_given, is_flagged, rules_asked, rules_given};
 use clap::ArgMatches;
 use mh_model::config::Rules;
-use mh_orders::order::Order;
+use mh_orders::order::{Order, SessionsOptions};
 
 /// An option that is not to stand beside a flag.
 fn unwanted<'a>(
@@ -54,7 +54,24 @@ fn sessions_asked<'a>(matches: &ArgMatches<'a>) -> Result<Order, OptionFault<'a>
     ensures fault { IfErr result (HasOptionFault (codes "check") (rows_of (found_of matches.now))) }
 {
     no_config(matches, "sessions")?;
-    Ok(Order::CheckSessions(rules_given(matches)))
+    Ok(Order::CheckSessions(SessionsOptions {
+        rules: rules_given(matches),
+        may_be_full: !is_flagged(matches, "no-full"),
+    }))
+}
+
+/// A flag is not to stand beside `--log`.
+fn not_of_log<'a>(matches: &ArgMatches<'a>, flag: &'static str) -> Result<(), OptionFault<'a>>
+    requires asks { HasFlag flag.now (rows_of (found_of matches.now)) }
+    requires flag { (flag.now ≡ codes "sessions") ⊎ (flag.now ≡ codes "no-full") }
+    requires log { is_flagged (codes "log") (rows_of (found_of matches.now)) ≡ true }
+    ensures none { OnOk result (is_flagged flag.now (rows_of (found_of matches.now)) ≡ false) }
+    ensures fault { IfErr result (HasOptionFault (codes "check") (rows_of (found_of matches.now))) }
+{
+    if is_flagged(matches, flag) {
+        return Err(OptionFault::OfLog(flag));
+    }
+    Ok(())
 }
 
 /// A log that is judged with its order.
@@ -66,9 +83,8 @@ fn log_asked<'a>(matches: &ArgMatches<'a>) -> Result<Order, OptionFault<'a>>
     ensures rules { IfOk result HasFirstRules }
     ensures fault { IfErr result (HasOptionFault (codes "check") (rows_of (found_of matches.now))) }
 {
-    if is_flagged(matches, "sessions") {
-        return Err(OptionFault::SessionsOfLog);
-    }
+    not_of_log(matches, "sessions")?;
+    not_of_log(matches, "no-full")?;
     no_config(matches, "log")?;
     Ok(Order::CheckLog(rules_asked(matches, Rules::Second)))
 }
@@ -86,6 +102,9 @@ pub(crate) fn check_asked<'a>(matches: &ArgMatches<'a>) -> Result<Order, OptionF
     }
     if is_flagged(matches, "sessions") {
         return sessions_asked(matches);
+    }
+    if is_flagged(matches, "no-full") {
+        return Err(OptionFault::NoFullAlone);
     }
     let rules = rules_asked(matches, Rules::First);
     Ok(Order::Check(config_given(matches, rules)?))

@@ -376,11 +376,13 @@ fn check<'a>(alloc: Global) -> Result<Command<'a>, AllocError>
         alloc,
         "check",
         ABOUT_CHECK,
-        "metroheap check --pages <P> --quantum <K> --trigger <T> --every <E> [--rules <R>] < HISTORY\n       metroheap check --sessions [--rules <R>] < HISTORY\n       metroheap check --log [--rules <R>] < LOG",
+        "metroheap check --pages <P> --quantum <K> --trigger <T> --every <E> [--rules <R>] < HISTORY\n       metroheap check --sessions [--no-full] [--rules <R>] < HISTORY\n       metroheap check --log [--rules <R>] < LOG",
     );
     let command = with_option(command, rules(alloc, RULES_OF_A_CHECK));
     let help = "Judge only what sessions see, of any collector's history";
     let command = with_option(command, flag(alloc, "sessions", help));
+    let help = "With --sessions: an entry that is `heap full` is bad";
+    let command = with_option(command, flag(alloc, "no-full", help));
     let help = "Judge a log of threads by the order of its commands that stands below it";
     with_option(command, flag(alloc, "log", help))
 }

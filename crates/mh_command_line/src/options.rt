@@ -40,8 +40,10 @@ pub(crate) enum OptionFault<'a> {
     Lacking(&'static str),
     /// The option with the first name is given beside the flag with the second.
     Unwanted(&'static str, &'static str),
-    /// `--sessions` is given beside `--log`.
-    SessionsOfLog,
+    /// The flag with this name is given beside `--log`.
+    OfLog(&'static str),
+    /// `--no-full` is given without `--sessions`.
+    NoFullAlone,
     /// The option with this name is given beside another.
     Beside(&'static str, &'static str),
     /// The number of this option is outside its limits.

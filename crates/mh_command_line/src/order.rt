@@ -197,7 +197,8 @@ fn refused_options(alloc: Global, subcommand: Option<&str>, fault: OptionFault<'
         OptionFault::NoProfile(text) => no_profile(alloc, subcommand, text),
         OptionFault::NoBlocks(name, text) => no_blocks(alloc, subcommand, name, text),
         OptionFault::Missing(name) | OptionFault::Lacking(name) => missing(alloc, subcommand, name),
-        OptionFault::SessionsOfLog => beside(alloc, subcommand, "sessions", "log"),
+        OptionFault::NoFullAlone => missing(alloc, subcommand, "sessions"),
+        OptionFault::OfLog(name) => beside(alloc, subcommand, name, "log"),
         OptionFault::Unwanted(name, other) | OptionFault::Beside(name, other) => beside(
             alloc, subcommand, name, other,
         ),

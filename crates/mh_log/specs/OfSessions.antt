@@ -3,3 +3,5 @@ pub use Rattle.mh_sessions.specs.Texts
 pub use Rattle.mh_sessions.specs.OfJudging.Judged
 pub use Rattle.mh_sessions.specs.OfJudging.Judgement
 pub use Rattle.mh_sessions.specs.OfJudging.RunHistory
+pub use Rattle.mh_sessions.specs.declared.sessions_judgement.SessionsJudgement
+pub use Rattle.mh_sessions.specs.declared.tally.Tally

@@ -35,6 +35,15 @@ pub struct StepsOptions {
     pub rules: Rules,
 }
 
+/// How a history is judged by what its sessions see.
+#[derive(Clone, Copy, Debug, PartialEq, Eq)]
+pub struct SessionsOptions {
+    /// The rules, if not those that it names.
+    pub rules: Option<Rules>,
+    /// Whether a heap may be full. Else each entry that is makes the history bad.
+    pub may_be_full: bool,
+}
+
 /// How a script is sized.
 #[derive(Clone, Copy, Debug, PartialEq, Eq)]
 pub struct SizeOptions {
@@ -60,9 +69,8 @@ pub enum Order {
     Race(usize),
     /// Check the history on standard input, of version 1, under a configuration.
     Check(Config),
-    /// Check the history on standard input, of either version, by what its sessions see, under these rules or else those that
-    /// it names.
-    CheckSessions(Option<Rules>),
+    /// Check the history on standard input, of either version, by what its sessions see.
+    CheckSessions(SessionsOptions),
     /// Check the log of threads on standard input, and its order, under these rules.
     CheckLog(Rules),
     /// Audit the history on standard input, of version 2.

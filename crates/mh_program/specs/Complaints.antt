@@ -1,5 +1,5 @@
 -- What the program tells on standard error.
-use Rattle.std.specs.Prelude.{◌≡◌, ℕ, ◌+◌, ◌<◌, Bool, true, false, List, [], ◌∷◌, ◌++◌, Result, Ok, Err, codes, decimal}
+use Rattle.std.specs.Prelude.{◌≡◌, ℕ, ◌+◌, ◌<◌, Bool, true, false, Option, List, [], ◌∷◌, ◌++◌, Result, Ok, Err, codes, decimal, MatchOption}
 use Rattle.std.specs.Io.KnownBytes.{Appends}
 use Rattle.std.specs.List.{All}
 use Rattle.mh_show.specs.OfCurve.CurveEnd.{CurveEnd}
@@ -8,6 +8,8 @@ use Rattle.mh_log.specs.declared.judgement.LogJudgement.{LogJudgement}
 use Rattle.mh_log.specs.declared.judgement.LogJudgement.TheVariants as log
 use Rattle.mh_log.specs.OfSessions.Judgement.{Judgement}
 use Rattle.mh_log.specs.OfSessions.Judgement.TheVariants as judgement
+use Rattle.mh_log.specs.OfSessions.SessionsJudgement.{SessionsJudgement}
+use Rattle.mh_log.specs.OfSessions.Tally.{Tally}
 use Rattle.mh_model.specs.Bytes.{Text, line_text}
 use Rattle.mh_command_line.specs.declared.fault.LineFault.{LineFault}
 use Rattle.mh_command_line.specs.declared.fault.LineFault.TheVariants as line
@@ -105,6 +107,19 @@ abbrev pub SaysJudgement : ErrorStream → ErrorStream → Judgement → Type 0
 SaysJudgement old new (judgement.Legal count) = SaysNothing old new
 SaysJudgement old new (judgement.Refused line reason) = SaysQuoted old new (IsComplaint (line_place line)) (line_text (codes "metroheap: the history is outside the grammar"))
 SaysJudgement old new (judgement.FirstBad number fault) = SaysQuoted old new (IsComplaint (entry_place number)) (line_text (codes "metroheap: an entry is bad"))
+
+-- the line of what was looked through of a history
+abbrev pub tally_text : Tally → Text
+tally_text tally =
+    line_text (codes "metroheap: entries " ++ decimal tally.entries ++ codes " full " ++ decimal tally.full ++ codes " quanta " ++ decimal tally.quanta ++ codes " starts " ++ decimal tally.starts)
+
+-- what was looked through, if the text was read
+abbrev pub SaysTally : ErrorStream → ErrorStream → Option Tally → Type 0
+SaysTally old new found = MatchOption found (SaysNothing old new) (λ tally. Says old new (tally_text tally))
+
+-- of a history that is judged by what its sessions see: the same as of any, and then what was looked through
+abbrev pub SaysSeen : ErrorStream → ErrorStream → SessionsJudgement → Type 0
+SaysSeen old new found = (between : ErrorStream) × SaysJudgement old between found.judgement × SaysTally between new found.tally
 
 -- of a log: nothing if its order is legal, and else where and why it isn't
 abbrev pub SaysLog : ErrorStream → ErrorStream → LogJudgement → Type 0

@@ -30,8 +30,8 @@ use Rattle.mh_size_text.specs.Rates.{IsRateText}
 use Rattle.mh_size_text.specs.Scripts.{IsSizing}
 use Rattle.mh_size_text.specs.Targets.{IsTargetText}
 use Rattle.mh_show.specs.OfTelling.Steps.{told_text}
-use Rattle.mh_program.specs.Status.{judgement_status_of, line_status_of, live_status_of, log_status_of, status_of, curve_status_of}
-use Rattle.mh_program.specs.Complaints.{ErrorStream, SaysEnd, SaysFault, SaysJudgement, SaysLine, SaysLog, SaysRefusals, SaysRun, SaysCurve}
+use Rattle.mh_program.specs.Status.{judgement_status_of, line_status_of, live_status_of, log_status_of, sessions_status_of, status_of, curve_status_of}
+use Rattle.mh_program.specs.Complaints.{ErrorStream, SaysEnd, SaysFault, SaysJudgement, SaysLine, SaysLog, SaysRefusals, SaysRun, SaysSeen, SaysCurve}
 
 -- the line that names the version, the rules and the versions of histories, and what proved them
 abbrev pub version_text : Text
@@ -92,7 +92,8 @@ Serves (Ok (Show rules)) source source' sink sink' errors errors' status = Obeys
 Serves (Ok (Live workers)) source source' sink sink' errors errors' status = AnswersLines source source' sink sink' errors errors' status
 Serves (Ok (Race workers)) source source' sink sink' errors errors' status = Obeys (IsRaceRun source source' sink sink') (SaysRun SaysEnd) status_of errors errors' status
 Serves (Ok (Check config)) source source' sink sink' errors errors' status = Obeys (IsChecking config source source' sink sink') (SaysRun SaysJudgement) judgement_status_of errors errors' status
-Serves (Ok (CheckSessions asked)) source source' sink sink' errors errors' status = Obeys (IsSessionsJudging asked source source' sink sink') (SaysRun SaysJudgement) judgement_status_of errors errors' status
+Serves (Ok (CheckSessions options)) source source' sink sink' errors errors' status =
+    Obeys (IsSessionsJudging options.may_be_full options.rules source source' sink sink') (SaysRun SaysSeen) sessions_status_of errors errors' status
 Serves (Ok (CheckLog rules)) source source' sink sink' errors errors' status = Obeys (IsLogJudging rules source source' sink sink') (SaysRun SaysLog) log_status_of errors errors' status
 Serves (Ok Audit) source source' sink sink' errors errors' status = Obeys (IsAuditing source source' sink sink') (SaysRun SaysJudgement) judgement_status_of errors errors' status
 Serves (Ok (Migrate config)) source source' sink sink' errors errors' status = Obeys (IsMigrating config source source' sink sink') (SaysRun SaysJudgement) judgement_status_of errors errors' status

@@ -6,6 +6,7 @@ use Rattle.mh_log.specs.declared.judgement.LogJudgement.{LogJudgement}
 use Rattle.mh_log.specs.declared.judgement.LogJudgement.TheVariants as log
 use Rattle.mh_log.specs.OfSessions.Judgement.{Judgement}
 use Rattle.mh_log.specs.OfSessions.Judgement.TheVariants as judgement
+use Rattle.mh_log.specs.OfSessions.SessionsJudgement.{SessionsJudgement}
 use Rattle.mh_live.specs.OfScript.End.{End}
 use Rattle.mh_live.specs.OfScript.End.TheVariants.{Done, Refused}
 use Rattle.mh_command_line.specs.declared.fault.LineFault.{LineFault}
@@ -29,6 +30,11 @@ judgement_status_of (Ok (judgement.Legal entries)) = 0
 judgement_status_of (Ok (judgement.Refused line reason)) = 1
 judgement_status_of (Ok (judgement.FirstBad entry fault)) = 4
 judgement_status_of (Err fault) = 3
+
+-- the same for a history that is judged by what its sessions see
+abbrev pub sessions_status_of : Result SessionsJudgement ScriptFault → ℕ
+sessions_status_of (Ok found) = judgement_status_of (Ok found.judgement)
+sessions_status_of (Err fault) = 3
 
 -- the same for a log, with an order that is legal or isn't
 abbrev pub log_status_of : Result LogJudgement ScriptFault → ℕ

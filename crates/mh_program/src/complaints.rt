@@ -7,9 +7,11 @@ ghost use Rattle.std.specs.Prelude.{◌≡◌, ◌+◌, IfOk, MatchResult};
 ghost use Rattle.std.specs.String.{string_bytes};
 ghost use Rattle.mh_model.specs.Bytes.{line_text};
 ghost use Rattle.mh_command_line.specs.Printable.{IsPrintable};
-ghost use Rattle.mh_program.specs.Complaints.{IsComplaint, More, None, Says, SaysCurve, SaysEnd, SaysFault, SaysJudgement, SaysLine, SaysLog, SaysRefusal, SaysRefusals, SaysRun, SaysWords, entry_place, fault_text, line_place, order_place, outside_text};
+ghost use Rattle.mh_program.specs.Complaints.{IsComplaint, More, None, Says, SaysCurve, SaysEnd, SaysFault, SaysJudgement, SaysLine, SaysLog, SaysRefusal, SaysRefusals, SaysRun, SaysSeen, SaysTally, SaysWords, entry_place, fault_text, line_place, order_place, outside_text, tally_text};
 
 use crate::errors::Errors;
+use arrayvec::ArrayString;
+use itoa::Buffer;
 use mh_command_line::fault::LineFault;
 use mh_command_line::quoted::{printable, signs};
 use mh_live::listener::Listener;
@@ -18,12 +20,17 @@ use mh_live::mh_script::fault::{HISTORY_FULL, NO_MEMORY, READ_FAILED, ScriptFaul
 use mh_live::mh_script::mh_reasons::history_reason::HistoryReason;
 use mh_log::judgement::LogJudgement;
 use mh_log::mh_sessions::mh_judging::judgement::Judgement;
+use mh_log::mh_sessions::sessions_judgement::SessionsJudgement;
+use mh_log::mh_sessions::tally::Tally;
 use mh_orders::order::ConfigOption;
 use mh_show::mh_curve::end::CurveEnd;
 use mh_text::sink::Sink;
 use std::alloc::{AllocError, Global};
 use std::fmt;
 use std::fmt::Write;
+
+/// The most bytes of the line of what was looked through.
+const TALLY_BYTES: usize = 128;
 
 /// The line that names a fault of a run.
 fn fault_line(fault: ScriptFault) -> &'static [u8]
@@ -122,6 +129,29 @@ fn order_complaint<T: fmt::Display>(
 {
     let place = order_place(alloc, number)?;
     complaint(alloc, place, what)
+}
+
+/// The line of what was looked through of a history. It takes no memory.
+fn tally_line(tally: Tally) -> ArrayString<TALLY_BYTES>
+    ensures { result.bytes ≡ tally_text tally }
+{
+    let Tally {
+        entries,
+        full,
+        quanta,
+        starts,
+    } = tally;
+    let mut text = ArrayString::new();
+    text.push_str("metroheap: entries ");
+    text.push_str(Buffer::new().format(entries));
+    text.push_str(" full ");
+    text.push_str(Buffer::new().format(full));
+    text.push_str(" quanta ");
+    text.push_str(Buffer::new().format(quanta));
+    text.push_str(" starts ");
+    text.push_str(Buffer::new().format(starts));
+    text.push_str("\n");
+    text
 }
 
 fn words_text(alloc: Global, error: &clap::Error) -> Result<Vec<u8>, AllocError>
@@ -238,12 +268,27 @@ impl<E: Sink> Errors<E> {
         }
     }
 
-    /// The same of a history that is judged by what its sessions see.
-    pub(crate) fn say_seen(&mut self, ended: &Result<Judgement, ScriptFault>)
-        ensures { SaysRun SaysJudgement self.old self.new ended.now }
+    fn say_tally(&mut self, tally: Option<Tally>)
+        ensures { SaysTally self.old self.new tally }
+    {
+        if let Some(tally) = tally {
+            self.say(tally_line(tally).as_str().as_bytes());
+        }
+    }
+
+    fn say_looked(&mut self, found: &SessionsJudgement)
+        ensures { SaysSeen self.old self.new found.now }
+    {
+        self.say_seen_found(&found.judgement);
+        self.say_tally(found.tally);
+    }
+
+    /// The same of a history that is judged by what its sessions see, and what was looked through.
+    pub(crate) fn say_seen(&mut self, ended: &Result<SessionsJudgement, ScriptFault>)
+        ensures { SaysRun SaysSeen self.old self.new ended.now }
     {
         match ended {
-            Ok(judgement) => self.say_seen_found(judgement),
+            Ok(found) => self.say_looked(found),
             Err(fault) => self.say(fault_line(*fault)),
         }
     }

@@ -11,8 +11,8 @@ ghost use Rattle.mh_command_line.specs.declared.fault.LineFault.{LineFault};
 ghost use Rattle.mh_orders.specs.declared.order.Order.{Order};
 ghost use Rattle.mh_command_line.specs.Orders.{HasFewWorkers, HasFirstRules, OrdersBy};
 ghost use Rattle.mh_program.specs.Program.{AnswersLines, IsRunBy, Obeys, Serves, WritesScript, WritesVersion};
-ghost use Rattle.mh_program.specs.Complaints.{SaysEnd, SaysFault, SaysJudgement, SaysLog, SaysRun};
-ghost use Rattle.mh_program.specs.Status.{judgement_status_of, log_status_of, status_of};
+ghost use Rattle.mh_program.specs.Complaints.{SaysEnd, SaysFault, SaysJudgement, SaysLog, SaysRun, SaysSeen};
+ghost use Rattle.mh_program.specs.Status.{judgement_status_of, log_status_of, sessions_status_of, status_of};
 ghost use Rattle.mh_model.specs.declared.config.Rules.TheVariants.{First};
 ghost use Rattle.mh_log.specs.OfSessions.Judged.{IsAuditing, IsChecking, IsMigrating};
 ghost use Rattle.mh_race_text.specs.Raced.{IsRaceRun};
@@ -25,7 +25,9 @@ ghost use Rattle.mh_show.specs.OfTelling.Steps.{told_text};
 use crate::errors::Errors;
 use crate::run_curve::{draw_history, draw_script};
 use crate::run_size::{size_heap, size_needs, size_rate, size_target};
-use crate::status::{judgement_status, line_status, live_status, log_status, status};
+use crate::status::{
+    judgement_status, line_status, live_status, log_status, sessions_status, status,
+};
 use mh_command_line::fault::LineFault;
 use mh_command_line::order::line_order;
 use mh_command_line::version::VERSION_LINE;
@@ -42,7 +44,7 @@ use mh_log::mh_sessions::texts::check_sessions;
 use mh_log::texts::check_log;
 use mh_model::config::{Config, Rules};
 use mh_orders::generate_options::Options;
-use mh_orders::order::{Form, Order, RunOptions, StepsOptions};
+use mh_orders::order::{Form, Order, RunOptions, SessionsOptions, StepsOptions};
 use mh_race_text::race::race_script;
 use mh_show::mh_steps::run::tell_script;
 use mh_show::run::show_script;
@@ -228,21 +230,22 @@ fn check<S: Source, W: Sink, E: Sink>(
 /// Checks a history by what its sessions see, and reports a fault of that.
 fn check_seen<S: Source, W: Sink, E: Sink>(
     alloc: Global,
-    asked: Option<Rules>,
+    options: SessionsOptions,
     source: &mut S,
     sink: &mut W,
     errors: &mut Errors<E>,
 ) -> u8
     requires source_count { S.failures source.old < 2 ^ 62 }
     requires sink_count { W.failures sink.old < 2 ^ 62 }
-    ensures { Obeys (IsSessionsJudging asked
+    ensures { Obeys (IsSessionsJudging options.may_be_full options.rules
         (device (S.rest source.old) (S.failures source.old)) (device (S.rest source.new) (S.failures source.new))
-        (device (W.written sink.old) (W.failures sink.old)) (device (W.written sink.new) (W.failures sink.new))) (SaysRun SaysJudgement) judgement_status_of
+        (device (W.written sink.old) (W.failures sink.old)) (device (W.written sink.new) (W.failures sink.new))) (SaysRun SaysSeen) sessions_status_of
         errors.old errors.new result }
 {
-    let ended = check_sessions(alloc, asked, source, sink);
+    let SessionsOptions { rules, may_be_full } = options;
+    let ended = check_sessions(alloc, may_be_full, rules, source, sink);
     errors.say_seen(&ended);
-    judgement_status(&ended)
+    sessions_status(&ended)
 }
 
 /// Checks a log with its order, and reports a fault of that.
@@ -383,7 +386,7 @@ pub fn serve<R: Threads + Wait + Sync, S: Source, W: Sink, E: Sink, G: CrewGate 
         Ok(Order::Live(workers)) => live(rt, alloc, workers, source, sink, errors, gate),
         Ok(Order::Race(workers)) => race(rt, alloc, workers, source, sink, errors, gate),
         Ok(Order::Check(config)) => check(alloc, config, source, sink, errors),
-        Ok(Order::CheckSessions(asked)) => check_seen(alloc, asked, source, sink, errors),
+        Ok(Order::CheckSessions(options)) => check_seen(alloc, options, source, sink, errors),
         Ok(Order::CheckLog(rules)) => check_order(alloc, rules, source, sink, errors),
         Ok(Order::Audit) => audit(alloc, source, sink, errors),
         Ok(Order::Migrate(config)) => migrate(alloc, config, source, sink, errors),

@@ -1,13 +1,14 @@
 //! The exit status of each end. It is 0 if all went well, 1 for a text that is refused, 2 for words that are. It is 3
 //! for a fault, and 4 for a history that isn't legal.
 ghost use Rattle.std.specs.Prelude.{◌≡◌};
-ghost use Rattle.mh_program.specs.Status.{curve_status_of, judgement_status_of, line_status_of, live_status_of, log_status_of, status_of};
+ghost use Rattle.mh_program.specs.Status.{curve_status_of, judgement_status_of, line_status_of, live_status_of, log_status_of, sessions_status_of, status_of};
 
 use mh_command_line::fault::LineFault;
 use mh_live::mh_script::end::End;
 use mh_live::mh_script::fault::ScriptFault;
 use mh_log::judgement::LogJudgement;
 use mh_log::mh_sessions::mh_judging::judgement::Judgement;
+use mh_log::mh_sessions::sessions_judgement::SessionsJudgement;
 use mh_show::mh_curve::end::CurveEnd;
 
 /// The exit status that a run of a script gives the program.
@@ -39,6 +40,20 @@ pub fn judgement_status(ended: &Result<Judgement, ScriptFault>) -> u8
         Ok(Judgement::Legal(_)) => 0,
         Ok(Judgement::Refused { .. }) => 1,
         Ok(Judgement::FirstBad { .. }) => 4,
+        Err(_) => 3,
+    }
+}
+
+/// The exit status that the judgement of a history by what its sessions see gives the program.
+pub fn sessions_status(ended: &Result<SessionsJudgement, ScriptFault>) -> u8
+    ensures { result ≡ sessions_status_of ended.now }
+{
+    match ended {
+        Ok(found) => match found.judgement {
+            Judgement::Legal(_) => 0,
+            Judgement::Refused { .. } => 1,
+            Judgement::FirstBad { .. } => 4,
+        },
         Err(_) => 3,
     }
 }

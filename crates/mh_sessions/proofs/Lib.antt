@@ -5,4 +5,7 @@ pub mod VerdictLemmas
 pub mod JudgeLemmas
 pub mod TextLemmas
 pub mod FaultLemmas
+pub mod FullLemmas
+pub mod StrictLemmas
+pub mod LookLemmas
 pub mod ExplainedLemmas

@@ -9,7 +9,7 @@ use Rattle.mh_model.specs.declared.history.Version.TheVariants.{One}
 use Rattle.mh_model.specs.Bytes.{Text, Cut, cut_after, is_text, line_text, lines_text, words}
 use Rattle.mh_model.specs.HistoryTexts.{IsJudged, entries_from, entry_of, history_of, history_reading, recorded_of, recorded_reading}
 use Rattle.mh_model.specs.Script.{Reading, BadLine, Means, reading_map}
-use Rattle.mh_model.specs.Sessions.{Bad, Whole, IsLegalForSessions, IsSeenThrough, cut_off_at, entries_reading, entries_recorded, is_of_version_one, rules_named, seen_text, whole_lines}
+use Rattle.mh_model.specs.Sessions.{Bad, Whole, IsLegalForSessions, cut_off_at, entries_reading, entries_recorded, is_of_version_one, rules_named, seen_text, whole_lines}
 use Rattle.mh_text.specs.Pieces.{Lines, with_piece}
 use Rattle.mh_text.specs.Reading.{first_lines}
 use Rattle.mh_text.specs.TextErrors.{Refuses}
@@ -24,7 +24,8 @@ use Rattle.mh_judging.proofs.OfScript.SourceLemmas.{IsBounded}
 use Rattle.mh_text_laws.proofs.beginnings.WholeLines.{pieces_free}
 use Rattle.mh_text_laws.proofs.round_trips.HistoryRoundTrips.{cut-text}
 use Rattle.mh_sessions.specs.Judging.{HasSeenSessions, SessionsJudging}
-use Rattle.mh_sessions.specs.Texts.{BeginsWithEither}
+use Rattle.mh_sessions.specs.declared.tally.Tally.{Tally}
+use Rattle.mh_sessions.specs.Texts.{BeginsWithEither, IsSeenThroughBy, IsTallied}
 
 -- Lines ------------------------------------------------------------------------------------------
 
@@ -86,8 +87,11 @@ text_cut text (suc line) some is = rw is refl
 
 -- Sources ----------------------------------------------------------------------------------------
 
-pub seen_by : (asked : Option Rules) → GoesBy seen_text (IsSeenThrough asked)
-seen_by asked a b verdict same h = rw same h
+pub seen_by : (may_be_full : Bool) (asked : Option Rules) → GoesBy seen_text (IsSeenThroughBy may_be_full asked)
+seen_by may_be_full asked a b verdict same h = rw same h
+
+pub tallied_by : (may_be_full : Bool) (asked : Option Rules) (tally : Option Tally) → GoesBy seen_text (IsTallied may_be_full asked tally)
+tallied_by may_be_full asked tally a b verdict same h = rw same h
 
 -- a text that is too long is refused in either version
 pub seen_long : (text : Text) → 2147483648 < length text → entries_reading text ≡ BadLine 0

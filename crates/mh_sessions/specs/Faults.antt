@@ -25,3 +25,12 @@ IsUnseen world entry fault = IsUnseenReply world entry.event entry.reply fault
 -- the same of an entry after others, with the world beside these, under any configuration with these rules
 abbrev pub IsUnseenAfter : Rules → List Entry → Entry → EntryFault → Type 0
 IsUnseenAfter rules before entry fault = (config : Config) → config.rules ≡ rules → IsUnseen (world_beside (first_world config) (events_of before) (replies_of before)) entry fault
+
+-- What a fault says of an entry whose reply isn't the world's, also if it is that of a full heap
+abbrev pub IsOtherReply : World → Event → Reply → EntryFault → Type 0
+IsOtherReply world (event.Session who command) answer fault = IsReplyFault answer (world_step world who command).reply fault
+IsOtherReply world (event.Control control) answer fault = ⊥
+
+-- the same of an entry after others, under any configuration with these rules
+abbrev pub IsOtherAfter : Rules → List Entry → Entry → EntryFault → Type 0
+IsOtherAfter rules before entry fault = (config : Config) → config.rules ≡ rules → IsOtherReply (world_beside (first_world config) (events_of before) (replies_of before)) entry.event entry.reply fault

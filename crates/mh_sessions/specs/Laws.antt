@@ -1,5 +1,5 @@
 -- Laws of histories that are judged by what their sessions see.
-use Rattle.std.specs.Prelude.{◌≡◌, ℕ, true, false, Option, List, ◌∷◌, ◌++◌}
+use Rattle.std.specs.Prelude.{◌≡◌, ◌↔◌, ℕ, Bool, true, false, Option, List, ◌∷◌, ◌++◌}
 use Rattle.mh_model.specs.declared.command.Command.{Command}
 use Rattle.mh_model.specs.declared.command.Event.TheVariants as event
 use Rattle.mh_model.specs.declared.config.Config.{Config}
@@ -12,6 +12,7 @@ use Rattle.mh_model.specs.History.{IsLegal, events_of, replies_of}
 use Rattle.mh_model.specs.Sessions.{AreSeen, IsLegalForSessions, IsSeenThrough, MayLackRoom}
 use Rattle.mh_model.specs.Snapshot.{is_heap_full, world_beside}
 use Rattle.mh_model.specs.World.{World, first_world, says, world_step}
+use Rattle.mh_sessions.specs.Texts.{IsSeenThroughBy}
 
 -- the same world under another configuration
 abbrev pub world_under : Config → World → World
@@ -46,3 +47,8 @@ LegalHistoriesAreLegalForSessions = (config : Config) (history : List Entry) →
 -- A text has a verdict by what its sessions see
 abbrev pub TextsAreSeenThrough : Type 0
 TextsAreSeenThrough = (asked : Option Rules) (text : Text) → (verdict : Verdict) × IsSeenThrough asked text verdict
+
+-- It has one by whether a heap may be full, which is that one if a heap may be
+pub record FullHeapsAreJudged : Type 0 where
+  pub verdict : (may_be_full : Bool) (asked : Option Rules) (text : Text) → (verdict : Verdict) × IsSeenThroughBy may_be_full asked text verdict
+  pub allowed : (asked : Option Rules) (text : Text) (verdict : Verdict) → IsSeenThroughBy true asked text verdict ↔ IsSeenThrough asked text verdict

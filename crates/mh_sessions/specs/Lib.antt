@@ -1,4 +1,5 @@
 pub mod Faults
+pub mod Full
 pub mod Judging
 pub mod Laws
 pub mod Texts

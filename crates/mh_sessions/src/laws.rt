@@ -2,8 +2,8 @@
 //!
 //! A legal history of ours is legal so, under its own rules. One that is legal so has the replies of a heap that
 //! never collects or moves, but for a full heap. That comes only if such a heap makes the object. Of a configuration
-//! only the rules matter. Each text has such a verdict.
-ghost use Rattle.mh_sessions.specs.Laws.{LegalHistoriesAreLegalForSessions, OnlyTheRulesMatter, SessionsSeeTheWorld, TextsAreSeenThrough};
+//! only the rules matter. Each text has such a verdict, and one by which no heap may be full.
+ghost use Rattle.mh_sessions.specs.Laws.{FullHeapsAreJudged, LegalHistoriesAreLegalForSessions, OnlyTheRulesMatter, SessionsSeeTheWorld, TextsAreSeenThrough};
 
 use mh_promise::promise::runs_keep_their_promise;
 use mh_run_laws::worlds::world_is_never_full;
@@ -33,4 +33,11 @@ pub fn texts_are_seen_through()
     ensures { TextsAreSeenThrough }
 {
     only_the_rules_matter();
+}
+
+/// A text has a verdict also where no heap may be full. Where one may be, its verdict is the one that it has anyhow.
+pub fn full_heaps_are_judged()
+    ensures { FullHeapsAreJudged }
+{
+    texts_are_seen_through();
 }

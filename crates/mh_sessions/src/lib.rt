@@ -10,4 +10,7 @@ mod fault;
 pub mod judge;
 pub mod laws;
 mod lines;
+mod look;
+pub mod sessions_judgement;
+pub mod tally;
 pub mod texts;

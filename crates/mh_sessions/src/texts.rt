@@ -11,23 +11,32 @@
 //! before, unless these are legal. A crash is when its author most wants the verdict. If nothing before is wrong, the
 //! line that was cut off is refused: nobody knows what it was to be. `check_script` and `audit_script` refuse such a
 //! text in any case.
-ghost use Rattle.std.specs.Prelude.{◌≡◌, ◌≢◌, ◌<◌, ◌^◌, map, IfOk, IfErr, OnErr, IsErrOf};
+//!
+//! Where no heap may be full, the first full entry is bad, unless another comes before it. What was looked through is
+//! counted after the verdict, for which the entries are read once more.
+ghost use Rattle.std.specs.Prelude.{◌≡◌, ◌≢◌, ◌<◌, ◌≤◌, ◌+◌, ◌^◌, true, List, length, map, IfOk, IfErr, OnErr, IsErrOf};
 ghost use Rattle.std.specs.Io.KnownBytes.{Keeps};
 ghost use Rattle.mh_history.specs.Beginnings.{HasEntry, entries_left};
 ghost use Rattle.mh_judging.specs.Judgements.{verdict_of};
 ghost use Rattle.mh_judging.specs.Judged.{BeginsToJudge, Explains, IsVerdictOn, Judges};
-ghost use Rattle.mh_model.specs.declared.history.Verdict.TheVariants.{FirstBad};
+ghost use Rattle.mh_model.specs.declared.history.Entry.{Entry};
+ghost use Rattle.mh_model.specs.declared.history.Verdict.TheVariants.{FirstBad, Legal};
 ghost use Rattle.mh_model.specs.Bytes.{cut_after};
-ghost use Rattle.mh_model.specs.Script.{BadLine, reading_map};
-ghost use Rattle.mh_model.specs.Sessions.{IsLegalForSessions, IsSeenThrough, entries_reading, is_of_version_one, rules_named, rules_or, whole_lines};
+ghost use Rattle.mh_model.specs.Limits.{most_entries};
+ghost use Rattle.mh_model.specs.Script.{BadLine, Means, reading_map};
+ghost use Rattle.mh_model.specs.Sessions.{IsLegalForSessions, entries_reading, is_of_version_one, rules_named, rules_or, seen_text, whole_lines};
 ghost use Rattle.mh_judging.specs.OfScript.Texts.{Blames, LeavesSource, WantsMemory};
-ghost use Rattle.mh_sessions.specs.Texts.{BeginsWithEither, IsExplainedInAll, IsFaultInAll, IsReasonOf, IsSeenExplained, IsVerdictOnAll, version_of};
+ghost use Rattle.mh_sessions.specs.Full.{IsLookedThrough, tally_beside, tally_on};
+ghost use Rattle.mh_sessions.specs.Texts.{BeginsWithEither, IsExplainedInAll, IsFaultInAll, IsReasonOf, IsSeenExplained, IsSeenThroughBy, IsTallied, IsVerdictOnAll, version_of};
 ghost use Rattle.mh_text.specs.TextErrors.{Refuses};
 
 use crate::fault::fault_in;
 use crate::judge::SessionsJudge;
-use crate::laws::texts_are_seen_through;
+use crate::laws::full_heaps_are_judged;
 use crate::lines::SeenLine;
+use crate::look::{is_full_before, look_through};
+use crate::sessions_judgement::SessionsJudgement;
+use crate::tally::Tally;
 use mh_history::header::header_of;
 use mh_history::lines::{RefusedLine, next_entry};
 use mh_history::record::RECORD_BYTES;
@@ -77,7 +86,7 @@ fn is_of_version_one(text: &[u8]) -> bool
 /// The verdict on a text of some version. Its entries are replayed in the heap that never collects and not kept.
 fn verdict_on<E: SeenLine>(alloc: Global, rules: Rules, text: &[u8]) -> Result<Verdict, NoMemory>
     requires { version_of text.now ≡ E.version }
-    ensures verdict { IfOk result (IsVerdictOnAll rules text.now) }
+    ensures verdict { IfOk result (IsVerdictOnAll true rules text.now) }
     ensures memory { OnErr result (BeginsWithEither text.now) }
 {
     let lines = match E::seen_lines(text) {
@@ -99,8 +108,8 @@ fn entry_fault<E: SeenLine>(
     number: u64,
 ) -> Result<EntryFault, NoMemory>
     requires version { version_of text.now ≡ E.version }
-    requires bad { IsVerdictOnAll rules text.now (FirstBad number) }
-    ensures fault { IfOk result (IsFaultInAll rules text.now number) }
+    requires bad { IsVerdictOnAll true rules text.now (FirstBad number) }
+    ensures fault { IfOk result (IsFaultInAll true rules text.now number) }
     ensures memory { OnErr result (BeginsWithEither text.now) }
 {
     let Ok(lines) = E::seen_lines(text) else {
@@ -109,37 +118,115 @@ fn entry_fault<E: SeenLine>(
     fault_in::<E>(alloc, rules, lines, number)
 }
 
+/// The tally of so many entries of a text, or of those up to the first full one where none may be.
+fn tally_in<E: SeenLine>(
+    alloc: Global,
+    may_be_full: bool,
+    text: &[u8],
+    most: u64,
+) -> Result<Tally, NoMemory>
+    requires version { version_of text.now ≡ E.version }
+    requires entries { (entries : List Entry) × (entries_reading text.now ≡ Means entries) × (most ≤ length entries) }
+    requires few { most ≤ most_entries + 1 }
+    ensures looked { IfOk result (λ tally. (entries : List Entry) → entries_reading text.now ≡ Means entries → IsLookedThrough may_be_full most entries tally) }
+    ensures memory { OnErr result (BeginsWithEither text.now) }
+{
+    let Ok(lines) = E::seen_lines(text) else {
+        unreachable!();
+    };
+    look_through::<E>(alloc, may_be_full, lines, most)
+}
+
+/// What is found of a text whose entries are legal for their sessions, if a heap may be full.
+fn judge_legal<E: SeenLine>(
+    alloc: Global,
+    may_be_full: bool,
+    rules: Rules,
+    text: &[u8],
+    count: u64,
+) -> Result<SessionsJudgement, NoMemory>
+    requires version { version_of text.now ≡ E.version }
+    requires legal { IsVerdictOnAll true rules text.now (Legal count) }
+    ensures verdict { IfOk result (λ found. IsVerdictOnAll may_be_full rules text.now (verdict_of found.judgement)) }
+    ensures explained { IfOk result (λ found. IsExplainedInAll may_be_full rules text.now found.judgement) }
+    ensures tally { IfOk result (λ found. found.tally ≡ tally_on (verdict_of found.judgement) (entries_reading text.now)) }
+    ensures memory { OnErr result (BeginsWithEither text.now) }
+{
+    let tally = tally_in::<E>(alloc, may_be_full, text, count)?;
+    if is_full_before(may_be_full, &tally, count + 1) {
+        return Ok(SessionsJudgement::full(tally));
+    }
+    Ok(SessionsJudgement {
+        judgement: Judgement::Legal(count),
+        tally: Some(tally),
+    })
+}
+
+/// The same of a text that has a bad entry, also if a heap may be full.
+fn judge_bad<E: SeenLine>(
+    alloc: Global,
+    may_be_full: bool,
+    rules: Rules,
+    text: &[u8],
+    number: u64,
+) -> Result<SessionsJudgement, NoMemory>
+    requires version { version_of text.now ≡ E.version }
+    requires bad { IsVerdictOnAll true rules text.now (FirstBad number) }
+    ensures verdict { IfOk result (λ found. IsVerdictOnAll may_be_full rules text.now (verdict_of found.judgement)) }
+    ensures explained { IfOk result (λ found. IsExplainedInAll may_be_full rules text.now found.judgement) }
+    ensures tally { IfOk result (λ found. found.tally ≡ tally_on (verdict_of found.judgement) (entries_reading text.now)) }
+    ensures memory { OnErr result (BeginsWithEither text.now) }
+{
+    let tally = tally_in::<E>(alloc, may_be_full, text, number)?;
+    if is_full_before(may_be_full, &tally, number) {
+        return Ok(SessionsJudgement::full(tally));
+    }
+    let fault = entry_fault::<E>(alloc, rules, text, number)?;
+    Ok(SessionsJudgement {
+        judgement: Judgement::FirstBad { number, fault },
+        tally: Some(tally),
+    })
+}
+
 /// The verdict on a text of some version, and what is wrong with it. Up to its first bad entry it is followed twice.
 fn judge_version<E: SeenLine>(
     alloc: Global,
+    may_be_full: bool,
     rules: Rules,
     text: &[u8],
-) -> Result<Judgement, NoMemory>
+) -> Result<SessionsJudgement, NoMemory>
     requires { version_of text.now ≡ E.version }
-    ensures verdict { IfOk result (λ judgement. IsVerdictOnAll rules text.now (verdict_of judgement)) }
-    ensures explained { IfOk result (IsExplainedInAll rules text.now) }
+    ensures verdict { IfOk result (λ found. IsVerdictOnAll may_be_full rules text.now (verdict_of found.judgement)) }
+    ensures explained { IfOk result (λ found. IsExplainedInAll may_be_full rules text.now found.judgement) }
+    ensures tally { IfOk result (λ found. found.tally ≡ tally_on (verdict_of found.judgement) (entries_reading text.now)) }
     ensures memory { OnErr result (BeginsWithEither text.now) }
 {
     match verdict_on::<E>(alloc, rules, text)? {
-        Verdict::Legal(count) => Ok(Judgement::Legal(count)),
-        Verdict::Refused(line) => Ok(Judgement::refused(E::version(), text, line)),
-        Verdict::FirstBad(number) => Ok(Judgement::FirstBad {
-            number,
-            fault: entry_fault::<E>(alloc, rules, text, number)?,
+        Verdict::Legal(count) => judge_legal::<E>(alloc, may_be_full, rules, text, count),
+        Verdict::FirstBad(number) => judge_bad::<E>(alloc, may_be_full, rules, text, number),
+        Verdict::Refused(line) => Ok(SessionsJudgement {
+            judgement: Judgement::refused(E::version(), text, line),
+            tally: None,
         }),
     }
 }
 
 /// The verdict on a text all of whose lines are to be entries, and what is wrong with it.
-fn judge_all(alloc: Global, rules: Rules, text: &[u8]) -> Result<Judgement, NoMemory>
-    ensures verdict { IfOk result (λ judgement. IsVerdictOnAll rules text.now (verdict_of judgement)) }
-    ensures explained { IfOk result (IsExplainedInAll rules text.now) }
+fn judge_all(
+    alloc: Global,
+    may_be_full: bool,
+    rules: Rules,
+    text: &[u8],
+) -> Result<SessionsJudgement, NoMemory>
+    ensures verdict { IfOk result (λ found. IsVerdictOnAll may_be_full rules text.now (verdict_of found.judgement)) }
+    ensures explained { IfOk result (λ found. IsExplainedInAll may_be_full rules text.now found.judgement) }
+    ensures tally { IfOk result (λ found. found.tally ≡ tally_on (verdict_of found.judgement) (entries_reading text.now)) }
     ensures memory { OnErr result (BeginsWithEither text.now) }
 {
     if is_of_version_one(text) {
-        return judge_version::<Entry>(alloc, rules, text);
+        return judge_version::<Entry>(alloc, may_be_full, rules, text);
     }
-    judge_version::<Measured>(alloc, rules, text)
+    judge_version::<Measured>(alloc, may_be_full, rules, text)
 }
 
 /// The rules that the first line of a text names, which are the first ones in version 1.
@@ -180,57 +267,94 @@ fn whole_lines(text: &[u8]) -> &[u8]
 /// before are judged.
 fn judge_refused(
     alloc: Global,
+    may_be_full: bool,
     asked: Option<Rules>,
     text: &[u8],
     line: u64,
     reason: HistoryReason,
-) -> Result<Judgement, NoMemory>
+) -> Result<SessionsJudgement, NoMemory>
     requires bad { entries_reading text.now ≡ BadLine line }
     requires reason { IsReasonOf text.now line reason }
-    ensures verdict { IfOk result (λ judgement. IsSeenThrough asked text.now (verdict_of judgement)) }
-    ensures explained { IfOk result (IsSeenExplained asked text.now) }
+    ensures verdict { IfOk result (λ found. IsSeenThroughBy may_be_full asked text.now (verdict_of found.judgement)) }
+    ensures explained { IfOk result (λ found. IsSeenExplained may_be_full asked text.now found.judgement) }
+    ensures tally { IfOk result (λ found. found.tally ≡ tally_beside (verdict_of found.judgement) (seen_text text.now)) }
     ensures memory { OnErr result (BeginsWithEither text.now) }
 {
+    let refused = Judgement::Refused { line, reason };
     if line == 0 {
-        return Ok(Judgement::Refused { line, reason });
+        return Ok(SessionsJudgement {
+            judgement: refused,
+            tally: None,
+        });
     }
-    match judge_all(alloc, rules_for(asked, text), whole_lines(text))? {
-        Judgement::FirstBad { number, fault } => Ok(Judgement::FirstBad { number, fault }),
-        Judgement::Legal(_) | Judgement::Refused { .. } => Ok(Judgement::Refused { line, reason }),
+    let rules = rules_for(asked, text);
+    let SessionsJudgement { judgement, tally } = judge_all(
+        alloc,
+        may_be_full,
+        rules,
+        whole_lines(text),
+    )?;
+    match judgement {
+        Judgement::FirstBad { number, fault } => Ok(SessionsJudgement {
+            judgement: Judgement::FirstBad { number, fault },
+            tally,
+        }),
+        Judgement::Legal(_) | Judgement::Refused { .. } => Ok(SessionsJudgement {
+            judgement: refused,
+            tally,
+        }),
     }
 }
 
-/// The verdict on a text of either version by what its sessions see, under the rules that are asked for or that it names, and
-/// what is wrong with the text. Of a history that was cut off the entries before are judged.
+/// The verdict on a text of either version by what its sessions see, under the rules that are asked for or that it names,
+/// what is wrong with the text, and what was looked through. Of a history that was cut off the entries before are judged.
 pub fn judge_sessions(
     alloc: Global,
+    may_be_full: bool,
     asked: Option<Rules>,
     text: &[u8],
-) -> Result<Judgement, NoMemory>
-    ensures verdict { IfOk result (λ judgement. IsSeenThrough asked text.now (verdict_of judgement)) }
-    ensures explained { IfOk result (IsSeenExplained asked text.now) }
+) -> Result<SessionsJudgement, NoMemory>
+    ensures verdict { IfOk result (λ found. IsSeenThroughBy may_be_full asked text.now (verdict_of found.judgement)) }
+    ensures explained { IfOk result (λ found. IsSeenExplained may_be_full asked text.now found.judgement) }
+    ensures tally { IfOk result (λ found. found.tally ≡ tally_beside (verdict_of found.judgement) (seen_text text.now)) }
     ensures memory { OnErr result (BeginsWithEither text.now) }
 {
-    match judge_all(alloc, rules_for(asked, text), text)? {
-        Judgement::Legal(count) => Ok(Judgement::Legal(count)),
-        Judgement::FirstBad { number, fault } => Ok(Judgement::FirstBad { number, fault }),
-        Judgement::Refused { line, reason } => judge_refused(alloc, asked, text, line, reason),
+    let SessionsJudgement { judgement, tally } = judge_all(
+        alloc,
+        may_be_full,
+        rules_for(asked, text),
+        text,
+    )?;
+    match judgement {
+        Judgement::Legal(count) => Ok(SessionsJudgement {
+            judgement: Judgement::Legal(count),
+            tally,
+        }),
+        Judgement::FirstBad { number, fault } => Ok(SessionsJudgement {
+            judgement: Judgement::FirstBad { number, fault },
+            tally,
+        }),
+        Judgement::Refused { line, reason } => {
+            judge_refused(alloc, may_be_full, asked, text, line, reason)
+        }
     }
 }
 
 /// Reads a whole history of either version, judges it by what its sessions see, under the rules that are asked for or that
-/// it names, and then writes the line of its verdict, for which it takes no memory.
+/// it names, and then writes the line of its verdict, for which it takes no memory. Where no heap may be full, the first
+/// full entry is bad.
 pub fn check_sessions<S: Source, W: Sink>(
     alloc: Global,
+    may_be_full: bool,
     asked: Option<Rules>,
     source: &mut S,
     sink: &mut W,
-) -> Result<Judgement, ScriptFault>
+) -> Result<SessionsJudgement, ScriptFault>
     requires source_count { S.failures source.old < 2 ^ 62 }
     requires sink_count { W.failures sink.old < 2 ^ 62 }
-    ensures judged { IfOk result (λ judgement. Judges (IsSeenThrough asked) (S.rest source.old) (W.written sink.old) (W.written sink.new) (verdict_of judgement)) }
-    ensures explained { IfOk result (Explains (IsSeenExplained asked) (S.rest source.old)) }
-    ensures begun { OnErr result (BeginsToJudge (IsSeenThrough asked) (S.rest source.old) (W.written sink.old) (W.written sink.new)) }
+    ensures judged { IfOk result (λ found. Judges (IsTallied may_be_full asked found.tally) (S.rest source.old) (W.written sink.old) (W.written sink.new) (verdict_of found.judgement)) }
+    ensures explained { IfOk result (λ found. Explains (IsSeenExplained may_be_full asked) (S.rest source.old) found.judgement) }
+    ensures begun { OnErr result (BeginsToJudge (IsSeenThroughBy may_be_full asked) (S.rest source.old) (W.written sink.old) (W.written sink.new)) }
     ensures never_full { result ≢ Err ScriptFault.HistoryFull }
     ensures unread { IsErrOf result ScriptFault.Read → Keeps (W.written sink.old) (W.written sink.new) }
     ensures unjudged { IsErrOf result ScriptFault.NoMemory → Keeps (W.written sink.old) (W.written sink.new) }
@@ -238,11 +362,11 @@ pub fn check_sessions<S: Source, W: Sink>(
     ensures taken { LeavesSource RECORD_BYTES (S.rest source.old) (S.rest source.new) result }
     ensures blames { Blames (S.failures source.old) (S.failures source.new) (W.failures sink.old) (W.failures sink.new) result }
 {
-    texts_are_seen_through();
+    full_heaps_are_judged();
     let text = read_whole(alloc, source, RECORD_BYTES)?;
-    let judgement = judge_sessions(alloc, asked, text.as_slice())?;
-    match write_verdict(judgement.verdict(), sink) {
-        Ok(()) => Ok(judgement),
+    let found = judge_sessions(alloc, may_be_full, asked, text.as_slice())?;
+    match write_verdict(found.judgement.verdict(), sink) {
+        Ok(()) => Ok(found),
         Err(DeviceFailed) => Err(ScriptFault::Write),
     }
 }

@@ -110,6 +110,9 @@ const LEGAL: &[u8] = b"legal 4\n";
 
 const FIRST_BAD: &[u8] = b"first bad 4\n";
 
+/// What `check --sessions` tells of either.
+const LOOKED_THROUGH: &[u8] = b"metroheap: entries 4 full 0 quanta 2 starts 1\n";
+
 const OTHER_VERSION: &[u8] = b"refused 10 line 1\n";
 
 /// Scripts that are run.
@@ -292,21 +295,21 @@ const READ_OTHERWISE: &[Case<'static>] = &[
         words: CHECK_SESSIONS,
         input: BAD_HISTORY,
         outputs: &[LEGAL],
-        told: NONE,
+        told: LOOKED_THROUGH,
         status: 0,
     },
     Case {
         words: CHECK_SESSIONS,
         input: BAD_RECORD,
         outputs: &[LEGAL],
-        told: NONE,
+        told: LOOKED_THROUGH,
         status: 0,
     },
     Case {
         words: CHECK_SESSIONS,
         input: b"history 1\ns0 new 0 0 1 = ok\n* stat = ok\ns0 read 0 0 = number 1\n",
         outputs: &[b"first bad 3\n"],
-        told: b"metroheap: line 4, entry 3: number 1, and right is number 0\n",
+        told: b"metroheap: line 4, entry 3: number 1, and right is number 0\nmetroheap: entries 3 full 0 quanta 0 starts 0\n",
         status: 4,
     },
 ];

@@ -5,9 +5,10 @@ use crate::cases::{
 };
 use crate::sweep::check;
 use crate::texts::{
-    BAD_HISTORY, BAD_NUMBER, BAD_RECORD, COLLECTED, COLLECTED_OUTPUT, COLLECTED_STEPS, CYCLE,
-    FIRST_BAD, HISTORY, LEGAL, LINES_ANSWERED, MIGRATE_CYCLES, RECORD, REFUSED, REFUSED_OUTPUT,
-    REFUSED_REASON, RUN_BY_TWO, STEPS, crowded, crowded_output, repeated, wide, wide_output,
+    BAD_HISTORY, BAD_NUMBER, BAD_RECORD, BAD_SEEN, BAD_UNSAID, COLLECTED, COLLECTED_OUTPUT,
+    COLLECTED_STEPS, CYCLE, FIRST_BAD, HISTORY, LEGAL, LINES_ANSWERED, LOOKED_THROUGH,
+    MIGRATE_CYCLES, RECORD, REFUSED, REFUSED_OUTPUT, REFUSED_REASON, RUN_BY_TWO, STEPS, crowded,
+    crowded_output, repeated, wide, wide_output,
 };
 use std::alloc::{AllocError, Global};
 use std::process::Abort;
@@ -106,8 +107,23 @@ fn random_scripts(rt: HostRuntime) -> Result<(), Fail> {
 
 #[test]
 fn histories_by_what_sessions_see(rt: HostRuntime) -> Result<(), Fail> {
-    check_both(&rt, rt.alloc(), Call::known(CHECK_SESSIONS, HISTORY, LEGAL))?;
-    check_both(&rt, rt.alloc(), bad_entry(CHECK_SESSIONS, BAD_RECORD))?;
+    let legal = Call {
+        told: Told::Line {
+            reason: LOOKED_THROUGH,
+            other: LOOKED_THROUGH,
+        },
+        ..Call::known(CHECK_SESSIONS, HISTORY, LEGAL)
+    };
+    check_both(&rt, rt.alloc(), legal)?;
+    let bad = Call {
+        told: Told::Line {
+            reason: BAD_SEEN,
+            other: BAD_UNSAID,
+        },
+        status: 4,
+        ..Call::known(CHECK_SESSIONS, BAD_RECORD, FIRST_BAD)
+    };
+    check_both(&rt, rt.alloc(), bad)?;
     Ok(())
 }
 

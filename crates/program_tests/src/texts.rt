@@ -202,6 +202,16 @@ pub const FIRST_BAD: &[u8] = b"first bad 3\n";
 /// What is reported of both.
 pub const BAD_NUMBER: &[u8] = b"metroheap: line 4, entry 3: number 6, and right is number 5\n";
 
+/// What is reported of the legal one by what its sessions see.
+pub const LOOKED_THROUGH: &[u8] = b"metroheap: entries 7 full 0 quanta 2 starts 1\n";
+
+/// And of the others, with the reason or without memory for it.
+pub const BAD_SEEN: &[u8] =
+    b"metroheap: line 4, entry 3: number 6, and right is number 5\nmetroheap: entries 3 full 0 quanta 0 starts 0\n";
+
+pub const BAD_UNSAID: &[u8] =
+    b"metroheap: an entry is bad\nmetroheap: entries 3 full 0 quanta 0 starts 0\n";
+
 /// A text, and after it another, so many times.
 pub fn repeated(
     alloc: Global,

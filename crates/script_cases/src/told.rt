@@ -32,9 +32,12 @@ fn goes_on(line: Option<&[u8]>, start: &str) -> bool {
     })
 }
 
-/// Whether standard error has a line for each line of the output that is to be told of, in order, and nothing else.
+/// Whether standard error has a line for each line of the output that is to be told of, in order, and nothing else but what
+/// was looked through of a history.
 pub fn is_told(alloc: Global, output: &[u8], errors: &[u8]) -> Result<bool> {
-    let mut told = errors.split_inclusive(|byte| *byte == b'\n');
+    let mut told = errors
+        .split_inclusive(|byte| *byte == b'\n')
+        .filter(|line| !line.starts_with(b"metroheap: entries "));
     for line in output.split_inclusive(|byte| *byte == b'\n') {
         if let Some(start) = beginning(alloc, line)? {
             if !goes_on(told.next(), start.as_str()) {

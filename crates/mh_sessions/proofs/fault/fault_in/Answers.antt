@@ -1,4 +1,3 @@
-use Rattle.std.proofs.Common.{◌∙◌, ◌+◌}
 use Rattle.std.proofs.lemmas.Result.{IfOk-weaker}
 use Rattle.mh_sessions.proofs.FaultLemmas.{follows_more, follows_none, has_unseen, is_unseen, life_left, more_left}
 use Rattle.mh_sessions.proofs.fault.fault_in.Goals as goal
