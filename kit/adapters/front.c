@@ -183,6 +183,7 @@ static void begin_anew(void)
 {
     for (int root = 0; root < ROOTS; root++)
         heap_clear(root);
+    heap_begin();
     memset(&run, 0, sizeof run);
     run.cycles_before = heap_progress().cycles;
 }

@@ -25,6 +25,8 @@ unsigned long number_asked(unsigned long otherwise);
 /* Of the adapter. */
 void heap_open(void);
 void heap_close(void);
+/* Forgets what it counted of objects and commands, as a script begins. */
+void heap_begin(void);
 /* Says no if there is no memory. */
 bool heap_make(int root, uint64_t references, uint64_t numbers);
 /* Says no if the root names nothing. */

@@ -65,6 +65,12 @@ void heap_close(void)
 {
 }
 
+void heap_begin(void)
+{
+    births = commands = 0;
+    memset(sizes, 0, sizeof sizes);
+}
+
 static uint64_t *place_of(int root)
 {
     return (root % 2 == 0 ? even_roots : odd_roots) + root;

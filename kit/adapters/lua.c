@@ -109,6 +109,11 @@ void heap_close(void)
     lua_close(state);
 }
 
+void heap_begin(void)
+{
+    births = allocations = commands = 0;
+}
+
 /* Pushes what a root names, and returns it: NULL if it names nothing. */
 static const struct object *push(int root)
 {
