@@ -53,6 +53,15 @@ module _ (letters : List Letter) (s : PauseState) (gone : HasGone letters s) whe
           absurd (omega (arith, gone.begins start sooner, part_in start units start (s.place - start) (omega arith) (omega (arith, later)) none))
       by false test = let no_sooner : s.place ≤ start + s.here = grind (arith, nat_tests) in omega (arith, no_sooner, inside)
 
+    starts_more : (start : ℕ) → start + (s.here + n) < s.place + n → s.place < start + (s.here + n) → 0 < units_in letters start (s.here + n)
+    starts_more start early later = by (nat_lt 0 (units_in letters start (s.here + n))) refl where
+      by : (b : Bool) → nat_lt 0 (units_in letters start (s.here + n)) ≡ b → 0 < units_in letters start (s.here + n)
+      by true test = grind (arith, nat_tests)
+      by false test =
+          let none : units_in letters start (s.here + n) ≡ 0 = grind (arith, nat_tests) in
+          let sooner : start + s.here < s.place = omega (arith, early) in
+          absurd (omega (arith, gone.begins start sooner, part_in start (s.here + n) start (s.place - start) (omega arith) (omega (arith, later, sooner)) none))
+
   -- or of the mutator, of which there is one
   module _ (n : ℕ) (some : 0 < n) (room : s.place + n ≤ length letters) (alike_is : (i : ℕ) → i ≤ n → units_in letters s.place i ≡ i) where
     begins_new : (start : ℕ) → start + 0 < s.place + n → 0 < units_in letters start (s.place + n - start)
@@ -89,12 +98,23 @@ module _ (letters : List Letter) (s : PauseState) (gone : HasGone letters s) whe
 
   -- so it has gone on, if this is what stands before its new place
   module _ (n here : ℕ) (room : s.place + n ≤ length letters) (few : here ≤ s.place + n) (paused : units_in letters (s.place + n - here) here ≡ 0) (begins : (start : ℕ) → start + here < s.place + n → 0 < units_in letters start (s.place + n - start))
-      (bound : (start units : ℕ) → start + units ≤ s.place + n → s.place < start + units → units_in letters start units ≡ 0 → units ≤ here) where
+      (bound : (start units : ℕ) → start + units ≤ s.place + n → s.place < start + units → units_in letters start units ≡ 0 → units ≤ here)
+      (starts : (start : ℕ) → 0 < here → start + here < s.place + n → s.place < start + here → 0 < units_in letters start here) where
     all_bound : (start units : ℕ) → start + units ≤ s.place + n → units_in letters start units ≡ 0 → (units ≤ s.longest.units) ⊎ (units ≤ here)
     all_bound start units inside none = by (nat_lt s.place (start + units)) refl where
       by : (b : Bool) → nat_lt s.place (start + units) ≡ b → (units ≤ s.longest.units) ⊎ (units ≤ here)
       by true test = let later : s.place < start + units = grind (arith, nat_tests) in inr (bound start units inside later none)
       by false test = let sooner : start + units ≤ s.place = grind (arith, nat_tests) in inl (gone.longest start units sooner none)
+
+    first_new : s.longest.units < here → (start : ℕ) → start < s.place + n - here → 0 < units_in letters start here
+    first_new more start early = by (nat_lt 0 (units_in letters start here)) (nat_lt s.place (start + here)) refl refl where
+      by : (some late : Bool) → nat_lt 0 (units_in letters start here) ≡ some → nat_lt s.place (start + here) ≡ late → 0 < units_in letters start here
+      by true late test place = grind (arith, nat_tests)
+      by false true test place = let later : s.place < start + here = grind (arith, nat_tests) in starts start (omega (arith, more)) (omega (arith, early)) later
+      by false false test place =
+          let none : units_in letters start here ≡ 0 = grind (arith, nat_tests) in
+          let sooner : start + here ≤ s.place = grind (arith, nat_tests) in
+          absurd (omega (arith, more, gone.longest start here sooner none))
 
     gone_with : HasGone letters (record { place = s.place + n; here = here; longest = longer_of s.longest (record { start = s.place + n - here; units = here }); left = s.left - n })
     gone_with = by (nat_lt s.longest.units here) refl where
@@ -109,6 +129,7 @@ module _ (letters : List Letter) (s : PauseState) (gone : HasGone letters s) whe
             ended = omega (arith, few);
             none = paused;
             longest = λ start units inside none. elim (all_bound start units inside none) [ inl old ↦ omega (arith, old, more) | inr new ↦ new ];
+            first = first_new more;
           })
       by false test =
           let no_more : here ≤ s.longest.units = grind (arith, nat_tests) in
@@ -120,6 +141,7 @@ module _ (letters : List Letter) (s : PauseState) (gone : HasGone letters s) whe
             ended = omega (arith, gone.ended);
             none = gone.none;
             longest = λ start units inside none. elim (all_bound start units inside none) [ inl old ↦ old | inr new ↦ omega (arith, new, no_more) ];
+            first = gone.first;
           })
 
 -- where it goes over letters alike
@@ -146,15 +168,18 @@ module _ (letters : List Letter) (s : PauseState) (n : ℕ) (leaves enters : Let
         gone_with letters s gone many (s.here + many) (omega (arith, is, room)) (omega (arith, gone.here)) (ap (λ p. units_in letters p (s.here + many)) same ∙ paused_more letters s gone many (omega (arith, is, room)) (λ i less. next_is i (omega (arith, less, is))))
         (begins_more letters s gone many (omega (arith, is, room)) (λ i less. next_is i (omega (arith, less, is))))
         (no_longer_more letters s gone many (omega (arith, is, room)) (λ i less. next_is i (omega (arith, less, is))))
+        (λ start some. starts_more letters s gone many (omega (arith, is, room)) (λ i less. next_is i (omega (arith, less, is))) start)
     by M zero is next_is room =
         let same : s.place + 0 ≡ s.place = omega arith in
         gone_with letters s gone 0 s.here (omega (arith, gone.inside)) (omega (arith, gone.here)) (ap (λ p. units_in letters (p - s.here) s.here) same ∙ gone.paused)
         (λ start early. subst (λ p. 0 < units_in letters start (p - start)) (sym same) (gone.begins start (omega (arith, early))))
         (λ start units inside later none. absurd (omega (arith, inside, later)))
+        (λ start some early later. absurd (omega (arith, early, later)))
     by M (suc more) is next_is room =
         gone_with letters s gone (suc more) 0 (omega (arith, is, room)) (omega arith) refl
         (begins_new letters s gone (suc more) (omega arith) (omega (arith, is, room)) (λ i less. next_is i (omega (arith, less, is))))
         (λ start units inside later none. (let no : units ≡ 0 = none_new letters s gone (suc more) (omega arith) (omega (arith, is, room)) (λ i less. next_is i (omega (arith, less, is))) start units inside later none in omega (arith, no)))
+        (λ start some early later. absurd (omega (arith, some)))
 
 pub goes_alike : (s : PauseState) (n : ℕ) (leaves enters : Letter) → Goes s (alike n leaves enters) (gone_on s n leaves)
 goes_alike s n leaves enters =
@@ -175,6 +200,7 @@ goes_first letters left = record {
   ended = omega arith;
   none = refl;
   longest = λ start units inside none. omega (arith, inside);
+  first = λ start early. absurd (omega (arith, early));
 }
 
 pub longest_found : (letters : List Letter) (old new : PauseState) → old.place ≡ 0 → HasGone letters old → Goes old (passings_of 0 letters) new → IsLongest letters new.longest
@@ -186,4 +212,5 @@ longest_found letters old new start gone goes =
       inside = omega (arith, all.ended, end);
       none = all.none;
       longest = λ from units inside none. all.longest from units (omega (arith, inside, end)) none;
+      first = all.first;
     }

@@ -5,11 +5,12 @@ use Rattle.mh_report.specs.Slides.{Passing, passings}
 use Rattle.mh_window_laws.specs.Windows.{units_in}
 use Rattle.mh_windows.specs.declared.pause.Pause.{Pause}
 
--- no letter of the mutator is in the stretch, and each that is longer has one
+-- no letter of the mutator is in the stretch, and each that is longer or as long and sooner has one
 pub record IsLongest (letters : List Letter) (pause : Pause) : Type 0 where
   pub inside : pause.start + pause.units ≤ length letters
   pub none : units_in letters pause.start pause.units ≡ 0
   pub longest : (start units : ℕ) → start + units ≤ length letters → units_in letters start units ≡ 0 → units ≤ pause.units
+  pub first : (start : ℕ) → start < pause.start → 0 < units_in letters start pause.units
 
 -- so many letters have passed; so many of the last are the collector's; and the longest pause so far
 pub record PauseState : Type 0 where
@@ -27,6 +28,7 @@ pub record HasGone (letters : List Letter) (s : PauseState) : Type 0 where
   pub ended : s.longest.start + s.longest.units ≤ s.place
   pub none : units_in letters s.longest.start s.longest.units ≡ 0
   pub longest : (start units : ℕ) → start + units ≤ s.place → units_in letters start units ≡ 0 → units ≤ s.longest.units
+  pub first : (start : ℕ) → start < s.longest.start → 0 < units_in letters start s.longest.units
 
 -- how many of the last letters are the collector's, after so many letters alike more
 abbrev pub here_after : Letter → ℕ → ℕ → ℕ
