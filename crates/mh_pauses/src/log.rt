@@ -103,7 +103,8 @@ fn trace_lines(alloc: Global, mut lines: Lines<'_>) -> Result<Traced, TextError>
     Ok(traced)
 }
 
-/// The trace that a log means.
+/// The trace that a log means. An error has the number of its first bad line, 1 if it has no byte, and 0 if it has 2 ^ 62
+/// units or more, or more than 2,147,483,648 bytes.
 pub fn read_log(alloc: Global, text: &[u8]) -> Result<Trace, TextError>
     ensures letters { IfOk result (λ trace. pause_reading text.now ≡ Means trace.trace.letters) }
     ensures short { IfOk result (λ trace. length trace.trace.letters < LIFE) }

@@ -17,7 +17,7 @@ use mh_text::pieces::Lines;
 use std::alloc::Global;
 
 /// Whether a heap was full that may not be.
-fn lacks_room(may_be_full: bool, tally: &Tally) -> bool
+fn is_wrongly_full(may_be_full: bool, tally: &Tally) -> bool
     ensures yes { IsTrue result → (may_be_full ≡ false) × (0 < tally.now.full) }
     ensures no { result ≡ false → may_be_full ≡ false → tally.now.full ≡ 0 }
 {
@@ -29,7 +29,7 @@ pub(crate) fn is_full_before(may_be_full: bool, tally: &Tally, number: u64) -> b
     ensures yes { IsTrue result → (may_be_full ≡ false) × (0 < tally.now.full) × (tally.now.entries < number) }
     ensures no { result ≡ false → may_be_full ≡ false → (tally.now.full ≡ 0) ⊎ (number ≤ tally.now.entries) }
 {
-    lacks_room(may_be_full, tally) && tally.entries < number
+    is_wrongly_full(may_be_full, tally) && tally.entries < number
 }
 
 /// Looks through so many of the entries that lines are, and where none may be full, no further than the first that is.
@@ -50,7 +50,7 @@ pub(crate) fn look_through<E: SeenLine>(
             unreachable!();
         };
         tally.add(line.entry());
-        if lacks_room(may_be_full, &tally) {
+        if is_wrongly_full(may_be_full, &tally) {
             return Ok(tally);
         }
     }

@@ -1,5 +1,6 @@
 -- The units of stretches, and the least of those of one length.
 use Rattle.std.proofs.Common.{◌≡◌, ◌∙◌, ℕ, zero, suc, ◌+◌, ◌<◌, ◌≤◌, ◌==◌, min, nat_lt, Bool, true, false, if◌then◌else◌, Some, None, List, [], ◌∷◌, drop, length, map, take, ap, sym, refl, subst, arith}
+use Rattle.std.proofs.lemmas.List.{length-take, take_all}
 use Rattle.std.proofs.lemmas.Bool.Decides.{nat_tests}
 use Rattle.mh_model.specs.Trace.{Letter, M, C, mutator_count, stretches, lesser, least_of, least_mutator}
 use Rattle.mh_window_laws.specs.Laws.{LeastIsOfStretches}
@@ -16,17 +17,11 @@ count_few [] = omega arith
 count_few (M ∷ letters) = let few = count_few letters in omega (arith, few)
 count_few (C ∷ letters) = let few = count_few letters in omega (arith, few)
 
-take_few : (n : ℕ) (letters : List Letter) → length (take n letters) ≤ n
-take_few zero letters = omega arith
-take_few (suc n) [] = omega arith
-take_few (suc n) (letter ∷ letters) = let few = take_few n letters in omega (arith, few)
-
 pub units_few : (letters : List Letter) (start window : ℕ) → units_in letters start window ≤ window
-units_few letters start window = omega (arith, count_few (take window (drop start letters)), take_few window (drop start letters))
+units_few letters start window = omega (arith, count_few (take window (drop start letters)), length-take window (drop start letters))
 
 count-nothing : (n : ℕ) → mutator_count (take n []) ≡ 0
-count-nothing zero = refl
-count-nothing (suc n) = refl
+count-nothing n = ap mutator_count (take_all n [] (omega arith))
 
 -- what is in a stretch is what is before its end and not before its start
 pub units_between : (letters : List Letter) (start window : ℕ) → units_in letters start window + before letters start ≡ before letters (start + window)

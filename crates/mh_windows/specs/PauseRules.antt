@@ -1,10 +1,10 @@
 -- Letters that pass in two parts.
-use Rattle.std.proofs.Common.{◌∙◌, List, [], ◌++◌, drop, length, ap, append_assoc, arith}
+use Rattle.std.proofs.Common.{◌∙◌, List, [], ◌++◌, drop, length, ap, append_assoc, drop-drop, drop_at, sym, refl, arith}
 use Rattle.std.proofs.lemmas.List.{length-append}
 use Rattle.mh_model.specs.Trace.{Letter}
 use Rattle.mh_report.specs.Slides.{Passing, passings}
 use Rattle.mh_windows.specs.Pauses.{Goes, PauseState, StandsNext}
-use Rattle.mh_windows.specs.ShareRules.{drop_front, drop_sum, passings_after}
+use Rattle.mh_windows.specs.ShareRules.{passings_after}
 
 pub pauses_still : (s : PauseState) → Goes s [] s
 pauses_still s = record { place = omega arith; goes = λ letters next gone. gone }
@@ -21,8 +21,8 @@ pauses_onward old mid new before after first last =
     rest letters next = (
       next.0,
       ap (λ n. passings (drop n letters) (drop n letters)) first.place
-          ∙ (λ i. passings (drop_sum old.place (length before) letters i) (drop_sum old.place (length before) letters i))
+          ∙ (λ i. passings (sym (drop-drop (length before) old.place letters) i) (sym (drop-drop (length before) old.place letters) i))
           ∙ passings_after (length before) (drop old.place letters) (drop old.place letters)
           ∙ ap (drop (length before)) (next.1 ∙ append_assoc before after next.0)
-          ∙ drop_front before (after ++ next.0),
+          ∙ drop_at before (after ++ next.0) (length before) refl,
     )

@@ -1,5 +1,5 @@
 -- What passes in two parts.
-use Rattle.std.proofs.Common.{◌≡◌, ◌∙◌, ℕ, zero, suc, ◌+◌, List, [], ◌∷◌, ◌++◌, drop, length, ap, append_assoc, sym, refl, arith}
+use Rattle.std.proofs.Common.{◌≡◌, ◌∙◌, ℕ, zero, suc, ◌+◌, List, [], ◌∷◌, ◌++◌, drop, length, ap, append_assoc, drop-drop, drop_at, sym, refl, arith}
 use Rattle.std.proofs.lemmas.List.{length-append}
 use Rattle.mh_model.specs.Trace.{Letter}
 use Rattle.mh_report.specs.Slides.{Passing, passings}
@@ -14,23 +14,6 @@ passings_after (suc n) [] (enters ∷ entering) = by (drop n entering) where
   by [] = refl
   by (enters ∷ entering) = refl
 passings_after (suc n) (leaves ∷ leaving) (enters ∷ entering) = passings_after n leaving entering
-
-drop_nothing : (m : ℕ) → drop {A = Letter} m [] ≡ []
-drop_nothing zero = refl
-drop_nothing (suc m) = refl
-
-pub drop_sum : (n m : ℕ) (letters : List Letter) → drop (n + m) letters ≡ drop m (drop n letters)
-drop_sum zero m letters = let none : zero + m ≡ m = omega arith in ap (λ k. drop k letters) none
-drop_sum (suc n) m [] =
-    let next : suc n + m ≡ suc (n + m) = omega arith in
-    ap (λ k. drop {A = Letter} k []) next ∙ sym (drop_nothing m)
-drop_sum (suc n) m (letter ∷ letters) =
-    let next : suc n + m ≡ suc (n + m) = omega arith in
-    ap (λ k. drop k (letter ∷ letters)) next ∙ drop_sum n m letters
-
-pub drop_front : {X : Type 0} (front rest : List X) → drop (length front) (front ++ rest) ≡ rest
-drop_front [] rest = refl
-drop_front (x ∷ front) rest = drop_front front rest
 
 pub shares_still : (s : ShareState) → Slides s [] s
 shares_still s = record { part = refl; start = omega arith; end = omega arith; finds = λ letters from next found. found }
@@ -50,8 +33,8 @@ shares_onward old mid new before after first last =
       next.0,
       ap (λ n. passings (drop n letters) (drop mid.end.place letters)) first.start
           ∙ ap (λ n. passings (drop (old.start.place + length before) letters) (drop n letters)) first.end
-          ∙ (λ i. passings (drop_sum old.start.place (length before) letters i) (drop_sum old.end.place (length before) letters i))
+          ∙ (λ i. passings (sym (drop-drop (length before) old.start.place letters) i) (sym (drop-drop (length before) old.end.place letters) i))
           ∙ passings_after (length before) (drop old.start.place letters) (drop old.end.place letters)
           ∙ ap (drop (length before)) (next.1 ∙ append_assoc before after next.0)
-          ∙ drop_front before (after ++ next.0),
+          ∙ drop_at before (after ++ next.0) (length before) refl,
     )
