@@ -3,7 +3,7 @@ _metroheap() {
     local word=${COMP_WORDS[COMP_CWORD]} options=
     case ${COMP_WORDS[COMP_CWORD - 1]} in
         # A number follows.
-        --workers | --pages | --quantum | --trigger | --every | --seed | --events | --from | --to | --allocates | --rate | --classes | --parts | --live | --references | --target | --window | --startup | --controls) return ;;
+        --workers | --pages | --quantum | --trigger | --every | --seed | --events | --from | --to | --allocates | --rate | --classes | --parts | --live | --references | --target | --window | --startup | --controls | --longest | --keeps) return ;;
         --rules)
             mapfile -t COMPREPLY < <(compgen -W '1 2' -- "$word")
             return
@@ -15,20 +15,20 @@ _metroheap() {
     esac
     case ${COMP_WORDS[1]} in
         run) options='--workers --rules --history --help' ;;
-        steps) options='--from --to --json --rules --help' ;;
-        show) options='--rules --help' ;;
+        steps) options='--from --to --json --chrome --rules --help' ;;
+        cycles | show) options='--rules --help' ;;
         live | race) options='--workers --help' ;;
         check) options='--pages --quantum --trigger --every --rules --sessions --no-full --log --help' ;;
         migrate) options='--pages --quantum --trigger --every --help' ;;
         audit) options='--help' ;;
-        curve) options='--history --svg --rules --help' ;;
+        curve) options='--history --pauses --svg --every --quantum --longest --keeps --rules --help' ;;
         size) options='--pages --every --quantum --allocates --rate --classes --parts --live --references --target --window --rules --startup --run --help' ;;
         generate)
             # Here a number follows, as it doesn't after the `--sessions` of `check`.
             [[ ${COMP_WORDS[COMP_CWORD - 1]} == --sessions ]] && return
             options='--seed --events --sessions --pages --quantum --trigger --every --profile --controls --rules --help'
             ;;
-        *) options='run steps show live race check audit migrate generate curve size --help --version' ;;
+        *) options='run steps cycles show live race check audit migrate generate curve size --help --version' ;;
     esac
     mapfile -t COMPREPLY < <(compgen -W "$options" -- "$word")
 }

@@ -25,11 +25,12 @@ use Rattle.mh_command_line.specs.declared.fault.LineFault.TheVariants.{Words, No
 use Rattle.mh_orders.specs.declared.order.Order.{Order}
 use Rattle.mh_orders.specs.declared.order.Order.TheVariants.{Version}
 use Rattle.mh_orders.specs.declared.order.ConfigOption.{ConfigOption}
+use Rattle.mh_command_line.specs.declared.options.CurveFault.TheVariants.{NoShare, HalfARound, TwoKinds}
 use Rattle.mh_command_line.specs.declared.options.OptionFault.{OptionFault}
-use Rattle.mh_command_line.specs.declared.options.OptionFault.TheVariants.{NoNumber, NoProfile, NoBlocks, Missing, Lacking, Unwanted, OfLog, NoFullAlone, Beside, Outside}
+use Rattle.mh_command_line.specs.declared.options.OptionFault.TheVariants.{NoNumber, NoProfile, NoBlocks, Missing, Lacking, Unwanted, OfLog, NoFullAlone, OfCurve, Beside, Outside}
 use Rattle.clap.specs.declared.error.kind.ErrorKind.{ErrorKind}
-use Rattle.mh_command_line.specs.Orders.{AreAmiss, AreNoBlocks, AreOfLog, AskAmiss, AsksOutside, AsksVersion, GivesOrder, HasFewWorkers, HasFirstRules, HasOptionFault, IsBeside, IsFault, IsLacking, IsMissing, IsNoNumber, IsNoProfile, IsOrder, IsOutside, IsUnwanted, LackSessions, Named, NotMet, NotTaken, IsSaidOfRefusal, RefusesOptions, kind_of_fault}
-use Rattle.mh_command_line.specs.Line.{AsksForFew, AsksForRules, Checks, Generates, HasFlag, IsSubcommand, NamesOne, Nothing, Runs, Shows, TakesWorkers, Tells, Workers, any_text, check_app, controls_numbers, event_numbers, every_numbers, flag_rule, generate_app, metroheap, page_numbers, quantum_numbers, rules_numbers, run_app, seeds, session_numbers, show_app, steps_app, step_numbers, trigger_numbers, worker_numbers, workers_app, Curves, curve_app, Sizes, block_numbers, part_numbers, percents, scheduled_numbers, size_app, startup_numbers, window_numbers}
+use Rattle.mh_command_line.specs.Orders.{AreAmiss, AreNoBlocks, AreOfCurve, AreOfLog, AskAmiss, AsksOutside, AsksVersion, GivesOrder, HasFewWorkers, HasFirstRules, HasOptionFault, IsBeside, IsFault, IsLacking, IsMissing, IsNoNumber, IsNoProfile, IsOrder, IsOutside, IsUnwanted, LackSessions, Named, NotMet, NotTaken, IsSaidOfRefusal, RefusesOptions, kind_of_fault}
+use Rattle.mh_command_line.specs.Line.{AsksForFew, AsksForRules, Checks, Generates, HasFlag, IsSubcommand, NamesOne, Nothing, Ruled, Runs, TakesRules, TakesWorkers, Tells, Workers, any_text, check_app, controls_numbers, event_numbers, every_numbers, flag_rule, generate_app, metroheap, page_numbers, quantum_numbers, round_numbers, ruled_app, rules_numbers, run_app, seeds, session_numbers, steps_app, step_numbers, trigger_numbers, worker_numbers, workers_app, Curves, curve_app, Sizes, block_numbers, part_numbers, percents, scheduled_numbers, size_app, startup_numbers, window_numbers}
 use Rattle.mh_command_line.proofs.OptionLemmas.{AreRead, IsSafe, level-read, never, none-missing, none_first, none_next, safe-flag, safe-given, safe-help, safe-value, value-given, value-may, value_rule}
 
 -- Options ----------------------------------------------------------------------------------------
@@ -38,17 +39,16 @@ use Rattle.mh_command_line.proofs.OptionLemmas.{AreRead, IsSafe, level-read, nev
 abbrev option_parser : Text → ValueParser
 option_parser name =
     if bytes_eq name (codes "workers") then worker_numbers else (if bytes_eq name (codes "rules") then rules_numbers
-    else (if bytes_eq name (codes "history") then vp.Bool else (if bytes_eq name (codes "svg") then vp.Bool else any_text)))
+    else (if bytes_eq name (codes "history") then vp.Bool else any_text))
 
 -- each is read as it was written
 read_plain : (name : Text) → reading_of (option_parser name) ≡ AsWritten
-read_plain name = go (bytes_eq name (codes "workers")) (bytes_eq name (codes "rules")) (bytes_eq name (codes "history")) (bytes_eq name (codes "svg")) where
-  go : (a b c d : Bool) → reading_of (if a then worker_numbers else (if b then rules_numbers else (if c then vp.Bool else (if d then vp.Bool else any_text)))) ≡ AsWritten
-  go true b c d = refl
-  go false true c d = refl
-  go false false true d = refl
-  go false false false true = refl
-  go false false false false = refl
+read_plain name = go (bytes_eq name (codes "workers")) (bytes_eq name (codes "rules")) (bytes_eq name (codes "history")) where
+  go : (a b c : Bool) → reading_of (if a then worker_numbers else (if b then rules_numbers else (if c then vp.Bool else any_text))) ≡ AsWritten
+  go true b c = refl
+  go false true c = refl
+  go false false true = refl
+  go false false false = refl
 
 abbrev AllRead : List Row → Type 0
 AllRead rows = AreRead option_parser read_plain rows
@@ -69,9 +69,6 @@ rules-may rows all = value-may option_parser read_plain (codes "rules") rows all
 
 history-may : (rows : List Row) → AllRead rows → HasFlag (codes "history") rows
 history-may rows all = flag-may (one_of (codes "history") rows) (value-may option_parser read_plain (codes "history") rows all)
-
-svg-may : (rows : List Row) → AllRead rows → HasFlag (codes "svg") rows
-svg-may rows all = flag-may (one_of (codes "svg") rows) (value-may option_parser read_plain (codes "svg") rows all)
 
 -- Subcommands ------------------------------------------------------------------------------------
 
@@ -107,12 +104,12 @@ sound-run words e =
     level-read option_parser read_plain s words (value-safe (codes "workers") 1, (value-safe (codes "rules") 1, (flag-safe (codes "history") 1 refl, (help-safe, tt)))) e in
     Runs refl (few-may rows all, rules-may rows all, history-may rows all)
 
-sound-show : IsSound (built_leaf show_app.top)
-sound-show words e =
-    let s : Shape = built_leaf show_app.top in
+sound-ruled : (name : Text) → TakesRules name → IsSound (built_leaf (ruled_app name).top)
+sound-ruled name is words e =
+    let s : Shape = built_leaf (ruled_app name).top in
     let rows : List Row = rows_after s.rules [] words in
     let all : AllRead rows = level-read option_parser read_plain s words (value-safe (codes "rules") 1, (help-safe, tt)) e in
-    Shows refl (rules-may rows all)
+    Ruled is (rules-may rows all)
 
 -- the parser of each option of `check`
 abbrev check_parser : Text → ValueParser
@@ -144,13 +141,47 @@ sound-check words e =
       log = flag-may (one_of (codes "log") rows) (may (codes "log"));
     })
 
+-- the parser of each option of `curve`
+abbrev curve_parser : Text → ValueParser
+curve_parser name =
+    if bytes_eq name (codes "rules") then rules_numbers else (if bytes_eq name (codes "history") then vp.Bool else (if bytes_eq name (codes "pauses") then vp.Bool
+    else (if bytes_eq name (codes "svg") then vp.Bool else (if bytes_eq name (codes "every") then round_numbers else (if bytes_eq name (codes "quantum") then round_numbers
+    else (if bytes_eq name (codes "longest") then seeds else any_text))))))
+
+curve_plain : (name : Text) → reading_of (curve_parser name) ≡ AsWritten
+curve_plain name =
+    go (bytes_eq name (codes "rules")) (bytes_eq name (codes "history")) (bytes_eq name (codes "pauses")) (bytes_eq name (codes "svg")) (bytes_eq name (codes "every")) (bytes_eq name (codes "quantum")) (bytes_eq name (codes "longest"))
+  where
+    go : (a b c d e f g : Bool)
+        → reading_of (if a then rules_numbers else (if b then vp.Bool else (if c then vp.Bool else (if d then vp.Bool else (if e then round_numbers else (if f then round_numbers else (if g then seeds else any_text))))))) ≡ AsWritten
+    go true b c d e f g = refl
+    go false true c d e f g = refl
+    go false false true d e f g = refl
+    go false false false true e f g = refl
+    go false false false false true f g = refl
+    go false false false false false true g = refl
+    go false false false false false false true = refl
+    go false false false false false false false = refl
+
 sound-curve : IsSound (built_leaf curve_app.top)
 sound-curve words e =
     let s : Shape = built_leaf curve_app.top in
     let rows : List Row = rows_after s.rules [] words in
-    let all : AllRead rows =
-    level-read option_parser read_plain s words (value-safe (codes "rules") 1, (flag-safe (codes "history") 1 refl, (flag-safe (codes "svg") 1 refl, (help-safe, tt)))) e in
-    Curves refl (rules-may rows all, history-may rows all, svg-may rows all)
+    let value : (name : Text) → _ = λ name. safe-value curve_parser curve_plain name 1 in
+    let flag : (name : Text) → curve_parser name ≡ vp.Bool → _ = λ name is. safe-flag curve_parser curve_plain name 1 is in
+    let all : AreRead curve_parser curve_plain rows =
+    level-read curve_parser curve_plain s words
+    (value (codes "rules"), (flag (codes "history") refl, (flag (codes "pauses") refl, (flag (codes "svg") refl, (value (codes "every"), (value (codes "quantum"), (value (codes "longest"), (value (codes "keeps"), (safe-help curve_parser curve_plain 1, tt))))))))) e in
+    let may : (name : Text) → IfSome (one_of name rows) (Accepts false (curve_parser name)) = λ name. value-may curve_parser curve_plain name rows all in
+    Curves refl (record {
+      rules = may (codes "rules");
+      history = flag-may (one_of (codes "history") rows) (may (codes "history"));
+      pauses = flag-may (one_of (codes "pauses") rows) (may (codes "pauses"));
+      svg = flag-may (one_of (codes "svg") rows) (may (codes "svg"));
+      every = may (codes "every");
+      quantum = may (codes "quantum");
+      longest = may (codes "longest");
+    })
 
 -- the parser of each option of `generate`
 abbrev generate_parser : Text → ValueParser
@@ -182,16 +213,17 @@ generate_plain name =
 abbrev steps_parser : Text → ValueParser
 steps_parser name =
     if bytes_eq name (codes "from") then step_numbers else (if bytes_eq name (codes "to") then step_numbers
-    else (if bytes_eq name (codes "json") then vp.Bool else (if bytes_eq name (codes "rules") then rules_numbers else any_text)))
+    else (if bytes_eq name (codes "json") then vp.Bool else (if bytes_eq name (codes "chrome") then vp.Bool else (if bytes_eq name (codes "rules") then rules_numbers else any_text))))
 
 steps_plain : (name : Text) → reading_of (steps_parser name) ≡ AsWritten
-steps_plain name = go (bytes_eq name (codes "from")) (bytes_eq name (codes "to")) (bytes_eq name (codes "json")) (bytes_eq name (codes "rules")) where
-  go : (a b c d : Bool) → reading_of (if a then step_numbers else (if b then step_numbers else (if c then vp.Bool else (if d then rules_numbers else any_text)))) ≡ AsWritten
-  go true b c d = refl
-  go false true c d = refl
-  go false false true d = refl
-  go false false false true = refl
-  go false false false false = refl
+steps_plain name = go (bytes_eq name (codes "from")) (bytes_eq name (codes "to")) (bytes_eq name (codes "json")) (bytes_eq name (codes "chrome")) (bytes_eq name (codes "rules")) where
+  go : (a b c d e : Bool) → reading_of (if a then step_numbers else (if b then step_numbers else (if c then vp.Bool else (if d then vp.Bool else (if e then rules_numbers else any_text))))) ≡ AsWritten
+  go true b c d e = refl
+  go false true c d e = refl
+  go false false true d e = refl
+  go false false false true e = refl
+  go false false false false true = refl
+  go false false false false false = refl
 
 sound-steps : IsSound (built_leaf steps_app.top)
 sound-steps words e =
@@ -200,9 +232,9 @@ sound-steps words e =
     let value : (name : Text) → _ = λ name. safe-value steps_parser steps_plain name 1 in
     let all : AreRead steps_parser steps_plain rows =
     level-read steps_parser steps_plain s words
-    (value (codes "from"), (value (codes "to"), (safe-flag steps_parser steps_plain (codes "json") 1 refl, (value (codes "rules"), (safe-help steps_parser steps_plain 1, tt))))) e in
+    (value (codes "from"), (value (codes "to"), (safe-flag steps_parser steps_plain (codes "json") 1 refl, (safe-flag steps_parser steps_plain (codes "chrome") 1 refl, (value (codes "rules"), (safe-help steps_parser steps_plain 1, tt)))))) e in
     let may : (name : Text) → IfSome (one_of name rows) (Accepts false (steps_parser name)) = λ name. value-may steps_parser steps_plain name rows all in
-    Tells refl (record { from = may (codes "from"); to = may (codes "to"); json = flag-may (one_of (codes "json") rows) (may (codes "json")); rules = may (codes "rules") })
+    Tells refl (record { from = may (codes "from"); to = may (codes "to"); json = flag-may (one_of (codes "json") rows) (may (codes "json")); chrome = flag-may (one_of (codes "chrome") rows) (may (codes "chrome")); rules = may (codes "rules") })
 
 both_given : (a b rest : Bool) → (not a || (not b || rest)) ≡ false → (a ≡ true) × (b ≡ true)
 both_given true true rest e = (refl, refl)
@@ -326,12 +358,15 @@ sound-metroheap = (
   (
     sound-steps,
     (
-      sound-show,
+      sound-ruled (codes "cycles") (inl refl),
       (
-        sound-workers (codes "live") (inl refl),
+        sound-ruled (codes "show") (inr refl),
         (
-          sound-workers (codes "race") (inr refl),
-          (sound-check, ((λ words e. Nothing (inl refl)), ((λ words e. Nothing (inr refl)), (sound-generate, (sound-curve, (sound-size, tt)))))),
+          sound-workers (codes "live") (inl refl),
+          (
+            sound-workers (codes "race") (inr refl),
+            (sound-check, ((λ words e. Nothing (inl refl)), ((λ words e. Nothing (inr refl)), (sound-generate, (sound-curve, (sound-size, tt)))))),
+          ),
         ),
       ),
     ),
@@ -388,6 +423,9 @@ not_version (Missing name) k kinds = sym (ap is_version (same_some kinds))
 not_version (Unwanted name flag) k kinds = sym (ap is_version (same_some kinds))
 not_version (OfLog flag) k kinds = sym (ap is_version (same_some kinds))
 not_version NoFullAlone k kinds = sym (ap is_version (same_some kinds))
+not_version (OfCurve (NoShare text)) k kinds = sym (ap is_version (same_some kinds))
+not_version (OfCurve (HalfARound name)) k kinds = sym (ap is_version (same_some kinds))
+not_version (OfCurve TwoKinds) k kinds = sym (ap is_version (same_some kinds))
 not_version (Outside option) k kinds = absurd (none_some kinds)
 
 -- what `clap` matched, of a command that is the program's
@@ -426,6 +464,7 @@ module _ (a : App) (words : List Text) (m : ArgMatches) (is : a ≡ metroheap) (
   amiss_by name rows (Unwanted option flag) k is kinds = subst (AreAmiss name rows) (same_some kinds) (IsUnwanted is.0 option.now flag.now is.1 is.2 is.3)
   amiss_by name rows (OfLog flag) k is kinds = subst (AreAmiss name rows) (same_some kinds) (AreOfLog is.0 flag.now is.1)
   amiss_by name rows NoFullAlone k is kinds = subst (AreAmiss name rows) (same_some kinds) (LackSessions is.0 is.1)
+  amiss_by name rows (OfCurve fault) k is kinds = subst (AreAmiss name rows) (same_some kinds) (AreOfCurve is.0 fault is.1)
   amiss_by name rows (Outside option) k is kinds = absurd (none_some kinds)
 
   has_amiss : (fault : OptionFault) (k : ErrorKind) (matched : Option (Text × List Row)) → IsSomeAnd matched (λ subcommand. HasOptionFault subcommand.0 subcommand.1 fault) → kind_of_fault fault ≡ Some k
@@ -447,6 +486,7 @@ module _ (a : App) (words : List Text) (m : ArgMatches) (is : a ≡ metroheap) (
   options_refused (Unwanted name flag) NotText has told = absurd told
   options_refused (OfLog flag) NotText has told = absurd told
   options_refused NoFullAlone NotText has told = absurd told
+  options_refused (OfCurve fault) NotText has told = absurd told
   options_refused (Outside option) NotText has told = absurd told
   options_refused (NoNumber name text) (Configuration option) has told = absurd told
   options_refused (NoProfile text) (Configuration option) has told = absurd told
@@ -457,6 +497,7 @@ module _ (a : App) (words : List Text) (m : ArgMatches) (is : a ≡ metroheap) (
   options_refused (Unwanted name flag) (Configuration option) has told = absurd told
   options_refused (OfLog flag) (Configuration option) has told = absurd told
   options_refused NoFullAlone (Configuration option) has told = absurd told
+  options_refused (OfCurve fault) (Configuration option) has told = absurd told
   options_refused (Outside option) (Configuration refused) has told =
       let P : ConfigOption → Type 0 = λ option. AsksOutside words option in
       subst P (sym told) (asks_outside option has)

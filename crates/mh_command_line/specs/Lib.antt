@@ -3,3 +3,4 @@ pub mod Line
 pub mod Orders
 pub mod Printable
 pub mod Sizes
+pub mod Curves

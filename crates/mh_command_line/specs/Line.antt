@@ -66,6 +66,10 @@ percents = Unsigned 1 100
 abbrev pub window_numbers : ValueParser
 window_numbers = Unsigned 1 18446744073709551615
 
+-- the numbers of a round that is promised: twice the most is below 2 ^ 62
+abbrev pub round_numbers : ValueParser
+round_numbers = Unsigned 1 2305843009213693951
+
 -- the numbers of events of a startup
 abbrev pub startup_numbers : ValueParser
 startup_numbers = Unsigned 0 1000000
@@ -128,13 +132,13 @@ config_app name = with_rule (with_rule (with_rule (with_rule (new_app name) (num
 abbrev pub run_app : App
 run_app = with_rule (with_rule (workers_app (codes "run")) rules_rule) (flag_rule (codes "history"))
 
--- `steps`, of the events between two numbers, in words or as JSON, with rules
+-- `steps`, of the events between two numbers, in words, as JSON or as Chrome trace events, with rules
 abbrev pub steps_app : App
-steps_app = with_rule (with_rule (with_rule (with_rule (new_app (codes "steps")) (parsed_rule (codes "from") step_numbers)) (parsed_rule (codes "to") step_numbers)) (flag_rule (codes "json"))) rules_rule
+steps_app = with_rule (with_rule (with_rule (with_rule (with_rule (new_app (codes "steps")) (parsed_rule (codes "from") step_numbers)) (parsed_rule (codes "to") step_numbers)) (flag_rule (codes "json"))) (flag_rule (codes "chrome"))) rules_rule
 
--- `show`, with rules
-abbrev pub show_app : App
-show_app = with_rule (new_app (codes "show")) rules_rule
+-- a subcommand with rules alone
+abbrev pub ruled_app : Text → App
+ruled_app name = with_rule (new_app name) rules_rule
 
 -- `check`, with rules, under a configuration, by what sessions see, or of a log and its order
 abbrev pub check_app : App
@@ -151,9 +155,14 @@ configured_app =
 abbrev pub generate_app : App
 generate_app = with_rule (with_rule (with_rule configured_app profile_rule) (parsed_rule (codes "controls") controls_numbers)) rules_rule
 
--- `curve`, of a script with rules or of a history, as a table or as a picture
+-- `curve`, of a script with rules, of a history or of a log of pauses, as a table or as a picture
+abbrev pub drawn_app : App
+drawn_app = with_rule (with_rule (with_rule (with_rule (new_app (codes "curve")) rules_rule) (flag_rule (codes "history"))) (flag_rule (codes "pauses"))) (flag_rule (codes "svg"))
+
+-- and with what is promised of all its windows
 abbrev pub curve_app : App
-curve_app = with_rule (with_rule (with_rule (new_app (codes "curve")) rules_rule) (flag_rule (codes "history"))) (flag_rule (codes "svg"))
+curve_app =
+    with_rule (with_rule (with_rule (with_rule drawn_app (parsed_rule (codes "every") round_numbers)) (parsed_rule (codes "quantum") round_numbers)) (parsed_rule (codes "longest") seeds)) (parsed_rule (codes "keeps") any_text)
 
 -- `size`, with the numbers of a configuration, with how mutators make objects, and with a share of the mutator. A script has rules, may have a startup, and may be run too
 abbrev pub sized_app : App
@@ -171,13 +180,14 @@ share_app = with_rule (with_rule rates_app (parsed_rule (codes "target") percent
 abbrev pub size_app : App
 size_app = with_rule (with_rule (with_rule share_app rules_rule) (parsed_rule (codes "startup") startup_numbers)) (flag_rule (codes "run"))
 
--- the eleven subcommands
+-- the twelve subcommands
 abbrev pub optional_app : App
 optional_app =
-    with_subcommand (with_subcommand (with_subcommand (with_subcommand (with_subcommand (with_subcommand (with_subcommand (with_subcommand (with_subcommand (with_subcommand (with_subcommand (new_app (codes "metroheap"))
+    with_subcommand (with_subcommand (with_subcommand (with_subcommand (with_subcommand (with_subcommand (with_subcommand (with_subcommand (with_subcommand (with_subcommand (with_subcommand (with_subcommand (new_app (codes "metroheap"))
     run_app.top)
     steps_app.top)
-    show_app.top)
+    (ruled_app (codes "cycles")).top)
+    (ruled_app (codes "show")).top)
     (workers_app (codes "live")).top)
     (workers_app (codes "race")).top)
     check_app.top)
@@ -281,6 +291,7 @@ pub record AsksToTell (rows : List Row) : Type 0 where
   pub from : IfSome (one_of (codes "from") rows) (IsUnsignedIn 0 4294967295)
   pub to : IfSome (one_of (codes "to") rows) (IsUnsignedIn 0 4294967295)
   pub json : HasFlag (codes "json") rows
+  pub chrome : HasFlag (codes "chrome") rows
   pub rules : AsksForRules rows
 
 -- those of `check`
@@ -291,8 +302,14 @@ pub record AsksToCheck (rows : List Row) : Type 0 where
   pub log : HasFlag (codes "log") rows
 
 -- those of `curve`
-abbrev pub AsksToCurve : List Row → Type 0
-AsksToCurve rows = AsksForRules rows × HasFlag (codes "history") rows × HasFlag (codes "svg") rows
+pub record AsksToCurve (rows : List Row) : Type 0 where
+  pub rules : AsksForRules rows
+  pub history : HasFlag (codes "history") rows
+  pub pauses : HasFlag (codes "pauses") rows
+  pub svg : HasFlag (codes "svg") rows
+  pub every : IfSome (one_of (codes "every") rows) (IsUnsignedIn 1 2305843009213693951)
+  pub quantum : IfSome (one_of (codes "quantum") rows) (IsUnsignedIn 1 2305843009213693951)
+  pub longest : IfSome (one_of (codes "longest") rows) (IsUnsignedIn 0 18446744073709551615)
 
 -- what those of `generate` may be, of which two are given
 pub record AsksToGenerate (rows : List Row) : Type 0 where
@@ -320,6 +337,10 @@ pub record AsksToSize (rows : List Row) : Type 0 where
   pub startup : IfSome (one_of (codes "startup") rows) (IsUnsignedIn 0 1000000)
   pub run : HasFlag (codes "run") rows
 
+-- a subcommand that has rules and no other option
+abbrev pub TakesRules : Text → Type 0
+TakesRules name = (name ≡ codes "cycles") ⊎ (name ≡ codes "show")
+
 -- a subcommand that has workers and no other option
 abbrev pub TakesWorkers : Text → Type 0
 TakesWorkers name = (name ≡ codes "live") ⊎ (name ≡ codes "race")
@@ -332,7 +353,7 @@ WantsConfig name rows = ((name ≡ codes "check") × (is_flagged (codes "session
 pub data IsSubcommand (name : Text) (rows : List Row) : Type 0 where
   Runs : name ≡ codes "run" → AsksToRun rows → IsSubcommand name rows
   Tells : name ≡ codes "steps" → AsksToTell rows → IsSubcommand name rows
-  Shows : name ≡ codes "show" → AsksForRules rows → IsSubcommand name rows
+  Ruled : TakesRules name → AsksForRules rows → IsSubcommand name rows
   Workers : TakesWorkers name → AsksForFew rows → IsSubcommand name rows
   Checks : name ≡ codes "check" → AsksToCheck rows → IsSubcommand name rows
   Generates : name ≡ codes "generate" → AsksToGenerate rows → IsSubcommand name rows

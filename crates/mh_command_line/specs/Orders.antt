@@ -3,8 +3,7 @@ use Rattle.std.specs.Prelude.{◌≡◌, ◌≢◌, ◌⊎◌, ◌<◌, ◌≤�
 use Rattle.clap.specs.declared.error.kind.ErrorKind.{ErrorKind}
 use Rattle.clap.specs.declared.error.kind.ErrorKind.TheVariants.{ArgumentConflict, DisplayVersion, MissingRequiredArgument, OutOfMemory, ValueValidation}
 use Rattle.clap.specs.Words.{Row, Text, one_of, subcommand_of, fault_of, kind_of, IsAmong}
-use Rattle.mh_orders.specs.declared.curve.CurveForm.{CurveForm}
-use Rattle.mh_orders.specs.declared.curve.CurveForm.TheVariants.{Table, Picture}
+use Rattle.mh_orders.specs.declared.chrome.ChromeOptions.{ChromeOptions}
 use Rattle.mh_orders.specs.declared.generate_options.Controls.{Controls}
 use Rattle.mh_orders.specs.declared.generate_options.Controls.TheVariants.{ByChance, Each, Never}
 use Rattle.mh_orders.specs.declared.generate_options.Options.{Options}
@@ -19,8 +18,7 @@ use Rattle.mh_model.specs.Limits.{least_quantum}
 use Rattle.mh_command_line.specs.declared.fault.LineFault.{LineFault}
 use Rattle.mh_command_line.specs.declared.fault.LineFault.TheVariants.{Words, NotText, Configuration, NoMemory}
 use Rattle.mh_orders.specs.declared.order.Order.{Order}
-use Rattle.mh_orders.specs.declared.order.Order.TheVariants.{Run, Steps, Show, Live, Race, Check, CheckSessions, CheckLog, Audit, Migrate, Generate, Version, Curve, CurveHistory, Size, SizeRate, SizeTarget, SizeScript}
-use Rattle.mh_orders.specs.declared.curve.CurveOptions.{CurveOptions}
+use Rattle.mh_orders.specs.declared.order.Order.TheVariants.{Run, Steps, Show, Live, Race, Check, CheckSessions, CheckLog, Audit, Migrate, Generate, Version, Chrome, Cycles, Curve, CurveHistory, CurvePauses, Size, SizeRate, SizeTarget, SizeScript}
 use Rattle.mh_orders.specs.declared.order.Form.{Form}
 use Rattle.mh_orders.specs.declared.order.Form.TheVariants.{Replies, History}
 use Rattle.mh_orders.specs.declared.order.RunOptions.{RunOptions}
@@ -30,8 +28,10 @@ use Rattle.mh_orders.specs.declared.steps.Form as steps
 use Rattle.mh_orders.specs.declared.steps.Form.TheVariants as form
 use Rattle.mh_orders.specs.declared.order.ConfigOption.{ConfigOption}
 use Rattle.mh_orders.specs.declared.order.ConfigOption.TheVariants.{Pages, Quantum, Trigger, Every}
+use Rattle.mh_command_line.specs.declared.options.CurveFault.{CurveFault}
 use Rattle.mh_command_line.specs.declared.options.OptionFault.{OptionFault}
-use Rattle.mh_command_line.specs.declared.options.OptionFault.TheVariants.{NoNumber, NoProfile, NoBlocks, Missing, Lacking, Unwanted, OfLog, NoFullAlone, Beside, Outside}
+use Rattle.mh_command_line.specs.declared.options.OptionFault.TheVariants.{NoNumber, NoProfile, NoBlocks, Missing, Lacking, Unwanted, OfLog, NoFullAlone, OfCurve, Beside, Outside}
+use Rattle.mh_command_line.specs.Curves.{AreCurveOptions, HasCurveFault, kind_of_curve_fault}
 use Rattle.mh_command_line.specs.Sizes.{AreHeapOptions, AreRateOptions, AreScriptOptions, AreTargetOptions, HasNoScript, IsAlone, IsWanted, LacksBlocks, has_size}
 use Rattle.mh_command_line.specs.Line.{HasNumber, IsConfigOption, LacksNumber, WantsConfig, is_flagged, metroheap, number_or, optional_number, rules_given, rules_chosen, workers_of}
 
@@ -89,14 +89,11 @@ pub record AreStepsOptions (rows : List Row) (options : StepsOptions) : Type 0 w
   pub to : options.steps.to ≡ number_or 4294967295 (codes "to") rows
   pub rules : options.rules ≡ rules_chosen Second rows
 
--- what a curve is written as: a table, or a picture if the flag is given
-abbrev pub curve_form_of : List Row → CurveForm
-curve_form_of rows = if is_flagged (codes "svg") rows then Picture else Table
-
--- the options of the curve of a script
-pub record AreCurveOptions (rows : List Row) (options : CurveOptions) : Type 0 where
+-- the options of a run that is written as Chrome trace events: those of steps but for their form
+pub record AreChromeOptions (rows : List Row) (options : ChromeOptions) : Type 0 where
+  pub from : options.from ≡ number_or 1 (codes "from") rows
+  pub to : options.to ≡ number_or 4294967295 (codes "to") rows
   pub rules : options.rules ≡ rules_chosen Second rows
-  pub form : options.form ≡ curve_form_of rows
 
 -- the configuration of a random script: what the matches don't say is by default, of the trigger half of the pages
 abbrev pub generated_config : List Row → Option Config
@@ -133,7 +130,9 @@ pub record AreSessionsOptions (rows : List Row) (options : SessionsOptions) : Ty
 -- the order of a subcommand with its matches
 abbrev pub IsOrder : Text → List Row → Order → Type 0
 IsOrder name rows (Run options) = (name ≡ codes "run") × AreRunOptions rows options
-IsOrder name rows (Steps options) = (name ≡ codes "steps") × AreStepsOptions rows options
+IsOrder name rows (Steps options) = (name ≡ codes "steps") × (is_flagged (codes "chrome") rows ≡ false) × AreStepsOptions rows options
+IsOrder name rows (Chrome options) = (name ≡ codes "steps") × (is_flagged (codes "chrome") rows ≡ true) × AreChromeOptions rows options
+IsOrder name rows (Cycles rules) = (name ≡ codes "cycles") × (rules ≡ rules_chosen Second rows)
 IsOrder name rows (Show rules) = (name ≡ codes "show") × (rules ≡ rules_chosen Second rows)
 IsOrder name rows (Live workers) = (name ≡ codes "live") × (workers ≡ workers_of rows)
 IsOrder name rows (Race workers) = (name ≡ codes "race") × (workers ≡ workers_of rows)
@@ -142,8 +141,9 @@ IsOrder name rows (CheckSessions options) = (name ≡ codes "check") × (is_flag
 IsOrder name rows (CheckLog rules) = (name ≡ codes "check") × (is_flagged (codes "log") rows ≡ true) × (is_flagged (codes "sessions") rows ≡ false) × (is_flagged (codes "no-full") rows ≡ false) × HasNoConfig rows × (rules ≡ rules_chosen Second rows)
 IsOrder name rows Audit = name ≡ codes "audit"
 IsOrder name rows (Migrate config) = (name ≡ codes "migrate") × MakesConfig First rows config
-IsOrder name rows (Curve options) = (name ≡ codes "curve") × (is_flagged (codes "history") rows ≡ false) × AreCurveOptions rows options
-IsOrder name rows (CurveHistory form) = (name ≡ codes "curve") × (is_flagged (codes "history") rows ≡ true) × (form ≡ curve_form_of rows)
+IsOrder name rows (Curve rules options) = (name ≡ codes "curve") × (is_flagged (codes "history") rows ≡ false) × (is_flagged (codes "pauses") rows ≡ false) × (rules ≡ rules_chosen Second rows) × AreCurveOptions rows options
+IsOrder name rows (CurveHistory options) = (name ≡ codes "curve") × (is_flagged (codes "history") rows ≡ true) × (is_flagged (codes "pauses") rows ≡ false) × AreCurveOptions rows options
+IsOrder name rows (CurvePauses options) = (name ≡ codes "curve") × (is_flagged (codes "history") rows ≡ false) × (is_flagged (codes "pauses") rows ≡ true) × AreCurveOptions rows options
 IsOrder name rows (Generate options) = (name ≡ codes "generate") × AreGenerateOptions rows options
 IsOrder name rows (Size options) = (name ≡ codes "size") × HasNoScript rows × AreHeapOptions rows options
 IsOrder name rows (SizeRate options) = (name ≡ codes "size") × HasNoScript rows × AreRateOptions rows options
@@ -206,6 +206,7 @@ IsNumberFault rows (Lacking name) = ⊥
 IsNumberFault rows (Unwanted name flag) = ⊥
 IsNumberFault rows (OfLog flag) = ⊥
 IsNumberFault rows NoFullAlone = ⊥
+IsNumberFault rows (OfCurve fault) = ⊥
 IsNumberFault rows (Beside name other) = ⊥
 IsNumberFault rows (Outside option) = AreOutside rows option
 
@@ -221,11 +222,12 @@ IsOfLog rows flag = ((flag ≡ codes "sessions") ⊎ (flag ≡ codes "no-full"))
 abbrev pub IsNoFullAlone : List Row → Type 0
 IsNoFullAlone rows = (is_flagged (codes "no-full") rows ≡ true) × (is_flagged (codes "sessions") rows ≡ false)
 
--- what is wrong with those of a subcommand: these are, if it wants a configuration; or options of `check` don't go together; or a random script is amiss; or options of `size` don't go together
+-- what is wrong with those of a subcommand: these are, if it wants a configuration; or options of `check` don't go together; or a random script is amiss; or options of `curve` or of `size` are amiss
 abbrev pub HasOptionFault : Text → List Row → OptionFault → Type 0
 HasOptionFault subcommand rows (Unwanted name flag) = (subcommand ≡ codes "check") × IsConfigOption name.now × IsJudgingFlag rows flag.now × IsSome (one_of name.now rows)
 HasOptionFault subcommand rows (OfLog flag) = (subcommand ≡ codes "check") × IsOfLog rows flag.now
 HasOptionFault subcommand rows NoFullAlone = (subcommand ≡ codes "check") × IsNoFullAlone rows
+HasOptionFault subcommand rows (OfCurve fault) = (subcommand ≡ codes "curve") × HasCurveFault rows fault
 HasOptionFault subcommand rows (Outside option) = IsOutside subcommand rows option
 HasOptionFault subcommand rows (NoProfile text) = (subcommand ≡ codes "generate") × LacksProfile rows
 HasOptionFault subcommand rows (NoBlocks name text) = (subcommand ≡ codes "size") × LacksBlocks rows name.now
@@ -233,7 +235,7 @@ HasOptionFault subcommand rows (Lacking name) = (subcommand ≡ codes "size") ×
 HasOptionFault subcommand rows (Beside name other) = (subcommand ≡ codes "size") × IsAlone rows name.now other.now × IsSome (one_of name.now rows) × IsSome (one_of other.now rows)
 HasOptionFault subcommand rows fault = WantsConfig subcommand rows × IsNumberFault rows fault
 
--- `clap` takes the options of a subcommand, and one of a configuration, a profile or one of `size` is amiss: the kind of fault that this is
+-- `clap` takes the options of a subcommand, and one of a configuration, a profile, or one of `curve` or of `size` is amiss: the kind of fault that this is
 pub data AreAmiss (name : Text) (rows : List Row) : ErrorKind → Type 0 where
   IsNoNumber : WantsConfig name rows → (option : Text) → IsConfigOption option → LacksNumber rows option → AreAmiss name rows ValueValidation
   IsMissing : WantsConfig name rows → (option : Text) → IsConfigOption option → one_of option rows ≡ None → AreAmiss name rows MissingRequiredArgument
@@ -243,6 +245,7 @@ pub data AreAmiss (name : Text) (rows : List Row) : ErrorKind → Type 0 where
   IsBeside : name ≡ codes "size" → (option other : Text) → IsAlone rows option other → IsSome (one_of option rows) → IsSome (one_of other rows) → AreAmiss name rows ArgumentConflict
   IsUnwanted : name ≡ codes "check" → (option flag : Text) → IsConfigOption option → IsJudgingFlag rows flag → IsSome (one_of option rows) → AreAmiss name rows ArgumentConflict
   AreOfLog : name ≡ codes "check" → (flag : Text) → IsOfLog rows flag → AreAmiss name rows ArgumentConflict
+  AreOfCurve : name ≡ codes "curve" → (fault : CurveFault) → HasCurveFault rows fault → AreAmiss name rows (kind_of_curve_fault fault)
   LackSessions : name ≡ codes "check" → IsNoFullAlone rows → AreAmiss name rows MissingRequiredArgument
 
 -- Words ------------------------------------------------------------------------------------------
@@ -305,6 +308,7 @@ kind_of_fault (Lacking name) = Some MissingRequiredArgument
 kind_of_fault (Unwanted name flag) = Some ArgumentConflict
 kind_of_fault (OfLog flag) = Some ArgumentConflict
 kind_of_fault NoFullAlone = Some MissingRequiredArgument
+kind_of_fault (OfCurve fault) = Some (kind_of_curve_fault fault)
 kind_of_fault (Beside name other) = Some ArgumentConflict
 kind_of_fault (Outside option) = None
 

@@ -14,7 +14,7 @@ ghost use Rattle.std.specs.Prelude.{◌≡◌, IfOk, IsOkAnd, Some, false, true,
 ghost use Rattle.clap.specs.Words.{app_of, new_app, rule_of, with_rule, with_subcommand};
 ghost use Rattle.clap.specs.declared.builder.command.Command.TheViews.{out-Command};
 ghost use Rattle.clap.specs.declared.builder.value_parser.ValueParser.TheVariants.{Unsigned};
-ghost use Rattle.mh_command_line.specs.Line.{check_app, config_app, configured_app, flag_rule, generate_app, metroheap, named_rule, number_rule, option_rule, page_numbers, optional_app, parsed_rule, profile_rule, quantum_numbers, required_rule, rules_rule, run_app, seeded_app, show_app, step_numbers, steps_app, trigger_numbers, versioned, workers_app, workers_rule};
+ghost use Rattle.mh_command_line.specs.Line.{any_text, check_app, config_app, configured_app, flag_rule, generate_app, metroheap, named_rule, option_rule, page_numbers, optional_app, parsed_rule, profile_rule, quantum_numbers, required_rule, rules_rule, ruled_app, run_app, seeded_app, step_numbers, steps_app, trigger_numbers, versioned, workers_app, workers_rule};
 
 use crate::curve::curve;
 use crate::size::size;
@@ -36,6 +36,9 @@ const ABOUT_RUN: &str =
 
 const ABOUT_STEPS: &str =
     "Run a script and print each event with its reply, and below it what the collector, the barrier and the placing of new parts did";
+
+const ABOUT_CYCLES: &str =
+    "Run a script and print a line for each cycle of the collector: its cause, its events, its units by phase, and what it marked, freed and moved";
 
 const ABOUT_SHOW: &str =
     "Run a script and print a page in HTML that shows the run in a browser: the pages, their slots and the grey list before and after each step";
@@ -248,9 +251,14 @@ pub(crate) fn flag<'a>(alloc: Global, name: &'a str, help: &'a str) -> Arg<'a>
     named(alloc, name).action(ArgAction::SetTrue).help(help)
 }
 
-// A number of any length is one, so `clap` takes each text here.
-fn number<'a>(alloc: Global, name: &'a str, value: &'a str, help: &'a str) -> Arg<'a>
-    ensures rule { rule_of result ≡ number_rule name.entry.now }
+/// An option of which `clap` takes each text: the program reads it, since a number of a configuration may have any length.
+pub(crate) fn text_option<'a>(
+    alloc: Global,
+    name: &'a str,
+    value: &'a str,
+    help: &'a str,
+) -> Arg<'a>
+    ensures rule { rule_of result ≡ parsed_rule name.entry.now any_text }
     ensures local { result.global ≡ false }
 {
     parsed(option(alloc, name, value, help), ValueParser::string())
@@ -284,13 +292,13 @@ fn with_config<'a>(
 {
     let command = subcommand(alloc, name, about, usage, HISTORY_STATUSES);
     let help = "How many pages the heap has, from 1 to 4096";
-    let command = with_option(Ok(command), number(alloc, "pages", "P", help));
+    let command = with_option(Ok(command), text_option(alloc, "pages", "P", help));
     let help = "The most units that a quantum spends, from 209 to 1000000";
-    let command = with_option(command, number(alloc, "quantum", "K", help));
+    let command = with_option(command, text_option(alloc, "quantum", "K", help));
     let help = "A quantum starts a cycle if no more pages than these are free, from 0 to P";
-    let command = with_option(command, number(alloc, "trigger", "T", help));
+    let command = with_option(command, text_option(alloc, "trigger", "T", help));
     let help = "After how many units a quantum is run, from 0, for none, to 1000000";
-    with_option(command, number(alloc, "every", "E", help))
+    with_option(command, text_option(alloc, "every", "E", help))
 }
 
 fn run<'a>(alloc: Global) -> Result<Command<'a>, AllocError>
@@ -316,7 +324,7 @@ fn steps<'a>(alloc: Global) -> Result<Command<'a>, AllocError>
         alloc,
         "steps",
         ABOUT_STEPS,
-        "metroheap steps [--from <N>] [--to <M>] [--json] [--rules <R>] < SCRIPT",
+        "metroheap steps [--from <N>] [--to <M>] [--json | --chrome] [--rules <R>] < SCRIPT",
         SCRIPT_STATUSES,
     );
     let help = "The first event whose deeds are printed, counted from 1; 1 if it is not given";
@@ -325,11 +333,28 @@ fn steps<'a>(alloc: Global) -> Result<Command<'a>, AllocError>
     let command = with_option(command, step(alloc, "to", "M", help));
     let help = "Print one object of JSON a line";
     let command = with_option(command, flag(alloc, "json", help));
+    let help =
+        "Print Chrome trace events, which trace viewers read; --from and --to bound all but cycles, quanta and counters";
+    let command = with_option(command, flag(alloc, "chrome", help));
     with_option(command, rules(alloc, RULES_OF_A_RUN))
 }
 
+fn cycles<'a>(alloc: Global) -> Result<Command<'a>, AllocError>
+    ensures app { IfOk result (λ command. app_of command ≡ ruled_app (codes "cycles")) }
+    ensures local { IfOk result (λ command. (out-Command command).has_globals ≡ false) }
+{
+    let command = subcommand(
+        alloc,
+        "cycles",
+        ABOUT_CYCLES,
+        "metroheap cycles [--rules <R>] < SCRIPT",
+        SCRIPT_STATUSES,
+    );
+    with_option(Ok(command), rules(alloc, RULES_OF_A_RUN))
+}
+
 fn show<'a>(alloc: Global) -> Result<Command<'a>, AllocError>
-    ensures app { IfOk result (λ command. app_of command ≡ show_app) }
+    ensures app { IfOk result (λ command. app_of command ≡ ruled_app (codes "show")) }
     ensures local { IfOk result (λ command. (out-Command command).has_globals ≡ false) }
 {
     let command = subcommand(
@@ -492,6 +517,7 @@ fn optional<'a>(alloc: Global) -> Result<Command<'a>, AllocError>
     let app = Ok(Command::new(alloc, "metroheap"));
     let app = with_subcommand(app, run(alloc));
     let app = with_subcommand(app, steps(alloc));
+    let app = with_subcommand(app, cycles(alloc));
     let app = with_subcommand(app, show(alloc));
     let app = with_subcommand(app, live(alloc));
     let app = with_subcommand(app, race(alloc));
@@ -531,6 +557,7 @@ pub(crate) fn command_of<'a>(
         Some("check") => check(alloc),
         Some("migrate") => migrate(alloc),
         Some("generate") => generate(alloc),
+        Some("curve") => curve(alloc),
         Some("size") => size(alloc),
         _ => command(alloc),
     }

@@ -8,6 +8,7 @@ mod blocks;
 mod check_options;
 mod command;
 mod curve;
+mod curve_options;
 pub mod fault;
 mod generate_options;
 mod options;

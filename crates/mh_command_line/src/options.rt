@@ -9,21 +9,33 @@
 //! second rules. A history of version 1 is then under the first, as before there was such an option. `live` and
 //! `race` are under the second.
 //!
-ghost use Rattle.std.specs.Prelude.{◌≡◌, ◌<◌, ◌≤◌, ◌↔◌, None, Some, true, IfOk, IfErr, IfSome, IsTrue};
+ghost use Rattle.std.specs.Prelude.{◌≡◌, ◌<◌, ◌≤◌, ◌↔◌, None, Some, true, codes, IfOk, IfErr, IfSome, IsTrue};
 ghost use Rattle.std.specs.Char.{is_digit};
 ghost use Rattle.std.specs.List.{list_all};
 ghost use Rattle.std.specs.Str.Parse.{without_leading_plus};
 ghost use Rattle.clap.specs.Words.{IsUnsignedIn, found_of, one_of, rows_of};
 ghost use Rattle.mh_model.specs.declared.config.Rules.TheVariants.{Second};
 ghost use Rattle.mh_command_line.specs.Line.{AsksForFew, AsksForRules, AsksToRun, AsksToTell, HasFlag, HoldsNumber, IsConfigOption, IsNumber, ReadsNumber, is_flagged, number_or, optional_number, rules_given, rules_numbered, rules_chosen, workers_of};
-ghost use Rattle.mh_command_line.specs.Orders.{AreRunOptions, AreStepsOptions, IsBlamed, IsNumberFault, MakesConfig};
+ghost use Rattle.mh_command_line.specs.Orders.{AreChromeOptions, AreRunOptions, AreStepsOptions, HasFewWorkers, HasFirstRules, IsBlamed, IsNumberFault, IsOrder, MakesConfig};
 
 use clap::ArgMatches;
 use mh_model::config::{Config, Rules};
 use mh_model::limits::{LEAST_QUANTUM, MOST_EVERY, MOST_PAGES, MOST_QUANTUM};
-use mh_orders::order::{ConfigOption, Form, RunOptions, StepsOptions};
+use mh_orders::chrome::ChromeOptions;
+use mh_orders::order::{ConfigOption, Form, Order, RunOptions, StepsOptions};
 use mh_orders::steps::{Form as StepsForm, Steps};
 use std::str::FromStr;
+
+/// What is wrong with the options of `curve`.
+#[derive(Clone, Copy)]
+pub(crate) enum CurveFault<'a> {
+    /// The text of `--keeps` is no share.
+    NoShare(&'a str),
+    /// The option of a round with this name is not given, and the other is.
+    HalfARound(&'static str),
+    /// `--history` and `--pauses` are both given.
+    TwoKinds,
+}
 
 /// Why the options of a configuration give none.
 #[derive(Clone, Copy)]
@@ -44,6 +56,8 @@ pub(crate) enum OptionFault<'a> {
     OfLog(&'static str),
     /// `--no-full` is given without `--sessions`.
     NoFullAlone,
+    /// An option of `curve` is amiss.
+    OfCurve(CurveFault<'a>),
     /// The option with this name is given beside another.
     Beside(&'static str, &'static str),
     /// The number of this option is outside its limits.
@@ -224,7 +238,7 @@ pub(crate) fn number_or(matches: &ArgMatches<'_>, name: &str, other: u32) -> u32
 }
 
 /// How the steps of a script are to be written.
-pub(crate) fn steps_asked(matches: &ArgMatches<'_>) -> StepsOptions
+fn steps_asked(matches: &ArgMatches<'_>) -> StepsOptions
     requires { AsksToTell (rows_of (found_of matches.now)) }
     ensures { AreStepsOptions (rows_of (found_of matches.now)) result }
 {
@@ -240,4 +254,31 @@ pub(crate) fn steps_asked(matches: &ArgMatches<'_>) -> StepsOptions
     };
     let rules = rules_asked(matches, Rules::Second);
     StepsOptions { steps, rules }
+}
+
+/// How a run is to be written as Chrome trace events.
+fn chrome_asked(matches: &ArgMatches<'_>) -> ChromeOptions
+    requires { AsksToTell (rows_of (found_of matches.now)) }
+    ensures { AreChromeOptions (rows_of (found_of matches.now)) result }
+{
+    let StepsOptions { steps, rules } = steps_asked(matches);
+    ChromeOptions {
+        rules,
+        from: steps.from,
+        to: steps.to,
+    }
+}
+
+/// As what the steps of a script are to be written. With `--chrome`, `--json` says nothing.
+pub(crate) fn told_asked(matches: &ArgMatches<'_>) -> Order
+    requires { AsksToTell (rows_of (found_of matches.now)) }
+    ensures order { IsOrder (codes "steps") (rows_of (found_of matches.now)) result }
+    ensures few { HasFewWorkers result }
+    ensures rules { HasFirstRules result }
+{
+    if is_flagged(matches, "chrome") {
+        Order::Chrome(chrome_asked(matches))
+    } else {
+        Order::Steps(steps_asked(matches))
+    }
 }

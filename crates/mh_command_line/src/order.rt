@@ -17,16 +17,17 @@ ghost use Rattle.std.specs.Prelude.{◌≡◌, IfOk, IfErr, IsSomeAnd, Err, map}
 ghost use Rattle.std.specs.String.{string_bytes};
 ghost use Rattle.clap.specs.Words.{found_of, kind_of, rows_of, subcommand_rows_of};
 ghost use Rattle.clap.specs.declared.error.kind.ErrorKind.TheVariants.{ArgumentConflict, MissingRequiredArgument, ValueValidation};
+ghost use Rattle.mh_command_line.specs.Curves.{kind_of_curve_fault};
 ghost use Rattle.mh_command_line.specs.Line.{IsSubcommand, NamesOne};
 ghost use Rattle.mh_command_line.specs.Orders.{GivesOrder, HasFewWorkers, HasFirstRules, HasOptionFault, IsFault, IsOrder, IsSaidOfRefusal, RefusesOptions};
 
 use crate::check_options::check_asked;
 use crate::command::{command, command_of};
-use crate::curve::curve_asked;
+use crate::curve_options::curve_asked;
 use crate::fault::LineFault;
 use crate::generate_options::generate_asked;
 use crate::options::{
-    OptionFault, config_given, rules_asked, run_asked, steps_asked, workers_asked,
+    CurveFault, OptionFault, config_given, rules_asked, run_asked, told_asked, workers_asked,
 };
 use crate::quoted::{are_plain, quoted, quoted_words};
 use crate::size_options::size_asked;
@@ -47,13 +48,14 @@ fn order_named<'a>(name: &str, matches: &ArgMatches<'a>) -> Result<Order, Option
 {
     match name {
         "run" => Ok(Order::Run(run_asked(matches))),
-        "steps" => Ok(Order::Steps(steps_asked(matches))),
+        "steps" => Ok(told_asked(matches)),
+        "cycles" => Ok(Order::Cycles(rules_asked(matches, Rules::Second))),
         "show" => Ok(Order::Show(rules_asked(matches, Rules::Second))),
         "live" => Ok(Order::Live(workers_asked(matches))),
         "race" => Ok(Order::Race(workers_asked(matches))),
         "check" => check_asked(matches),
         "audit" => Ok(Order::Audit),
-        "curve" => Ok(curve_asked(matches)),
+        "curve" => curve_asked(matches),
         "migrate" => Ok(Order::Migrate(config_given(matches, Rules::First)?)),
         "size" => size_asked(matches),
         "generate" => Ok(Order::Generate(generate_asked(matches)?)),
@@ -126,19 +128,20 @@ fn no_profile(
     )
 }
 
-/// The form of the blocks of an option.
+/// The form of the blocks or of the share of an option.
 fn form_of(name: &str) -> &'static str {
     match name {
         "rate" => {
             "WORDS:PARTS/UNITS with 4 to 64 words, 1 to 1000000 parts and units, and each class once"
         }
         "classes" => "WORDS from 4 to 64",
+        "keeps" => "U:W with 0 to 100 per cent and a number of units",
         _ => "WORDS:COUNT with 4 to 64 words and 1 to 1048576 blocks of a class",
     }
 }
 
-/// `clap`'s refusal of blocks that are none.
-fn no_blocks(
+/// `clap`'s refusal of blocks or of a share that are none.
+fn unread(
     alloc: Global,
     subcommand: Option<&str>,
     name: &str,
@@ -188,6 +191,21 @@ fn beside(
     )
 }
 
+/// `clap`'s refusal of the options of `curve`.
+fn refused_curve(
+    alloc: Global,
+    subcommand: Option<&str>,
+    fault: CurveFault<'_>,
+) -> Result<clap::Error, AllocError>
+    ensures { IfOk result (λ error. kind_of error ≡ kind_of_curve_fault fault.entry) }
+{
+    match fault {
+        CurveFault::NoShare(text) => unread(alloc, subcommand, "keeps", text),
+        CurveFault::HalfARound(name) => missing(alloc, subcommand, name),
+        CurveFault::TwoKinds => beside(alloc, subcommand, "pauses", "history"),
+    }
+}
+
 fn refused_options(alloc: Global, subcommand: Option<&str>, fault: OptionFault<'_>) -> LineFault
     ensures { RefusesOptions fault.entry result }
 {
@@ -195,8 +213,9 @@ fn refused_options(alloc: Global, subcommand: Option<&str>, fault: OptionFault<'
         OptionFault::Outside(option) => return LineFault::Configuration(option),
         OptionFault::NoNumber(name, text) => no_number(alloc, subcommand, name, text),
         OptionFault::NoProfile(text) => no_profile(alloc, subcommand, text),
-        OptionFault::NoBlocks(name, text) => no_blocks(alloc, subcommand, name, text),
+        OptionFault::NoBlocks(name, text) => unread(alloc, subcommand, name, text),
         OptionFault::Missing(name) | OptionFault::Lacking(name) => missing(alloc, subcommand, name),
+        OptionFault::OfCurve(fault) => refused_curve(alloc, subcommand, fault),
         OptionFault::NoFullAlone => missing(alloc, subcommand, "sessions"),
         OptionFault::OfLog(name) => beside(alloc, subcommand, name, "log"),
         OptionFault::Unwanted(name, other) | OptionFault::Beside(name, other) => beside(

@@ -1,16 +1,15 @@
 //! The subcommand that sizes a heap, as `clap` has it: of a script, for how mutators make objects, or of a share of the
 //! mutator. Which of its options go together is looked at in `size_options`.
 ghost use Rattle.std.specs.Prelude.{◌≡◌, IfOk, false, codes};
-ghost use Rattle.clap.specs.Words.{app_of, rule_of};
+ghost use Rattle.clap.specs.Words.{app_of};
 ghost use Rattle.clap.specs.declared.builder.command.Command.TheViews.{out-Command};
-ghost use Rattle.mh_command_line.specs.Line.{any_text, blocks_app, parsed_rule, rates_app, share_app, size_app, sized_app};
+ghost use Rattle.mh_command_line.specs.Line.{blocks_app, rates_app, share_app, size_app, sized_app};
 
 use crate::command::{
-    RULES_OF_A_RUN, bounded, every, flag, option, pages, parsed, quantum, rules, subcommand,
+    RULES_OF_A_RUN, bounded, every, flag, pages, quantum, rules, subcommand, text_option,
     with_option,
 };
-use clap::builder::ValueParser;
-use clap::{Arg, Command};
+use clap::Command;
 use mh_model::limits::MOST_EVENTS;
 use std::alloc::{AllocError, Global};
 
@@ -45,14 +44,6 @@ fn sized<'a>(alloc: Global) -> Result<Command<'a>, AllocError>
     with_option(command, quantum(alloc, help))
 }
 
-/// An option with blocks, of which `clap` takes each text.
-fn blocks<'a>(alloc: Global, name: &'a str, value: &'a str, help: &'a str) -> Arg<'a>
-    ensures rule { rule_of result ≡ parsed_rule name.entry.now any_text }
-    ensures local { result.global ≡ false }
-{
-    parsed(option(alloc, name, value, help), ValueParser::string())
-}
-
 /// And with what sessions ask for.
 fn with_blocks<'a>(alloc: Global) -> Result<Command<'a>, AllocError>
     ensures app { IfOk result (λ command. app_of command ≡ blocks_app) }
@@ -60,7 +51,7 @@ fn with_blocks<'a>(alloc: Global) -> Result<Command<'a>, AllocError>
 {
     let help =
         "The most blocks that an interval between two quanta asks for: words of a block with its 4 of header, from 4 to 64, and how many such, from 1 to 1048576";
-    let allocates = blocks(alloc, "allocates", "WORDS:COUNT,..", help);
+    let allocates = text_option(alloc, "allocates", "WORDS:COUNT,..", help);
     let command = with_option(sized(alloc), allocates);
     let help = "The most live blocks at a time, from 0 to 1048576";
     let live = bounded(alloc, "live", "L", 0, MOST_BLOCKS, help);
@@ -78,11 +69,11 @@ fn with_rates<'a>(alloc: Global) -> Result<Command<'a>, AllocError>
 {
     let help =
         "How fast blocks are made: words of a block as above, and how many such at most to how many units of the mutator, from 1 to 1000000";
-    let rate = blocks(alloc, "rate", "WORDS:PARTS/UNITS,..", help);
+    let rate = text_option(alloc, "rate", "WORDS:PARTS/UNITS,..", help);
     let command = with_option(with_blocks(alloc), rate);
     let help =
         "The words of the blocks that are made, of which no more is known; all classes if it is not given";
-    let classes = blocks(alloc, "classes", "WORDS,..", help);
+    let classes = text_option(alloc, "classes", "WORDS,..", help);
     let command = with_option(command, classes);
     let help = "The most blocks of an object, from 1 to 3661; 1 if it is not given";
     with_option(command, bounded(alloc, "parts", "N", 1, MOST_PARTS, help))

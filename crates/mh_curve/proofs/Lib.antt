@@ -3,4 +3,5 @@ pub mod WindowLemmas
 pub mod TallyLemmas
 pub mod ReasonLemmas
 pub mod RunLemmas
+pub mod PlaceLemmas
 pub mod OfScript

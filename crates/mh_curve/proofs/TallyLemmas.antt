@@ -1,5 +1,5 @@
 -- The trace of the entries of a history, as they are read.
-use Rattle.std.proofs.Common.{◌≡◌, ◌∙◌, ℕ, ◌+◌, ◌≤◌, max, Bool, true, false, nat_lt, if◌then◌else◌, inr, List, [], ◌∷◌, ◌++◌, length, replicate, ap, sym, refl, append-nil, arith}
+use Rattle.std.proofs.Common.{◌≡◌, ◌∙◌, ℕ, ◌+◌, ◌≤◌, max, Bool, true, false, nat_lt, if◌then◌else◌, inr, List, [], ◌∷◌, ◌++◌, length, replicate, ap, sym, subst, refl, append-nil, arith}
 use Rattle.std.specs.Prelude.{Result, Ok, Err, OnErr}
 use Rattle.std.proofs.lemmas.Bool.Decides.{nat_tests}
 use Rattle.std.proofs.lemmas.Grind.{flat_map-append}
@@ -16,7 +16,12 @@ use Rattle.mh_history.specs.Beginnings.{TakesEntry, line_as_measured, after_head
 use Rattle.mh_history.proofs.LineLemmas.{Walked, walked_more}
 use Rattle.mh_curve.specs.declared.tally.Tally.{Tally}
 use Rattle.mh_orders.specs.declared.curve.CurveForm.{CurveForm}
-use Rattle.mh_curve.specs.Histories.{Extends, IsShortTrace, IsLongHistory, IsShortHistory, TakesToDraw, history_curve, recorded_curve, short_reading, traced_curve, IsTallyOf, IsTraceIf, IsTraceOf, greatest_spent, letters_of_entries, letters_of_entry}
+use Rattle.mh_curve.specs.Drawings.{IsJudgedText, TakesToDraw}
+use Rattle.mh_curve.specs.Promises.{IsJudged}
+use Rattle.mh_curve.specs.declared.kind.TextKind.TheVariants.{History}
+use Rattle.mh_curve.specs.declared.promises.Broken.{Broken}
+use Rattle.mh_orders.specs.declared.promises.Promises.{Promises}
+use Rattle.mh_curve.specs.Histories.{Extends, IsShortTrace, IsLongHistory, history_curve, recorded_curve, short_reading, traced_curve, IsTallyOf, IsTraceIf, IsTraceOf, greatest_spent, letters_of_entries, letters_of_entry}
 
 pub letters_of-more : (entries : List Measured) (measured : Measured) → letters_of_entries (entries ++ measured ∷ []) ≡ letters_of_entries entries ++ letters_of_entry measured
 letters_of-more entries measured = flat_map-append letters_of_entry entries (measured ∷ []) ∙ ap (λ (ls : List Letter). letters_of_entries entries ++ ls) (append-nil (letters_of_entry measured))
@@ -74,7 +79,7 @@ pub has_read : (config : Config) (text : Text) (r : Reading (List Measured)) (ke
 has_read config text r kept is (entries, means, tally) = record { entries = entries; reads = is ∙ ap (after_header config) means; tally = tally }
 
 module _ {config : Config} {text : Text} {kept : Tally} (read : HasRead config text kept) where
-  pub takes_read : TakesToDraw text
+  pub takes_read : TakesToDraw History text
   takes_read = inr (record { config = config; entries = read.entries }, read.reads)
 
   pub long_read : kept.is_short ≡ false → IsLongHistory text
@@ -90,8 +95,10 @@ module _ {config : Config} {text : Text} {kept : Tally} (read : HasRead config t
         let recorded : Recorded = record { config = config; entries = read.entries } in
         ap short_reading read.reads ∙ ap (λ (b : Bool). if b then Means recorded else BadLine 0) few
 
-    pub short_read : IsShortHistory text
-    short_read = (record { config = config; entries = read.entries }, is_read)
+    pub judged_read : (promises : Promises) (broken : Broken) (trace : TraceState) → trace ≡ kept.trace.trace → IsJudged promises trace.letters broken → IsJudgedText History promises text broken
+    judged_read promises broken trace same judged =
+        let letters : trace.letters ≡ letters_of_entries read.entries = ap (λ (t : TraceState). t.letters) same ∙ trace_is.letters in
+        (letters_of_entries read.entries, (record { config = config; entries = read.entries }, is_read, refl), subst (λ ls. IsJudged promises ls broken) letters judged)
 
     pub curve_read : (form : CurveForm) (bytes : Text) → bytes ≡ traced_curve form config kept.trace.trace → bytes ≡ history_curve form text
     curve_read form bytes is =

@@ -23,12 +23,12 @@ windows-some letters some =
     let is : (letters == 0) ≡ false = grind (arith, nat_tests) in
     ap (λ (b : Bool). if b then [] else windows_from letters 1 letters) is
 
-windows-more : (most window letters : ℕ) → window < letters → windows_from (suc most) window letters ≡ window ∷ windows_from most (next_window_rounded_down window) letters
+pub windows-more : (most window letters : ℕ) → window < letters → windows_from (suc most) window letters ≡ window ∷ windows_from most (next_window_rounded_down window) letters
 windows-more most window letters short =
     let is : nat_lt window letters ≡ true = grind (arith, nat_tests) in
     ap (λ (b : Bool). if b then window ∷ windows_from most (next_window_rounded_down window) letters else letters ∷ []) is
 
-windows-last : (most window letters : ℕ) → letters ≤ window → windows_from most window letters ≡ letters ∷ []
+pub windows-last : (most window letters : ℕ) → letters ≤ window → windows_from most window letters ≡ letters ∷ []
 windows-last zero window letters long = refl
 windows-last (suc most) window letters long =
     let is : nat_lt window letters ≡ false = grind (arith, nat_tests) in

@@ -1,6 +1,5 @@
 -- The curves of histories, as texts.
-use Rattle.std.specs.Prelude.{◌≡◌, ◌⊎◌, ◌<◌, ◌≤◌, ℕ, nat_lt, Bool, true, false, max, if◌then◌else◌, None, List, [], ◌∷◌, ◌++◌, length, replicate, flat_map}
-use Rattle.std.specs.String.{string_bytes}
+use Rattle.std.specs.Prelude.{◌≡◌, ◌<◌, ◌≤◌, ℕ, nat_lt, Bool, true, false, max, if◌then◌else◌, None, List, [], ◌∷◌, ◌++◌, length, replicate, flat_map}
 use Rattle.mh_model.specs.declared.birth.TheConstants.{LIFE}
 use Rattle.mh_model.specs.declared.config.Config.{Config}
 use Rattle.mh_model.specs.declared.history.Measured.{Measured}
@@ -9,9 +8,6 @@ use Rattle.mh_model.specs.HistoryTexts.{Recorded, recorded_reading}
 use Rattle.mh_model.specs.Replies.{bad_line_text}
 use Rattle.mh_model.specs.Script.{Reading, BadLine, Means}
 use Rattle.mh_model.specs.Trace.{Letter, M, C, TraceState}
-use Rattle.mh_history.specs.Beginnings.{BeginsWithMeasured}
-use Rattle.mh_curve.specs.declared.drawing.Drawing.{Drawing}
-use Rattle.mh_curve.specs.declared.drawing.Drawing.TheVariants.{Curve, Refused, TooLong}
 use Rattle.mh_orders.specs.declared.curve.CurveForm.{CurveForm}
 use Rattle.mh_curve.specs.declared.tally.Tally.{Tally}
 use Rattle.mh_curve.specs.Points.{trace_counts, points_of}
@@ -56,10 +52,6 @@ recorded_curve form (Means recorded) = traced_curve form recorded.config (record
 abbrev pub history_curve : CurveForm → Text → Text
 history_curve form text = recorded_curve form (short_reading (recorded_reading text))
 
--- a text for whose curve memory is taken: it begins with an entry, or is a history
-abbrev pub TakesToDraw : Text → Type 0
-TakesToDraw text = BeginsWithMeasured text ⊎ ((recorded : Recorded) × (recorded_reading text ≡ Means recorded))
-
 -- Drawings ---------------------------------------------------------------------------------------
 
 -- the trace of some entries
@@ -86,15 +78,6 @@ pub record Extends (old : TraceState) (mutator collector : ℕ) (new : TraceStat
   pub letters : new.letters ≡ old.letters ++ (replicate mutator M ++ replicate collector C)
   pub greatest : new.greatest ≡ max old.greatest collector
 
--- a history that is read has a short trace, and one that is too long
-abbrev pub IsShortHistory : Text → Type 0
-IsShortHistory text = (recorded : Recorded) × (short_reading (recorded_reading text) ≡ Means recorded)
-
+-- a history that is read has a trace that is too long
 abbrev pub IsLongHistory : Text → Type 0
 IsLongHistory text = (recorded : Recorded) × (recorded_reading text ≡ Means recorded) × (LIFE ≤ length (letters_of_entries recorded.entries))
-
--- what is drawn of a text, before it is written
-abbrev pub IsDrawnText : CurveForm → Text → Drawing → Type 0
-IsDrawnText form text (Curve written) = IsShortHistory text × (string_bytes written ≡ history_curve form text)
-IsDrawnText form text (Refused line) = recorded_reading text ≡ BadLine line
-IsDrawnText form text TooLong = IsLongHistory text

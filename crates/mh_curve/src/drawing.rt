@@ -1,29 +1,36 @@
-//! What is drawn of the texts of histories. It is found before anything is written, so `history` has only to write
-//! it.
+//! What is drawn of the texts of histories and of logs of pauses. It is found before anything is written, so `text` has
+//! only to write it.
 ghost use Rattle.std.specs.Prelude.{◌≡◌, IfOk, OnErr};
 ghost use Rattle.std.specs.String.{string_bytes};
-ghost use Rattle.mh_curve.specs.Histories.{IsShortTrace, IsDrawnText, TakesToDraw, traced_curve};
+ghost use Rattle.mh_curve.specs.Histories.{IsShortTrace, traced_curve};
+ghost use Rattle.mh_curve.specs.Drawings.{IsDrawnText, TakesToDraw};
+ghost use Rattle.mh_curve.specs.declared.kind.TextKind.TheVariants as kind;
 
 use crate::form::curve_text;
+use crate::kind::TextKind;
+use crate::pause_table::log_curve;
 use crate::point::Counts;
 use crate::points::curve_points;
+use crate::promises::{Broken, broken_promises};
 use crate::tally::tally_lines;
 use mh_history::lines::RefusedLine;
 use mh_history::record::record_lines;
 use mh_model::config::Config;
 use mh_model::memory::NoMemory;
-use mh_orders::curve::CurveForm;
+use mh_orders::curve::{CurveForm, CurveOptions};
+use mh_pauses::log::read_log;
 use mh_report::trace::Trace;
 use mh_text::text_error::TextError;
 use std::alloc::Global;
 
-/// What is to be written of a history.
+/// What is to be written of a text.
 #[derive(Drop)]
 pub(crate) enum Drawing {
-    Curve(String),
+    /// Its curve, and what was promised of its trace and isn't so.
+    Curve(String, Broken),
     /// The first bad line.
     Refused(u64),
-    /// Its trace has 2 ^ 62 units or more.
+    /// The trace of a history has 2 ^ 62 units or more.
     TooLong,
 }
 
@@ -35,7 +42,8 @@ fn recorded_text(
     trace: &mut Trace,
 ) -> Result<String, NoMemory>
     requires { IsShortTrace trace.old.trace }
-    ensures { IfOk result (λ text. string_bytes text ≡ traced_curve form config trace.old.trace) }
+    ensures text { IfOk result (λ text. string_bytes text ≡ traced_curve form config trace.old.trace) }
+    ensures kept { trace.new.trace ≡ trace.old.trace }
 {
     let counts = Counts {
         mutator: trace.mutator_count(),
@@ -47,10 +55,10 @@ fn recorded_text(
     curve_text(alloc, form, counts, points.as_slice())
 }
 
-/// What is drawn of a text of version 2. It takes no memory for one that is refused before its first entry.
-pub(crate) fn drawn(alloc: Global, form: CurveForm, text: &[u8]) -> Result<Drawing, NoMemory>
-    ensures drawn { IfOk result (IsDrawnText form text.now) }
-    ensures memory { OnErr result (TakesToDraw text.now) }
+/// What is drawn of a history of version 2. It takes no memory for a text that is refused before its first entry.
+fn drawn_history(alloc: Global, options: CurveOptions, text: &[u8]) -> Result<Drawing, NoMemory>
+    ensures drawn { IfOk result (IsDrawnText kind.History options text.now) }
+    ensures memory { OnErr result (TakesToDraw kind.History text.now) }
 {
     let (config, lines) = match record_lines(text) {
         Ok(read) => read,
@@ -64,6 +72,38 @@ pub(crate) fn drawn(alloc: Global, form: CurveForm, text: &[u8]) -> Result<Drawi
     if !tally.is_short {
         return Ok(Drawing::TooLong);
     }
-    let curve = recorded_text(alloc, form, config, &mut tally.trace)?;
-    Ok(Drawing::Curve(curve))
+    let curve = recorded_text(alloc, options.form, config, &mut tally.trace)?;
+    let broken = broken_promises(&tally.trace, &options.promises);
+    Ok(Drawing::Curve(curve, broken))
+}
+
+/// What is drawn of a log of pauses. It takes no memory for a text that is refused at its first line.
+fn drawn_log(alloc: Global, options: CurveOptions, text: &[u8]) -> Result<Drawing, NoMemory>
+    ensures drawn { IfOk result (IsDrawnText kind.Pauses options text.now) }
+    ensures memory { OnErr result (TakesToDraw kind.Pauses text.now) }
+{
+    let trace = match read_log(alloc, text) {
+        Ok(trace) => trace,
+        Err(TextError::Line(line)) => return Ok(Drawing::Refused(line)),
+        Err(TextError::NoMemory) => return Err(NoMemory),
+    };
+    let curve = log_curve(alloc, options, &trace)?;
+    let broken = broken_promises(&trace, &options.promises);
+    Ok(Drawing::Curve(curve, broken))
+}
+
+/// What is drawn of a text of this kind.
+pub(crate) fn drawn(
+    alloc: Global,
+    kind: TextKind,
+    options: CurveOptions,
+    text: &[u8],
+) -> Result<Drawing, NoMemory>
+    ensures drawn { IfOk result (IsDrawnText kind options text.now) }
+    ensures memory { OnErr result (TakesToDraw kind text.now) }
+{
+    match kind {
+        TextKind::History => drawn_history(alloc, options, text),
+        TextKind::Pauses => drawn_log(alloc, options, text),
+    }
 }

@@ -2,7 +2,8 @@
 //! as a picture.
 //!
 //! `points` reads the points of a curve off a trace, and `form` makes a text of them. `script` draws the run of a
-//! script, `history` a history of version 2. What either writes is exact.
+//! script, `text` a history of version 2 or a log of pauses. What either writes is exact, and what is promised of all
+//! windows is judged beside it.
 #![tactic(auto)]
 
 pub use mh_script;
@@ -11,12 +12,16 @@ pub use mh_script::{mh_machine, mh_scan};
 mod drawing;
 pub mod end;
 pub mod form;
-pub mod history;
+pub mod kind;
 mod parts;
+pub mod pause_table;
 mod picture;
+pub mod places;
 pub mod point;
 pub mod points;
+pub mod promises;
 pub mod script;
 mod skeleton;
 mod table;
 mod tally;
+pub mod text;

@@ -19,7 +19,7 @@ use std::alloc::Global;
 
 /// How many units a trace has.
 #[tactic(auto, using(crate::proofs::WindowLemmas::counts_length))]
-fn letter_count(trace: &Trace) -> u64
+pub(crate) fn letter_count(trace: &Trace) -> u64
     requires { length trace.now.trace.letters < LIFE }
     ensures { result ≡ length trace.now.trace.letters }
 {

@@ -63,7 +63,7 @@ impl fmt::Display for PointText {
 
 /// A number, or `none`.
 #[derive(Clone, Copy)]
-struct OptionalText(Option<u64>);
+pub(crate) struct OptionalText(pub(crate) Option<u64>);
 
 impl fmt::Display for OptionalText {
     ghost output = { λ text. Some (optional_word text.0) };

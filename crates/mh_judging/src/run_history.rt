@@ -30,13 +30,16 @@ use std::alloc::Global;
 use std::thread::Threads;
 
 /// The transcript that is a history of version 2.
+#[derive(Drop)]
 struct History;
 
 impl Transcript for History {
     ghost text_of = { λ _ _. history_run };
 
+    ghost becomes = { λ old config events new. Unit {0} };
+
     fn write<C: Scanner, W: Sink>(
-        &self,
+        &mut self,
         alloc: Global,
         _script: &[u8],
         config: Config,
@@ -76,5 +79,5 @@ pub fn run_history<R: Threads, S: Source, W: Sink, G: CrewGate>(
 {
     run_histories_are_legal();
     let mut scanner = CrewScan::new(rt, alloc, workers, gate);
-    transcribe(alloc, &History, source, sink, rules, &mut scanner)
+    transcribe(alloc, &mut History, source, sink, rules, &mut scanner)
 }

@@ -1,5 +1,5 @@
-//! How the minimum mutator utilisation of a run is written, and under which rules a script runs for it.
-use mh_model::config::Rules;
+//! How the minimum mutator utilisation of a run is written, and what it is judged by.
+use crate::promises::Promises;
 
 /// What a curve is written as.
 #[derive(Clone, Copy, Debug, PartialEq, Eq)]
@@ -10,9 +10,9 @@ pub enum CurveForm {
     Picture,
 }
 
-/// How the curve of a script is drawn.
+/// How a curve is drawn, and what is promised of its trace.
 #[derive(Clone, Copy, Debug, PartialEq, Eq)]
 pub struct CurveOptions {
-    pub rules: Rules,
     pub form: CurveForm,
+    pub promises: Promises,
 }

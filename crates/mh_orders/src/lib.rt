@@ -6,12 +6,14 @@
 
 pub mod allocation;
 pub mod allocations;
+pub mod chrome;
 pub mod classes;
 pub mod curve;
 pub mod generate_options;
 pub mod heap_options;
 pub mod order;
 pub mod profile;
+pub mod promises;
 pub mod rate_options;
 pub mod rates;
 pub mod steps;

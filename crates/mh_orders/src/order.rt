@@ -1,7 +1,8 @@
 //! Orders, and the options of a configuration. An order has all that the program needs but its devices. A
 //! configuration in it is within the limits, since its type is. That workers are from 1 to 64 is a clause of
 //! `line_order`.
-use crate::curve::{CurveForm, CurveOptions};
+use crate::chrome::ChromeOptions;
+use crate::curve::CurveOptions;
 use crate::generate_options::Options;
 use crate::heap_options::HeapOptions;
 use crate::rate_options::RateOptions;
@@ -61,6 +62,10 @@ pub enum Order {
     Run(RunOptions),
     /// Run the script on standard input, and tell what each event did.
     Steps(StepsOptions),
+    /// Run the script on standard input, and write it as Chrome trace events.
+    Chrome(ChromeOptions),
+    /// Run the script on standard input under these rules, and write a line for each cycle.
+    Cycles(Rules),
     /// Run the script on standard input under these rules, and write a page that shows the run.
     Show(Rules),
     /// Answer each line of standard input as it comes, with so many workers at most.
@@ -77,10 +82,12 @@ pub enum Order {
     Audit,
     /// Write the history on standard input, of version 1, as version 2.
     Migrate(Config),
-    /// Write the curve of a run of the script on standard input.
-    Curve(CurveOptions),
+    /// Write the curve of a run of the script on standard input under these rules.
+    Curve(Rules, CurveOptions),
     /// Write the curve of the history on standard input, of version 2.
-    CurveHistory(CurveForm),
+    CurveHistory(CurveOptions),
+    /// Write the curve of the log of pauses on standard input.
+    CurvePauses(CurveOptions),
     /// Write the random script that is asked for.
     Generate(Options),
     /// Write how large a heap has to be for how mutators make objects.

@@ -4,7 +4,7 @@ use Rattle.mh_model.specs.declared.birth.TheConstants.{LIFE}
 use Rattle.mh_model.specs.Bytes.{Text, is_text, number, words}
 use Rattle.mh_model.specs.Script.{Reading, BadLine, Means}
 use Rattle.mh_model.specs.Trace.{Letter, TraceState}
-use Rattle.mh_history.specs.Beginnings.{entries_left}
+use Rattle.mh_history.specs.Beginnings.{HasEntry, entries_left}
 use Rattle.mh_report.specs.declared.segment.Unit.TheVariants.{Mutator, Collector}
 use Rattle.mh_report.specs.Segments.{letter_of}
 use Rattle.mh_text.specs.Pieces.{lines_from}
@@ -44,6 +44,11 @@ bounded (Means lines) = if nat_lt (length (letters_of_lines lines)) LIFE then Me
 abbrev pub pause_reading : Text → Reading (List Letter)
 pause_reading [] = BadLine 1
 pause_reading (byte ∷ text) = if nat_lt 2147483648 (length (byte ∷ text)) then BadLine 0 else bounded (entries_left line_as_pause (lines_from 1 (byte ∷ text)))
+
+-- A text that isn't too long, of which some lines, from the first on, are those of a log
+pub record BeginsWithLine (text : Text) : Type 0 where
+  pub short : length text ≤ 2147483648
+  pub has : HasEntry line_as_pause (lines_from 1 text)
 
 -- Traces -----------------------------------------------------------------------------------------
 

@@ -3,3 +3,5 @@
 
 pub mod line;
 pub mod log;
+pub mod reason;
+pub mod reasons;

@@ -7,9 +7,8 @@ ghost use Rattle.mh_history.specs.Beginnings.{HasEntry, entries_left};
 ghost use Rattle.mh_model.specs.declared.birth.TheConstants.{LIFE};
 ghost use Rattle.mh_model.specs.Script.{BadLine, Means};
 ghost use Rattle.mh_pauses.specs.declared.line.PauseLine.{PauseLine};
-ghost use Rattle.mh_pauses.specs.Logs.{IsShort, IsTraceOf, line_as_pause, pause_reading};
+ghost use Rattle.mh_pauses.specs.Logs.{BeginsWithLine, IsShort, IsTraceOf, line_as_pause, pause_reading};
 ghost use Rattle.mh_report.specs.Segments.{letter_of};
-ghost use Rattle.mh_text.specs.Pieces.{lines_from};
 ghost use Rattle.mh_text.specs.TextErrors.{Refuses};
 
 use crate::line::PauseLine;
@@ -109,7 +108,7 @@ pub fn read_log(alloc: Global, text: &[u8]) -> Result<Trace, TextError>
     ensures letters { IfOk result (λ trace. pause_reading text.now ≡ Means trace.trace.letters) }
     ensures short { IfOk result (λ trace. length trace.trace.letters < LIFE) }
     ensures line { IfErr result (Refuses (pause_reading text.now)) }
-    ensures memory { IsErrOf result TextError.NoMemory → HasEntry line_as_pause (lines_from 1 text.now) }
+    ensures memory { IsErrOf result TextError.NoMemory → BeginsWithLine text.now }
 {
     if text.len() > RECORD_BYTES {
         return Err(TextError::Line(0));

@@ -4,6 +4,10 @@ use Rattle.std.specs.Io.KnownBytes.{Appends}
 use Rattle.std.specs.List.{All}
 use Rattle.mh_show.specs.OfCurve.CurveEnd.{CurveEnd}
 use Rattle.mh_show.specs.OfCurve.CurveEnd.TheVariants as curve
+use Rattle.mh_show.specs.OfCurve.Broken as promises
+use Rattle.mh_show.specs.OfCurve.LongPause.{LongPause}
+use Rattle.mh_show.specs.OfCurve.ShortStretch.{ShortStretch}
+use Rattle.mh_windows.specs.declared.floor.BrokenFloor.{BrokenFloor}
 use Rattle.mh_log.specs.declared.judgement.LogJudgement.{LogJudgement}
 use Rattle.mh_log.specs.declared.judgement.LogJudgement.TheVariants as log
 use Rattle.mh_log.specs.OfSessions.Judgement.{Judgement}
@@ -127,11 +131,34 @@ SaysLog old new (log.Legal count) = SaysNothing old new
 SaysLog old new (log.Refused line reason) = SaysQuoted old new (IsComplaint (line_place line)) (line_text (codes "metroheap: the log is outside the grammar"))
 SaysLog old new (log.FirstBad number fault) = SaysQuoted old new (IsComplaint (order_place number)) (line_text (codes "metroheap: an entry is bad"))
 
--- of the curve of a history: nothing if it was drawn, and else where and why it wasn't
+-- the lines of what was promised of all windows and isn't so: a window below its floor, a pause that is too long, and a stretch below its share
+abbrev pub floor_text : BrokenFloor → Text
+floor_text floor =
+    line_text (codes "metroheap: the window " ++ decimal floor.window ++ codes " at " ++ decimal floor.at ++ codes " has " ++ decimal floor.least ++ codes ", and " ++ decimal floor.floor ++ codes " was promised")
+
+abbrev pub pause_text : LongPause → Text
+pause_text long = line_text (codes "metroheap: a pause of " ++ decimal long.pause.units ++ codes " at " ++ decimal long.pause.start ++ codes ", and " ++ decimal long.promised ++ codes " was promised")
+
+abbrev pub stretch_text : ShortStretch → Text
+stretch_text short =
+    line_text (codes "metroheap: the stretch from " ++ decimal short.stretch.start ++ codes " to " ++ decimal short.stretch.end ++ codes " has " ++ decimal short.units ++ codes ", and " ++ decimal short.promised.percent ++ codes " % of "
+    ++ decimal short.promised.from ++ codes " and more was promised")
+
+-- the line of what was found, if anything was
+abbrev pub SaysFound : {X : Type 0} → (X → Text) → ErrorStream → ErrorStream → Option X → Type 0
+SaysFound text_of old new found = MatchOption found (SaysNothing old new) (λ x. Says old new (text_of x))
+
+-- of promises: a line for each that is broken
+abbrev pub SaysBroken : ErrorStream → ErrorStream → promises.Broken → Type 0
+SaysBroken old new broken = (first second : ErrorStream) × SaysFound floor_text old first broken.floor × SaysFound pause_text first second broken.pause × SaysFound stretch_text second new broken.stretch
+
+-- of a curve: what isn't so of what was promised if it was drawn, and else where and why it wasn't
 abbrev pub SaysCurve : ErrorStream → ErrorStream → CurveEnd → Type 0
-SaysCurve old new curve.Done = SaysNothing old new
-SaysCurve old new (curve.Refused line reason) = SaysQuoted old new (IsComplaint (line_place line)) (line_text (codes "metroheap: the history is outside the grammar"))
-SaysCurve old new curve.TooLong = Says old new (line_text (codes "metroheap: line 0: a history has fewer than 4611686018427387904 units"))
+SaysCurve old new (curve.Drawn broken) = SaysBroken old new broken
+SaysCurve old new (curve.ScriptRefused refusal) = SaysRefusal old new refusal
+SaysCurve old new (curve.HistoryRefused line reason) = SaysQuoted old new (IsComplaint (line_place line)) (line_text (codes "metroheap: the history is outside the grammar"))
+SaysCurve old new curve.HistoryTooLong = Says old new (line_text (codes "metroheap: line 0: a history has fewer than 4611686018427387904 units"))
+SaysCurve old new (curve.LogRefused line reason) = SaysQuoted old new (IsComplaint (line_place line)) (line_text (codes "metroheap: the log is outside the grammar"))
 
 -- of what ends with more to tell, or with a fault
 abbrev pub SaysRun : {T : Type 0} → (ErrorStream → ErrorStream → T → Type 0) → ErrorStream → ErrorStream → Result T ScriptFault → Type 0

@@ -5,14 +5,15 @@ use Rattle.mh_model.specs.Bytes.{Text, line_text}
 use Rattle.mh_live.specs.OfScript.ScriptFault.{ScriptFault}
 use Rattle.mh_command_line.specs.declared.fault.LineFault.{LineFault}
 use Rattle.mh_orders.specs.declared.order.Order.{Order}
-use Rattle.mh_orders.specs.declared.order.Order.TheVariants.{Run, Steps, Show, Live, Race, Check, CheckSessions, CheckLog, Audit, Migrate, Generate, Version, Curve, CurveHistory, Size, SizeRate, SizeTarget, SizeScript}
+use Rattle.mh_orders.specs.declared.order.Order.TheVariants.{Run, Steps, Show, Live, Race, Check, CheckSessions, CheckLog, Audit, Migrate, Generate, Version, Chrome, Cycles, Curve, CurveHistory, CurvePauses, Size, SizeRate, SizeTarget, SizeScript}
 use Rattle.mh_orders.specs.declared.order.Form.{Form}
 use Rattle.mh_orders.specs.declared.order.Form.TheVariants.{Replies, History}
 use Rattle.mh_live.specs.OfScript.ScriptFault.TheVariants.{Write, NoMemory}
 use Rattle.mh_text.specs.Stream.{AppendsBeginning}
 use Rattle.mh_live.specs.OfScript.End.{End}
 use Rattle.mh_live.specs.OfScript.End.TheVariants.{Done}
-use Rattle.mh_show.specs.OfCurve.Runs.{IsDrawing, curve_output}
+use Rattle.mh_show.specs.OfCurve.Runs.{IsDrawing, IsDrawingRun}
+use Rattle.mh_show.specs.OfCurve.TextKind.TheVariants as kind
 use Rattle.mh_orders.specs.declared.generate_options.Options.{Options}
 use Rattle.mh_generate.specs.Generated.{WritesAsked}
 use Rattle.mh_log.specs.OfSessions.Judged.{IsAuditing, IsChecking, IsMigrating}
@@ -24,6 +25,8 @@ use Rattle.mh_model.specs.declared.config.Rules.{Rules}
 use Rattle.mh_log.specs.OfSessions.Texts.{IsSessionsJudging}
 use Rattle.mh_log.specs.Judgements.{IsLogJudging}
 use Rattle.mh_live.specs.OfScript.Run.{Device, IsRun, transcript}
+use Rattle.mh_chrome.specs.Runs.{chrome_text}
+use Rattle.mh_cycles.specs.Lines.{cycles_text}
 use Rattle.mh_show.specs.Page.{page_text}
 use Rattle.mh_size_text.specs.Heaps.{IsHeapText}
 use Rattle.mh_size_text.specs.Rates.{IsRateText}
@@ -88,6 +91,8 @@ IsRunBy History rules = IsHistoryRun rules
 abbrev pub Serves : Result Order LineFault → (source source' sink sink' : Device) (errors errors' : ErrorStream) → ℕ → Type 0
 Serves (Ok (Run options)) source source' sink sink' errors errors' status = Obeys (IsRunBy options.form options.rules source source' sink sink') (SaysRun SaysEnd) status_of errors errors' status
 Serves (Ok (Steps options)) source source' sink sink' errors errors' status = Obeys (IsRun (transcript (told_text options.steps) options.rules) source source' sink sink') (SaysRun SaysEnd) status_of errors errors' status
+Serves (Ok (Chrome options)) source source' sink sink' errors errors' status = Obeys (IsRun (transcript (chrome_text options) options.rules) source source' sink sink') (SaysRun SaysEnd) status_of errors errors' status
+Serves (Ok (Cycles rules)) source source' sink sink' errors errors' status = Obeys (IsRun (transcript (λ _. cycles_text) rules) source source' sink sink') (SaysRun SaysEnd) status_of errors errors' status
 Serves (Ok (Show rules)) source source' sink sink' errors errors' status = Obeys (IsRun (transcript page_text rules) source source' sink sink') (SaysRun SaysEnd) status_of errors errors' status
 Serves (Ok (Live workers)) source source' sink sink' errors errors' status = AnswersLines source source' sink sink' errors errors' status
 Serves (Ok (Race workers)) source source' sink sink' errors errors' status = Obeys (IsRaceRun source source' sink sink') (SaysRun SaysEnd) status_of errors errors' status
@@ -97,8 +102,9 @@ Serves (Ok (CheckSessions options)) source source' sink sink' errors errors' sta
 Serves (Ok (CheckLog rules)) source source' sink sink' errors errors' status = Obeys (IsLogJudging rules source source' sink sink') (SaysRun SaysLog) log_status_of errors errors' status
 Serves (Ok Audit) source source' sink sink' errors errors' status = Obeys (IsAuditing source source' sink sink') (SaysRun SaysJudgement) judgement_status_of errors errors' status
 Serves (Ok (Migrate config)) source source' sink sink' errors errors' status = Obeys (IsMigrating config source source' sink sink') (SaysRun SaysJudgement) judgement_status_of errors errors' status
-Serves (Ok (Curve options)) source source' sink sink' errors errors' status = Obeys (IsRun (curve_output options.form options.rules) source source' sink sink') (SaysRun SaysEnd) status_of errors errors' status
-Serves (Ok (CurveHistory form)) source source' sink sink' errors errors' status = Obeys (IsDrawing form source source' sink sink') (SaysRun SaysCurve) curve_status_of errors errors' status
+Serves (Ok (Curve rules options)) source source' sink sink' errors errors' status = Obeys (IsDrawingRun options rules source source' sink sink') (SaysRun SaysCurve) curve_status_of errors errors' status
+Serves (Ok (CurveHistory options)) source source' sink sink' errors errors' status = Obeys (IsDrawing kind.History options source source' sink sink') (SaysRun SaysCurve) curve_status_of errors errors' status
+Serves (Ok (CurvePauses options)) source source' sink sink' errors errors' status = Obeys (IsDrawing kind.Pauses options source source' sink sink') (SaysRun SaysCurve) curve_status_of errors errors' status
 Serves (Ok (Generate options)) source source' sink sink' errors errors' status = (source' ≡ source) × Obeys (WritesScript options sink sink') SaysFault status_of errors errors' status
 Serves (Ok (Size options)) source source' sink sink' errors errors' status = (source' ≡ source) × Obeys (WritesSize (IsHeapText options) sink sink') SaysFault status_of errors errors' status
 Serves (Ok (SizeRate options)) source source' sink sink' errors errors' status = (source' ≡ source) × Obeys (WritesSize (IsRateText options) sink sink') SaysFault status_of errors errors' status

@@ -1,7 +1,8 @@
 -- Exit statuses.
-use Rattle.std.specs.Prelude.{ℕ, Result, Ok, Err}
+use Rattle.std.specs.Prelude.{ℕ, if◌then◌else◌, Result, Ok, Err}
 use Rattle.mh_show.specs.OfCurve.CurveEnd.{CurveEnd}
 use Rattle.mh_show.specs.OfCurve.CurveEnd.TheVariants as curve
+use Rattle.mh_show.specs.OfCurve.Promises.{is_any_broken}
 use Rattle.mh_log.specs.declared.judgement.LogJudgement.{LogJudgement}
 use Rattle.mh_log.specs.declared.judgement.LogJudgement.TheVariants as log
 use Rattle.mh_log.specs.OfSessions.Judgement.{Judgement}
@@ -43,11 +44,10 @@ log_status_of (Ok (log.Refused line reason)) = 1
 log_status_of (Ok (log.FirstBad entry fault)) = 4
 log_status_of (Err fault) = 3
 
--- 0 for a curve of a history, 1 for a text that was refused as one, 3 for a fault
+-- 0 for a curve whose trace keeps what was promised, 4 for one that doesn't, 1 for a text that was refused, 3 for a fault
 abbrev pub curve_status_of : Result CurveEnd ScriptFault → ℕ
-curve_status_of (Ok curve.Done) = 0
-curve_status_of (Ok (curve.Refused line reason)) = 1
-curve_status_of (Ok curve.TooLong) = 1
+curve_status_of (Ok (curve.Drawn broken)) = if is_any_broken broken then 4 else 0
+curve_status_of (Ok refused) = 1
 curve_status_of (Err fault) = 3
 
 -- 2 for words that are refused, 3 if memory was refused

@@ -7,7 +7,7 @@ ghost use Rattle.std.specs.Prelude.{◌≡◌, ◌+◌, IfOk, MatchResult};
 ghost use Rattle.std.specs.String.{string_bytes};
 ghost use Rattle.mh_model.specs.Bytes.{line_text};
 ghost use Rattle.mh_command_line.specs.Printable.{IsPrintable};
-ghost use Rattle.mh_program.specs.Complaints.{IsComplaint, More, None, Says, SaysCurve, SaysEnd, SaysFault, SaysJudgement, SaysLine, SaysLog, SaysRefusal, SaysRefusals, SaysRun, SaysSeen, SaysTally, SaysWords, entry_place, fault_text, line_place, order_place, outside_text, tally_text};
+ghost use Rattle.mh_program.specs.Complaints.{IsComplaint, More, None, Says, SaysBroken, SaysCurve, SaysEnd, SaysFault, SaysFound, SaysJudgement, SaysLine, SaysLog, SaysRefusal, SaysRefusals, SaysRun, SaysSeen, SaysTally, SaysWords, entry_place, fault_text, floor_text, line_place, order_place, outside_text, pause_text, stretch_text, tally_text};
 
 use crate::errors::Errors;
 use arrayvec::ArrayString;
@@ -24,13 +24,18 @@ use mh_log::mh_sessions::sessions_judgement::SessionsJudgement;
 use mh_log::mh_sessions::tally::Tally;
 use mh_orders::order::ConfigOption;
 use mh_show::mh_curve::end::CurveEnd;
+use mh_show::mh_curve::promises::{Broken, LongPause, ShortStretch};
 use mh_text::sink::Sink;
+use mh_windows::floor::BrokenFloor;
 use std::alloc::{AllocError, Global};
 use std::fmt;
 use std::fmt::Write;
 
 /// The most bytes of the line of what was looked through.
 const TALLY_BYTES: usize = 128;
+
+/// The most bytes of the line of a promise that isn't kept.
+const PROMISE_BYTES: usize = 256;
 
 /// The line that names a fault of a run.
 fn fault_line(fault: ScriptFault) -> &'static [u8]
@@ -151,6 +156,57 @@ fn tally_line(tally: Tally) -> ArrayString<TALLY_BYTES>
     text.push_str(" starts ");
     text.push_str(Buffer::new().format(starts));
     text.push_str("\n");
+    text
+}
+
+/// The line of a window that is below its floor. These three take no memory.
+fn floor_line(floor: BrokenFloor) -> ArrayString<PROMISE_BYTES>
+    ensures { result.bytes ≡ floor_text floor }
+{
+    let mut text = ArrayString::new();
+    text.push_str("metroheap: the window ");
+    text.push_str(Buffer::new().format(floor.window));
+    text.push_str(" at ");
+    text.push_str(Buffer::new().format(floor.at));
+    text.push_str(" has ");
+    text.push_str(Buffer::new().format(floor.least));
+    text.push_str(", and ");
+    text.push_str(Buffer::new().format(floor.floor));
+    text.push_str(" was promised\n");
+    text
+}
+
+/// The line of a pause that is too long.
+fn pause_line(long: LongPause) -> ArrayString<PROMISE_BYTES>
+    ensures { result.bytes ≡ pause_text long }
+{
+    let mut text = ArrayString::new();
+    text.push_str("metroheap: a pause of ");
+    text.push_str(Buffer::new().format(long.pause.units));
+    text.push_str(" at ");
+    text.push_str(Buffer::new().format(long.pause.start));
+    text.push_str(", and ");
+    text.push_str(Buffer::new().format(long.promised));
+    text.push_str(" was promised\n");
+    text
+}
+
+/// The line of a stretch that is below its share.
+fn stretch_line(short: ShortStretch) -> ArrayString<PROMISE_BYTES>
+    ensures { result.bytes ≡ stretch_text short }
+{
+    let mut text = ArrayString::new();
+    text.push_str("metroheap: the stretch from ");
+    text.push_str(Buffer::new().format(short.stretch.start));
+    text.push_str(" to ");
+    text.push_str(Buffer::new().format(short.stretch.end));
+    text.push_str(" has ");
+    text.push_str(Buffer::new().format(short.units));
+    text.push_str(", and ");
+    text.push_str(Buffer::new().format(short.promised.percent));
+    text.push_str(" % of ");
+    text.push_str(Buffer::new().format(short.promised.from));
+    text.push_str(" and more was promised\n");
     text
 }
 
@@ -329,24 +385,62 @@ impl<E: Sink> Errors<E> {
         }
     }
 
+    fn say_floor(&mut self, found: Option<BrokenFloor>)
+        ensures { SaysFound floor_text self.old self.new found }
+    {
+        if let Some(floor) = found {
+            self.say(floor_line(floor).as_str().as_bytes());
+        }
+    }
+
+    fn say_long(&mut self, found: Option<LongPause>)
+        ensures { SaysFound pause_text self.old self.new found }
+    {
+        if let Some(long) = found {
+            self.say(pause_line(long).as_str().as_bytes());
+        }
+    }
+
+    fn say_short(&mut self, found: Option<ShortStretch>)
+        ensures { SaysFound stretch_text self.old self.new found }
+    {
+        if let Some(short) = found {
+            self.say(stretch_line(short).as_str().as_bytes());
+        }
+    }
+
+    /// Says what of promises isn't so.
+    fn say_broken(&mut self, broken: &Broken)
+        ensures { SaysBroken self.old self.new broken.now }
+    {
+        self.say_floor(broken.floor);
+        self.say_long(broken.pause);
+        self.say_short(broken.stretch);
+    }
+
     fn say_drawn(&mut self, end: &CurveEnd)
         ensures { SaysCurve self.old self.new end.now }
     {
         match end {
-            CurveEnd::Done => {}
-            CurveEnd::Refused { line, reason } => {
+            CurveEnd::Drawn(broken) => self.say_broken(broken),
+            CurveEnd::ScriptRefused(refusal) => self.say_refusal(refusal),
+            CurveEnd::HistoryRefused { line, reason } => {
                 let text = line_complaint(self.alloc(), *line, reason);
                 self.say_quoted(text, b"metroheap: the history is outside the grammar\n");
             }
-            CurveEnd::TooLong => {
+            CurveEnd::HistoryTooLong => {
                 self.say(
                     b"metroheap: line 0: a history has fewer than 4611686018427387904 units\n",
                 );
             }
+            CurveEnd::LogRefused { line, reason } => {
+                let text = line_complaint(self.alloc(), *line, reason);
+                self.say_quoted(text, b"metroheap: the log is outside the grammar\n");
+            }
         }
     }
 
-    /// Says why the curve of a history wasn't drawn, or the fault at which that ended.
+    /// Says what of promises isn't so of a curve, why it wasn't drawn, or the fault at which that ended.
     pub(crate) fn say_curve(&mut self, ended: &Result<CurveEnd, ScriptFault>)
         ensures { SaysRun SaysCurve self.old self.new ended.now }
     {

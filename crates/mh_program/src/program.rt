@@ -1,4 +1,4 @@
-//! What the program does on its words, its text and its three devices, for each of the 11 subcommands and for the
+//! What the program does on its words, its text and its three devices, for each of the 12 subcommands and for the
 //! version.
 //!
 //! The contract has what is read and written, the lines on standard error, and the exit status. Of a reason it has
@@ -19,18 +19,22 @@ ghost use Rattle.mh_race_text.specs.Raced.{IsRaceRun};
 ghost use Rattle.mh_log.specs.Judgements.{IsLogJudging};
 ghost use Rattle.mh_log.specs.OfSessions.Texts.{IsSessionsJudging};
 ghost use Rattle.mh_live.specs.OfScript.Run.{IsRun, device, transcript};
+ghost use Rattle.mh_chrome.specs.Runs.{chrome_text};
+ghost use Rattle.mh_cycles.specs.Lines.{cycles_text};
 ghost use Rattle.mh_show.specs.Page.{page_text};
 ghost use Rattle.mh_show.specs.OfTelling.Steps.{told_text};
 
 use crate::errors::Errors;
-use crate::run_curve::{draw_history, draw_script};
+use crate::run_curve::{draw_other, draw_script};
 use crate::run_size::{size_heap, size_needs, size_rate, size_target};
 use crate::status::{
     judgement_status, line_status, live_status, log_status, sessions_status, status,
 };
+use mh_chrome::run::chrome_script;
 use mh_command_line::fault::LineFault;
 use mh_command_line::order::line_order;
 use mh_command_line::version::VERSION_LINE;
+use mh_cycles::run::cycles_script;
 use mh_generate::generate::generate;
 use mh_live::feed::run_live;
 use mh_live::mh_scan::crew_scan::CrewGate;
@@ -43,9 +47,11 @@ use mh_log::mh_sessions::mh_judging::run_history::run_history;
 use mh_log::mh_sessions::texts::check_sessions;
 use mh_log::texts::check_log;
 use mh_model::config::{Config, Rules};
+use mh_orders::chrome::ChromeOptions;
 use mh_orders::generate_options::Options;
 use mh_orders::order::{Form, Order, RunOptions, SessionsOptions, StepsOptions};
 use mh_race_text::race::race_script;
+use mh_show::mh_curve::kind::TextKind;
 use mh_show::mh_steps::run::tell_script;
 use mh_show::run::show_script;
 use mh_text::sink::Sink;
@@ -137,6 +143,46 @@ fn steps<S: Source, W: Sink, E: Sink>(
         errors.old errors.new result }
 {
     let ended = stepped(alloc, options, source, sink);
+    errors.say_end(&ended);
+    status(&ended)
+}
+
+/// Writes a script's run as Chrome trace events, and reports how it ended if not well.
+fn chrome<S: Source, W: Sink, E: Sink>(
+    alloc: Global,
+    options: ChromeOptions,
+    source: &mut S,
+    sink: &mut W,
+    errors: &mut Errors<E>,
+) -> u8
+    requires source_count { S.failures source.old < 2 ^ 62 }
+    requires sink_count { W.failures sink.old < 2 ^ 62 }
+    ensures { Obeys (IsRun (transcript (chrome_text options) options.rules)
+        (device (S.rest source.old) (S.failures source.old)) (device (S.rest source.new) (S.failures source.new))
+        (device (W.written sink.old) (W.failures sink.old)) (device (W.written sink.new) (W.failures sink.new))) (SaysRun SaysEnd) status_of
+        errors.old errors.new result }
+{
+    let ended = chrome_script(alloc, source, sink, options);
+    errors.say_end(&ended);
+    status(&ended)
+}
+
+/// Writes a line for each cycle of a script's run, and reports how it ended if not well.
+fn cycles<S: Source, W: Sink, E: Sink>(
+    alloc: Global,
+    rules: Rules,
+    source: &mut S,
+    sink: &mut W,
+    errors: &mut Errors<E>,
+) -> u8
+    requires source_count { S.failures source.old < 2 ^ 62 }
+    requires sink_count { W.failures sink.old < 2 ^ 62 }
+    ensures { Obeys (IsRun (transcript (λ _. cycles_text) rules)
+        (device (S.rest source.old) (S.failures source.old)) (device (S.rest source.new) (S.failures source.new))
+        (device (W.written sink.old) (W.failures sink.old)) (device (W.written sink.new) (W.failures sink.new))) (SaysRun SaysEnd) status_of
+        errors.old errors.new result }
+{
+    let ended = cycles_script(alloc, source, sink, rules);
     errors.say_end(&ended);
     status(&ended)
 }
@@ -382,6 +428,8 @@ pub fn serve<R: Threads + Wait + Sync, S: Source, W: Sink, E: Sink, G: CrewGate 
     match order {
         Ok(Order::Run(options)) => run(rt, alloc, options, source, sink, errors, gate),
         Ok(Order::Steps(options)) => steps(alloc, options, source, sink, errors),
+        Ok(Order::Chrome(options)) => chrome(alloc, options, source, sink, errors),
+        Ok(Order::Cycles(rules)) => cycles(alloc, rules, source, sink, errors),
         Ok(Order::Show(rules)) => show(alloc, rules, source, sink, errors),
         Ok(Order::Live(workers)) => live(rt, alloc, workers, source, sink, errors, gate),
         Ok(Order::Race(workers)) => race(rt, alloc, workers, source, sink, errors, gate),
@@ -390,8 +438,25 @@ pub fn serve<R: Threads + Wait + Sync, S: Source, W: Sink, E: Sink, G: CrewGate 
         Ok(Order::CheckLog(rules)) => check_order(alloc, rules, source, sink, errors),
         Ok(Order::Audit) => audit(alloc, source, sink, errors),
         Ok(Order::Migrate(config)) => migrate(alloc, config, source, sink, errors),
-        Ok(Order::Curve(options)) => { draw_script(rt, alloc, options, source, sink, errors, gate) }
-        Ok(Order::CurveHistory(form)) => draw_history(alloc, form, source, sink, errors),
+        Ok(Order::Curve(rules, options)) => draw_script(
+            rt, alloc, rules, options, source, sink, errors, gate,
+        ),
+        Ok(Order::CurveHistory(options)) => draw_other(
+            alloc,
+            TextKind::History,
+            options,
+            source,
+            sink,
+            errors,
+        ),
+        Ok(Order::CurvePauses(options)) => draw_other(
+            alloc,
+            TextKind::Pauses,
+            options,
+            source,
+            sink,
+            errors,
+        ),
         Ok(Order::Generate(options)) => write_script(alloc, options, sink, errors),
         Ok(Order::Size(options)) => size_heap(alloc, options, sink, errors),
         Ok(Order::SizeRate(options)) => size_rate(alloc, options, sink, errors),

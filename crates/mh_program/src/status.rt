@@ -1,5 +1,5 @@
 //! The exit status of each end. It is 0 if all went well, 1 for a text that is refused, 2 for words that are. It is 3
-//! for a fault, and 4 for a history that isn't legal.
+//! for a fault, and 4 for a history that isn't legal or a promise that isn't kept.
 ghost use Rattle.std.specs.Prelude.{◌≡◌};
 ghost use Rattle.mh_program.specs.Status.{curve_status_of, judgement_status_of, line_status_of, live_status_of, log_status_of, sessions_status_of, status_of};
 
@@ -70,13 +70,14 @@ pub fn log_status(ended: &Result<LogJudgement, ScriptFault>) -> u8
     }
 }
 
-/// The exit status that the curve of a history gives the program.
+/// The exit status that a curve gives the program.
 pub fn curve_status(ended: &Result<CurveEnd, ScriptFault>) -> u8
     ensures { result ≡ curve_status_of ended.now }
 {
     match ended {
-        Ok(CurveEnd::Done) => 0,
-        Ok(CurveEnd::Refused { .. } | CurveEnd::TooLong) => 1,
+        Ok(CurveEnd::Drawn(broken)) if broken.any() => 4,
+        Ok(CurveEnd::Drawn(_)) => 0,
+        Ok(_) => 1,
         Err(_) => 3,
     }
 }

@@ -61,6 +61,11 @@ abbrev pub EndsAs : (Text → Text) → Option Text → Option Text → Option T
 EndsAs written known old new Done = Outputs written known old new model.Done
 EndsAs written known old new (Refused refusal) = Outputs written known old new (model.Refused refusal.line)
 
+-- what a run that ended well has made of its transcript. Of one that was refused nothing is said
+abbrev pub LeavesTranscript : (Config → List Event → Type 0) → Rules → Option Text → End → Type 0
+LeavesTranscript Leaves rules known Done = (text : Text) × (script : Meaning) × IsTextOf known text × (reading text ≡ Means script) × Leaves (with_rules rules script.config) (take most_entries script.events)
+LeavesTranscript Leaves rules known (Refused refusal) = Unit {0}
+
 -- if the source's script was refused, that line of it is outside the grammar for that reason
 abbrev pub HasReason : Option Text → End → Type 0
 HasReason known Done = Unit {0}

@@ -34,13 +34,16 @@ use std::alloc::Global;
 use std::thread::Threads;
 
 /// The transcript that has a line for each reply.
+#[derive(Drop)]
 struct Replies;
 
 impl Transcript for Replies {
     ghost text_of = { λ _ _. replies_run };
 
+    ghost becomes = { λ old config events new. Unit {0} };
+
     fn write<C: Scanner, W: Sink>(
-        &self,
+        &mut self,
         alloc: Global,
         _script: &[u8],
         config: Config,
@@ -78,5 +81,5 @@ pub fn run_script<R: Threads, S: Source, W: Sink, G: CrewGate>(
     ensures blames { Blames (S.failures source.old) (S.failures source.new) (W.failures sink.old) (W.failures sink.new) result }
 {
     let mut scanner = CrewScan::new(rt, alloc, workers, gate);
-    transcribe(alloc, &Replies, source, sink, rules, &mut scanner)
+    transcribe(alloc, &mut Replies, source, sink, rules, &mut scanner)
 }

@@ -11,11 +11,12 @@ ghost use Rattle.std.specs.Io.KnownBytes.{Appends, Keeps};
 ghost use Rattle.mh_model.specs.declared.command.Event.{Event};
 ghost use Rattle.mh_model.specs.declared.config.Config.{Config};
 ghost use Rattle.mh_model.specs.Bytes.{Text};
+ghost use Rattle.mh_model.specs.Configs.{with_rules};
 ghost use Rattle.mh_model.specs.Limits.{most_entries};
 ghost use Rattle.mh_model.specs.Output as model;
 ghost use Rattle.mh_model.specs.Script.{Means};
 ghost use Rattle.mh_text.specs.Stream.{AppendsBeginning};
-ghost use Rattle.mh_script.specs.Run.{EndsAs, HasReason, Outputs, TakesToRun, WritesBeginning, transcript, transcript_of};
+ghost use Rattle.mh_script.specs.Run.{EndsAs, HasReason, LeavesTranscript, Outputs, TakesToRun, WritesBeginning, transcript, transcript_of};
 ghost use Rattle.mh_script.specs.Texts.{LeavesSource, Blames, WantsMemory};
 
 use crate::end::{End, LineRefusal};
@@ -40,9 +41,12 @@ pub trait Transcript {
     // the text of a run of these events, which a script with this text has
     ghost text_of: { Self → Text → Config → List Event → Text };
 
+    // what it was, and what it is once it has written the text of a run of these events
+    ghost becomes: { Self → Config → List Event → Self → Type 0 };
+
     /// Does the events of a script from the first machine on, and writes the text of that run.
     fn write<C: Scanner, W: Sink>(
-        &self,
+        &mut self,
         alloc: Global,
         script: &[u8],
         config: Config,
@@ -53,8 +57,9 @@ pub trait Transcript {
         requires short { length script.now ≤ SCRIPT_BYTES }
         requires few { length events.now ≤ most_entries }
         requires count { W.failures sink.old < 2 ^ 62 }
-        ensures done { OnOk result (Appends (W.written sink.old) (W.written sink.new) (text_of self.now script.now config events.now)) }
-        ensures begun { OnErr result (AppendsBeginning (W.written sink.old) (W.written sink.new) (text_of self.now script.now config events.now)) }
+        ensures becomes { OnOk result (becomes self.old config events.now self.new) }
+        ensures done { OnOk result (Appends (W.written sink.old) (W.written sink.new) (text_of self.old script.now config events.now)) }
+        ensures begun { OnErr result (AppendsBeginning (W.written sink.old) (W.written sink.new) (text_of self.old script.now config events.now)) }
         ensures no_failure { OnOk result (W.failures sink.new ≡ W.failures sink.old) }
         ensures blamed { IsErrOf result WriteError.Device → W.failures sink.old < W.failures sink.new }
         ensures not_blamed { IsErrOf result WriteError.NoMemory → W.failures sink.new ≡ W.failures sink.old };
@@ -72,7 +77,7 @@ fn answered(events: &[Event]) -> &[Event]
 /// Answers the events of a script under these rules, as far as a history has room.
 fn write_answers<T: Transcript, C: Scanner, W: Sink>(
     alloc: Global,
-    form: &T,
+    form: &mut T,
     text: &[u8],
     script: &Script,
     rules: Rules,
@@ -81,8 +86,9 @@ fn write_answers<T: Transcript, C: Scanner, W: Sink>(
 ) -> Result<(), WriteError>
     requires short { length text.now ≤ SCRIPT_BYTES }
     requires count { W.failures sink.old < 2 ^ 62 }
-    ensures done { OnOk result (Appends (W.written sink.old) (W.written sink.new) (transcript_of (T.text_of form.now text.now) rules (Means script.now))) }
-    ensures begun { OnErr result (AppendsBeginning (W.written sink.old) (W.written sink.new) (transcript_of (T.text_of form.now text.now) rules (Means script.now))) }
+    ensures becomes { OnOk result (T.becomes form.old (with_rules rules script.now.config) (take most_entries script.now.events) form.new) }
+    ensures done { OnOk result (Appends (W.written sink.old) (W.written sink.new) (transcript_of (T.text_of form.old text.now) rules (Means script.now))) }
+    ensures begun { OnErr result (AppendsBeginning (W.written sink.old) (W.written sink.new) (transcript_of (T.text_of form.old text.now) rules (Means script.now))) }
     ensures no_failure { OnOk result (W.failures sink.new ≡ W.failures sink.old) }
     ensures blamed { IsErrOf result WriteError.Device → W.failures sink.old < W.failures sink.new }
     ensures not_blamed { IsErrOf result WriteError.NoMemory → W.failures sink.new ≡ W.failures sink.old }
@@ -96,7 +102,7 @@ fn write_answers<T: Transcript, C: Scanner, W: Sink>(
 /// it writes the one line that names the first bad line. The scanner doesn't change what is written.
 pub fn transcribe<T: Transcript, C: Scanner, S: Source, W: Sink>(
     alloc: Global,
-    form: &T,
+    form: &mut T,
     source: &mut S,
     sink: &mut W,
     rules: Rules,
@@ -104,10 +110,11 @@ pub fn transcribe<T: Transcript, C: Scanner, S: Source, W: Sink>(
 ) -> Result<End, ScriptFault>
     requires source_count { S.failures source.old < 2 ^ 62 }
     requires sink_count { W.failures sink.old < 2 ^ 62 }
-    ensures ends { IfOk result (EndsAs (transcript (T.text_of form.now) rules) (S.rest source.old) (W.written sink.old) (W.written sink.new)) }
+    ensures ends { IfOk result (EndsAs (transcript (T.text_of form.old) rules) (S.rest source.old) (W.written sink.old) (W.written sink.new)) }
+    ensures becomes { IfOk result (LeavesTranscript (λ config events. T.becomes form.old config events form.new) rules (S.rest source.old)) }
     ensures reason { IfOk result (HasReason (S.rest source.old)) }
-    ensures begun { OnErr result (WritesBeginning (transcript (T.text_of form.now) rules) (S.rest source.old) (W.written sink.old) (W.written sink.new)) }
-    ensures full { IsErrOf result ScriptFault.HistoryFull → Outputs (transcript (T.text_of form.now) rules) (S.rest source.old) (W.written sink.old) (W.written sink.new) model.HistoryFull }
+    ensures begun { OnErr result (WritesBeginning (transcript (T.text_of form.old) rules) (S.rest source.old) (W.written sink.old) (W.written sink.new)) }
+    ensures full { IsErrOf result ScriptFault.HistoryFull → Outputs (transcript (T.text_of form.old) rules) (S.rest source.old) (W.written sink.old) (W.written sink.new) model.HistoryFull }
     ensures unread { IsErrOf result ScriptFault.Read → Keeps (W.written sink.old) (W.written sink.new) }
     ensures memory { IsErrOf result ScriptFault.NoMemory → WantsMemory TakesToRun (S.rest source.old) (S.rest source.new) }
     ensures taken { LeavesSource SCRIPT_BYTES (S.rest source.old) (S.rest source.new) result }

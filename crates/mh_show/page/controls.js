@@ -14,76 +14,6 @@ function drawChosen() {
   }
 }
 
-// The trace and the curve --------------------------------------------------------------------------
-const TRACE_HEIGHT = 58, CURVE_HEIGHT = 180;
-const total = events.reduce((sum, e) => sum + e.units + Math.max(0, e.spent), 0) || 1;
-// what share of each dot of the strip is the mutator's, and what the collector's
-let strip = { width: 0 };
-function addStretch(shares, from, to) {
-  for (let x = Math.floor(from); x < to && x < shares.length; x += 1) shares[x] += Math.min(to, x + 1) - Math.max(from, x);
-}
-function stripOf(width) {
-  if (strip.width === width) return strip;
-  strip = { width, mutator: new Float64Array(width), collector: new Float64Array(width) };
-  let done = 0;
-  for (const e of events) {
-    const mid = done + e.units, end = mid + Math.max(0, e.spent);
-    addStretch(strip.mutator, done / total * width, mid / total * width);
-    addStretch(strip.collector, mid / total * width, end / total * width);
-    done = end;
-  }
-  return strip;
-}
-function drawTrace() {
-  const [c, width] = pen("trace", TRACE_HEIGHT), shares = stripOf(width), high = 22;
-  for (const [name, foot] of [["mutator", 26], ["collector", 52]]) {
-    c.fillStyle = colours["--" + name];
-    for (let x = 0; x < width; x += 1) if (shares[name][x] > 0) { const h = Math.max(1, shares[name][x] * high); c.fillRect(x, foot - h, 1, h); }
-  }
-  c.strokeStyle = colours["--line"]; c.beginPath(); c.moveTo(0, 28); c.lineTo(width, 28); c.stroke();
-  const x = Math.min(width - 2, Math.max(1, (now.mutator + now.collector) / total * width));
-  c.fillStyle = colours["--ink"]; c.fillRect(x - 1, 0, 2, TRACE_HEIGHT);
-  c.beginPath(); c.moveTo(x - 5, 0); c.lineTo(x + 5, 0); c.lineTo(x, 6); c.fill();
-  at("trace-head").textContent = `trace: ${now.mutator} units of the mutator (above) and ${now.collector} of the collector (below) so far, of ${total}`;
-}
-// the curve's place on the page: the share in sight goes up to the least of these that holds all
-const TOPS = [0.001, 0.002, 0.005, 0.01, 0.02, 0.05, 0.1, 0.2, 0.5, 1];
-function curveScale(width) {
-  const most = Math.max(0, ...points.map((p) => Math.max(p.least, p.floor) / p.window)), last = points.length ? points[points.length - 1].window : 1;
-  const left = 52, right = width - 14, head = 12, foot = CURVE_HEIGHT - 22, top = TOPS.find((t) => t >= most) || 1;
-  return { left, right, head, foot, top, last, x: (w) => left + (last > 1 ? Math.log(w) / Math.log(last) : 0) * (right - left), y: (share) => foot - share / top * (foot - head) };
-}
-function drawAxes(c, { left, right, head, foot, top, last, x, y }) {
-  c.strokeStyle = colours["--line"]; c.fillStyle = colours["--dim"]; c.textAlign = "right";
-  for (const share of [0, top / 2, top]) {
-    c.beginPath(); c.moveTo(left, y(share)); c.lineTo(right, y(share)); c.stroke();
-    c.fillText(+(100 * share).toFixed(2) + " %", left - 6, y(share) + 4);
-  }
-  c.textAlign = "center";
-  for (let w = 1; w <= last && x(w) < right - 110; w *= 10) { c.beginPath(); c.moveTo(x(w), head); c.lineTo(x(w), foot); c.stroke(); c.fillText(w, x(w), foot + 15); }
-  c.textAlign = "right"; c.fillText(`window: ${last} units`, right, foot + 15);
-  c.textAlign = "left";
-}
-function drawLine(c, { x, y }, colour, dash, shown) {
-  c.strokeStyle = colours[colour]; c.setLineDash(dash); c.lineWidth = 2; c.beginPath();
-  for (const [window, units] of shown) c.lineTo(x(window), y(units / window));
-  c.stroke(); c.setLineDash([]); c.lineWidth = 1;
-}
-function drawCurve() {
-  const [c, width] = pen("curve", CURVE_HEIGHT), scale = curveScale(width), { left, head } = scale;
-  drawAxes(c, scale);
-  const promised = points.filter((p) => p.floor >= 0), lines = [["--mutator", [], "least share of the mutator", points.map((p) => [p.window, p.least])]];
-  if (promised.length) lines.push(["--floor", [6, 4], "floor that the configuration promises", promised.map((p) => [p.window, p.floor])]);
-  lines.forEach(([colour, dash, says, shown], i) => {
-    drawLine(c, scale, colour, dash, shown);
-    c.strokeStyle = colours[colour]; c.setLineDash(dash); c.lineWidth = 2;
-    c.beginPath(); c.moveTo(left + 8, head + 14 + 16 * i); c.lineTo(left + 36, head + 14 + 16 * i); c.stroke(); c.setLineDash([]); c.lineWidth = 1;
-    c.fillStyle = colours["--ink"]; c.fillText(says, left + 42, head + 18 + 16 * i);
-  });
-}
-
-const add = (parent, kind, text) => { const it = parent.appendChild(document.createElement(kind)); it.textContent = text; return it; };
-
 // Lists and facts ----------------------------------------------------------------------------------
 const ROW = 17;
 // a list of which only the rows in sight are in the document
@@ -128,13 +58,14 @@ function drawLists() {
   at("event-now").textContent = e ? `${e} ${entryOf(e)}` : "before the first event";
   at("step-now").textContent = current < 0 ? "\u00a0" : now.deed < 0 ? commands > 1 ? `${commands} parts and shades, the last: ${wordsOf(current)}` : wordsOf(current) : wordsOf(current);
 }
+const cursorOf = ({ phase, cursor }) => phase === 1 ? `root slot ${cursor}` : phase > 2 ? word(cursor) : "none";
 const MOST_GREYS = 200;
 function drawFacts() {
   const grey = greys.slice(now.head, Math.min(now.tail, now.head + MOST_GREYS)).map(word), count = now.tail - now.head, phase = PHASES[now.phase];
   const places = grey.join(" ") + (count > MOST_GREYS ? " ..." : "");
   const facts = {
-    stat: `free ${freePages} live ${counts.reduce((a, b) => a + b) - counts[FREE] - counts[FORWARDER]} old ${counts[FORWARDER]} phase ${phase} cycle ${now.cycle}`,
-    cursor: now.phase === 1 ? `root slot ${now.cursor}` : now.phase > 2 ? word(now.cursor) : "none",
+    stat: `free ${now.free} live ${now.live} old ${now.old} phase ${phase} cycle ${now.cycle}`,
+    cursor: cursorOf(now),
     left: now.deed < 0 ? "no quantum runs" : now.left < 0 ? "not known, since steps are left out" : `${now.left} units of ${quantum}`,
     reply: now.event ? events[now.event - 1].reply : "none",
     grey: count ? `${count}: ${places}` : "0",
@@ -186,7 +117,7 @@ function drawSliders() {
 }
 function draw() {
   measure(); catchUp(); follow();
-  drawMap(); drawChosen(); drawTrace(); drawLists(); drawSliders(); drawFacts(); drawRoots();
+  drawMap(); drawChosen(); drawTrace(); drawStrip(); drawTimes(); drawTable(); drawLists(); drawSliders(); drawFacts(); drawRoots();
   if (at("as-text").open) at("text").textContent = mapText();
   at("tip").style.visibility = "hidden";
   document.body.dataset.moment = moment; document.body.dataset.event = now.event;
@@ -199,7 +130,7 @@ function ask() {
 }
 function go(m) {
   moment = Math.max(0, Math.min(momentCount - 1, m)); now = momentAt(moment);
-  ask();
+  ask(); settleSoon();
 }
 const goEvent = (event) => go(lastOf(Math.max(0, Math.min(events.length, event))));
 function drawAll() { measure(); readColours(); drawCurve(); ask(); }
@@ -231,8 +162,18 @@ function pageText(page) {
   return lines;
 }
 function curveText(x) {
-  const scale = curveScale(widths.curve), near = points.reduce((best, p) => Math.abs(scale.x(p.window) - x) < Math.abs(scale.x(best.window) - x) ? p : best, points[0]);
+  const near = pointAt(x);
   return near ? [`window ${near.window}: least ${near.least}, floor ${near.floor < 0 ? "none" : near.floor}`] : [];
+}
+// the unit of the trace at a place of the canvases that lie over it
+const unitUnder = (x) => x / widths.trace * total;
+function timesText(x) {
+  const event = eventAt(unitUnder(x));
+  return events.length ? [`event ${event}`, LINES.map((line) => `${line.name} ${line.at(lastOf(event))}`).join(" ")] : [];
+}
+function stripText(x) {
+  const cycle = cycleAt(unitUnder(x));
+  return cycle ? [`cycle ${cycle.number}, ${cycle.cause}: events ${cycle.firstEvent} to ${cycle.lastEvent || DASH}, units ${cycle.from} to ${cycle.to}`] : [];
 }
 function hover(event, lines) {
   const tip = at("tip");
@@ -244,22 +185,34 @@ const textOf = (under) => under ? under[1] < 0 ? pageText(under[0]) : slotText(.
 at("map").onmousemove = (event) => hover(event, textOf(underMap(event.offsetX, event.offsetY)));
 at("page").onmousemove = (event) => hover(event, textOf(underPage(event.offsetX, event.offsetY)));
 at("curve").onmousemove = (event) => hover(event, curveText(event.offsetX));
-for (const id of ["map", "page", "curve"]) at(id).onmouseleave = () => { at("tip").style.visibility = "hidden"; };
+at("times").onmousemove = (event) => hover(event, timesText(event.offsetX));
+at("strip").onmousemove = (event) => hover(event, stripText(event.offsetX));
+for (const id of ["map", "page", "curve", "times", "strip"]) at(id).onmouseleave = () => { at("tip").style.visibility = "hidden"; };
 
 function choose(page) { chosen = Math.max(0, Math.min(pages - 1, page)); at("follow").checked = false; scrollToChosen(); ask(); }
 function resize(by) { zoom = Math.max(0, Math.min(8, zoom + by)); layOut(); scrollToChosen(); ask(); }
-at("map").onclick = (event) => { const under = underMap(event.offsetX, event.offsetY); if (under) choose(under[0]); };
+// a click on a page chooses it, and one on a slot its block
+function pick(under) {
+  if (!under) return;
+  choose(under[0]);
+  if (under[1] >= 0) showSlot(64 * under[0] + under[1]);
+}
+at("map").onclick = (event) => pick(underMap(event.offsetX, event.offsetY));
+at("page").onclick = (event) => pick(underPage(event.offsetX, event.offsetY));
 at("frame").onscroll = () => { if (at("frame").scrollTop !== grid.top) ask(); };
 at("follow").onchange = ask;
 at("smaller").onclick = () => resize(-1);
 at("larger").onclick = () => resize(1);
-// a click on the trace goes to the first event that ends after that unit
-at("trace").onclick = ({ offsetX }) => {
-  const unit = offsetX / widths.trace * total;
-  let low = 1, high = events.length;
-  while (low < high) { const mid = low + high >> 1, m = lastOf(mid); if (moments.mutator[m] + moments.collector[m] > unit) high = mid; else low = mid + 1; }
-  goEvent(low);
-};
+for (const id of ["trace", "times"]) at(id).onclick = ({ offsetX }) => goEvent(eventAt(unitUnder(offsetX)));
+at("strip").onclick = ({ offsetX }) => goCycle(cycleAt(unitUnder(offsetX)));
+at("curve").onclick = ({ offsetX }) => { if (points.length) markWindow(pointAt(offsetX).window); };
+at("to-whole").onchange = drawCurve;
+const turnScale = () => { at("to-whole").checked = !at("to-whole").checked; drawCurve(); };
+for (const name in SOUGHT) at("seek-" + name).onclick = (event) => search(name, event.shiftKey ? -1 : 1);
+at("above").value = Math.floor(quantum / 2);
+at("life-form").onsubmit = (event) => { event.preventDefault(); showAsked(); };
+at("life-here").onclick = showStepsBlock;
+at("copy").onclick = copyLink;
 at("event").max = events.length;
 at("event").oninput = () => goEvent(+at("event").value);
 at("step").oninput = () => go(firstMoment[now.event] + +at("step").value);
@@ -277,24 +230,21 @@ const KEYS = {
   ArrowRight: () => go(moment + 1), ArrowLeft: () => go(moment - 1), ArrowDown: () => goEvent(now.event + 1), ArrowUp: () => goEvent(now.event - 1),
   PageDown: () => goEvent(now.event + 100), PageUp: () => goEvent(now.event - 100), Home: () => go(0), End: () => go(momentCount - 1),
   "+": () => resize(1), "-": () => resize(-1), "[": () => choose(chosen - 1), "]": () => choose(chosen + 1), t: turnTheme,
+  w: () => nextWindow(1), W: () => nextWindow(-1), Escape: unmark, "%": turnScale, b: showStepsBlock, l: copyLink,
 };
+for (const name in SOUGHT) { const { key } = SOUGHT[name]; KEYS[key] = () => search(name, 1); KEYS[key.toUpperCase()] = () => search(name, -1); }
 // on the slider of events left and right go by events
 const ON_EVENTS = { ArrowRight: "ArrowDown", ArrowLeft: "ArrowUp" };
 addEventListener("keydown", (event) => {
+  if (event.target.matches("#block, #above")) return;
   const key = KEYS[event.target.id === "event" && ON_EVENTS[event.key] || event.key];
   if (!key || event.ctrlKey || event.metaKey || event.altKey) return;
   event.preventDefault(); key();
 });
 addEventListener("resize", drawAll);
 
-// The address may ask for a moment: #EVENT or #EVENT.STEP; else the last is in sight
-function visit() {
-  const [, event, , step] = /^#(\d+)(\.(\d+))?$/.exec(location.hash) || [];
-  if (event === undefined) go(momentCount - 1);
-  else if (step === undefined) goEvent(+event);
-  else go(firstMoment[Math.min(events.length, +event)] + +step);
-}
-addEventListener("hashchange", visit);
+// (the address may have followed the reader since)
+addEventListener("hashchange", (event) => visit(new URL(event.newURL).hash));
 (function begin() {
   at("config").textContent = `${pages} pages, quantum ${quantum}, trigger ${trigger}, every ${every}, rules ${rules}; ${events.length} events`;
   for (const { colour, sign } of STATES) {
@@ -304,8 +254,10 @@ addEventListener("hashchange", visit);
     if (colour === "--white") sample.style.color = "var(--ink)";
   }
   for (const phase of PHASES) add(at("phases"), "li", phase);
+  for (const phase of PHASES.slice(1)) { const item = add(at("strip-key"), "li", ""); add(item, "i", "").style.background = `var(--${phase})`; add(item, "span", phase); }
   for (const name of ["reply", "stat", "cursor", "left", "grey"]) { add(at("facts"), "dt", name); add(at("facts"), "dd", "").id = "fact-" + name; }
   at("points").textContent = points.map((p) => `window ${p.window} least ${p.least} floor ${p.floor < 0 ? "none" : p.floor}`).join("\n");
-  visit();
+  beginTable();
+  visit(location.hash);
   setTheme(dark.matches);
 })();

@@ -15,6 +15,7 @@ const points = listed(run.curve).map(([window, least, floor]) => ({ window, leas
 const PHASES = ["idle", "roots", "mark", "sweep", "defrag"];
 const TIERS = ["dense", "free", "sparse"];
 const at = (id) => document.getElementById(id);
+const add = (parent, kind, text) => { const it = parent.appendChild(document.createElement(kind)); it.textContent = text; return it; };
 const slotsOf = (size) => size ? Math.floor(256 / size) : 0;
 const word = (place) => place < 0 ? "none" : (place >> 6) + "." + (place & 63);
 const yes = (flag) => flag ? "yes" : "no";
@@ -46,9 +47,10 @@ const pageOf = (d) => [6, 8, 9, 10].includes(d[0]) ? d[1] : placeOf(d) >> 6;
 
 // Moments ------------------------------------------------------------------------------------------
 // Moment 0 is before the first event. Each event has a moment after its command, and one after each deed of its quantum.
-const COLUMNS = ["event", "deed", "phase", "cycle", "cursor", "head", "tail", "left", "mutator", "collector"];
+const UNIT_COLUMNS = ["left", "mutator", "collector"];
+const COLUMNS = ["event", "deed", "phase", "cycle", "cursor", "head", "tail", "free", "live", "old", ...UNIT_COLUMNS];
 const momentCount = events.reduce((sum, e) => sum + 1 + e.deeds.length, 1);
-const moments = Object.fromEntries(COLUMNS.map((name) => [name, new Float64Array(momentCount)]));
+const moments = Object.fromEntries(COLUMNS.map((name) => [name, new (UNIT_COLUMNS.includes(name) ? Float64Array : Int32Array)(momentCount)]));
 const momentAt = (m) => Object.fromEntries(COLUMNS.map((name) => [name, moments[name][m]]));
 const firstMoment = new Float64Array(events.length + 2);
 const lastOf = (event) => firstMoment[event + 1] - 1;
@@ -77,8 +79,14 @@ function move(moment, from, to) {
   addSlot(moment, to, { ...block, to: -1 });
   addSlot(moment, from, { to });
 }
+function free(moment, now, d) {
+  if (d[2] < 2) return;
+  now[d[2] === 2 ? "live" : "old"] -= 1;
+  addSlot(moment, d[1], { birth: -1, to: -1 });
+}
 function make(moment, now, d) {
-  if (d[7] === 1) addPage(moment, d[1] >> 6, { size: d[4], flag: 0 });
+  if (d[7] === 1) { now.free -= 1; addPage(moment, d[1] >> 6, { size: d[4], flag: 0 }); }
+  now.live += 1;
   addSlot(moment, d[1], { birth: d[2], part: d[3], stamp: now.cycle, to: -1, references: d[5], numbers: d[6] });
 }
 // What a deed says of the collector and of the map
@@ -91,12 +99,12 @@ function note(moment, now, d) {
     case 4: now.head += 1; break;
     case 5: if (d[4]) shade(moment, now, d[3]); break;
     case 6: now.cursor = 64 * (d[1] + 1); break;
-    case 7: now.cursor = d[1] + 1; if (d[2] > 1) addSlot(moment, d[1], { birth: -1, to: -1 }); break;
-    case 8: now.cursor = 64 * (d[1] + 1); addPage(moment, d[1], { size: 0, flag: 0 }); break;
+    case 7: now.cursor = d[1] + 1; free(moment, now, d); break;
+    case 8: now.cursor = 64 * (d[1] + 1); now.free += 1; addPage(moment, d[1], { size: 0, flag: 0 }); break;
     case 9: now.cursor = 64 * (d[1] + 1); addPage(moment, d[1], { flag: 1 }); break;
     case 10: now.cursor = 64 * (d[1] + 1); addPage(moment, d[1], { flag: 0 }); break;
     case 11: now.cursor = d[1] + 1; break;
-    case 12: now.cursor = d[1] + 1; move(moment, d[1], d[2]); break;
+    case 12: now.cursor = d[1] + 1; now.old += 1; move(moment, d[1], d[2]); break;
     case 14: shade(moment, now, d[1]); break;
     case 15: make(moment, now, d);
   }
@@ -108,7 +116,7 @@ function turnPage(now) {
   if (now.cursor % 64 >= slotsOf(size)) now.cursor = 64 * Math.ceil(now.cursor / 64);
 }
 (function load() {
-  const now = { event: 0, deed: -1, phase: 0, cycle: 0, cursor: -1, head: 0, tail: 0, left: -1, mutator: 0, collector: 0 };
+  const now = { event: 0, deed: -1, phase: 0, cycle: 0, cursor: -1, head: 0, tail: 0, free: pages, live: 0, old: 0, left: -1, mutator: 0, collector: 0 };
   let m = 0;
   const keep = () => { for (const name of COLUMNS) moments[name][m] = now[name]; m += 1; };
   keep();
@@ -150,7 +158,6 @@ const STATES = [
   { colour: "--moved", sign: "\u2197", says: "forwarder" },
 ];
 const states = new Uint8Array(pages * 64), isGrey = new Uint8Array(pages * 64), counts = new Float64Array(STATES.length);
-let freePages = 0;
 function stateOf(place) {
   const row = slotNow[place];
   if (row < 0 || slotRows.birth[row] < 0) return FREE;
@@ -160,11 +167,10 @@ function stateOf(place) {
   return now.phase < 3 ? WHITE : CONDEMNED;
 }
 function readStates() {
-  isGrey.fill(0); counts.fill(0); freePages = 0;
+  isGrey.fill(0); counts.fill(0);
   for (let i = now.head; i < now.tail; i += 1) isGrey[greys[i]] = 1;
   for (let page = 0; page < pages; page += 1) {
     const slots = slotsOf(sizeOf(page));
-    if (!slots) freePages += 1;
     for (let slot = 0; slot < slots; slot += 1) counts[states[64 * page + slot] = stateOf(64 * page + slot)] += 1;
   }
 }
@@ -180,10 +186,10 @@ const deedNow = () => now.deed < 0 ? null : events[now.event - 1].deeds[now.deed
 const colours = {};
 function readColours() {
   const style = getComputedStyle(document.documentElement);
-  for (const name of ["--back", "--ink", "--dim", "--line", "--edge", "--flag", "--mutator", "--collector", "--floor", "--onmarked", ...STATES.map((s) => s.colour)]) colours[name] = style.getPropertyValue(name).trim();
+  for (const name of ["--back", "--ink", "--dim", "--line", "--edge", "--hot", "--flag", "--mutator", "--collector", "--floor", "--onmarked", ...PHASES.slice(1).map((phase) => "--" + phase), ...STATES.map((s) => s.colour)]) colours[name] = style.getPropertyValue(name).trim();
 }
 // the widths of the canvases, which are read before anything is changed
-const widths = { map: 0, page: 0, trace: 0, curve: 0 };
+const widths = { map: 0, page: 0, trace: 0, strip: 0, times: 0, curve: 0 };
 function measure() { for (const id in widths) widths[id] = at(id).parentElement.clientWidth; }
 function pen(id, height) {
   const canvas = at(id), ratio = window.devicePixelRatio || 1, width = widths[id], across = Math.round(width * ratio), down = Math.round(height * ratio);

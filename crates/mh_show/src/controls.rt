@@ -1,9 +1,129 @@
-//! How the rest of the page is drawn, and how its reader moves through a run. It is JavaScript in a text: the chosen
-//! page, trace and curve, lists, roots, the map as text, mouse and keys.
+//! How the rest of the page is drawn, and how its reader moves through a run. It is JavaScript in a text: addresses,
+//! searches, the life of a block, the chosen page, lists, roots, the map as text, mouse and keys.
 
 /// What stands after that, to the end of the page.
 pub const CONTROLS: &[u8] =
-    br##"// The chosen page ----------------------------------------------------------------------------------
+    br##"// The address --------------------------------------------------------------------------------------
+// #EVENT and #EVENT.STEP are moments, #cycleN is where a cycle starts, #birthN and #birthN.PART where a block was made.
+const tellFound = (text) => { at("found").textContent = text; };
+const addressOf = (m) => { const event = moments.event[m]; return m === lastOf(event) ? `#${event}` : `#${event}.${m - firstMoment[event]}`; };
+function settle() { clearTimeout(settling); history.replaceState(null, "", addressOf(moment)); }
+// browsers refuse many addresses a second, so it follows once the reader stops
+const SETTLE_TIME = 250;
+let settling = 0;
+function settleSoon() { clearTimeout(settling); settling = setTimeout(settle, SETTLE_TIME); }
+function copyLink() {
+  settle();
+  const copied = navigator.clipboard ? navigator.clipboard.writeText(location.href) : Promise.reject();
+  copied.then(() => tellFound("the link is copied"), () => tellFound(location.href));
+}
+const ADDRESSES = [
+  [/^#(\d+)$/, (event) => goEvent(+event)],
+  [/^#(\d+)\.(\d+)$/, (event, step) => { const shown = Math.min(events.length, +event); go(Math.min(lastOf(shown), firstMoment[shown] + +step)); }],
+  [/^#cycle(\d+)$/, (number) => { if (!cycles[number - 1]) tellFound(`no cycle ${number}`); go(cycles[number - 1] ? cycles[number - 1].moment : momentCount - 1); }],
+  [/^#birth(\d+)(?:\.(\d+))?$/, (birth, part) => { const life = showLife(+birth, +(part || 0)); go(life.length ? life[0].moment : momentCount - 1); }],
+];
+// goes where an address leads, or else to the last moment
+function visit(address) {
+  tellFound("");
+  for (const [form, show] of ADDRESSES) { const found = form.exec(address); if (found) { show(...found.slice(1)); return; } }
+  go(momentCount - 1);
+}
+
+// Search -------------------------------------------------------------------------------------------
+const deedAt = (m) => moments.deed[m] < 0 ? null : events[moments.event[m] - 1].deeds[moments.deed[m]];
+const isDeed = (m, kind) => { const deed = deedAt(m); return deed !== null && deed[0] === kind; };
+const SOUGHT = {
+  refusal: { key: "n", holds: (m) => m > 0 && m === firstMoment[moments.event[m]] && /^refused /.test(events[moments.event[m] - 1].reply) },
+  move: { key: "m", holds: (m) => isDeed(m, 12) },
+  cycle: { key: "c", holds: (m) => isDeed(m, 0) },
+  quantum: { key: "q", holds: (m) => m > 0 && m === lastOf(moments.event[m]) && events[moments.event[m] - 1].spent > +at("above").value },
+};
+// goes to the next moment that is sought, or by -1 to the one before
+function search(name, by) {
+  const { holds } = SOUGHT[name];
+  let m = moment + by;
+  while (m >= 0 && m < momentCount && !holds(m)) m += by;
+  const isFound = m >= 0 && m < momentCount;
+  tellFound(isFound ? "" : `no ${by > 0 ? "later" : "earlier"} ${name}`);
+  if (isFound) go(m);
+}
+
+// A block's life -----------------------------------------------------------------------------------
+const MOST_LIFE = 200;
+// the row that was true of a slot at a moment, or -1
+function rowAt(place, m) {
+  let row = lastSlot[place];
+  while (row >= 0 && slotRows.moment[row] > m) row = slotRows.before[row];
+  return row;
+}
+const nameAt = (place, m) => { const row = place < 0 ? -1 : rowAt(place, m); return row < 0 ? "none" : slotRows.birth[row] + "." + slotRows.part[row]; };
+// what the references were as a block was marked; null is one that is left out
+function referentsAt(e, k, m, count) {
+  const referents = new Array(count).fill(null);
+  for (let i = k + 1; i < e.deeds.length && (e.deeds[i][0] === 5); i += 1) referents[e.deeds[i][1]] = nameAt(e.deeds[i][3], m);
+  return referents;
+}
+// What a deed of a quantum says of a block that is here: words, and where the block is after it. None is null.
+function sayDeed(d, block) {
+  const isNamed = (i) => d[i] === block.birth && d[i + 1] === block.part;
+  if (d[0] === 3 && d[4] && d[3] === block.place) return { says: `shaded from root slot ${d[1]}` };
+  if (d[0] === 5 && d[4] && d[3] === block.place) return { says: `shaded from reference ${d[1]} of ${block.marking}` };
+  if (d[0] === 4 && isNamed(2)) return { says: "marked", isMarked: true };
+  if (d[0] === 12 && isNamed(3)) return { says: `moved from ${word(d[1])} to ${word(d[2])}`, place: d[2] };
+  if (d[0] === 7 && d[2] === 2 && isNamed(3)) return { says: `freed at ${word(d[1])}`, place: -1 };
+  return null;
+}
+function sayQuantum(life, block, event) {
+  const e = events[event - 1];
+  e.deeds.forEach((d, k) => {
+    if (d[0] === 4) block.marking = d[2] + "." + d[3];
+    const said = block.place < 0 ? null : sayDeed(d, block), m = firstMoment[event] + 1 + k;
+    if (!said) return;
+    block.place = said.place ?? block.place;
+    life.push({ moment: m, says: said.says, referents: said.isMarked ? referentsAt(e, k, m, block.references) : [] });
+  });
+}
+function sayCommand(life, block, event) {
+  for (const d of events[event - 1].command) {
+    if (d[0] === 15 && d[2] === block.birth && d[3] === block.part) {
+      Object.assign(block, { place: d[1], references: d[5] });
+      life.push({ moment: firstMoment[event], says: `made at ${word(d[1])}: class ${d[4]}, references ${d[5]}, numbers ${d[6]}`, referents: [] });
+    } else if (d[0] === 14 && d[1] === block.place) life.push({ moment: firstMoment[event], says: "shaded by a barrier", referents: [] });
+  }
+}
+// what became of a part of an object, in order
+function lifeOf(birth, part) {
+  const life = [], block = { birth, part, place: -1, references: 0, marking: "none" };
+  for (let event = 1; event <= events.length && (block.place >= 0 || !life.length); event += 1) { sayCommand(life, block, event); sayQuantum(life, block, event); }
+  return life;
+}
+function addLink(parent, text, address) { const link = add(parent, "a", text); link.href = address; }
+function addMoment(list, { moment: m, says, referents }) {
+  const item = add(list, "li", "");
+  addLink(item, addressOf(m).slice(1), addressOf(m));
+  add(item, "span", " " + says + (referents.length ? ", with references to" : ""));
+  for (const name of referents) { add(item, "span", " "); if (name === null || name === "none") add(item, "span", name || DASH); else addLink(item, name, "#birth" + name); }
+}
+function showLife(birth, part) {
+  const life = lifeOf(birth, part), list = at("life"), middle = MOST_LIFE / 2, isLong = life.length > MOST_LIFE;
+  list.replaceChildren();
+  at("block").value = `${birth}.${part}`;
+  if (!life.length) add(list, "li", `no block ${birth}.${part} was made`);
+  for (const said of isLong ? life.slice(0, middle) : life) addMoment(list, said);
+  if (isLong) { add(list, "li", `${life.length - MOST_LIFE} more`); for (const said of life.slice(-middle)) addMoment(list, said); }
+  return life;
+}
+// the life of the block in a slot, if one is there
+function showSlot(place) { if (place >= 0 && states[place] !== FREE) showLife(slotAt(place, "birth"), slotAt(place, "part")); }
+function showStepsBlock() {
+  const deed = deedNow() || (now.event ? events[now.event - 1].command.slice(-1)[0] : null), place = deed ? placeOf(deed) : -1;
+  if (deed && deed[0] === 7 && deed[2] === 2) showLife(deed[3], deed[4]);
+  else showSlot(place);
+}
+function showAsked() { const found = /^\s*(\d+)(?:\.(\d+))?\s*$/.exec(at("block").value); if (found) showLife(+found[1], +(found[2] || 0)); }
+
+// The chosen page ----------------------------------------------------------------------------------
 const PAGE_HEIGHT = 128;
 function chosenCell(slot, width) {
   const slots = slotsOf(sizeOf(chosen)), across = Math.min(slots, slots > 32 ? 16 : 8), w = width / across, h = PAGE_HEIGHT / Math.ceil(slots / across);
@@ -18,76 +138,6 @@ function drawChosen() {
     if (w > 90 || states[64 * chosen + slot] === FREE) { c.fillStyle = inkOn(states[64 * chosen + slot]); c.fillText(slot, x + 5, y + 14); }
   }
 }
-
-// The trace and the curve --------------------------------------------------------------------------
-const TRACE_HEIGHT = 58, CURVE_HEIGHT = 180;
-const total = events.reduce((sum, e) => sum + e.units + Math.max(0, e.spent), 0) || 1;
-// what share of each dot of the strip is the mutator's, and what the collector's
-let strip = { width: 0 };
-function addStretch(shares, from, to) {
-  for (let x = Math.floor(from); x < to && x < shares.length; x += 1) shares[x] += Math.min(to, x + 1) - Math.max(from, x);
-}
-function stripOf(width) {
-  if (strip.width === width) return strip;
-  strip = { width, mutator: new Float64Array(width), collector: new Float64Array(width) };
-  let done = 0;
-  for (const e of events) {
-    const mid = done + e.units, end = mid + Math.max(0, e.spent);
-    addStretch(strip.mutator, done / total * width, mid / total * width);
-    addStretch(strip.collector, mid / total * width, end / total * width);
-    done = end;
-  }
-  return strip;
-}
-function drawTrace() {
-  const [c, width] = pen("trace", TRACE_HEIGHT), shares = stripOf(width), high = 22;
-  for (const [name, foot] of [["mutator", 26], ["collector", 52]]) {
-    c.fillStyle = colours["--" + name];
-    for (let x = 0; x < width; x += 1) if (shares[name][x] > 0) { const h = Math.max(1, shares[name][x] * high); c.fillRect(x, foot - h, 1, h); }
-  }
-  c.strokeStyle = colours["--line"]; c.beginPath(); c.moveTo(0, 28); c.lineTo(width, 28); c.stroke();
-  const x = Math.min(width - 2, Math.max(1, (now.mutator + now.collector) / total * width));
-  c.fillStyle = colours["--ink"]; c.fillRect(x - 1, 0, 2, TRACE_HEIGHT);
-  c.beginPath(); c.moveTo(x - 5, 0); c.lineTo(x + 5, 0); c.lineTo(x, 6); c.fill();
-  at("trace-head").textContent = `trace: ${now.mutator} units of the mutator (above) and ${now.collector} of the collector (below) so far, of ${total}`;
-}
-// the curve's place on the page: the share in sight goes up to the least of these that holds all
-const TOPS = [0.001, 0.002, 0.005, 0.01, 0.02, 0.05, 0.1, 0.2, 0.5, 1];
-function curveScale(width) {
-  const most = Math.max(0, ...points.map((p) => Math.max(p.least, p.floor) / p.window)), last = points.length ? points[points.length - 1].window : 1;
-  const left = 52, right = width - 14, head = 12, foot = CURVE_HEIGHT - 22, top = TOPS.find((t) => t >= most) || 1;
-  return { left, right, head, foot, top, last, x: (w) => left + (last > 1 ? Math.log(w) / Math.log(last) : 0) * (right - left), y: (share) => foot - share / top * (foot - head) };
-}
-function drawAxes(c, { left, right, head, foot, top, last, x, y }) {
-  c.strokeStyle = colours["--line"]; c.fillStyle = colours["--dim"]; c.textAlign = "right";
-  for (const share of [0, top / 2, top]) {
-    c.beginPath(); c.moveTo(left, y(share)); c.lineTo(right, y(share)); c.stroke();
-    c.fillText(+(100 * share).toFixed(2) + " %", left - 6, y(share) + 4);
-  }
-  c.textAlign = "center";
-  for (let w = 1; w <= last && x(w) < right - 110; w *= 10) { c.beginPath(); c.moveTo(x(w), head); c.lineTo(x(w), foot); c.stroke(); c.fillText(w, x(w), foot + 15); }
-  c.textAlign = "right"; c.fillText(`window: ${last} units`, right, foot + 15);
-  c.textAlign = "left";
-}
-function drawLine(c, { x, y }, colour, dash, shown) {
-  c.strokeStyle = colours[colour]; c.setLineDash(dash); c.lineWidth = 2; c.beginPath();
-  for (const [window, units] of shown) c.lineTo(x(window), y(units / window));
-  c.stroke(); c.setLineDash([]); c.lineWidth = 1;
-}
-function drawCurve() {
-  const [c, width] = pen("curve", CURVE_HEIGHT), scale = curveScale(width), { left, head } = scale;
-  drawAxes(c, scale);
-  const promised = points.filter((p) => p.floor >= 0), lines = [["--mutator", [], "least share of the mutator", points.map((p) => [p.window, p.least])]];
-  if (promised.length) lines.push(["--floor", [6, 4], "floor that the configuration promises", promised.map((p) => [p.window, p.floor])]);
-  lines.forEach(([colour, dash, says, shown], i) => {
-    drawLine(c, scale, colour, dash, shown);
-    c.strokeStyle = colours[colour]; c.setLineDash(dash); c.lineWidth = 2;
-    c.beginPath(); c.moveTo(left + 8, head + 14 + 16 * i); c.lineTo(left + 36, head + 14 + 16 * i); c.stroke(); c.setLineDash([]); c.lineWidth = 1;
-    c.fillStyle = colours["--ink"]; c.fillText(says, left + 42, head + 18 + 16 * i);
-  });
-}
-
-const add = (parent, kind, text) => { const it = parent.appendChild(document.createElement(kind)); it.textContent = text; return it; };
 
 // Lists and facts ----------------------------------------------------------------------------------
 const ROW = 17;
@@ -133,13 +183,14 @@ function drawLists() {
   at("event-now").textContent = e ? `${e} ${entryOf(e)}` : "before the first event";
   at("step-now").textContent = current < 0 ? "\u00a0" : now.deed < 0 ? commands > 1 ? `${commands} parts and shades, the last: ${wordsOf(current)}` : wordsOf(current) : wordsOf(current);
 }
+const cursorOf = ({ phase, cursor }) => phase === 1 ? `root slot ${cursor}` : phase > 2 ? word(cursor) : "none";
 const MOST_GREYS = 200;
 function drawFacts() {
   const grey = greys.slice(now.head, Math.min(now.tail, now.head + MOST_GREYS)).map(word), count = now.tail - now.head, phase = PHASES[now.phase];
   const places = grey.join(" ") + (count > MOST_GREYS ? " ..." : "");
   const facts = {
-    stat: `free ${freePages} live ${counts.reduce((a, b) => a + b) - counts[FREE] - counts[FORWARDER]} old ${counts[FORWARDER]} phase ${phase} cycle ${now.cycle}`,
-    cursor: now.phase === 1 ? `root slot ${now.cursor}` : now.phase > 2 ? word(now.cursor) : "none",
+    stat: `free ${now.free} live ${now.live} old ${now.old} phase ${phase} cycle ${now.cycle}`,
+    cursor: cursorOf(now),
     left: now.deed < 0 ? "no quantum runs" : now.left < 0 ? "not known, since steps are left out" : `${now.left} units of ${quantum}`,
     reply: now.event ? events[now.event - 1].reply : "none",
     grey: count ? `${count}: ${places}` : "0",
@@ -191,7 +242,7 @@ function drawSliders() {
 }
 function draw() {
   measure(); catchUp(); follow();
-  drawMap(); drawChosen(); drawTrace(); drawLists(); drawSliders(); drawFacts(); drawRoots();
+  drawMap(); drawChosen(); drawTrace(); drawStrip(); drawTimes(); drawTable(); drawLists(); drawSliders(); drawFacts(); drawRoots();
   if (at("as-text").open) at("text").textContent = mapText();
   at("tip").style.visibility = "hidden";
   document.body.dataset.moment = moment; document.body.dataset.event = now.event;
@@ -204,7 +255,7 @@ function ask() {
 }
 function go(m) {
   moment = Math.max(0, Math.min(momentCount - 1, m)); now = momentAt(moment);
-  ask();
+  ask(); settleSoon();
 }
 const goEvent = (event) => go(lastOf(Math.max(0, Math.min(events.length, event))));
 function drawAll() { measure(); readColours(); drawCurve(); ask(); }
@@ -236,8 +287,18 @@ function pageText(page) {
   return lines;
 }
 function curveText(x) {
-  const scale = curveScale(widths.curve), near = points.reduce((best, p) => Math.abs(scale.x(p.window) - x) < Math.abs(scale.x(best.window) - x) ? p : best, points[0]);
+  const near = pointAt(x);
   return near ? [`window ${near.window}: least ${near.least}, floor ${near.floor < 0 ? "none" : near.floor}`] : [];
+}
+// the unit of the trace at a place of the canvases that lie over it
+const unitUnder = (x) => x / widths.trace * total;
+function timesText(x) {
+  const event = eventAt(unitUnder(x));
+  return events.length ? [`event ${event}`, LINES.map((line) => `${line.name} ${line.at(lastOf(event))}`).join(" ")] : [];
+}
+function stripText(x) {
+  const cycle = cycleAt(unitUnder(x));
+  return cycle ? [`cycle ${cycle.number}, ${cycle.cause}: events ${cycle.firstEvent} to ${cycle.lastEvent || DASH}, units ${cycle.from} to ${cycle.to}`] : [];
 }
 function hover(event, lines) {
   const tip = at("tip");
@@ -249,22 +310,34 @@ const textOf = (under) => under ? under[1] < 0 ? pageText(under[0]) : slotText(.
 at("map").onmousemove = (event) => hover(event, textOf(underMap(event.offsetX, event.offsetY)));
 at("page").onmousemove = (event) => hover(event, textOf(underPage(event.offsetX, event.offsetY)));
 at("curve").onmousemove = (event) => hover(event, curveText(event.offsetX));
-for (const id of ["map", "page", "curve"]) at(id).onmouseleave = () => { at("tip").style.visibility = "hidden"; };
+at("times").onmousemove = (event) => hover(event, timesText(event.offsetX));
+at("strip").onmousemove = (event) => hover(event, stripText(event.offsetX));
+for (const id of ["map", "page", "curve", "times", "strip"]) at(id).onmouseleave = () => { at("tip").style.visibility = "hidden"; };
 
 function choose(page) { chosen = Math.max(0, Math.min(pages - 1, page)); at("follow").checked = false; scrollToChosen(); ask(); }
 function resize(by) { zoom = Math.max(0, Math.min(8, zoom + by)); layOut(); scrollToChosen(); ask(); }
-at("map").onclick = (event) => { const under = underMap(event.offsetX, event.offsetY); if (under) choose(under[0]); };
+// a click on a page chooses it, and one on a slot its block
+function pick(under) {
+  if (!under) return;
+  choose(under[0]);
+  if (under[1] >= 0) showSlot(64 * under[0] + under[1]);
+}
+at("map").onclick = (event) => pick(underMap(event.offsetX, event.offsetY));
+at("page").onclick = (event) => pick(underPage(event.offsetX, event.offsetY));
 at("frame").onscroll = () => { if (at("frame").scrollTop !== grid.top) ask(); };
 at("follow").onchange = ask;
 at("smaller").onclick = () => resize(-1);
 at("larger").onclick = () => resize(1);
-// a click on the trace goes to the first event that ends after that unit
-at("trace").onclick = ({ offsetX }) => {
-  const unit = offsetX / widths.trace * total;
-  let low = 1, high = events.length;
-  while (low < high) { const mid = low + high >> 1, m = lastOf(mid); if (moments.mutator[m] + moments.collector[m] > unit) high = mid; else low = mid + 1; }
-  goEvent(low);
-};
+for (const id of ["trace", "times"]) at(id).onclick = ({ offsetX }) => goEvent(eventAt(unitUnder(offsetX)));
+at("strip").onclick = ({ offsetX }) => goCycle(cycleAt(unitUnder(offsetX)));
+at("curve").onclick = ({ offsetX }) => { if (points.length) markWindow(pointAt(offsetX).window); };
+at("to-whole").onchange = drawCurve;
+const turnScale = () => { at("to-whole").checked = !at("to-whole").checked; drawCurve(); };
+for (const name in SOUGHT) at("seek-" + name).onclick = (event) => search(name, event.shiftKey ? -1 : 1);
+at("above").value = Math.floor(quantum / 2);
+at("life-form").onsubmit = (event) => { event.preventDefault(); showAsked(); };
+at("life-here").onclick = showStepsBlock;
+at("copy").onclick = copyLink;
 at("event").max = events.length;
 at("event").oninput = () => goEvent(+at("event").value);
 at("step").oninput = () => go(firstMoment[now.event] + +at("step").value);
@@ -282,24 +355,21 @@ const KEYS = {
   ArrowRight: () => go(moment + 1), ArrowLeft: () => go(moment - 1), ArrowDown: () => goEvent(now.event + 1), ArrowUp: () => goEvent(now.event - 1),
   PageDown: () => goEvent(now.event + 100), PageUp: () => goEvent(now.event - 100), Home: () => go(0), End: () => go(momentCount - 1),
   "+": () => resize(1), "-": () => resize(-1), "[": () => choose(chosen - 1), "]": () => choose(chosen + 1), t: turnTheme,
+  w: () => nextWindow(1), W: () => nextWindow(-1), Escape: unmark, "%": turnScale, b: showStepsBlock, l: copyLink,
 };
+for (const name in SOUGHT) { const { key } = SOUGHT[name]; KEYS[key] = () => search(name, 1); KEYS[key.toUpperCase()] = () => search(name, -1); }
 // on the slider of events left and right go by events
 const ON_EVENTS = { ArrowRight: "ArrowDown", ArrowLeft: "ArrowUp" };
 addEventListener("keydown", (event) => {
+  if (event.target.matches("#block, #above")) return;
   const key = KEYS[event.target.id === "event" && ON_EVENTS[event.key] || event.key];
   if (!key || event.ctrlKey || event.metaKey || event.altKey) return;
   event.preventDefault(); key();
 });
 addEventListener("resize", drawAll);
 
-// The address may ask for a moment: #EVENT or #EVENT.STEP; else the last is in sight
-function visit() {
-  const [, event, , step] = /^#(\d+)(\.(\d+))?$/.exec(location.hash) || [];
-  if (event === undefined) go(momentCount - 1);
-  else if (step === undefined) goEvent(+event);
-  else go(firstMoment[Math.min(events.length, +event)] + +step);
-}
-addEventListener("hashchange", visit);
+// (the address may have followed the reader since)
+addEventListener("hashchange", (event) => visit(new URL(event.newURL).hash));
 (function begin() {
   at("config").textContent = `${pages} pages, quantum ${quantum}, trigger ${trigger}, every ${every}, rules ${rules}; ${events.length} events`;
   for (const { colour, sign } of STATES) {
@@ -309,9 +379,11 @@ addEventListener("hashchange", visit);
     if (colour === "--white") sample.style.color = "var(--ink)";
   }
   for (const phase of PHASES) add(at("phases"), "li", phase);
+  for (const phase of PHASES.slice(1)) { const item = add(at("strip-key"), "li", ""); add(item, "i", "").style.background = `var(--${phase})`; add(item, "span", phase); }
   for (const name of ["reply", "stat", "cursor", "left", "grey"]) { add(at("facts"), "dt", name); add(at("facts"), "dd", "").id = "fact-" + name; }
   at("points").textContent = points.map((p) => `window ${p.window} least ${p.least} floor ${p.floor < 0 ? "none" : p.floor}`).join("\n");
-  visit();
+  beginTable();
+  visit(location.hash);
   setTheme(dark.matches);
 })();
 </script>

@@ -112,9 +112,11 @@ pub struct Show;
 impl Transcript for Show {
     ghost text_of = { λ _. page_text };
 
+    ghost becomes = { λ old config events new. Unit {0} };
+
     // Each block is a deed of its own, so no scanner is asked.
     fn write<C: Scanner, W: Sink>(
-        &self,
+        &mut self,
         alloc: Global,
         script: &[u8],
         config: Config,
@@ -145,5 +147,12 @@ pub fn show_script<S: Source, W: Sink>(
     ensures taken { LeavesSource SCRIPT_BYTES (S.rest source.old) (S.rest source.new) result }
     ensures blames { Blames (S.failures source.old) (S.failures source.new) (W.failures sink.old) (W.failures sink.new) result }
 {
-    transcribe(alloc, &Show, source, sink, rules, &mut OneScan::new(alloc))
+    transcribe(
+        alloc,
+        &mut Show,
+        source,
+        sink,
+        rules,
+        &mut OneScan::new(alloc),
+    )
 }

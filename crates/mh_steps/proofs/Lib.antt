@@ -1,2 +1,3 @@
 pub mod EventLemmas
+pub mod FigureLemmas
 pub mod LineLemmas

@@ -1,16 +1,20 @@
 -- Fields and accounts as lines, in words or as JSON.
-use Rattle.std.specs.Prelude.{ℕ, ◌-◌, Bool, true, false, Option, Some, None, List, [], ◌∷◌, ◌++◌, flat_map, codes, decimal}
+use Rattle.std.specs.Prelude.{ℕ, ◌+◌, ◌-◌, Bool, true, false, Option, Some, None, List, [], ◌∷◌, ◌++◌, flat_map, map, codes, decimal}
+use Rattle.mh_model.specs.declared.config.Config.{Config}
 use Rattle.mh_model.specs.declared.deed.Deed.{Deed}
 use Rattle.mh_model.specs.declared.deed.QuantumEnd.{QuantumEnd}
 use Rattle.mh_model.specs.declared.history.Entry.{Entry}
-use Rattle.mh_model.specs.Bytes.{Text, joined, line_text}
+use Rattle.mh_model.specs.Bytes.{Text, joined, joined_at, line_text}
 use Rattle.mh_model.specs.Deeds.{Account, Ran, deed_units}
-use Rattle.mh_model.specs.HistoryTexts.{entry_words, event_words}
+use Rattle.mh_model.specs.HistoryTexts.{entry_words, event_words, rules_number}
 use Rattle.mh_model.specs.Pages.{page_number, slot_number}
 use Rattle.mh_model.specs.Replies.{reply_text}
 use Rattle.mh_orders.specs.declared.steps.Form.{Form}
 use Rattle.mh_orders.specs.declared.steps.Form.TheVariants as form
+use Rattle.mh_steps.specs.declared.figures.Counts.{Counts}
+use Rattle.mh_steps.specs.declared.figures.Moment.{Moment}
 use Rattle.mh_steps.specs.Fields.{Value, Number, At, Word, Flag, Nothing, Field, deed_verb, deed_fields, cost_fields, end_fields}
+use Rattle.mh_steps.specs.Figures.{at_field, counts_fields, mutator_field, quantum_at}
 
 -- Values -----------------------------------------------------------------------------------------
 
@@ -59,6 +63,11 @@ field_text form field = key_text form field.key ++ value_text form field.value
 abbrev pub fields_text : Form → List Field → Text
 fields_text form fields = flat_map (field_text form) fields
 
+-- fields that tools alone read
+abbrev pub tool_text : Form → List Field → Text
+tool_text form.Text fields = []
+tool_text form.Json fields = fields_text form.Json fields
+
 -- Lines ------------------------------------------------------------------------------------------
 
 -- how each object begins: with the number of its event
@@ -84,30 +93,40 @@ line_end form.Json = codes "}\n"
 abbrev pub deed_line : Form → ℕ → Deed → Text
 deed_line form number deed = deed_head form (codes "  ") number (deed_verb deed) ++ (fields_text form (deed_fields deed) ++ line_end form)
 
--- A deed of its quantum, after which so many units are left
-abbrev pub paid_line : Form → ℕ → ℕ → Deed → Text
-paid_line form number left deed = deed_head form (codes "    ") number (deed_verb deed) ++ (fields_text form (deed_fields deed) ++ (fields_text form (cost_fields deed left) ++ line_end form))
+-- A deed of its quantum, before which the trace has so many units, and after which so many are left
+abbrev pub paid_line : Form → ℕ → ℕ → ℕ → Deed → Text
+paid_line form number at left deed =
+    deed_head form (codes "    ") number (deed_verb deed) ++ (fields_text form (deed_fields deed) ++ (fields_text form (cost_fields deed left) ++ (tool_text form (at_field at ∷ []) ++ line_end form)))
 
--- the deeds of a quantum in order, before the first of which so many units are left
-abbrev pub paid_lines : Form → ℕ → ℕ → List Deed → Text
-paid_lines form number left [] = []
-paid_lines form number left (deed ∷ deeds) = paid_line form number (left - deed_units deed) deed ++ paid_lines form number (left - deed_units deed) deeds
+-- the deeds in order of a quantum of so many units, which began after so many, and of which so many are left. It has spent the rest
+abbrev pub paid_lines : Form → ℕ → ℕ → ℕ → ℕ → List Deed → Text
+paid_lines form number began quantum left [] = []
+paid_lines form number began quantum left (deed ∷ deeds) =
+    paid_line form number (began + (quantum - left)) (left - deed_units deed) deed ++ paid_lines form number began quantum (left - deed_units deed) deeds
 
--- that a quantum was run, with what it spent and the phase that it ended in
-abbrev pub quantum_line : Form → ℕ → QuantumEnd → Text
-quantum_line form number ended = quantum_head form number ++ (fields_text form (end_fields ended) ++ line_end form)
+-- that a quantum was run, with what it spent and the phase that it ended in; where it began, and what it left in the heap
+abbrev pub quantum_line : Form → Moment → Counts → QuantumEnd → Text
+quantum_line form moment counts ended =
+    quantum_head form moment.number ++ (fields_text form (end_fields ended) ++ (tool_text form (at_field (quantum_at moment) ∷ []) ++ (tool_text form (counts_fields counts) ++ line_end form)))
 
 -- a quantum of so many units, if one was run
-abbrev pub quantum_lines : Form → ℕ → ℕ → Option Ran → Text
-quantum_lines form number quantum None = []
-quantum_lines form number quantum (Some ran) = quantum_line form number ran.ended ++ paid_lines form number quantum ran.deeds
+abbrev pub quantum_lines : Form → Moment → Counts → ℕ → Option Ran → Text
+quantum_lines form moment counts quantum None = []
+quantum_lines form moment counts quantum (Some ran) = quantum_line form moment counts ran.ended ++ paid_lines form moment.number (quantum_at moment) quantum quantum ran.deeds
 
--- The account of the event of this number, under a configuration with so many units to a quantum
-abbrev pub account_text : Form → ℕ → ℕ → Account → Text
-account_text form number quantum account = flat_map (deed_line form number) account.command ++ quantum_lines form number quantum account.quantum
+-- The account of the event of this moment, which left these counts, under a configuration with so many units to a quantum
+abbrev pub account_text : Form → Moment → Counts → ℕ → Account → Text
+account_text form moment counts quantum account = flat_map (deed_line form moment.number) account.command ++ quantum_lines form moment counts quantum account.quantum
 
--- An event with its reply: its number and its entry in a history, or an object with all three
-abbrev pub entry_line : Form → ℕ → Entry → Text
-entry_line form.Text number entry = decimal number ++ 32 ∷ line_text (joined (entry_words entry))
-entry_line form.Json number entry =
-    event_key number ++ (key_text form.Json (codes "text") ++ (quoted (joined (event_words entry.event)) ++ (key_text form.Json (codes "reply") ++ (quoted (reply_text entry.reply) ++ line_end form.Json))))
+-- An event with its reply: its number and its entry in a history, or an object with all three and its place in the trace
+abbrev pub entry_line : Form → Moment → Entry → Text
+entry_line form.Text moment entry = decimal moment.number ++ 32 ∷ line_text (joined (entry_words entry))
+entry_line form.Json moment entry =
+    event_key moment.number ++ (key_text form.Json (codes "text") ++ (quoted (joined (event_words entry.event)) ++ (key_text form.Json (codes "reply") ++ (quoted (reply_text entry.reply)
+    ++ (field_text form.Json (at_field moment.at) ++ (field_text form.Json (mutator_field moment.mutator) ++ line_end form.Json))))))
+
+-- The configuration with its rules, which tools are given first
+abbrev pub config_line : Form → Config → Text
+config_line form.Text config = []
+config_line form.Json config =
+    codes "{\"config\":[" ++ (joined_at 44 (map decimal (config.pages ∷ config.quantum ∷ config.trigger ∷ config.every ∷ [])) ++ (codes "],\"rules\":" ++ (decimal (rules_number config.rules) ++ line_end form.Json)))

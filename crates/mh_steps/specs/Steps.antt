@@ -3,22 +3,27 @@ use Rattle.std.specs.Prelude.{ℕ, suc, if◌then◌else◌, List, [], ◌∷◌
 use Rattle.mh_model.specs.declared.command.Event.{Event}
 use Rattle.mh_model.specs.declared.config.Config.{Config}
 use Rattle.mh_model.specs.Bytes.{Text}
-use Rattle.mh_model.specs.Deeds.{account_of}
+use Rattle.mh_model.specs.Deeds.{Account, account_of}
 use Rattle.mh_model.specs.Machine.{Machine, first_machine, event_step}
 use Rattle.mh_orders.specs.declared.steps.Steps.{Steps}
 use Rattle.mh_orders.specs.Steps.{is_asked}
-use Rattle.mh_steps.specs.Lines.{account_text, entry_line}
+use Rattle.mh_steps.specs.declared.figures.Counts.{Counts}
+use Rattle.mh_steps.specs.declared.figures.Moment.{Moment}
+use Rattle.mh_steps.specs.Figures.{counts_of, moment_of}
+use Rattle.mh_steps.specs.Lines.{account_text, config_line, entry_line}
 use Rattle.mh_steps.specs.Names.{names_text}
 use Rattle.mh_text.specs.Names.{names_in}
 
--- the account of an event, if its deeds are asked for
-abbrev pub deeds_text : Steps → ℕ → Machine → Event → Text
-deeds_text steps number machine event = if is_asked steps number then account_text steps.form number machine.heap.config.quantum (account_of machine event) else []
+-- the account of the event of this moment, which left these counts, if its deeds are asked for
+abbrev pub deeds_text : Steps → Moment → Counts → ℕ → Account → Text
+deeds_text steps moment counts quantum account = if is_asked steps moment.number then account_text steps.form moment counts quantum account else []
 
 -- an event of the machine with its reply, and what it did
 abbrev pub event_text : Steps → ℕ → Machine → Event → Text
 event_text steps number machine event =
-    entry_line steps.form number (record { event = event; reply = (event_step machine event).reply }) ++ deeds_text steps number machine event
+    let answer = event_step machine event in
+    let moment = moment_of number machine answer.state in
+    entry_line steps.form moment (record { event = event; reply = answer.reply }) ++ deeds_text steps moment (counts_of answer.state.heap.collector) machine.heap.config.quantum (account_of machine event)
 
 -- The same of events in turn, of which the first has this number
 unfoldable pub events_text : Steps → ℕ → Machine → List Event → Text
@@ -29,6 +34,6 @@ events_text steps number machine (event ∷ events) = event_text steps number ma
 abbrev pub steps_text : Steps → Config → List Event → Text
 steps_text steps config events = events_text steps 1 (first_machine config) events
 
--- The same of a run of this script, below the names of its sessions
+-- The same of a run of this script, below its configuration and the names of its sessions
 abbrev pub told_text : Steps → Text → Config → List Event → Text
-told_text steps script config events = names_text steps.form 0 (names_in script) ++ steps_text steps config events
+told_text steps script config events = config_line steps.form config ++ (names_text steps.form 0 (names_in script) ++ steps_text steps config events)

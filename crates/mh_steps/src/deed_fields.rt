@@ -7,9 +7,11 @@ ghost use Rattle.mh_model.specs.declared.deed.Deed.TheVariants as deed;
 ghost use Rattle.mh_model.specs.Deeds.{deed_units};
 ghost use Rattle.mh_model.specs.Replies.{phase_word};
 ghost use Rattle.mh_steps.specs.Fields.{At, Number, Word, cost_fields, deed_fields, deed_verb, edge_fields, end_fields, fate_fields, field, made_fields, name_fields, tier_word};
-ghost use Rattle.mh_steps.specs.Lines.{fields_text};
+ghost use Rattle.mh_steps.specs.Figures.{at_field, counts_fields};
+ghost use Rattle.mh_steps.specs.Lines.{fields_text, tool_text};
 
 use crate::fields::{push_flag, push_number, push_optional_place, push_place, push_word};
+use crate::figures::Counts;
 use mh_model::cycle::Phase;
 use mh_model::deed::{Deed, Edge, Fate, PartName, QuantumEnd, Tier};
 use mh_model::memory::NoMemory;
@@ -42,7 +44,7 @@ pub(crate) fn deed_verb(deed: &Deed) -> &'static str
 }
 
 /// What a deed costs.
-pub(crate) fn deed_units(deed: &Deed) -> u128
+pub fn deed_units(deed: &Deed) -> u128
     ensures { result ≡ deed_units deed.now }
 {
     match *deed {
@@ -55,7 +57,7 @@ pub(crate) fn deed_units(deed: &Deed) -> u128
     }
 }
 
-fn phase_word(phase: Phase) -> &'static str
+pub fn phase_word(phase: Phase) -> &'static str
     ensures { result.now ≡ phase_word phase }
 {
     match phase {
@@ -234,4 +236,27 @@ pub(crate) fn push_end(text: &mut String, form: Form, ended: QuantumEnd) -> Resu
 {
     push_number(text, form, "spent", u128::from(ended.units.0))?;
     push_word(text, form, "phase", phase_word(ended.phase))
+}
+
+/// Adds for tools where in the trace a deed or a quantum stands.
+pub(crate) fn push_at(text: &mut String, form: Form, at: u128) -> Result<(), NoMemory>
+    ensures { OnOk result (string_bytes text.new ≡ string_bytes text.old ++ tool_text form (at_field at ∷ [])) }
+{
+    match form {
+        Form::Text => Ok(()),
+        Form::Json => push_number(text, form, "at", at),
+    }
+}
+
+/// Adds for tools what is in the heap.
+pub(crate) fn push_counts(text: &mut String, form: Form, counts: Counts) -> Result<(), NoMemory>
+    ensures { OnOk result (string_bytes text.new ≡ string_bytes text.old ++ tool_text form (counts_fields counts)) }
+{
+    if form == Form::Text {
+        return Ok(());
+    }
+    push_number(text, form, "free", counts.free)?;
+    push_number(text, form, "live", counts.live)?;
+    push_number(text, form, "old", counts.old)?;
+    push_number(text, form, "grey", counts.grey)
 }

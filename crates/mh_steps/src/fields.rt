@@ -10,7 +10,7 @@ use mh_model::memory::NoMemory;
 use mh_model::place::Place;
 use mh_orders::steps::Form;
 
-pub(crate) fn push_decimal(text: &mut String, number: u128) -> Result<(), NoMemory>
+pub fn push_decimal(text: &mut String, number: u128) -> Result<(), NoMemory>
     ensures { OnOk result (string_bytes text.new ≡ string_bytes text.old ++ decimal number) }
 {
     text.push_str(Buffer::new().format(number))?;
@@ -18,7 +18,7 @@ pub(crate) fn push_decimal(text: &mut String, number: u128) -> Result<(), NoMemo
 }
 
 /// Adds a text between quotation marks.
-pub(crate) fn push_quoted(text: &mut String, word: &str) -> Result<(), NoMemory>
+pub fn push_quoted(text: &mut String, word: &str) -> Result<(), NoMemory>
     ensures { OnOk result (string_bytes text.new ≡ string_bytes text.old ++ quoted word.now) }
 {
     text.push_str("\"")?;
@@ -45,24 +45,14 @@ pub(crate) fn push_key(text: &mut String, form: Form, key: &str) -> Result<(), N
     Ok(())
 }
 
-pub(crate) fn push_number(
-    text: &mut String,
-    form: Form,
-    key: &str,
-    number: u128,
-) -> Result<(), NoMemory>
+pub fn push_number(text: &mut String, form: Form, key: &str, number: u128) -> Result<(), NoMemory>
     ensures { OnOk result (string_bytes text.new ≡ string_bytes text.old ++ field_text form (field key.now (Number number))) }
 {
     push_key(text, form, key)?;
     push_decimal(text, number)
 }
 
-pub(crate) fn push_word(
-    text: &mut String,
-    form: Form,
-    key: &str,
-    word: &str,
-) -> Result<(), NoMemory>
+pub fn push_word(text: &mut String, form: Form, key: &str, word: &str) -> Result<(), NoMemory>
     ensures { OnOk result (string_bytes text.new ≡ string_bytes text.old ++ field_text form (field key.now (Word word.now))) }
 {
     push_key(text, form, key)?;
@@ -94,7 +84,7 @@ pub(crate) fn push_flag(
 }
 
 /// Adds a place as `PAGE.SLOT`.
-fn push_page_and_slot(text: &mut String, place: Place) -> Result<(), NoMemory>
+pub fn push_page_and_slot(text: &mut String, place: Place) -> Result<(), NoMemory>
     ensures { OnOk result (string_bytes text.new ≡ string_bytes text.old ++ place_text place) }
 {
     push_decimal(text, place.page() as u128)?;

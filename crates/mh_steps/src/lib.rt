@@ -6,9 +6,10 @@
 //! follow at once. A cycle that starts has two, `start` and then `enter phase roots`.
 #![tactic(auto)]
 
-mod deed_fields;
+pub mod deed_fields;
 pub mod entry;
-mod fields;
+pub mod fields;
+pub mod figures;
 mod lines;
 mod names;
 pub mod run;

@@ -1,9 +1,9 @@
 //! Runs of scripts that are written as their steps, exactly.
 //!
 //! These are the names of its sessions, where they aren't `s0` to `s7`. Then comes each event with its number and its
-//! reply, and below it the deeds of its account. Those of a quantum have their units and what is left. All that is
-//! said of `run_script` holds too. An event whose deeds are asked for is done as `Machine::step_told` does it, and
-//! its account is the model's.
+//! reply, and below it the deeds of its account. Those of a quantum have their units and what is left. As JSON the
+//! configuration comes first. All that is said of `run_script` holds too. An event whose deeds are asked for is done as
+//! `Machine::step_told` does it, and its account is the model's.
 //!
 //! A quantum never fails because it tells. If memory was refused for a deed, the account isn't whole. That is an
 //! error, and `steps` ends with `no memory`.
@@ -19,11 +19,13 @@ ghost use Rattle.mh_orders.specs.Steps.{is_asked};
 ghost use Rattle.mh_script.specs.Run.{EndsAs, HasReason, Outputs, TakesToRun, WritesBeginning, transcript};
 ghost use Rattle.mh_script.specs.Texts.{LeavesSource, Blames, WantsMemory};
 ghost use Rattle.mh_script.specs.OfMachine.Running.{Does};
-ghost use Rattle.mh_steps.specs.Lines.{account_text, entry_line};
-ghost use Rattle.mh_steps.specs.Steps.{event_text, events_text, steps_text, told_text};
+ghost use Rattle.mh_steps.specs.Figures.{counts_of};
+ghost use Rattle.mh_steps.specs.Lines.{config_line, entry_line};
+ghost use Rattle.mh_steps.specs.Steps.{deeds_text, event_text, events_text, steps_text, told_text};
 ghost use Rattle.mh_text.specs.Stream.{AppendsBeginning};
 
-use crate::entry::push_entry_line;
+use crate::entry::{push_config_line, push_entry_line};
+use crate::figures::{Counts, Moment, heap_counts, trace_units};
 use crate::lines::push_account;
 use crate::names::write_names;
 use mh_deeds::account::Account;
@@ -85,17 +87,19 @@ fn advance<C: Scanner>(
 fn push_event_lines(
     text: &mut String,
     steps: Steps,
-    number: u64,
+    moment: Moment,
+    counts: Counts,
     quantum: u32,
     entry: &Entry,
     account: &Account,
 ) -> Result<(), NoMemory>
+    requires { moment.at < 2 ^ 66 }
     ensures { OnOk result (string_bytes text.new ≡ string_bytes text.old
-        ++ (entry_line steps.form number entry.now ++ (if is_asked steps number then account_text steps.form number quantum (account_in account.now) else []))) }
+        ++ (entry_line steps.form moment entry.now ++ deeds_text steps moment counts quantum (account_in account.now))) }
 {
-    push_entry_line(text, steps.form, number, entry)?;
-    if steps.tells(number) {
-        push_account(text, steps.form, number, quantum, account)?;
+    push_entry_line(text, steps.form, moment, entry)?;
+    if steps.tells(moment.number) {
+        push_account(text, steps.form, moment, counts, quantum, account)?;
     }
     Ok(())
 }
@@ -117,11 +121,19 @@ fn tell<C: Scanner>(
 {
     let number = machine.done() + 1;
     let quantum = machine.config().quantum;
+    let at = trace_units(machine);
+    let before = machine.trace().mutator_count();
     let reply = advance(machine, event, steps.tells(number), scanner, account)?;
+    let mutator = machine.trace().mutator_count().saturating_sub(before);
     push_event_lines(
         text,
         steps,
-        number,
+        Moment {
+            number,
+            at,
+            mutator,
+        },
+        heap_counts(machine),
         quantum,
         &Entry { event, reply },
         account,
@@ -176,7 +188,7 @@ fn write_run<C: Scanner, W: Sink>(
     write_steps(alloc, steps, &mut machine, events, scanner, sink)
 }
 
-/// Writes the names of a script's sessions, and then the steps of its run.
+/// Writes for tools the configuration, then the names of a script's sessions, and then the steps of its run.
 fn write_told<C: Scanner, W: Sink>(
     alloc: Global,
     steps: Steps,
@@ -195,6 +207,9 @@ fn write_told<C: Scanner, W: Sink>(
     ensures blamed { IsErrOf result WriteError.Device → W.failures sink.old < W.failures sink.new }
     ensures not_blamed { IsErrOf result WriteError.NoMemory → W.failures sink.new ≡ W.failures sink.old }
 {
+    let mut head = String::new(alloc);
+    push_config_line(&mut head, steps.form, config)?;
+    flush(sink, &mut head)?;
     write_names(alloc, steps.form, script, sink)?;
     write_run(alloc, steps, config, events, scanner, sink)?;
     Ok(())
@@ -209,8 +224,10 @@ struct Stepped {
 impl Transcript for Stepped {
     ghost text_of = { λ stepped. told_text stepped.steps };
 
+    ghost becomes = { λ old config events new. Unit {0} };
+
     fn write<C: Scanner, W: Sink>(
-        &self,
+        &mut self,
         alloc: Global,
         script: &[u8],
         config: Config,
@@ -242,6 +259,13 @@ pub fn tell_script<S: Source, W: Sink>(
     ensures taken { LeavesSource SCRIPT_BYTES (S.rest source.old) (S.rest source.new) result }
     ensures blames { Blames (S.failures source.old) (S.failures source.new) (W.failures sink.old) (W.failures sink.new) result }
 {
-    let steps = Stepped { steps };
-    transcribe(alloc, &steps, source, sink, rules, &mut OneScan::new(alloc))
+    let mut steps = Stepped { steps };
+    transcribe(
+        alloc,
+        &mut steps,
+        source,
+        sink,
+        rules,
+        &mut OneScan::new(alloc),
+    )
 }

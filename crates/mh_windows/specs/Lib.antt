@@ -4,3 +4,4 @@ pub mod ShareRules
 pub mod Pauses
 pub mod PauseRules
 pub mod Always
+pub mod Lengths

@@ -5,4 +5,5 @@ pub mod always;
 pub mod floor;
 pub mod lowest;
 pub mod pause;
+pub mod pauses;
 pub mod share;

@@ -79,6 +79,16 @@ const CURVE: &[&[u8]] = &[b"metroheap", b"curve"];
 
 const CURVE_HISTORY: &[&[u8]] = &[b"metroheap", b"curve", b"--history"];
 
+const CURVE_PAUSES: &[&[u8]] = &[
+    b"metroheap",
+    b"curve",
+    b"--pauses",
+    b"--every=3",
+    b"--quantum=1",
+    b"--longest=1",
+    b"--keeps=30:3",
+];
+
 pub const MIGRATE: &[&[u8]] = &[
     b"metroheap",
     b"migrate",
@@ -132,7 +142,7 @@ const SCRIPTS: &[Case<'static>] = &[
         words: STEPS,
         input: b"config 4 353 0 0\na new 0 0 0\na new 1 0 0\n",
         outputs: &[
-            b"{\"session\":\"s0\",\"name\":\"a\"}\n{\"event\":1,\"text\":\"s0 new 0 0 0\",\"reply\":\"ok\"}\n{\"event\":1,\"deed\":\"make\",\"place\":\"0.0\",\"birth\":0,\"part\":0,\"class\":4,\"references\":0,\"numbers\":0,\"tier\":\"free\"}\n{\"event\":2,\"text\":\"s0 new 1 0 0\",\"reply\":\"ok\"}\n",
+            b"{\"config\":[4,353,0,0],\"rules\":2}\n{\"session\":\"s0\",\"name\":\"a\"}\n{\"event\":1,\"text\":\"s0 new 0 0 0\",\"reply\":\"ok\",\"at\":0,\"mutator\":1}\n{\"event\":1,\"deed\":\"make\",\"place\":\"0.0\",\"birth\":0,\"part\":0,\"class\":4,\"references\":0,\"numbers\":0,\"tier\":\"free\"}\n{\"event\":2,\"text\":\"s0 new 1 0 0\",\"reply\":\"ok\",\"at\":1,\"mutator\":1}\n",
         ],
         told: NONE,
         status: 0,
@@ -314,7 +324,7 @@ const READ_OTHERWISE: &[Case<'static>] = &[
     },
 ];
 
-/// Curves of scripts and of histories.
+/// Curves of scripts, of histories and of logs of pauses.
 const CURVES: &[Case<'static>] = &[
     // One unit of the mutator.
     Case {
@@ -355,6 +365,23 @@ const CURVES: &[Case<'static>] = &[
         input: b"history 2 rules 2 4 209 0 0\ns0 clear 0 = ok units 4611686018427387904 0\n",
         outputs: &[b"refused 10 line 0\n"],
         told: b"metroheap: line 0: a history has fewer than 4611686018427387904 units\n",
+        status: 1,
+    },
+    // A log that breaks each promise.
+    Case {
+        words: CURVE_PAUSES,
+        input: b"mutator 3\ncollector 2\nmutator 1\ncollector 2\n",
+        outputs: &[
+            b"mutator 4 collector 4 pauses 2 greatest 2 median 2 p90 2 p99 2\nwindow 2 least 0 at 3 share 0.00 always 0.00 floor 1\nwindow 3 least 1 at 2 share 33.33 always 20.00 floor 2\nwindow 4 least 1 at 3 share 25.00 always 20.00 floor 3\nwindow 5 least 1 at 3 share 20.00 always 20.00 floor 3\nwindow 6 least 2 at 2 share 33.33 always 33.33 floor 4\nwindow 7 least 3 at 1 share 42.85 always 42.85 floor 5\nwindow 8 least 4 at 0 share 50.00 always 50.00 floor 6\n",
+        ],
+        told: b"metroheap: the window 4 at 3 has 1, and 3 was promised\nmetroheap: a pause of 2 at 3, and 1 was promised\nmetroheap: the stretch from 3 to 8 has 1, and 30 % of 3 and more was promised\n",
+        status: 4,
+    },
+    Case {
+        words: CURVE_PAUSES,
+        input: b"mutator 3\npause 2\n",
+        outputs: &[b"refused 10 line 2\n"],
+        told: b"metroheap: line 2: \"pause\" is no word of a log\n",
         status: 1,
     },
 ];

@@ -71,3 +71,8 @@ returns-clause-memory g c =
 
 pub write_answers-requires-clause-short : goal.write_answers-requires-clause-short
 write_answers-requires-clause-short g c = runs_short _ (inr (_, c.in-Ok.ensures.script))
+
+pub returns-in-Ok-2-clause-becomes : goal.returns-in-Ok-2-clause-becomes
+returns-in-Ok-2-clause-becomes g c =
+    let reads = reads_slice _ _ script_bounded _ _ _ _ c.as_slice-bytes.ensures.value c.in_ok-text.ensures.read c.in_ok-text.ensures.whole in
+    (reads.whole, _, reads.is_text, reads.same ∙ c.in-Ok.ensures.script, c.in-Ok-2.ensures.becomes)

@@ -1,0 +1,111 @@
+-- The trace events of events in turn, as text.
+use Rattle.std.proofs.Common.{◌≡◌, ◌∙◌, ℕ, Bool, if◌then◌else◌, List, [], ◌∷◌, ◌++◌, refl, ap, sym, append-nil, append_assoc, codes, length}
+use Rattle.mh_model.specs.declared.command.Event.{Event}
+use Rattle.mh_model.specs.declared.config.Config.{Config}
+use Rattle.mh_model.specs.declared.reply.Reply.{Reply}
+use Rattle.mh_model.specs.Bytes.{Text}
+use Rattle.mh_model.specs.Deeds.{Account, account_of}
+use Rattle.mh_model.specs.Machine.{event_step, first_machine}
+use Rattle.mh_orders.specs.declared.chrome.ChromeOptions.{ChromeOptions}
+use Rattle.mh_script.proofs.AddedLines.{AddsLines}
+use Rattle.mh_script.specs.OfMachine.Running.{Running, first_running}
+use Rattle.mh_steps.specs.Figures.{counts_of}
+use Rattle.mh_steps.specs.declared.figures.Counts.{Counts}
+use Rattle.mh_steps.specs.declared.figures.Moment.{Moment}
+use Rattle.mh_chrome.specs.declared.course.Course.{Course}
+use Rattle.mh_chrome.specs.declared.run.Drawn.{Drawn}
+use Rattle.mh_chrome.specs.Deeds.{counters, nothing_open}
+use Rattle.mh_chrome.specs.Runs.{Scene, begun_by, chrome_events, first_scene, head_text, is_told, last_events, last_text, named_events, ran_course, ran_events, scene_after, scene_after_all, scene_events, scene_moment, scene_of, scenes_events, told_events}
+use Rattle.mh_chrome.specs.TraceEvents.{TraceEvent, Process, event_text, file_text, next_texts}
+use Rattle.mh_chrome.proofs.TextLemmas.{both_written, next_texts_append}
+
+-- the text of events from a scene on, and of one event there
+abbrev pub lines_from : ChromeOptions → Scene → List Event → Text
+lines_from options at events = next_texts (scenes_events options at events)
+
+abbrev pub lines_at : ChromeOptions → Scene → Event → Text
+lines_at options at e = next_texts (scene_events options at e)
+
+pub lines_none : (options : ChromeOptions) (at : Scene) → [] ≡ lines_from options at []
+unfolding scenes_events
+lines_none options at = refl
+
+pub scene_none : (options : ChromeOptions) (at : Scene) → at ≡ scene_after_all options at []
+unfolding scene_after_all
+scene_none options at = refl
+
+scene_more : (options : ChromeOptions) (at : Scene) (events : List Event) (e : Event) → scene_after_all options at (events ++ e ∷ []) ≡ scene_after options (scene_after_all options at events) e
+unfolding scene_after_all
+scene_more options at [] e = refl
+scene_more options at (first ∷ events) e = scene_more options (scene_after options at first) events e
+
+lines_more : (options : ChromeOptions) (at : Scene) (events : List Event) (e : Event) → lines_from options at (events ++ e ∷ []) ≡ lines_from options at events ++ lines_at options (scene_after_all options at events) e
+unfolding scenes_events scene_after_all
+lines_more options at [] e = next_texts_append (scene_events options at e) [] ∙ append-nil (next_texts (scene_events options at e))
+lines_more options at (first ∷ events) e =
+    let next = scene_after options at first in
+    next_texts_append (scene_events options at first) (scenes_events options next (events ++ e ∷ []))
+    ∙ (ap (λ (text : Text). next_texts (scene_events options at first) ++ text) (lines_more options next events e)
+    ∙ (sym (append_assoc (next_texts (scene_events options at first)) (next_texts (scenes_events options next events)) (next_texts (scene_events options (scene_after_all options next events) e)))
+    ∙ ap (λ (text : Text). text ++ next_texts (scene_events options (scene_after_all options next events) e)) (sym (next_texts_append (scene_events options at first) (scenes_events options next events)))))
+
+pub scenes_add : (options : ChromeOptions) (at : Scene) → AddsLines (scene_after_all options at) (lines_from options at) (scene_after options) (lines_at options)
+scenes_add options at = record { state = scene_more options at; text = lines_more options at }
+
+-- The file ---------------------------------------------------------------------------------------
+
+-- a machine that was opened, and nothing drawn
+pub start_is : (running : Running) (drawn : Drawn) (config : Config) → running ≡ first_running config → drawn.slices ≡ nothing_open → drawn.seen.items ≡ [] → scene_of running drawn ≡ first_scene config
+start_is running drawn config is slices seen = rw (is, slices, seen) refl
+
+pieces : (front process named scenes ends tail : Text) → (front ++ (process ++ named)) ++ (scenes ++ (ends ++ tail)) ≡ front ++ ((process ++ (named ++ (scenes ++ ends))) ++ tail)
+pieces front process named scenes ends tail = simp append_assoc
+
+module _ (options : ChromeOptions) (config : Config) (events : List Event) where
+  abbrev pub after : Scene
+  after = scene_after_all options (first_scene config) events
+
+  abbrev pub head : Text
+  head = head_text (counts_of (first_machine config).heap.collector)
+
+  abbrev pub scenes : Text
+  scenes = next_texts (scenes_events options (first_scene config) events)
+
+  abbrev pub last : Text
+  last = last_text (length after.machine.trace.letters) after.slices
+
+  pub file_is : head ++ (scenes ++ last) ≡ file_text (chrome_events options config events)
+  file_is =
+      let named = named_events (counts_of (first_machine config).heap.collector) in
+      let ends = last_events after in
+      let front : Text = codes "{\"displayTimeUnit\":\"ns\",\"traceEvents\":[\n" in
+      let process : Text = event_text (Process (codes "metroheap")) in
+      let tail : Text = codes "\n]}\n" in
+      pieces front process (next_texts named) scenes (next_texts ends) tail
+      ∙ ap (λ (text : Text). front ++ ((process ++ text) ++ tail))
+      (sym (next_texts_append named (scenes_events options (first_scene config) events ++ ends) ∙ ap (λ (text : Text). next_texts named ++ text) (next_texts_append (scenes_events options (first_scene config) events) ends)))
+
+-- what was added to no text, a front, a first event, three threads and counters
+pub head_written : (none a b c d e f front process : Text) (x y z w : List TraceEvent) → none ≡ [] → a ≡ none ++ front → b ≡ a ++ process → c ≡ b ++ next_texts x → d ≡ c ++ next_texts y → e ≡ d ++ next_texts z → f ≡ e ++ next_texts w
+    → f ≡ front ++ (process ++ next_texts (x ++ (y ++ (z ++ w))))
+head_written none a b c d e f front process x y z w none_is a_is b_is c_is d_is e_is f_is =
+    f_is ∙ rw (e_is, d_is, c_is, b_is, a_is, none_is, next_texts_append x (y ++ (z ++ w)), next_texts_append y (z ++ w), next_texts_append z w) (simp append_assoc)
+
+-- An event ---------------------------------------------------------------------------------------
+
+-- what was added of an event: itself if it is shown, its quantum, and the counters that it changed
+pub draw_written : (options : ChromeOptions) (scene : Scene) (e : Event) (old a b d : Text) (told : Bool) (number at mutator : ℕ) (reply : Reply) (shown counts : Counts) (account : Account) (course : Course) (now : ℕ)
+    → told ≡ is_told options scene.number → number ≡ scene.number → at ≡ (scene_moment scene e).at → mutator ≡ (scene_moment scene e).mutator → shown ≡ counts_of scene.machine.heap.collector → reply ≡ (event_step scene.machine e).reply
+    → account ≡ account_of scene.machine e → now ≡ length (event_step scene.machine e).state.trace.letters → counts ≡ counts_of (event_step scene.machine e).state.heap.collector
+    → course ≡ ran_course told (begun_by (record { number = number; at = at; mutator = mutator }) scene.slices shown account) account.quantum
+    → a ≡ old ++ next_texts (if told then told_events scene.seen (record { number = number; at = at; mutator = mutator }) e reply account.command else [])
+    → b ≡ a ++ next_texts (ran_events told number (begun_by (record { number = number; at = at; mutator = mutator }) scene.slices shown account) account.quantum) → d ≡ b ++ next_texts (counters now course.shown counts)
+    → d ≡ old ++ next_texts (scene_events options scene e)
+draw_written options scene e old a b d told number at mutator reply shown counts account course now told_is number_is at_is mutator_is shown_is reply_is account_is now_is counts_is course_is a_is b_is d_is =
+    let moment : Moment = record { number = number; at = at; mutator = mutator } in
+    let begun : Course = begun_by moment scene.slices shown account in
+    let first : List TraceEvent = if told then told_events scene.seen moment e reply account.command else [] in
+    let ran : List TraceEvent = ran_events told number begun account.quantum in
+    let last : List TraceEvent = counters now course.shown counts in
+    let same : first ++ (ran ++ last) ≡ scene_events options scene e = rw (course_is, told_is, number_is, at_is, mutator_is, shown_is, reply_is, account_is, now_is, counts_is) refl in
+    both_written old a d first (ran ++ last) a_is (both_written a b d ran last b_is d_is) ∙ ap (λ (events : List TraceEvent). old ++ next_texts events) same

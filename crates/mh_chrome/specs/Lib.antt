@@ -1,0 +1,4 @@
+pub mod TraceEvents
+pub mod Deeds
+pub mod Runs
+pub mod Laws

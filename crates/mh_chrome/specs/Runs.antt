@@ -1,0 +1,192 @@
+-- A run as trace events, and what is written of it.
+use Rattle.std.specs.Prelude.{ℕ, suc, ◌+◌, ◌==◌, nat_le, nat_lt, Bool, false, ◌&&◌, if◌then◌else◌, Option, Some, None, List, [], ◌∷◌, ◌++◌, length, codes}
+use Rattle.std.specs.List.{list_any}
+use Rattle.mh_model.specs.declared.command.Command.{Command}
+use Rattle.mh_model.specs.declared.command.Event.{Event}
+use Rattle.mh_model.specs.declared.command.Event.TheVariants as event
+use Rattle.mh_model.specs.declared.config.Config.{Config}
+use Rattle.mh_model.specs.declared.cycle.Phase.{Phase}
+use Rattle.mh_model.specs.declared.deed.Deed.{Deed}
+use Rattle.mh_model.specs.declared.deed.Deed.TheVariants as deed
+use Rattle.mh_model.specs.declared.reply.Reply.{Reply}
+use Rattle.mh_model.specs.Bytes.{Text, joined}
+use Rattle.mh_model.specs.Deeds.{Account, Ran, account_of}
+use Rattle.mh_model.specs.Forms.{command_phrase, phrase_words}
+use Rattle.mh_model.specs.HistoryTexts.{event_words}
+use Rattle.mh_model.specs.Machine.{Machine, first_machine, event_step}
+use Rattle.mh_model.specs.Replies.{reply_text}
+use Rattle.mh_orders.specs.declared.chrome.ChromeOptions.{ChromeOptions}
+use Rattle.mh_steps.specs.declared.figures.Counts.{Counts}
+use Rattle.mh_steps.specs.declared.figures.Moment.{Moment}
+use Rattle.mh_steps.specs.Fields.{Field, Number, Word, field}
+use Rattle.mh_steps.specs.Figures.{counts_of, moment_of, quantum_at}
+use Rattle.mh_script.specs.OfMachine.Running.{Running}
+use Rattle.mh_chrome.specs.declared.course.Course.{Course}
+use Rattle.mh_chrome.specs.declared.course.Slices.{Slices}
+use Rattle.mh_chrome.specs.declared.run.Drawn.{Drawn}
+use Rattle.mh_chrome.specs.TraceEvents.{TraceEvent, Process, Thread, Rank, Begin, End, Instant, event_text, file_text, next_texts}
+use Rattle.mh_chrome.specs.Deeds.{cycles, quanta, controls, session_thread, blocks_counter, counted_all, counters, cycle_end, grey_counter, nothing_open, pages_counter, quantum_course, quantum_events}
+
+-- the event of this number is one of those that are written with their deeds
+abbrev pub is_told : ChromeOptions → ℕ → Bool
+is_told options number = nat_le options.from number && nat_le number options.to
+
+-- Events -----------------------------------------------------------------------------------------
+
+-- a thread with its name, in the order of the threads' numbers
+abbrev pub thread_events : ℕ → Text → List TraceEvent
+thread_events thread name = Thread thread name ∷ Rank thread ∷ []
+
+-- the name of a session's thread, with its digit. All sessions after the first eight share one
+abbrev pub session_name : ℕ → Text
+session_name who = if nat_lt who 8 then codes "session " ++ (48 + who) ∷ [] else codes "later sessions"
+
+-- how many blocks deeds of a command shade
+abbrev pub shade_count : List Deed → ℕ
+shade_count [] = 0
+shade_count (deed.Shade place ∷ deeds) = suc (shade_count deeds)
+shade_count (_ ∷ deeds) = shade_count deeds
+
+-- the arguments of an event: its number, its reply, and how many blocks it shaded, if it did
+abbrev pub event_fields : ℕ → Reply → List Field
+event_fields number reply = field (codes "event") (Number number) ∷ field (codes "reply") (Word (reply_text reply)) ∷ []
+
+abbrev pub command_fields : ℕ → Reply → ℕ → List Field
+command_fields number reply shaded = if shaded == 0 then event_fields number reply else
+    field (codes "event") (Number number) ∷ field (codes "reply") (Word (reply_text reply)) ∷ field (codes "shaded") (Number shaded) ∷ []
+
+-- a command of a session, for as long as its units last, or a control as an instant
+abbrev pub command_events : Moment → ℕ → Command → Reply → List Deed → List TraceEvent
+command_events moment who command reply deeds =
+    Begin moment.at (session_thread who) (joined (phrase_words (command_phrase command))) (command_fields moment.number reply (shade_count deeds))
+    ∷ End (quantum_at moment) (session_thread who) ∷ []
+
+abbrev pub control_events : Moment → Event → Reply → List TraceEvent
+control_events moment event reply = Instant moment.at controls (joined (event_words event)) (event_fields moment.number reply) ∷ []
+
+-- the sessions that have a thread after an event, and the event with the name of its thread before the first on it
+abbrev pub is_seen : List ℕ → ℕ → Bool
+is_seen seen who = list_any (λ number. number == who) seen
+
+abbrev pub seen_after : List ℕ → Event → List ℕ
+seen_after seen (event.Session who command) = if is_seen seen who then seen else seen ++ who ∷ []
+seen_after seen (event.Control control) = seen
+
+abbrev pub told_events : List ℕ → Moment → Event → Reply → List Deed → List TraceEvent
+told_events seen moment (event.Session who command) reply deeds = (if is_seen seen who then [] else thread_events (session_thread who) (session_name who)) ++ command_events moment who command reply deeds
+told_events seen moment (event.Control control) reply deeds = control_events moment (event.Control control) reply
+
+-- a quantum that an event ran
+abbrev pub ran_events : Bool → ℕ → Course → Option Ran → List TraceEvent
+ran_events told number course None = []
+ran_events told number course (Some ran) = quantum_events told number course ran
+
+abbrev pub ran_course : Bool → Course → Option Ran → Course
+ran_course told course None = course
+ran_course told course (Some ran) = quantum_course told course ran
+
+-- what a quantum spent, if one was run
+abbrev pub spent_by : Option Ran → ℕ
+spent_by None = 0
+spent_by (Some ran) = ran.ended.units
+
+-- the course with which a quantum of an event begins, whose account this is: its command has left what its deeds count
+abbrev pub begun_by : Moment → Slices → Counts → Account → Course
+begun_by moment slices shown account = record {
+  time = quantum_at moment;
+  left = spent_by account.quantum;
+  slices = slices;
+  in_step = false;
+  counts = counted_all shown account.command;
+  shown = shown;
+}
+
+-- Runs -------------------------------------------------------------------------------------------
+
+-- A run as it is drawn: its machine, the number of the next event, the slices of a cycle and a phase that are open, and the sessions that have a thread
+pub record Scene : Type 0 where
+  pub machine : Machine
+  pub number : ℕ
+  pub slices : Slices
+  pub seen : List ℕ
+
+abbrev pub scene_of : Running → Drawn → Scene
+scene_of running drawn = record { machine = running.machine; number = suc running.done; slices = drawn.slices; seen = drawn.seen.items }
+
+abbrev pub first_scene : Config → Scene
+first_scene config = record { machine = first_machine config; number = 1; slices = nothing_open; seen = [] }
+
+-- the moment of the next event, its account, and the course with which its quantum begins
+abbrev pub scene_moment : Scene → Event → Moment
+scene_moment scene event = moment_of scene.number scene.machine (event_step scene.machine event).state
+
+abbrev pub scene_course : Scene → Event → Course
+scene_course scene event = begun_by (scene_moment scene event) scene.slices (counts_of scene.machine.heap.collector) (account_of scene.machine event)
+
+-- the course after that quantum
+abbrev pub scene_course_after : ChromeOptions → Scene → Event → Course
+scene_course_after options scene event = ran_course (is_told options scene.number) (scene_course scene event) (account_of scene.machine event).quantum
+
+-- An event: itself if it is shown, then its quantum, and then the counters that it changed
+abbrev pub scene_events : ChromeOptions → Scene → Event → List TraceEvent
+scene_events options scene event =
+    let answer = event_step scene.machine event in
+    let account = account_of scene.machine event in
+    let told = is_told options scene.number in
+    (if told then told_events scene.seen (scene_moment scene event) event answer.reply account.command else [])
+    ++ (ran_events told scene.number (scene_course scene event) account.quantum
+    ++ counters (length answer.state.trace.letters) (scene_course_after options scene event).shown (counts_of answer.state.heap.collector))
+
+-- the scene after it
+abbrev pub scene_after : ChromeOptions → Scene → Event → Scene
+scene_after options scene event = record {
+  machine = (event_step scene.machine event).state;
+  number = suc scene.number;
+  slices = (scene_course_after options scene event).slices;
+  seen = if is_told options scene.number then seen_after scene.seen event else scene.seen;
+}
+
+-- Events in turn, and the scene after them
+unfoldable pub scenes_events : ChromeOptions → Scene → List Event → List TraceEvent
+scenes_events options scene [] = []
+scenes_events options scene (event ∷ events) = scene_events options scene event ++ scenes_events options (scene_after options scene event) events
+
+unfoldable pub scene_after_all : ChromeOptions → Scene → List Event → Scene
+scene_after_all options scene [] = scene
+scene_after_all options scene (event ∷ events) = scene_after_all options (scene_after options scene event) events
+
+-- what stands before the first event: the names of the process and of three threads, and what is in the heap
+abbrev pub named_events : Counts → List TraceEvent
+named_events counts =
+    thread_events cycles (codes "cycles")
+    ++ (thread_events quanta (codes "quanta")
+    ++ (thread_events controls (codes "controls")
+    ++ (pages_counter 0 counts ∷ blocks_counter 0 counts ∷ grey_counter 0 counts ∷ [])))
+
+abbrev pub head_events : Config → List TraceEvent
+head_events config = Process (codes "metroheap") ∷ named_events (counts_of (first_machine config).heap.collector)
+
+-- what stands after the last: a cycle that still runs, and its phase, end with the trace
+abbrev pub open_ends : ℕ → Slices → List TraceEvent
+open_ends now slices = phase_end slices.phase ++ cycle_end now slices.cycle where
+  phase_end : Option Phase → List TraceEvent
+  phase_end None = []
+  phase_end (Some phase) = End now cycles ∷ []
+
+abbrev pub last_events : Scene → List TraceEvent
+last_events scene = open_ends (length scene.machine.trace.letters) scene.slices
+
+-- The trace events of a run of these events from the first machine on
+abbrev pub chrome_events : ChromeOptions → Config → List Event → List TraceEvent
+chrome_events options config events = head_events config ++ (scenes_events options (first_scene config) events ++ last_events (scene_after_all options (first_scene config) events))
+
+-- what is written of a heap's counts before the first event, and of what is open after the last
+abbrev pub head_text : Counts → Text
+head_text counts = codes "{\"displayTimeUnit\":\"ns\",\"traceEvents\":[\n" ++ (event_text (Process (codes "metroheap")) ++ next_texts (named_events counts))
+
+abbrev pub last_text : ℕ → Slices → Text
+last_text now slices = next_texts (open_ends now slices) ++ codes "\n]}\n"
+
+-- What a run of a script with these events writes. The script's names of its sessions don't matter
+abbrev pub chrome_text : ChromeOptions → Text → Config → List Event → Text
+chrome_text options script config events = file_text (chrome_events options config events)

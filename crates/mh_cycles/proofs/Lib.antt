@@ -1,0 +1,5 @@
+pub mod RunLemmas
+pub mod StartLemmas
+pub mod TallyLemmas
+pub mod UnderwayLemmas
+pub mod WatchLemmas

@@ -1,0 +1,30 @@
+-- The figures of steps that tools alone read: where in the trace an event stands, and what is in the heap after it.
+use Rattle.std.specs.Prelude.{ℕ, ◌+◌, ◌-◌, List, [], ◌∷◌, codes, length}
+use Rattle.mh_model.specs.Collector.{Collector}
+use Rattle.mh_model.specs.Machine.{Machine, stat_on}
+use Rattle.mh_model.specs.Trace.{mutator_count}
+use Rattle.mh_steps.specs.declared.figures.Counts.{Counts}
+use Rattle.mh_steps.specs.declared.figures.Moment.{Moment}
+use Rattle.mh_steps.specs.Fields.{Number, Field, field}
+
+-- what is in the heap of a collector: what `stat` counts, and the grey blocks
+abbrev pub counts_of : Collector → Counts
+counts_of collector = let stat = stat_on collector in record { free = stat.free; live = stat.live; old = stat.old; grey = length collector.grey }
+
+-- where an event stands that has this number, and takes the first machine to the second
+abbrev pub moment_of : ℕ → Machine → Machine → Moment
+moment_of number before after = record { number = number; at = length before.trace.letters; mutator = mutator_count after.trace.letters - mutator_count before.trace.letters }
+
+-- the units of the trace before the quantum of an event: it follows what the event adds of the mutator
+abbrev pub quantum_at : Moment → ℕ
+quantum_at moment = moment.at + moment.mutator
+
+-- the fields of a place in the trace, of units of the mutator, and of counts
+abbrev pub at_field : ℕ → Field
+at_field at = field (codes "at") (Number at)
+
+abbrev pub mutator_field : ℕ → Field
+mutator_field mutator = field (codes "mutator") (Number mutator)
+
+abbrev pub counts_fields : Counts → List Field
+counts_fields counts = field (codes "free") (Number counts.free) ∷ field (codes "live") (Number counts.live) ∷ field (codes "old") (Number counts.old) ∷ field (codes "grey") (Number counts.grey) ∷ []
