@@ -1,4 +1,4 @@
-//! Laws of the tables that the program writes: each number of a line stands after its own name. So two fields that were
+//! Laws of the tables of curves that the program writes: each number of a line stands after its own name. So two fields that were
 //! exchanged in code and definition alike would break a law, and lines that are the same say the same. Each is what a
 //! function with nothing to do ensures.
 #![tactic(auto)]
