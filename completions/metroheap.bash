@@ -16,7 +16,8 @@ _metroheap() {
     case ${COMP_WORDS[1]} in
         run) options='--workers --rules --history --help' ;;
         steps) options='--from --to --json --chrome --rules --help' ;;
-        cycles | show) options='--rules --help' ;;
+        cycles) options='--rules --help' ;;
+        show) options='--from --to --rules --help' ;;
         live | race) options='--workers --help' ;;
         check) options='--pages --quantum --trigger --every --rules --sessions --no-full --log --help' ;;
         migrate) options='--pages --quantum --trigger --every --help' ;;

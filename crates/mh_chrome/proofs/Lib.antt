@@ -1,6 +1,5 @@
 pub mod BlockLemmas
 pub mod LengthLemmas
-pub mod LetterLemmas
 pub mod NestLemmas
 pub mod QuantumLemmas
 pub mod RunLemmas

@@ -8,7 +8,7 @@ use Rattle.mh_model.specs.declared.deed.Deed.{Deed}
 use Rattle.mh_model.specs.declared.reply.Reply.{Reply}
 use Rattle.mh_model.specs.Deeds.{Ran, account_of}
 use Rattle.mh_model.specs.Machine.{Machine, event_step, first_machine, machine_after}
-use Rattle.mh_orders.specs.declared.chrome.ChromeOptions.{ChromeOptions}
+use Rattle.mh_orders.specs.declared.range.RangeOptions.{RangeOptions}
 use Rattle.mh_steps.specs.declared.figures.Moment.{Moment}
 use Rattle.mh_steps.specs.Figures.{counts_of, quantum_at}
 use Rattle.mh_chrome.specs.declared.course.Course.{Course}
@@ -18,7 +18,7 @@ use Rattle.mh_chrome.specs.Deeds.{closed, counters, course_after_all, deeds_even
 use Rattle.mh_chrome.specs.Laws.{AreWithin, Nests, counted_on}
 use Rattle.mh_chrome.specs.Runs.{Scene, chrome_events, command_events, first_scene, is_seen, is_told, last_events, open_ends, ran_course, ran_events, scene_after, scene_after_all, scene_course, scene_course_after, scene_events, scene_moment, scenes_events, session_name, thread_events, told_events}
 use Rattle.mh_chrome.proofs.BlockLemmas.{IsBlock, nests-as, nests-then, within-block, within-then}
-use Rattle.mh_chrome.proofs.LetterLemmas.{adds, counts}
+use Rattle.mh_steps.proofs.LetterLemmas.{adds, counts}
 use Rattle.mh_chrome.proofs.NestLemmas.{if_some, inside, nests-closed, nests-counters, nests-deeds, nests-reopened, nests-step-ends, outside}
 use Rattle.mh_chrome.proofs.QuantumLemmas.{block-of-counters, block-of-quantum}
 
@@ -42,7 +42,7 @@ pub block-of-ran : (told : Bool) (number : ℕ) (course : Course) (ran : Option 
 block-of-ran told number course None = omega arith
 block-of-ran told number course (Some ran) = block-of-quantum told number course ran
 
-within-event : (options : ChromeOptions) (scene : Scene) (e : Event) → AreWithin (length scene.machine.trace.letters) (length (event_step scene.machine e).state.trace.letters) (scene_events options scene e)
+within-event : (options : RangeOptions) (scene : Scene) (e : Event) → AreWithin (length scene.machine.trace.letters) (length (event_step scene.machine e).state.trace.letters) (scene_events options scene e)
 within-event options scene e =
     let answer = event_step scene.machine e in
     let account = account_of scene.machine e in
@@ -59,12 +59,12 @@ within-event options scene e =
     (within-block end end last (block-of-counters end (scene_course_after options scene e).shown (counts_of answer.state.heap.collector))))
 
 -- the machine after events is that of the scene
-pub scene_machine : (options : ChromeOptions) (scene : Scene) (events : List Event) → (scene_after_all options scene events).machine ≡ machine_after scene.machine events
+pub scene_machine : (options : RangeOptions) (scene : Scene) (events : List Event) → (scene_after_all options scene events).machine ≡ machine_after scene.machine events
 unfolding scene_after_all machine_after
 scene_machine options scene [] = refl
 scene_machine options scene (e ∷ events) = scene_machine options (scene_after options scene e) events
 
-within-events : (options : ChromeOptions) (scene : Scene) (events : List Event)
+within-events : (options : RangeOptions) (scene : Scene) (events : List Event)
     → AreWithin (length scene.machine.trace.letters) (length (scene_after_all options scene events).machine.trace.letters) (scenes_events options scene events)
 unfolding scenes_events scene_after_all
 within-events options scene [] = omega arith
@@ -79,7 +79,7 @@ within-ends now slices = by slices.phase slices.cycle where
   by (Some phase) true = (omega arith, (omega arith, omega arith))
   by (Some phase) false = (omega arith, omega arith)
 
-pub within-run : (options : ChromeOptions) (config : Config) (events : List Event) → AreWithin 0 (length (machine_after (first_machine config) events).trace.letters) (chrome_events options config events)
+pub within-run : (options : RangeOptions) (config : Config) (events : List Event) → AreWithin 0 (length (machine_after (first_machine config) events).trace.letters) (chrome_events options config events)
 within-run options config events =
     let after = scene_after_all options (first_scene config) events in
     let run : AreWithin 0 (length after.machine.trace.letters) (scenes_events options (first_scene config) events ++ last_events after) =
@@ -145,7 +145,7 @@ module _ (is_on : ℕ → Bool) where
   nests-ran told number course None fresh = refl
   nests-ran told number course (Some ran) fresh = nests-quantum told number course ran fresh
 
-  nests-event : (options : ChromeOptions) (scene : Scene) (e : Event) → Nests is_on (outside is_on scene.slices) (outside is_on (scene_after options scene e).slices) (scene_events options scene e)
+  nests-event : (options : RangeOptions) (scene : Scene) (e : Event) → Nests is_on (outside is_on scene.slices) (outside is_on (scene_after options scene e).slices) (scene_events options scene e)
   nests-event options scene e =
       let answer = event_step scene.machine e in
       let account = account_of scene.machine e in
@@ -160,7 +160,7 @@ module _ (is_on : ℕ → Bool) where
       (nests-ran told scene.number course account.quantum refl)
       (nests-counters is_on after (length answer.state.trace.letters) (scene_course_after options scene e).shown (counts_of answer.state.heap.collector)))
 
-  nests-events : (options : ChromeOptions) (scene : Scene) (events : List Event) → Nests is_on (outside is_on scene.slices) (outside is_on (scene_after_all options scene events).slices) (scenes_events options scene events)
+  nests-events : (options : RangeOptions) (scene : Scene) (events : List Event) → Nests is_on (outside is_on scene.slices) (outside is_on (scene_after_all options scene events).slices) (scenes_events options scene events)
   unfolding scenes_events scene_after_all
   nests-events options scene [] = refl
   nests-events options scene (e ∷ events) =
@@ -174,7 +174,7 @@ module _ (is_on : ℕ → Bool) where
     by (Some phase) true = (omega arith, (omega arith, omega arith))
     by (Some phase) false = (omega arith, omega arith)
 
-  pub nests-run : (options : ChromeOptions) (config : Config) (events : List Event) → Nests is_on 0 0 (chrome_events options config events)
+  pub nests-run : (options : RangeOptions) (config : Config) (events : List Event) → Nests is_on 0 0 (chrome_events options config events)
   nests-run options config events =
       let after = scene_after_all options (first_scene config) events in
       nests-then is_on 0 (outside is_on after.slices) 0 (scenes_events options (first_scene config) events) (last_events after) (nests-events options (first_scene config) events) (nests-last (length after.machine.trace.letters) after.slices)

@@ -6,9 +6,9 @@ use Rattle.mh_model.specs.declared.reply.Reply.{Reply}
 use Rattle.mh_model.specs.Bytes.{Text}
 use Rattle.mh_model.specs.Deeds.{Account, account_of}
 use Rattle.mh_model.specs.Machine.{event_step, first_machine}
-use Rattle.mh_orders.specs.declared.chrome.ChromeOptions.{ChromeOptions}
-use Rattle.mh_script.proofs.AddedLines.{AddsLines}
-use Rattle.mh_script.specs.OfMachine.Running.{Running, first_running}
+use Rattle.mh_orders.specs.declared.range.RangeOptions.{RangeOptions}
+use Rattle.mh_steps.proofs.OfScript.AddedLines.{AddsLines}
+use Rattle.mh_steps.specs.OfScript.OfMachine.Running.{Running, first_running}
 use Rattle.mh_steps.specs.Figures.{counts_of}
 use Rattle.mh_steps.specs.declared.figures.Counts.{Counts}
 use Rattle.mh_steps.specs.declared.figures.Moment.{Moment}
@@ -20,26 +20,26 @@ use Rattle.mh_chrome.specs.TraceEvents.{TraceEvent, Process, event_text, file_te
 use Rattle.mh_chrome.proofs.TextLemmas.{both_written, next_texts_append}
 
 -- the text of events from a scene on, and of one event there
-abbrev pub lines_from : ChromeOptions → Scene → List Event → Text
+abbrev pub lines_from : RangeOptions → Scene → List Event → Text
 lines_from options at events = next_texts (scenes_events options at events)
 
-abbrev pub lines_at : ChromeOptions → Scene → Event → Text
+abbrev pub lines_at : RangeOptions → Scene → Event → Text
 lines_at options at e = next_texts (scene_events options at e)
 
-pub lines_none : (options : ChromeOptions) (at : Scene) → [] ≡ lines_from options at []
+pub lines_none : (options : RangeOptions) (at : Scene) → [] ≡ lines_from options at []
 unfolding scenes_events
 lines_none options at = refl
 
-pub scene_none : (options : ChromeOptions) (at : Scene) → at ≡ scene_after_all options at []
+pub scene_none : (options : RangeOptions) (at : Scene) → at ≡ scene_after_all options at []
 unfolding scene_after_all
 scene_none options at = refl
 
-scene_more : (options : ChromeOptions) (at : Scene) (events : List Event) (e : Event) → scene_after_all options at (events ++ e ∷ []) ≡ scene_after options (scene_after_all options at events) e
+scene_more : (options : RangeOptions) (at : Scene) (events : List Event) (e : Event) → scene_after_all options at (events ++ e ∷ []) ≡ scene_after options (scene_after_all options at events) e
 unfolding scene_after_all
 scene_more options at [] e = refl
 scene_more options at (first ∷ events) e = scene_more options (scene_after options at first) events e
 
-lines_more : (options : ChromeOptions) (at : Scene) (events : List Event) (e : Event) → lines_from options at (events ++ e ∷ []) ≡ lines_from options at events ++ lines_at options (scene_after_all options at events) e
+lines_more : (options : RangeOptions) (at : Scene) (events : List Event) (e : Event) → lines_from options at (events ++ e ∷ []) ≡ lines_from options at events ++ lines_at options (scene_after_all options at events) e
 unfolding scenes_events scene_after_all
 lines_more options at [] e = next_texts_append (scene_events options at e) [] ∙ append-nil (next_texts (scene_events options at e))
 lines_more options at (first ∷ events) e =
@@ -49,7 +49,7 @@ lines_more options at (first ∷ events) e =
     ∙ (sym (append_assoc (next_texts (scene_events options at first)) (next_texts (scenes_events options next events)) (next_texts (scene_events options (scene_after_all options next events) e)))
     ∙ ap (λ (text : Text). text ++ next_texts (scene_events options (scene_after_all options next events) e)) (sym (next_texts_append (scene_events options at first) (scenes_events options next events)))))
 
-pub scenes_add : (options : ChromeOptions) (at : Scene) → AddsLines (scene_after_all options at) (lines_from options at) (scene_after options) (lines_at options)
+pub scenes_add : (options : RangeOptions) (at : Scene) → AddsLines (scene_after_all options at) (lines_from options at) (scene_after options) (lines_at options)
 scenes_add options at = record { state = scene_more options at; text = lines_more options at }
 
 -- The file ---------------------------------------------------------------------------------------
@@ -61,7 +61,7 @@ start_is running drawn config is slices seen = rw (is, slices, seen) refl
 pieces : (front process named scenes ends tail : Text) → (front ++ (process ++ named)) ++ (scenes ++ (ends ++ tail)) ≡ front ++ ((process ++ (named ++ (scenes ++ ends))) ++ tail)
 pieces front process named scenes ends tail = simp append_assoc
 
-module _ (options : ChromeOptions) (config : Config) (events : List Event) where
+module _ (options : RangeOptions) (config : Config) (events : List Event) where
   abbrev pub after : Scene
   after = scene_after_all options (first_scene config) events
 
@@ -94,7 +94,7 @@ head_written none a b c d e f front process x y z w none_is a_is b_is c_is d_is 
 -- An event ---------------------------------------------------------------------------------------
 
 -- what was added of an event: itself if it is shown, its quantum, and the counters that it changed
-pub draw_written : (options : ChromeOptions) (scene : Scene) (e : Event) (old a b d : Text) (told : Bool) (number at mutator : ℕ) (reply : Reply) (shown counts : Counts) (account : Account) (course : Course) (now : ℕ)
+pub draw_written : (options : RangeOptions) (scene : Scene) (e : Event) (old a b d : Text) (told : Bool) (number at mutator : ℕ) (reply : Reply) (shown counts : Counts) (account : Account) (course : Course) (now : ℕ)
     → told ≡ is_told options scene.number → number ≡ scene.number → at ≡ (scene_moment scene e).at → mutator ≡ (scene_moment scene e).mutator → shown ≡ counts_of scene.machine.heap.collector → reply ≡ (event_step scene.machine e).reply
     → account ≡ account_of scene.machine e → now ≡ length (event_step scene.machine e).state.trace.letters → counts ≡ counts_of (event_step scene.machine e).state.heap.collector
     → course ≡ ran_course told (begun_by (record { number = number; at = at; mutator = mutator }) scene.slices shown account) account.quantum

@@ -11,21 +11,21 @@ use Rattle.mh_model.specs.declared.reply.Reply.{Reply}
 use Rattle.mh_model.specs.Deeds.{Ran, account_of}
 use Rattle.mh_model.specs.Machine.{Machine, event_step, first_machine, machine_after}
 use Rattle.mh_model.specs.Trace.{collector_count, mutator_count}
-use Rattle.mh_orders.specs.declared.chrome.ChromeOptions.{ChromeOptions}
+use Rattle.mh_orders.specs.declared.range.RangeOptions.{RangeOptions}
 use Rattle.mh_model.specs.Bytes.{Text}
 use Rattle.mh_steps.specs.declared.figures.Counts.{Counts}
 use Rattle.mh_steps.specs.declared.figures.Moment.{Moment}
 use Rattle.mh_steps.specs.Fields.{Field}
-use Rattle.mh_steps.specs.Figures.{counts_of, moment_of, quantum_at}
+use Rattle.mh_steps.specs.Figures.{counts_of, moment_of, quantum_at, spent_by}
 use Rattle.mh_chrome.specs.declared.course.Course.{Course}
 use Rattle.mh_chrome.specs.declared.course.Slices.{Slices}
 use Rattle.mh_chrome.specs.TraceEvents.{TraceEvent, Counter, End}
 use Rattle.mh_chrome.specs.Deeds.{blocks_counter, closed, counters, course_after_all, deeds_events, grey_counter, pages_counter, quanta, quantum_begins, quantum_ends, quantum_events, reopened, session_thread, step_ends, unless_same}
 use Rattle.mh_chrome.specs.Laws.{Nests, begin_times, end_times, is_quanta, is_session, length_on}
-use Rattle.mh_chrome.specs.Runs.{Scene, chrome_events, command_events, first_scene, is_seen, is_told, last_events, open_ends, ran_events, scene_after, scene_after_all, scene_course, scene_course_after, scene_events, scene_moment, scenes_events, session_name, spent_by, thread_events, told_events}
+use Rattle.mh_chrome.specs.Runs.{Scene, chrome_events, command_events, first_scene, is_seen, is_told, last_events, open_ends, ran_events, scene_after, scene_after_all, scene_course, scene_course_after, scene_events, scene_moment, scenes_events, session_name, thread_events, told_events}
 use Rattle.mh_chrome.proofs.BlockLemmas.{nests-as}
 use Rattle.mh_chrome.proofs.LengthLemmas.{Sums, sums-as, sums-after, sums-block, sums-then, sums-within}
-use Rattle.mh_chrome.proofs.LetterLemmas.{adds, counts, quiet_control}
+use Rattle.mh_steps.proofs.LetterLemmas.{adds, counts, quiet_control}
 use Rattle.mh_chrome.proofs.NestLemmas.{if_open, if_some, inside, nests-closed, nests-deeds, nests-reopened, nests-step-ends, outside}
 use Rattle.mh_chrome.proofs.QuantumLemmas.{end_stays_all}
 use Rattle.mh_chrome.proofs.RunLemmas.{block-of-ran, scene_machine}
@@ -158,7 +158,7 @@ module _ (is_on : ℕ → Bool) where
 
 -- Events -----------------------------------------------------------------------------------------
 
-quanta_of_event : (options : ChromeOptions) (scene : Scene) (e : Event) → Adds is_quanta (spent_by (account_of scene.machine e).quantum) (scene_events options scene e)
+quanta_of_event : (options : RangeOptions) (scene : Scene) (e : Event) → Adds is_quanta (spent_by (account_of scene.machine e).quantum) (scene_events options scene e)
 quanta_of_event options scene e =
     let answer = event_step scene.machine e in
     let account = account_of scene.machine e in
@@ -181,7 +181,7 @@ told_command seen machine number (event.Control control) reply deeds =
     let none = control_adds_none machine control in
     record { nests = refl; sum = omega (arith, none) }
 
-commands_of_event : (options : ChromeOptions) (scene : Scene) (e : Event) → is_told options scene.number ≡ true → Adds is_session (scene_moment scene e).mutator (scene_events options scene e)
+commands_of_event : (options : RangeOptions) (scene : Scene) (e : Event) → is_told options scene.number ≡ true → Adds is_session (scene_moment scene e).mutator (scene_events options scene e)
 commands_of_event options scene e tells =
     let answer = event_step scene.machine e in
     let account = account_of scene.machine e in
@@ -200,7 +200,7 @@ commands_of_event options scene e tells =
 
 -- Runs -------------------------------------------------------------------------------------------
 
-quanta_of_events : (options : ChromeOptions) (scene : Scene) (events : List Event)
+quanta_of_events : (options : RangeOptions) (scene : Scene) (events : List Event)
     → (spent : ℕ) × (Adds is_quanta spent (scenes_events options scene events) × (collector_count (scene_after_all options scene events).machine.trace.letters ≡ collector_count scene.machine.trace.letters + spent))
 unfolding scenes_events scene_after_all
 quanta_of_events options scene [] = (0, (record { nests = refl; sum = refl }, omega arith))
@@ -212,7 +212,7 @@ quanta_of_events options scene (e ∷ events) =
       (adds-then is_quanta (spent_by (account_of scene.machine e).quantum) more.0 (scene_events options scene e) (scenes_events options next events) (quanta_of_event options scene e) more.1.0, omega (arith, here, more.1.1)),
     )
 
-commands_of_events : (options : ChromeOptions) (scene : Scene) (events : List Event) → options.from ≤ scene.number → scene.number + length events ≤ suc options.to
+commands_of_events : (options : RangeOptions) (scene : Scene) (events : List Event) → options.from ≤ scene.number → scene.number + length events ≤ suc options.to
     → (units : ℕ) × (Adds is_session units (scenes_events options scene events) × (mutator_count (scene_after_all options scene events).machine.trace.letters ≡ mutator_count scene.machine.trace.letters + units))
 unfolding scenes_events scene_after_all
 commands_of_events options scene [] from to = (0, (record { nests = refl; sum = refl }, omega arith))
@@ -242,7 +242,7 @@ last_is_session now slices = by slices.phase slices.cycle where
   by (Some phase) true = record { nests = (omega arith, (omega arith, omega arith)); sum = omega arith }
   by (Some phase) false = record { nests = (omega arith, omega arith); sum = omega arith }
 
-pub total_is_quanta : (options : ChromeOptions) (config : Config) (events : List Event) → length_on is_quanta (chrome_events options config events) ≡ collector_count (machine_after (first_machine config) events).trace.letters
+pub total_is_quanta : (options : RangeOptions) (config : Config) (events : List Event) → length_on is_quanta (chrome_events options config events) ≡ collector_count (machine_after (first_machine config) events).trace.letters
 total_is_quanta options config events =
     let first = first_scene config in
     let after = scene_after_all options first events in
@@ -253,7 +253,7 @@ total_is_quanta options config events =
     let counted : collector_count after.machine.trace.letters ≡ run.0 = omega (arith, run.1.1) in
     long ∙ (sym counted ∙ ap (λ (m : Machine). collector_count m.trace.letters) (scene_machine options first events))
 
-pub total_is_session : (options : ChromeOptions) (config : Config) (events : List Event) → options.from ≤ 1 → length events ≤ options.to → length_on is_session (chrome_events options config events) ≡ mutator_count (machine_after (first_machine config) events).trace.letters
+pub total_is_session : (options : RangeOptions) (config : Config) (events : List Event) → options.from ≤ 1 → length events ≤ options.to → length_on is_session (chrome_events options config events) ≡ mutator_count (machine_after (first_machine config) events).trace.letters
 total_is_session options config events from to =
     let first = first_scene config in
     let after = scene_after_all options first events in

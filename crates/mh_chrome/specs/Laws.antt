@@ -3,7 +3,7 @@ use Rattle.std.specs.Prelude.{◌≡◌, ℕ, ◌+◌, ◌-◌, ◌==◌, ◌≤
 use Rattle.mh_model.specs.declared.command.Event.{Event}
 use Rattle.mh_model.specs.declared.config.Config.{Config}
 use Rattle.mh_model.specs.Machine.{first_machine, machine_after, report_on}
-use Rattle.mh_orders.specs.declared.chrome.ChromeOptions.{ChromeOptions}
+use Rattle.mh_orders.specs.declared.range.RangeOptions.{RangeOptions}
 use Rattle.mh_chrome.specs.TraceEvents.{TraceEvent, Begin, End, Instant, Counter}
 use Rattle.mh_chrome.specs.Deeds.{quanta, session_thread}
 use Rattle.mh_chrome.specs.Runs.{chrome_events}
@@ -64,15 +64,15 @@ is_session thread = nat_le (session_thread 0) thread
 
 -- Times never fall, and none is after the last unit of the trace
 abbrev pub TimesNeverFall : Type 0
-TimesNeverFall = (options : ChromeOptions) (config : Config) (events : List Event) → AreWithin 0 (length (machine_after (first_machine config) events).trace.letters) (chrome_events options config events)
+TimesNeverFall = (options : RangeOptions) (config : Config) (events : List Event) → AreWithin 0 (length (machine_after (first_machine config) events).trace.letters) (chrome_events options config events)
 
 -- On each thread a slice ends that is open there, and none is open after the last event
 abbrev pub SlicesNest : Type 0
-SlicesNest = (options : ChromeOptions) (config : Config) (events : List Event) (thread : ℕ) → Nests (λ other. other == thread) 0 0 (chrome_events options config events)
+SlicesNest = (options : RangeOptions) (config : Config) (events : List Event) (thread : ℕ) → Nests (λ other. other == thread) 0 0 (chrome_events options config events)
 
 -- Quanta are as long together as a report says of the collector. So are commands and the mutator, if all events are shown
 pub record SlicesAddUp : Type 0 where
-  pub quanta : (options : ChromeOptions) (config : Config) (events : List Event) (window : ℕ) →
+  pub quanta : (options : RangeOptions) (config : Config) (events : List Event) (window : ℕ) →
       length_on is_quanta (chrome_events options config events) ≡ (report_on config (machine_after (first_machine config) events).trace window).collector
-  pub commands : (options : ChromeOptions) (config : Config) (events : List Event) (window : ℕ) → options.from ≤ 1 → length events ≤ options.to →
+  pub commands : (options : RangeOptions) (config : Config) (events : List Event) (window : ℕ) → options.from ≤ 1 → length events ≤ options.to →
       length_on is_session (chrome_events options config events) ≡ (report_on config (machine_after (first_machine config) events).trace window).mutator

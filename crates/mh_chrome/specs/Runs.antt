@@ -15,12 +15,12 @@ use Rattle.mh_model.specs.Forms.{command_phrase, phrase_words}
 use Rattle.mh_model.specs.HistoryTexts.{event_words}
 use Rattle.mh_model.specs.Machine.{Machine, first_machine, event_step}
 use Rattle.mh_model.specs.Replies.{reply_text}
-use Rattle.mh_orders.specs.declared.chrome.ChromeOptions.{ChromeOptions}
+use Rattle.mh_orders.specs.declared.range.RangeOptions.{RangeOptions}
 use Rattle.mh_steps.specs.declared.figures.Counts.{Counts}
 use Rattle.mh_steps.specs.declared.figures.Moment.{Moment}
 use Rattle.mh_steps.specs.Fields.{Field, Number, Word, field}
-use Rattle.mh_steps.specs.Figures.{counts_of, moment_of, quantum_at}
-use Rattle.mh_script.specs.OfMachine.Running.{Running}
+use Rattle.mh_steps.specs.Figures.{counts_of, moment_of, quantum_at, spent_by}
+use Rattle.mh_steps.specs.OfScript.OfMachine.Running.{Running}
 use Rattle.mh_chrome.specs.declared.course.Course.{Course}
 use Rattle.mh_chrome.specs.declared.course.Slices.{Slices}
 use Rattle.mh_chrome.specs.declared.run.Drawn.{Drawn}
@@ -28,7 +28,7 @@ use Rattle.mh_chrome.specs.TraceEvents.{TraceEvent, Process, Thread, Rank, Begin
 use Rattle.mh_chrome.specs.Deeds.{cycles, quanta, controls, session_thread, blocks_counter, counted_all, counters, cycle_end, grey_counter, nothing_open, pages_counter, quantum_course, quantum_events}
 
 -- the event of this number is one of those that are written with their deeds
-abbrev pub is_told : ChromeOptions → ℕ → Bool
+abbrev pub is_told : RangeOptions → ℕ → Bool
 is_told options number = nat_le options.from number && nat_le number options.to
 
 -- Events -----------------------------------------------------------------------------------------
@@ -85,11 +85,6 @@ abbrev pub ran_course : Bool → Course → Option Ran → Course
 ran_course told course None = course
 ran_course told course (Some ran) = quantum_course told course ran
 
--- what a quantum spent, if one was run
-abbrev pub spent_by : Option Ran → ℕ
-spent_by None = 0
-spent_by (Some ran) = ran.ended.units
-
 -- the course with which a quantum of an event begins, whose account this is: its command has left what its deeds count
 abbrev pub begun_by : Moment → Slices → Counts → Account → Course
 begun_by moment slices shown account = record {
@@ -124,11 +119,11 @@ abbrev pub scene_course : Scene → Event → Course
 scene_course scene event = begun_by (scene_moment scene event) scene.slices (counts_of scene.machine.heap.collector) (account_of scene.machine event)
 
 -- the course after that quantum
-abbrev pub scene_course_after : ChromeOptions → Scene → Event → Course
+abbrev pub scene_course_after : RangeOptions → Scene → Event → Course
 scene_course_after options scene event = ran_course (is_told options scene.number) (scene_course scene event) (account_of scene.machine event).quantum
 
 -- An event: itself if it is shown, then its quantum, and then the counters that it changed
-abbrev pub scene_events : ChromeOptions → Scene → Event → List TraceEvent
+abbrev pub scene_events : RangeOptions → Scene → Event → List TraceEvent
 scene_events options scene event =
     let answer = event_step scene.machine event in
     let account = account_of scene.machine event in
@@ -138,7 +133,7 @@ scene_events options scene event =
     ++ counters (length answer.state.trace.letters) (scene_course_after options scene event).shown (counts_of answer.state.heap.collector))
 
 -- the scene after it
-abbrev pub scene_after : ChromeOptions → Scene → Event → Scene
+abbrev pub scene_after : RangeOptions → Scene → Event → Scene
 scene_after options scene event = record {
   machine = (event_step scene.machine event).state;
   number = suc scene.number;
@@ -147,11 +142,11 @@ scene_after options scene event = record {
 }
 
 -- Events in turn, and the scene after them
-unfoldable pub scenes_events : ChromeOptions → Scene → List Event → List TraceEvent
+unfoldable pub scenes_events : RangeOptions → Scene → List Event → List TraceEvent
 scenes_events options scene [] = []
 scenes_events options scene (event ∷ events) = scene_events options scene event ++ scenes_events options (scene_after options scene event) events
 
-unfoldable pub scene_after_all : ChromeOptions → Scene → List Event → Scene
+unfoldable pub scene_after_all : RangeOptions → Scene → List Event → Scene
 scene_after_all options scene [] = scene
 scene_after_all options scene (event ∷ events) = scene_after_all options (scene_after options scene event) events
 
@@ -177,7 +172,7 @@ abbrev pub last_events : Scene → List TraceEvent
 last_events scene = open_ends (length scene.machine.trace.letters) scene.slices
 
 -- The trace events of a run of these events from the first machine on
-abbrev pub chrome_events : ChromeOptions → Config → List Event → List TraceEvent
+abbrev pub chrome_events : RangeOptions → Config → List Event → List TraceEvent
 chrome_events options config events = head_events config ++ (scenes_events options (first_scene config) events ++ last_events (scene_after_all options (first_scene config) events))
 
 -- what is written of a heap's counts before the first event, and of what is open after the last
@@ -188,5 +183,5 @@ abbrev pub last_text : ℕ → Slices → Text
 last_text now slices = next_texts (open_ends now slices) ++ codes "\n]}\n"
 
 -- What a run of a script with these events writes. The script's names of its sessions don't matter
-abbrev pub chrome_text : ChromeOptions → Text → Config → List Event → Text
+abbrev pub chrome_text : RangeOptions → Text → Config → List Event → Text
 chrome_text options script config events = file_text (chrome_events options config events)

@@ -13,8 +13,8 @@ ghost use Rattle.std.specs.Io.KnownBytes.{Appends, Keeps};
 ghost use Rattle.std.specs.String.{string_bytes};
 ghost use Rattle.mh_model.specs.Limits.{most_entries};
 ghost use Rattle.mh_model.specs.Output as model;
-ghost use Rattle.mh_script.specs.Run.{EndsAs, HasReason, Outputs, TakesToRun, WritesBeginning, transcript};
-ghost use Rattle.mh_script.specs.Texts.{LeavesSource, Blames, WantsMemory};
+ghost use Rattle.mh_steps.specs.OfScript.Run.{EndsAs, HasReason, Outputs, TakesToRun, WritesBeginning, transcript};
+ghost use Rattle.mh_steps.specs.OfScript.Texts.{LeavesSource, Blames, WantsMemory};
 ghost use Rattle.mh_text.specs.Stream.{AppendsBeginning};
 ghost use Rattle.mh_steps.specs.Figures.{counts_of};
 ghost use Rattle.mh_chrome.specs.Deeds.{nothing_open};
@@ -31,14 +31,14 @@ use mh_model::command::Event;
 use mh_model::config::Config;
 use mh_model::history::Entry;
 use mh_model::memory::NoMemory;
-use mh_orders::chrome::ChromeOptions;
-use mh_script::end::End;
-use mh_script::fault::{ScriptFault, WriteError};
-use mh_script::mh_machine::machine::Machine;
-use mh_script::mh_scan::scan::{OneScan, Scanner};
-use mh_script::texts::{flush, flush_full};
-use mh_script::transcript::{Transcript, transcribe};
+use mh_orders::range::RangeOptions;
 use mh_steps::figures::{Moment, heap_counts, trace_units};
+use mh_steps::mh_script::end::End;
+use mh_steps::mh_script::fault::{ScriptFault, WriteError};
+use mh_steps::mh_script::mh_machine::machine::Machine;
+use mh_steps::mh_script::mh_scan::scan::{OneScan, Scanner};
+use mh_steps::mh_script::texts::{flush, flush_full};
+use mh_steps::mh_script::transcript::{Transcript, transcribe};
 use mh_steps::run::answer_told;
 use mh_text::script::SCRIPT_BYTES;
 use mh_text::sink::Sink;
@@ -53,7 +53,7 @@ struct Drawn {
 }
 
 /// Whether the event of this number is asked for.
-fn is_told(options: ChromeOptions, number: u64) -> bool
+fn is_told(options: RangeOptions, number: u64) -> bool
     ensures { result ≡ is_told options number }
 {
     u64::from(options.from) <= number && number <= u64::from(options.to)
@@ -62,7 +62,7 @@ fn is_told(options: ChromeOptions, number: u64) -> bool
 /// Does an event, and adds its trace events.
 #[tactic(auto, using(crate::proofs::TextLemmas::next_texts_append), unfolding(mh_model::specs::Limits::most_entries))]
 fn draw(
-    options: ChromeOptions,
+    options: RangeOptions,
     machine: &mut Machine,
     event: Event,
     drawn: &mut Drawn,
@@ -108,7 +108,7 @@ fn draw(
 /// Does the events in turn, and writes their trace events.
 fn write_events<W: Sink>(
     alloc: Global,
-    options: ChromeOptions,
+    options: RangeOptions,
     machine: &mut Machine,
     events: &[Event],
     drawn: &mut Drawn,
@@ -190,7 +190,7 @@ fn nothing_drawn(alloc: Global) -> Drawn
 /// Does events from the first machine on, and writes the file of that run.
 fn write_run<W: Sink>(
     alloc: Global,
-    options: ChromeOptions,
+    options: RangeOptions,
     config: Config,
     events: &[Event],
     sink: &mut W,
@@ -216,7 +216,7 @@ fn write_run<W: Sink>(
 /// A run that is written as trace events.
 #[derive(Clone, Copy)]
 struct Chrome {
-    options: ChromeOptions,
+    options: RangeOptions,
 }
 
 impl Transcript for Chrome {
@@ -244,7 +244,7 @@ pub fn chrome_script<S: Source, W: Sink>(
     alloc: Global,
     source: &mut S,
     sink: &mut W,
-    options: ChromeOptions,
+    options: RangeOptions,
 ) -> Result<End, ScriptFault>
     requires source_count { S.failures source.old < 2 ^ 62 }
     requires sink_count { W.failures sink.old < 2 ^ 62 }

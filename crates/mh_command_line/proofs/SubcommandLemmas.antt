@@ -30,7 +30,7 @@ use Rattle.mh_command_line.specs.declared.options.OptionFault.{OptionFault}
 use Rattle.mh_command_line.specs.declared.options.OptionFault.TheVariants.{NoNumber, NoProfile, NoBlocks, Missing, Lacking, Unwanted, OfLog, NoFullAlone, OfCurve, Beside, Outside}
 use Rattle.clap.specs.declared.error.kind.ErrorKind.{ErrorKind}
 use Rattle.mh_command_line.specs.Orders.{AreAmiss, AreNoBlocks, AreOfCurve, AreOfLog, AskAmiss, AsksOutside, AsksVersion, GivesOrder, HasFewWorkers, HasFirstRules, HasOptionFault, IsBeside, IsFault, IsLacking, IsMissing, IsNoNumber, IsNoProfile, IsOrder, IsOutside, IsUnwanted, LackSessions, Named, NotMet, NotTaken, IsSaidOfRefusal, RefusesOptions, kind_of_fault}
-use Rattle.mh_command_line.specs.Line.{AsksForFew, AsksForRules, Checks, Generates, HasFlag, IsSubcommand, NamesOne, Nothing, Ruled, Runs, TakesRules, TakesWorkers, Tells, Workers, any_text, check_app, controls_numbers, event_numbers, every_numbers, flag_rule, generate_app, metroheap, page_numbers, quantum_numbers, round_numbers, ruled_app, rules_numbers, run_app, seeds, session_numbers, steps_app, step_numbers, trigger_numbers, worker_numbers, workers_app, Curves, curve_app, Sizes, block_numbers, part_numbers, percents, scheduled_numbers, size_app, startup_numbers, window_numbers}
+use Rattle.mh_command_line.specs.Line.{AsksForFew, AsksForRange, AsksForRules, Checks, Generates, HasFlag, IsSubcommand, Lists, NamesOne, Nothing, Runs, Shows, TakesWorkers, Tells, Workers, any_text, check_app, controls_numbers, cycles_app, event_numbers, every_numbers, flag_rule, generate_app, metroheap, page_numbers, quantum_numbers, round_numbers, rules_numbers, run_app, seeds, session_numbers, show_app, steps_app, step_numbers, trigger_numbers, worker_numbers, workers_app, Curves, curve_app, Sizes, block_numbers, part_numbers, percents, scheduled_numbers, size_app, startup_numbers, window_numbers}
 use Rattle.mh_command_line.proofs.OptionLemmas.{AreRead, IsSafe, level-read, never, none-missing, none_first, none_next, safe-flag, safe-given, safe-help, safe-value, value-given, value-may, value_rule}
 
 -- Options ----------------------------------------------------------------------------------------
@@ -104,12 +104,12 @@ sound-run words e =
     level-read option_parser read_plain s words (value-safe (codes "workers") 1, (value-safe (codes "rules") 1, (flag-safe (codes "history") 1 refl, (help-safe, tt)))) e in
     Runs refl (few-may rows all, rules-may rows all, history-may rows all)
 
-sound-ruled : (name : Text) → TakesRules name → IsSound (built_leaf (ruled_app name).top)
-sound-ruled name is words e =
-    let s : Shape = built_leaf (ruled_app name).top in
+sound-cycles : IsSound (built_leaf cycles_app.top)
+sound-cycles words e =
+    let s : Shape = built_leaf cycles_app.top in
     let rows : List Row = rows_after s.rules [] words in
     let all : AllRead rows = level-read option_parser read_plain s words (value-safe (codes "rules") 1, (help-safe, tt)) e in
-    Ruled is (rules-may rows all)
+    Lists refl (rules-may rows all)
 
 -- the parser of each option of `check`
 abbrev check_parser : Text → ValueParser
@@ -209,7 +209,7 @@ generate_plain name =
     go false false false false false false false false true = refl
     go false false false false false false false false false = refl
 
--- and that of each option of `steps`
+-- and that of each option of `steps`, of which `show` has some
 abbrev steps_parser : Text → ValueParser
 steps_parser name =
     if bytes_eq name (codes "from") then step_numbers else (if bytes_eq name (codes "to") then step_numbers
@@ -225,6 +225,11 @@ steps_plain name = go (bytes_eq name (codes "from")) (bytes_eq name (codes "to")
   go false false false false true = refl
   go false false false false false = refl
 
+range-may : (rows : List Row) → AreRead steps_parser steps_plain rows → AsksForRange rows
+range-may rows all =
+    let may : (name : Text) → IfSome (one_of name rows) (Accepts false (steps_parser name)) = λ name. value-may steps_parser steps_plain name rows all in
+    record { from = may (codes "from"); to = may (codes "to"); rules = may (codes "rules") }
+
 sound-steps : IsSound (built_leaf steps_app.top)
 sound-steps words e =
     let s : Shape = built_leaf steps_app.top in
@@ -234,7 +239,16 @@ sound-steps words e =
     level-read steps_parser steps_plain s words
     (value (codes "from"), (value (codes "to"), (safe-flag steps_parser steps_plain (codes "json") 1 refl, (safe-flag steps_parser steps_plain (codes "chrome") 1 refl, (value (codes "rules"), (safe-help steps_parser steps_plain 1, tt)))))) e in
     let may : (name : Text) → IfSome (one_of name rows) (Accepts false (steps_parser name)) = λ name. value-may steps_parser steps_plain name rows all in
-    Tells refl (record { from = may (codes "from"); to = may (codes "to"); json = flag-may (one_of (codes "json") rows) (may (codes "json")); chrome = flag-may (one_of (codes "chrome") rows) (may (codes "chrome")); rules = may (codes "rules") })
+    Tells refl (record { range = range-may rows all; json = flag-may (one_of (codes "json") rows) (may (codes "json")); chrome = flag-may (one_of (codes "chrome") rows) (may (codes "chrome")) })
+
+sound-show : IsSound (built_leaf show_app.top)
+sound-show words e =
+    let s : Shape = built_leaf show_app.top in
+    let rows : List Row = rows_after s.rules [] words in
+    let value : (name : Text) → _ = λ name. safe-value steps_parser steps_plain name 1 in
+    let all : AreRead steps_parser steps_plain rows =
+    level-read steps_parser steps_plain s words (value (codes "from"), (value (codes "to"), (value (codes "rules"), (safe-help steps_parser steps_plain 1, tt)))) e in
+    Shows refl (range-may rows all)
 
 both_given : (a b rest : Bool) → (not a || (not b || rest)) ≡ false → (a ≡ true) × (b ≡ true)
 both_given true true rest e = (refl, refl)
@@ -358,9 +372,9 @@ sound-metroheap = (
   (
     sound-steps,
     (
-      sound-ruled (codes "cycles") (inl refl),
+      sound-cycles,
       (
-        sound-ruled (codes "show") (inr refl),
+        sound-show,
         (
           sound-workers (codes "live") (inl refl),
           (

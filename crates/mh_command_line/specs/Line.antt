@@ -132,13 +132,21 @@ config_app name = with_rule (with_rule (with_rule (with_rule (new_app name) (num
 abbrev pub run_app : App
 run_app = with_rule (with_rule (workers_app (codes "run")) rules_rule) (flag_rule (codes "history"))
 
+-- a subcommand with the numbers of two events
+abbrev pub ranged_app : Text → App
+ranged_app name = with_rule (with_rule (new_app name) (parsed_rule (codes "from") step_numbers)) (parsed_rule (codes "to") step_numbers)
+
 -- `steps`, of the events between two numbers, in words, as JSON or as Chrome trace events, with rules
 abbrev pub steps_app : App
-steps_app = with_rule (with_rule (with_rule (with_rule (with_rule (new_app (codes "steps")) (parsed_rule (codes "from") step_numbers)) (parsed_rule (codes "to") step_numbers)) (flag_rule (codes "json"))) (flag_rule (codes "chrome"))) rules_rule
+steps_app = with_rule (with_rule (with_rule (ranged_app (codes "steps")) (flag_rule (codes "json"))) (flag_rule (codes "chrome"))) rules_rule
 
--- a subcommand with rules alone
-abbrev pub ruled_app : Text → App
-ruled_app name = with_rule (new_app name) rules_rule
+-- `cycles`, with rules alone
+abbrev pub cycles_app : App
+cycles_app = with_rule (new_app (codes "cycles")) rules_rule
+
+-- `show`, of the events between two numbers, with rules
+abbrev pub show_app : App
+show_app = with_rule (ranged_app (codes "show")) rules_rule
 
 -- `check`, with rules, under a configuration, by what sessions see, or of a log and its order
 abbrev pub check_app : App
@@ -186,8 +194,8 @@ optional_app =
     with_subcommand (with_subcommand (with_subcommand (with_subcommand (with_subcommand (with_subcommand (with_subcommand (with_subcommand (with_subcommand (with_subcommand (with_subcommand (with_subcommand (new_app (codes "metroheap"))
     run_app.top)
     steps_app.top)
-    (ruled_app (codes "cycles")).top)
-    (ruled_app (codes "show")).top)
+    cycles_app.top)
+    show_app.top)
     (workers_app (codes "live")).top)
     (workers_app (codes "race")).top)
     check_app.top)
@@ -286,13 +294,17 @@ HasFlag name rows = IfSome (one_of name rows) (λ text. (text ≡ codes "true") 
 abbrev pub AsksToRun : List Row → Type 0
 AsksToRun rows = AsksForFew rows × AsksForRules rows × HasFlag (codes "history") rows
 
--- those of `steps`
-pub record AsksToTell (rows : List Row) : Type 0 where
+-- those of `show`
+pub record AsksForRange (rows : List Row) : Type 0 where
   pub from : IfSome (one_of (codes "from") rows) (IsUnsignedIn 0 4294967295)
   pub to : IfSome (one_of (codes "to") rows) (IsUnsignedIn 0 4294967295)
+  pub rules : AsksForRules rows
+
+-- those of `steps`
+pub record AsksToTell (rows : List Row) : Type 0 where
+  pub range : AsksForRange rows
   pub json : HasFlag (codes "json") rows
   pub chrome : HasFlag (codes "chrome") rows
-  pub rules : AsksForRules rows
 
 -- those of `check`
 pub record AsksToCheck (rows : List Row) : Type 0 where
@@ -337,10 +349,6 @@ pub record AsksToSize (rows : List Row) : Type 0 where
   pub startup : IfSome (one_of (codes "startup") rows) (IsUnsignedIn 0 1000000)
   pub run : HasFlag (codes "run") rows
 
--- a subcommand that has rules and no other option
-abbrev pub TakesRules : Text → Type 0
-TakesRules name = (name ≡ codes "cycles") ⊎ (name ≡ codes "show")
-
 -- a subcommand that has workers and no other option
 abbrev pub TakesWorkers : Text → Type 0
 TakesWorkers name = (name ≡ codes "live") ⊎ (name ≡ codes "race")
@@ -353,7 +361,8 @@ WantsConfig name rows = ((name ≡ codes "check") × (is_flagged (codes "session
 pub data IsSubcommand (name : Text) (rows : List Row) : Type 0 where
   Runs : name ≡ codes "run" → AsksToRun rows → IsSubcommand name rows
   Tells : name ≡ codes "steps" → AsksToTell rows → IsSubcommand name rows
-  Ruled : TakesRules name → AsksForRules rows → IsSubcommand name rows
+  Lists : name ≡ codes "cycles" → AsksForRules rows → IsSubcommand name rows
+  Shows : name ≡ codes "show" → AsksForRange rows → IsSubcommand name rows
   Workers : TakesWorkers name → AsksForFew rows → IsSubcommand name rows
   Checks : name ≡ codes "check" → AsksToCheck rows → IsSubcommand name rows
   Generates : name ≡ codes "generate" → AsksToGenerate rows → IsSubcommand name rows

@@ -3,7 +3,7 @@ use Rattle.std.specs.Prelude.{◌≡◌, ◌≢◌, ◌⊎◌, ◌<◌, ◌≤�
 use Rattle.clap.specs.declared.error.kind.ErrorKind.{ErrorKind}
 use Rattle.clap.specs.declared.error.kind.ErrorKind.TheVariants.{ArgumentConflict, DisplayVersion, MissingRequiredArgument, OutOfMemory, ValueValidation}
 use Rattle.clap.specs.Words.{Row, Text, one_of, subcommand_of, fault_of, kind_of, IsAmong}
-use Rattle.mh_orders.specs.declared.chrome.ChromeOptions.{ChromeOptions}
+use Rattle.mh_orders.specs.declared.range.RangeOptions.{RangeOptions}
 use Rattle.mh_orders.specs.declared.generate_options.Controls.{Controls}
 use Rattle.mh_orders.specs.declared.generate_options.Controls.TheVariants.{ByChance, Each, Never}
 use Rattle.mh_orders.specs.declared.generate_options.Options.{Options}
@@ -89,8 +89,8 @@ pub record AreStepsOptions (rows : List Row) (options : StepsOptions) : Type 0 w
   pub to : options.steps.to ≡ number_or 4294967295 (codes "to") rows
   pub rules : options.rules ≡ rules_chosen Second rows
 
--- the options of a run that is written as Chrome trace events: those of steps but for their form
-pub record AreChromeOptions (rows : List Row) (options : ChromeOptions) : Type 0 where
+-- the options of a run of which some events are written, as Chrome trace events or on a page: all if the matches don't say, under the second rules
+pub record AreRangeOptions (rows : List Row) (options : RangeOptions) : Type 0 where
   pub from : options.from ≡ number_or 1 (codes "from") rows
   pub to : options.to ≡ number_or 4294967295 (codes "to") rows
   pub rules : options.rules ≡ rules_chosen Second rows
@@ -131,9 +131,9 @@ pub record AreSessionsOptions (rows : List Row) (options : SessionsOptions) : Ty
 abbrev pub IsOrder : Text → List Row → Order → Type 0
 IsOrder name rows (Run options) = (name ≡ codes "run") × AreRunOptions rows options
 IsOrder name rows (Steps options) = (name ≡ codes "steps") × (is_flagged (codes "chrome") rows ≡ false) × AreStepsOptions rows options
-IsOrder name rows (Chrome options) = (name ≡ codes "steps") × (is_flagged (codes "chrome") rows ≡ true) × AreChromeOptions rows options
+IsOrder name rows (Chrome options) = (name ≡ codes "steps") × (is_flagged (codes "chrome") rows ≡ true) × AreRangeOptions rows options
 IsOrder name rows (Cycles rules) = (name ≡ codes "cycles") × (rules ≡ rules_chosen Second rows)
-IsOrder name rows (Show rules) = (name ≡ codes "show") × (rules ≡ rules_chosen Second rows)
+IsOrder name rows (Show options) = (name ≡ codes "show") × AreRangeOptions rows options
 IsOrder name rows (Live workers) = (name ≡ codes "live") × (workers ≡ workers_of rows)
 IsOrder name rows (Race workers) = (name ≡ codes "race") × (workers ≡ workers_of rows)
 IsOrder name rows (Check config) = (name ≡ codes "check") × (is_flagged (codes "sessions") rows ≡ false) × (is_flagged (codes "no-full") rows ≡ false) × (is_flagged (codes "log") rows ≡ false) × MakesConfig (rules_chosen First rows) rows config

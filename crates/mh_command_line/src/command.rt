@@ -14,7 +14,7 @@ ghost use Rattle.std.specs.Prelude.{◌≡◌, IfOk, IsOkAnd, Some, false, true,
 ghost use Rattle.clap.specs.Words.{app_of, new_app, rule_of, with_rule, with_subcommand};
 ghost use Rattle.clap.specs.declared.builder.command.Command.TheViews.{out-Command};
 ghost use Rattle.clap.specs.declared.builder.value_parser.ValueParser.TheVariants.{Unsigned};
-ghost use Rattle.mh_command_line.specs.Line.{any_text, check_app, config_app, configured_app, flag_rule, generate_app, metroheap, named_rule, option_rule, page_numbers, optional_app, parsed_rule, profile_rule, quantum_numbers, required_rule, rules_rule, ruled_app, run_app, seeded_app, step_numbers, steps_app, trigger_numbers, versioned, workers_app, workers_rule};
+ghost use Rattle.mh_command_line.specs.Line.{any_text, check_app, config_app, configured_app, cycles_app, flag_rule, generate_app, metroheap, named_rule, option_rule, page_numbers, optional_app, parsed_rule, profile_rule, quantum_numbers, ranged_app, required_rule, rules_rule, run_app, seeded_app, show_app, step_numbers, steps_app, trigger_numbers, versioned, workers_app, workers_rule};
 
 use crate::curve::curve;
 use crate::size::size;
@@ -316,21 +316,35 @@ fn run<'a>(alloc: Global) -> Result<Command<'a>, AllocError>
     with_option(command, flag(alloc, "history", help))
 }
 
+/// A subcommand with the numbers of two events, of which help says this.
+fn with_range<'a>(
+    alloc: Global,
+    name: &'a str,
+    about: &'a str,
+    usage: &'a str,
+    from: &'a str,
+    to: &'a str,
+) -> Result<Command<'a>, AllocError>
+    ensures app { IfOk result (λ command. app_of command ≡ ranged_app name.entry.now) }
+    ensures local { IfOk result (λ command. (out-Command command).has_globals ≡ false) }
+{
+    let command = subcommand(alloc, name, about, usage, SCRIPT_STATUSES);
+    let command = with_option(Ok(command), step(alloc, "from", "N", from));
+    with_option(command, step(alloc, "to", "M", to))
+}
+
 fn steps<'a>(alloc: Global) -> Result<Command<'a>, AllocError>
     ensures app { IfOk result (λ command. app_of command ≡ steps_app) }
     ensures local { IfOk result (λ command. (out-Command command).has_globals ≡ false) }
 {
-    let command = subcommand(
+    let command = with_range(
         alloc,
         "steps",
         ABOUT_STEPS,
         "metroheap steps [--from <N>] [--to <M>] [--json | --chrome] [--rules <R>] < SCRIPT",
-        SCRIPT_STATUSES,
+        "The first event whose deeds are printed, counted from 1; 1 if it is not given",
+        "The last event whose deeds are printed; the last of all if it is not given",
     );
-    let help = "The first event whose deeds are printed, counted from 1; 1 if it is not given";
-    let command = with_option(Ok(command), step(alloc, "from", "N", help));
-    let help = "The last event whose deeds are printed; the last of all if it is not given";
-    let command = with_option(command, step(alloc, "to", "M", help));
     let help = "Print one object of JSON a line";
     let command = with_option(command, flag(alloc, "json", help));
     let help =
@@ -340,7 +354,7 @@ fn steps<'a>(alloc: Global) -> Result<Command<'a>, AllocError>
 }
 
 fn cycles<'a>(alloc: Global) -> Result<Command<'a>, AllocError>
-    ensures app { IfOk result (λ command. app_of command ≡ ruled_app (codes "cycles")) }
+    ensures app { IfOk result (λ command. app_of command ≡ cycles_app) }
     ensures local { IfOk result (λ command. (out-Command command).has_globals ≡ false) }
 {
     let command = subcommand(
@@ -354,17 +368,18 @@ fn cycles<'a>(alloc: Global) -> Result<Command<'a>, AllocError>
 }
 
 fn show<'a>(alloc: Global) -> Result<Command<'a>, AllocError>
-    ensures app { IfOk result (λ command. app_of command ≡ ruled_app (codes "show")) }
+    ensures app { IfOk result (λ command. app_of command ≡ show_app) }
     ensures local { IfOk result (λ command. (out-Command command).has_globals ≡ false) }
 {
-    let command = subcommand(
+    let command = with_range(
         alloc,
         "show",
         ABOUT_SHOW,
-        "metroheap show [--rules <R>] < SCRIPT > PAGE",
-        SCRIPT_STATUSES,
+        "metroheap show [--from <N>] [--to <M>] [--rules <R>] < SCRIPT > PAGE",
+        "The first event of the page, counted from 1; 1 if it is not given",
+        "The last event of the page; the last of all if it is not given",
     );
-    with_option(Ok(command), rules(alloc, RULES_OF_A_RUN))
+    with_option(command, rules(alloc, RULES_OF_A_RUN))
 }
 
 fn live<'a>(alloc: Global) -> Result<Command<'a>, AllocError>

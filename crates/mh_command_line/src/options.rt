@@ -5,8 +5,8 @@
 //! makes a bad configuration. Blamed is the first of pages, quantum and every that is outside, or else the trigger,
 //! whose limit is the number of pages.
 //!
-//! `--rules` is an option of `run`, `steps`, `show`, `curve`, `size`, `generate` and `check`. Without it a script is under the
-//! second rules. A history of version 1 is then under the first, as before there was such an option. `live` and
+//! `--rules` is an option of `run`, `steps`, `cycles`, `show`, `curve`, `size`, `generate` and `check`. Without it a script is
+//! under the second rules. A history of version 1 is then under the first, as before there was such an option. `live` and
 //! `race` are under the second.
 //!
 ghost use Rattle.std.specs.Prelude.{◌≡◌, ◌<◌, ◌≤◌, ◌↔◌, None, Some, true, codes, IfOk, IfErr, IfSome, IsTrue};
@@ -15,14 +15,14 @@ ghost use Rattle.std.specs.List.{list_all};
 ghost use Rattle.std.specs.Str.Parse.{without_leading_plus};
 ghost use Rattle.clap.specs.Words.{IsUnsignedIn, found_of, one_of, rows_of};
 ghost use Rattle.mh_model.specs.declared.config.Rules.TheVariants.{Second};
-ghost use Rattle.mh_command_line.specs.Line.{AsksForFew, AsksForRules, AsksToRun, AsksToTell, HasFlag, HoldsNumber, IsConfigOption, IsNumber, ReadsNumber, is_flagged, number_or, optional_number, rules_given, rules_numbered, rules_chosen, workers_of};
-ghost use Rattle.mh_command_line.specs.Orders.{AreChromeOptions, AreRunOptions, AreStepsOptions, HasFewWorkers, HasFirstRules, IsBlamed, IsNumberFault, IsOrder, MakesConfig};
+ghost use Rattle.mh_command_line.specs.Line.{AsksForFew, AsksForRange, AsksForRules, AsksToRun, AsksToTell, HasFlag, HoldsNumber, IsConfigOption, IsNumber, ReadsNumber, is_flagged, number_or, optional_number, rules_given, rules_numbered, rules_chosen, workers_of};
+ghost use Rattle.mh_command_line.specs.Orders.{AreRangeOptions, AreRunOptions, AreStepsOptions, HasFewWorkers, HasFirstRules, IsBlamed, IsNumberFault, IsOrder, MakesConfig};
 
 use clap::ArgMatches;
 use mh_model::config::{Config, Rules};
 use mh_model::limits::{LEAST_QUANTUM, MOST_EVERY, MOST_PAGES, MOST_QUANTUM};
-use mh_orders::chrome::ChromeOptions;
 use mh_orders::order::{ConfigOption, Form, Order, RunOptions, StepsOptions};
+use mh_orders::range::RangeOptions;
 use mh_orders::steps::{Form as StepsForm, Steps};
 use std::str::FromStr;
 
@@ -237,35 +237,33 @@ pub(crate) fn number_or(matches: &ArgMatches<'_>, name: &str, other: u32) -> u32
     matches.get_one::<u32>(name).unwrap_or(other)
 }
 
+/// Which events of a run are to be written.
+pub(crate) fn range_asked(matches: &ArgMatches<'_>) -> RangeOptions
+    requires { AsksForRange (rows_of (found_of matches.now)) }
+    ensures { AreRangeOptions (rows_of (found_of matches.now)) result }
+{
+    let rules = rules_asked(matches, Rules::Second);
+    RangeOptions {
+        rules,
+        from: number_or(matches, "from", 1),
+        to: number_or(matches, "to", u32::MAX),
+    }
+}
+
 /// How the steps of a script are to be written.
 fn steps_asked(matches: &ArgMatches<'_>) -> StepsOptions
     requires { AsksToTell (rows_of (found_of matches.now)) }
     ensures { AreStepsOptions (rows_of (found_of matches.now)) result }
 {
+    let RangeOptions { rules, from, to } = range_asked(matches);
     let form = if is_flagged(matches, "json") {
         StepsForm::Json
     } else {
         StepsForm::Text
     };
-    let steps = Steps {
-        form,
-        from: number_or(matches, "from", 1),
-        to: number_or(matches, "to", u32::MAX),
-    };
-    let rules = rules_asked(matches, Rules::Second);
-    StepsOptions { steps, rules }
-}
-
-/// How a run is to be written as Chrome trace events.
-fn chrome_asked(matches: &ArgMatches<'_>) -> ChromeOptions
-    requires { AsksToTell (rows_of (found_of matches.now)) }
-    ensures { AreChromeOptions (rows_of (found_of matches.now)) result }
-{
-    let StepsOptions { steps, rules } = steps_asked(matches);
-    ChromeOptions {
+    StepsOptions {
+        steps: Steps { form, from, to },
         rules,
-        from: steps.from,
-        to: steps.to,
     }
 }
 
@@ -277,7 +275,7 @@ pub(crate) fn told_asked(matches: &ArgMatches<'_>) -> Order
     ensures rules { HasFirstRules result }
 {
     if is_flagged(matches, "chrome") {
-        Order::Chrome(chrome_asked(matches))
+        Order::Chrome(range_asked(matches))
     } else {
         Order::Steps(steps_asked(matches))
     }

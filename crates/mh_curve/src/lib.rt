@@ -23,5 +23,5 @@ pub mod promises;
 pub mod script;
 mod skeleton;
 mod table;
-mod tally;
+pub mod tally;
 pub mod text;

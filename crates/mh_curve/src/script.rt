@@ -52,14 +52,15 @@ fn counts_of(trace: &Trace) -> Counts
 }
 
 /// The machine after events.
-fn machine_after<C: Scanner>(
+pub fn machine_after<C: Scanner>(
     alloc: Global,
     config: Config,
     events: &[Event],
     scanner: &mut C,
 ) -> Result<Machine, NoMemory>
-    requires { length events.now ≤ most_entries }
-    ensures { IfOk result (λ machine. machine.machine ≡ machine_after (first_machine config) events.now) }
+    requires few { length events.now ≤ most_entries }
+    ensures machine { IfOk result (λ machine. machine.machine ≡ machine_after (first_machine config) events.now) }
+    ensures count { IfOk result (λ machine. machine.done ≡ length events.now) }
 {
     let mut machine = Machine::open(alloc, config)?;
     for event in events {

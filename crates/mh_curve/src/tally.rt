@@ -39,7 +39,7 @@ fn is_short_with(trace: &Trace, mutator: u64, collector: u64) -> bool
 }
 
 /// Adds the units of an entry to a trace.
-fn extend(trace: &mut Trace, mutator: u64, collector: u64) -> Result<(), NoMemory>
+pub fn extend(trace: &mut Trace, mutator: u64, collector: u64) -> Result<(), NoMemory>
     requires short { length trace.old.trace.letters + (mutator + collector) < LIFE }
     requires bounded { IsShortTrace trace.old.trace }
     ensures trace { OnOk result (Extends trace.old.trace mutator collector trace.new.trace) }

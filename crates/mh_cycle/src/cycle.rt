@@ -126,6 +126,20 @@ impl Cycle {
         self.number
     }
 
+    /// While roots are scanned the number of the next slot, and while the table is swept or defragmented the next place.
+    pub fn cursor(&self) -> usize
+        ensures { result ≡ self.now.collector.cursor }
+    {
+        self.cursor
+    }
+
+    /// Whether a cycle is asked for.
+    pub fn is_asked(&self) -> bool
+        ensures { result ≡ self.now.collector.is_asked }
+    {
+        self.is_asked
+    }
+
     /// How many quanta the running cycle has had, with the one that started it, and 0 while none runs.
     pub fn quanta_run(&self) -> u64
         ensures { result ≡ self.now.collector.quanta }

@@ -1,5 +1,5 @@
 -- The lines that events write one by one are those of the cycles of the run.
-use Rattle.std.proofs.Common.{◌≡◌, ℕ, suc, ◌-◌, ◌==◌, ◌≤◌, Bool, true, false, not, if◌then◌else◌, Option, Some, None, option_map, List, [], ◌∷◌, ◌++◌, length, take, flat_map, refl, sym, ap, ◌∙◌, subst, arith, append-nil, append_assoc}
+use Rattle.std.proofs.Common.{◌≡◌, ℕ, suc, ◌-◌, ◌==◌, ◌≤◌, Bool, true, false, not, if◌then◌else◌, Option, Some, None, option_map, List, [], ◌∷◌, ◌++◌, length, take, flat_map, refl, sym, ap, ◌∙◌, arith, append-nil, append_assoc}
 use Rattle.std.specs.Io.KnownBytes.{Appends}
 use Rattle.std.proofs.lemmas.List.{take_all}
 use Rattle.std.proofs.lemmas.Option.{none-some, same_Some}
@@ -10,12 +10,10 @@ use Rattle.mh_model.specs.Bytes.{Text}
 use Rattle.mh_model.specs.Collector.{is_idle}
 use Rattle.mh_model.specs.Deeds.{account_of}
 use Rattle.mh_model.specs.Machine.{Machine, first_machine, event_step, stat_on}
-use Rattle.mh_machine.specs.Running.{Running, first_running}
+use Rattle.mh_steps.specs.OfScript.OfMachine.Running.{Running, first_running}
 use Rattle.mh_text.specs.Stream.{AppendsBeginning}
-use Rattle.mh_script.specs.Texts.{Buffers}
-use Rattle.mh_script.proofs.AddedLines.{AddsLines, HasAdded, added_begins, added_fails, state_after}
-use Rattle.mh_script.proofs.BufferLemmas.{AppendsBeginning-after, Appends-buffers, Buffers-more}
-use Rattle.mh_script.proofs.PieceLemmas.{begun_first}
+use Rattle.mh_steps.proofs.OfScript.AddedLines.{AddsLines, HasAdded, added_begins, added_fails, state_after}
+use Rattle.mh_steps.proofs.OfScript.PieceLemmas.{begun_after, begun_first, written_all}
 use Rattle.mh_cycle_laws.specs.Cycles.{Cycle, starts_cycle, cycle_begun, cycle_with, has_ended, cycle_through, cycles_from}
 use Rattle.mh_cycle_laws.proofs.EventLemmas.{IsSafe, safe-first, safe-event}
 use Rattle.mh_cycles.specs.declared.underway.Underway.{Underway}
@@ -261,8 +259,12 @@ module _ {events : List Event} {i : ℕ} {first now : Stage} {old new : Option T
     abbrev tail : Text
     tail = kept_text now.watch.cycle number now.machine
 
-    taken : Buffers old new longer (front ++ tail)
-    taken = Buffers-more old new buffer front tail longer (front ++ tail) has.buffers longer_is refl
+    -- what was written of the lines, and what waits
+    abbrev written : Text
+    written = has.buffers.0
+
+    waits : written ++ longer ≡ front ++ tail
+    waits = ap (λ text. written ++ text) longer_is ∙ (sym (append_assoc written buffer tail) ∙ ap (λ text. text ++ tail) has.buffers.2)
 
     all : front ++ tail ≡ whole
     all =
@@ -273,7 +275,7 @@ module _ {events : List Event} {i : ℕ} {first now : Stage} {old new : Option T
 
     -- all was written, or a prefix of it
     pub finishes : (last : Option Text) → Appends new last longer → Appends old last whole
-    finishes last written = subst (Appends old last) all (Appends-buffers old new last longer (front ++ tail) taken written)
+    finishes last wrote = written_all old new last written longer whole has.buffers.1 wrote (waits ∙ all)
 
     pub finish-fails : (last : Option Text) → AppendsBeginning new last longer → AppendsBeginning old last whole
-    finish-fails last begun = AppendsBeginning-after old new last longer (front ++ tail) [] whole taken begun (append-nil (front ++ tail) ∙ all)
+    finish-fails last begun = begun_after old new last written longer [] whole has.buffers.1 begun (append-nil (written ++ longer) ∙ (waits ∙ all))

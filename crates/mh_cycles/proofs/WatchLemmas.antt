@@ -9,7 +9,7 @@ use Rattle.mh_model.specs.Collector.{is_idle}
 use Rattle.mh_model.specs.Deeds.{Account, units_of, account_of}
 use Rattle.mh_model.specs.Machine.{Machine, event_step, machine_after, stat_on}
 use Rattle.mh_model.specs.Trace.{collector_count}
-use Rattle.mh_machine.specs.Running.{Running, first_running}
+use Rattle.mh_steps.specs.OfScript.OfMachine.Running.{Running, first_running}
 use Rattle.mh_cycle_laws.specs.Cycles.{opens, ran_deeds}
 use Rattle.mh_cycles.specs.declared.underway.Underway.{Underway}
 use Rattle.mh_cycles.specs.declared.watch.Watch.{Watch}

@@ -5,11 +5,11 @@
 //! kept. All that is said of `run_script` holds too.
 ghost use Rattle.std.specs.Prelude.{◌≡◌, ◌<◌, ◌≤◌, ◌^◌, length, IfOk, OnOk, OnErr, IsErrOf};
 ghost use Rattle.std.specs.Io.KnownBytes.{Appends, Keeps};
-ghost use Rattle.mh_machine.specs.Running.{first_running};
+ghost use Rattle.mh_steps.specs.OfScript.OfMachine.Running.{first_running};
 ghost use Rattle.mh_model.specs.Limits.{most_entries};
 ghost use Rattle.mh_model.specs.Output as model;
-ghost use Rattle.mh_script.specs.Run.{EndsAs, HasReason, Outputs, TakesToRun, WritesBeginning, transcript};
-ghost use Rattle.mh_script.specs.Texts.{LeavesSource, Blames, WantsMemory};
+ghost use Rattle.mh_steps.specs.OfScript.Run.{EndsAs, HasReason, Outputs, TakesToRun, WritesBeginning, transcript};
+ghost use Rattle.mh_steps.specs.OfScript.Texts.{LeavesSource, Blames, WantsMemory};
 ghost use Rattle.mh_text.specs.Stream.{AppendsBeginning};
 ghost use Rattle.mh_cycles.specs.Lines.{cycles_text};
 
@@ -17,12 +17,12 @@ use crate::watch::Watch;
 use mh_deeds::account::Account;
 use mh_model::command::Event;
 use mh_model::config::{Config, Rules};
-use mh_script::end::End;
-use mh_script::fault::{ScriptFault, WriteError};
-use mh_script::mh_machine::machine::Machine;
-use mh_script::mh_scan::scan::{OneScan, Scanner};
-use mh_script::texts::{flush, flush_full};
-use mh_script::transcript::{Transcript, transcribe};
+use mh_steps::mh_script::end::End;
+use mh_steps::mh_script::fault::{ScriptFault, WriteError};
+use mh_steps::mh_script::mh_machine::machine::Machine;
+use mh_steps::mh_script::mh_scan::scan::{OneScan, Scanner};
+use mh_steps::mh_script::texts::{flush, flush_full};
+use mh_steps::mh_script::transcript::{Transcript, transcribe};
 use mh_text::script::SCRIPT_BYTES;
 use mh_text::sink::Sink;
 use mh_text::source::Source;

@@ -7,6 +7,7 @@ ghost use Rattle.mh_cycles.specs.Tallies.{HasRoom, counts_of, counts_sum, counts
 use mh_model::cycle::Phase;
 use mh_model::deed::{Deed, Fate, Tier};
 use mh_model::place::Place;
+use mh_steps::deed_fields::deed_units;
 
 /// The units of a cycle by its phases.
 #[derive(Clone, Copy)]
@@ -63,20 +64,6 @@ const NO_COUNTS: Counts = Counts {
     moved: 0,
     words: 0,
 };
-
-/// What a deed costs.
-fn deed_units(deed: &Deed) -> u128
-    ensures { result ≡ deed_units deed.now }
-{
-    match *deed {
-        Deed::Root { .. } => 2,
-        Deed::Mark { .. } | Deed::Reference { .. } => 1,
-        Deed::Pass { .. } | Deed::Sweep { .. } | Deed::Stay { .. } => 1,
-        Deed::Move { class_size, .. } => 1 + class_size as u128,
-        Deed::ForwardRoots => 144,
-        _ => 0,
-    }
-}
 
 /// 1 for slot 0 of a page.
 fn begins_page(place: Place) -> u128

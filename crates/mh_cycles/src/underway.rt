@@ -12,9 +12,9 @@ use crate::line::{CycleLine, Ending};
 use crate::tally::Tally;
 use crate::watch::Watch;
 use mh_deeds::account::Account;
-use mh_machine::machine::Machine;
 use mh_model::cycle::Phase;
 use mh_model::stat::Stat;
+use mh_steps::mh_script::mh_machine::machine::Machine;
 
 /// What is in a heap.
 #[derive(Clone, Copy)]

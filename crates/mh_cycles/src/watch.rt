@@ -1,6 +1,5 @@
 //! What is known of a run between two events: the cycle that runs, whether one is asked for, and what is in the heap.
-ghost use Rattle.std.specs.Prelude.{◌≡◌, ◌+◌, ◌-◌, ◌≤◌, ◌<◌, ◌^◌, ◌++◌, suc, IfOk, IfSome, OnOk};
-ghost use Rattle.mh_machine.specs.Running.{Does};
+ghost use Rattle.std.specs.Prelude.{◌≡◌, ◌+◌, ◌-◌, ◌≤◌, ◌<◌, ◌^◌, ◌++◌, suc, IfSome, OnOk};
 ghost use Rattle.std.specs.List.{sum_by};
 ghost use Rattle.std.specs.String.{string_bytes};
 ghost use Rattle.mh_deeds.specs.Accounts.{account_in};
@@ -15,12 +14,12 @@ ghost use Rattle.mh_cycles.specs.Tallies.{IsWithin, Watches, asked_after, first_
 use crate::line::push_line;
 use crate::underway::Underway;
 use mh_deeds::account::Account;
-use mh_machine::machine::Machine;
 use mh_model::command::{Control, Event};
 use mh_model::cycle::Phase;
 use mh_model::memory::NoMemory;
-use mh_model::reply::Reply;
 use mh_model::stat::Stat;
+use mh_steps::mh_script::mh_machine::machine::Machine;
+use mh_steps::run::answer_told;
 
 /// What is known between two events.
 #[derive(Clone, Copy)]
@@ -133,23 +132,5 @@ impl Watch {
         let number = machine.done();
         self.note(number, event, machine, account);
         self.close(number, machine, text)
-    }
-}
-
-/// Does an event, and tells what it does.
-fn answer_told(
-    machine: &mut Machine,
-    event: Event,
-    account: &mut Account,
-) -> Result<Reply, NoMemory>
-    requires { machine.old.done < most_entries }
-    ensures does { IfOk result (λ reply. Does machine.old event reply machine.new) }
-    ensures told { OnOk result (account_in account.new ≡ account_of machine.old.machine event) }
-{
-    let reply = machine.step_told_in_room(event, account)?;
-    if account.is_whole() {
-        Ok(reply)
-    } else {
-        Err(NoMemory)
     }
 }

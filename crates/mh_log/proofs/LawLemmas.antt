@@ -3,7 +3,7 @@ use Rattle.std.proofs.Common.{◌≡◌, List, refl}
 use Rattle.mh_model.specs.declared.history.Verdict.TheVariants.{Legal}
 use Rattle.mh_model.specs.Script.{Reading, BadLine, Means}
 use Rattle.mh_model.specs.Sessions.{IsLegalForSessions}
-use Rattle.mh_judging.specs.Judged.{IsVerdictOn}
+use Rattle.mh_sessions.specs.OfJudging.Judged.{IsVerdictOn}
 use Rattle.mh_log.specs.declared.timed.Timed.{Timed}
 use Rattle.mh_log.specs.Laws.{LegalLogsAreLinearizable, OrdersAreOfTheirLog}
 use Rattle.mh_log.specs.Linearizations.{HasLog, IsLinearization}

@@ -3,9 +3,9 @@ use Rattle.std.proofs.Common.{◌≡◌, ◌≢◌, ◌∙◌, inl, inr, ℕ, su
 use Rattle.std.proofs.Math.Seq.{take-append-add}
 use Rattle.std.proofs.lemmas.Bool.{false≢true}
 use Rattle.std.proofs.lemmas.List.{length-map, map-append, take-append-drop, take_more}
-use Rattle.mh_judging.specs.declared.entry_fault.EntryFault.{EntryFault}
-use Rattle.mh_judging.specs.Faults.{HasFault, IsFaultAfter}
-use Rattle.mh_judging.proofs.ReplayLemmas.{Stands}
+use Rattle.mh_sessions.specs.OfJudging.EntryFault.{EntryFault}
+use Rattle.mh_sessions.specs.OfJudging.Faults.{HasFault, IsFaultAfter}
+use Rattle.mh_sessions.proofs.OfJudging.ReplayLemmas.{Stands}
 use Rattle.mh_model.specs.declared.birth.TheConstants.{LIFE}
 use Rattle.mh_model.specs.declared.command.Command.{Command}
 use Rattle.mh_model.specs.declared.command.Event.{Event}

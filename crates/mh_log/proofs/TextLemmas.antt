@@ -2,9 +2,9 @@
 use Rattle.std.proofs.Common.{◌≡◌, ◌∙◌, ℕ, ◌≤◌, nat_lt, Bool, true, false, Option, Some, None, List, [], ◌++◌, length, ap, sym, refl, subst, append-nil, length-append, arith}
 use Rattle.std.specs.Io.KnownBytes.{Consumes, IsAtEnd}
 use Rattle.std.proofs.lemmas.Bool.Decides.{nat_tests}
-use Rattle.mh_judging.specs.Judged.{IsVerdictOn}
-use Rattle.mh_judging.proofs.JudgedLemmas.{GoesBy}
-use Rattle.mh_judging.proofs.OfScript.SourceLemmas.{IsBounded}
+use Rattle.mh_sessions.specs.OfJudging.Judged.{IsVerdictOn}
+use Rattle.mh_sessions.proofs.OfJudging.JudgedLemmas.{GoesBy}
+use Rattle.mh_sessions.proofs.OfJudging.OfScript.SourceLemmas.{IsBounded}
 use Rattle.mh_model.specs.declared.config.Rules.{Rules}
 use Rattle.mh_model.specs.declared.history.Verdict.{Verdict}
 use Rattle.mh_model.specs.declared.history.Verdict.TheVariants.{Refused}

@@ -1,7 +1,7 @@
 -- What is wrong with the first bad entry of an order.
 use Rattle.std.specs.Prelude.{◌≡◌, ℕ, suc, List}
 use Rattle.mh_model.specs.declared.config.Rules.{Rules}
-use Rattle.mh_judging.specs.Faults.{HasFault}
+use Rattle.mh_sessions.specs.OfJudging.Faults.{HasFault}
 use Rattle.mh_sessions.specs.Faults.{IsUnseenAfter}
 use Rattle.mh_log.specs.declared.fault.OrderFault.{OrderFault}
 use Rattle.mh_log.specs.declared.fault.OrderFault.TheVariants.{Late, Unseen}

@@ -6,11 +6,11 @@ use Rattle.mh_model.specs.declared.history.Verdict.{Verdict}
 use Rattle.mh_model.specs.declared.history.Verdict.TheVariants as verdict
 use Rattle.mh_model.specs.Bytes.{Text}
 use Rattle.mh_model.specs.Script.{Means}
-use Rattle.mh_judging.specs.Judged.{BeginsToJudge, Judges}
-use Rattle.mh_judging.specs.OfScript.Run.{Device}
-use Rattle.mh_judging.specs.OfScript.ScriptFault.{ScriptFault}
-use Rattle.mh_judging.specs.OfScript.ScriptFault.TheVariants.{Read, Write, NoMemory, HistoryFull}
-use Rattle.mh_judging.specs.OfScript.Texts.{Blames, IsTextOf, LeavesSource, WantsMemory}
+use Rattle.mh_sessions.specs.OfJudging.Judged.{BeginsToJudge, Judges}
+use Rattle.mh_sessions.specs.OfJudging.OfScript.Run.{Device}
+use Rattle.mh_sessions.specs.OfJudging.OfScript.ScriptFault.{ScriptFault}
+use Rattle.mh_sessions.specs.OfJudging.OfScript.ScriptFault.TheVariants.{Read, Write, NoMemory, HistoryFull}
+use Rattle.mh_sessions.specs.OfJudging.OfScript.Texts.{Blames, IsTextOf, LeavesSource, WantsMemory}
 use Rattle.mh_log.specs.declared.judgement.LogJudgement.{LogJudgement}
 use Rattle.mh_log.specs.declared.judgement.LogJudgement.TheVariants.{Legal, Refused, FirstBad}
 use Rattle.mh_log.specs.declared.timed.Timed.{Timed}

@@ -5,7 +5,7 @@ use Rattle.mh_model.specs.declared.history.Entry.{Entry}
 use Rattle.mh_model.specs.declared.history.Verdict.{Verdict}
 use Rattle.mh_model.specs.Bytes.{Text}
 use Rattle.mh_model.specs.Sessions.{IsLegalForSessions}
-use Rattle.mh_judging.specs.Judged.{IsVerdictOn}
+use Rattle.mh_sessions.specs.OfJudging.Judged.{IsVerdictOn}
 use Rattle.mh_log.specs.declared.timed.Timed.{Timed}
 use Rattle.mh_log.specs.Logs.{ordered_reading}
 use Rattle.mh_log.specs.Times.{KeepsTime}

@@ -1,6 +1,6 @@
 //! What is wrong with the first bad entry of an order, and the text that says it. No contract speaks of the text: tests
 //! compare it.
-use mh_judging::entry_fault::EntryFault;
+use mh_sessions::mh_judging::entry_fault::EntryFault;
 use std::fmt;
 
 /// What is wrong with an entry of an order.

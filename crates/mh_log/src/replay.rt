@@ -4,7 +4,7 @@
 //! too many. An order is followed so after the verdict, so a legal one costs nothing more.
 ghost use Rattle.std.specs.Prelude.{◌≡◌, ◌≢◌, ◌<◌, ◌≤◌, ◌+◌, [], IfOk, OnOk, OnErr};
 ghost use Rattle.mh_heap.specs.PlainHeap.{world_of};
-ghost use Rattle.mh_judging.specs.Faults.{HasFault, IsFaultAfter};
+ghost use Rattle.mh_sessions.specs.OfJudging.Faults.{HasFault, IsFaultAfter};
 ghost use Rattle.mh_log.specs.Orders.{entries_of};
 ghost use Rattle.mh_model.specs.declared.birth.TheConstants.{LIFE};
 ghost use Rattle.mh_model.specs.declared.config.Config.{Config};
@@ -18,14 +18,14 @@ ghost use Rattle.mh_sessions.specs.Faults.{IsUnseen, IsUnseenAfter};
 use crate::timed::Timed;
 use mh_heap::perform::perform;
 use mh_heap::plain::PlainHeap;
-use mh_judging::entry_fault::EntryFault;
-use mh_judging::reply_fault::reply_fault;
 use mh_model::command::{Command, Event};
 use mh_model::config::{Config, Rules};
 use mh_model::history::Entry;
 use mh_model::limits::{LEAST_QUANTUM, MOST_EVENTS};
 use mh_model::memory::NoMemory;
 use mh_model::reply::{Refusal, Reply};
+use mh_sessions::mh_judging::entry_fault::EntryFault;
+use mh_sessions::mh_judging::reply_fault::reply_fault;
 use std::alloc::Global;
 
 /// Whether a command that makes an object is answered that there is no room for it.

@@ -6,8 +6,8 @@
 //! when it is blamed. Memory is refused only for bytes that the source gave, or for a text that begins with a command.
 ghost use Rattle.std.specs.Prelude.{◌≢◌, ◌<◌, ◌^◌, IfOk, OnErr, IsErrOf};
 ghost use Rattle.std.specs.Io.KnownBytes.{Keeps};
-ghost use Rattle.mh_judging.specs.Judged.{BeginsToJudge, Judges};
-ghost use Rattle.mh_judging.specs.OfScript.Texts.{Blames, LeavesSource, WantsMemory};
+ghost use Rattle.mh_sessions.specs.OfJudging.Judged.{BeginsToJudge, Judges};
+ghost use Rattle.mh_sessions.specs.OfJudging.OfScript.Texts.{Blames, LeavesSource, WantsMemory};
 ghost use Rattle.mh_log.specs.Beginnings.{BeginsWithCommand};
 ghost use Rattle.mh_log.specs.Judgements.{ExplainsLog, IsLogExplained, verdict_of};
 ghost use Rattle.mh_log.specs.Orders.{IsLogJudged};

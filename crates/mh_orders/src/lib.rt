@@ -6,7 +6,6 @@
 
 pub mod allocation;
 pub mod allocations;
-pub mod chrome;
 pub mod classes;
 pub mod curve;
 pub mod generate_options;
@@ -14,6 +13,7 @@ pub mod heap_options;
 pub mod order;
 pub mod profile;
 pub mod promises;
+pub mod range;
 pub mod rate_options;
 pub mod rates;
 pub mod steps;

@@ -1,10 +1,10 @@
 //! Orders, and the options of a configuration. An order has all that the program needs but its devices. A
 //! configuration in it is within the limits, since its type is. That workers are from 1 to 64 is a clause of
 //! `line_order`.
-use crate::chrome::ChromeOptions;
 use crate::curve::CurveOptions;
 use crate::generate_options::Options;
 use crate::heap_options::HeapOptions;
+use crate::range::RangeOptions;
 use crate::rate_options::RateOptions;
 use crate::steps::Steps;
 use crate::target_options::TargetOptions;
@@ -63,11 +63,11 @@ pub enum Order {
     /// Run the script on standard input, and tell what each event did.
     Steps(StepsOptions),
     /// Run the script on standard input, and write it as Chrome trace events.
-    Chrome(ChromeOptions),
+    Chrome(RangeOptions),
     /// Run the script on standard input under these rules, and write a line for each cycle.
     Cycles(Rules),
-    /// Run the script on standard input under these rules, and write a page that shows the run.
-    Show(Rules),
+    /// Run the script on standard input, and write a page that shows these events.
+    Show(RangeOptions),
     /// Answer each line of standard input as it comes, with so many workers at most.
     Live(usize),
     /// Let the sessions of the script on standard input race, with so many workers at most.

@@ -5,8 +5,8 @@
 //! cycle and ends a cycle with exactly what that reached or was born since (`keeps`). It starts a cycle with what is
 //! reachable in the heap's view (`starts`). It leaves no forwarders but those that it made (`forwarders`).
 //!
-//! `start` asks for a cycle. These are read: free pages, live blocks, forwarders, phase and cycles; the dump of the
-//! table; the root slots; births, the quanta left, the limit of a quantum.
+//! `start` asks for a cycle. These are read: free pages, live blocks, forwarders, phase and cycles; the table and its
+//! dump; the root slots, the cursor and the grey list; births, the quanta left, the limit of a quantum.
 //!
 //! The heap has a `drop` of its own, which takes it apart and does nothing else. So whoever owns one proves one call
 //! when it is dropped. A derived drop is proved table by table in the proof of each owner, at each of its ends: some 25
@@ -31,6 +31,7 @@ ghost use Rattle.mh_paged.specs.Lawful.{IsLawful};
 use crate::lent::{dump_table, forwarder_count, free_pages, live_count, root, shape_of};
 use mh_classes::parts::{Parts, parts};
 use mh_cycle::cycle::Cycle;
+use mh_cycle::mh_blocks::blocks::Blocks;
 use mh_cycle::mh_scan::scan::Scanner;
 use mh_groups::group::PartPlaces;
 use mh_laws::bounds::{collectors_stay_in_bounds, quantum_starts_one_cycle_at_most};
@@ -165,6 +166,27 @@ impl KeptHeap {
         ensures { result.now ≡ self.now.collector.slots }
     {
         self.cycle.roots.slots()
+    }
+
+    /// The table of its blocks.
+    pub fn blocks(&self) -> &Blocks
+        ensures { result.now ≡ self.now.collector.table }
+    {
+        &self.cycle.blocks
+    }
+
+    /// While roots are scanned the number of the next slot, and while the table is swept or defragmented the next place.
+    pub fn cursor(&self) -> usize
+        ensures { result ≡ self.now.collector.cursor }
+    {
+        self.cycle.cursor()
+    }
+
+    /// Whether a cycle is asked for.
+    pub fn is_asked(&self) -> bool
+        ensures { result ≡ self.now.collector.is_asked }
+    {
+        self.cycle.is_asked()
     }
 
     /// How many cycles have started.

@@ -3,7 +3,7 @@
 //! A command of a session tells where the parts of a new object were placed, and then what its barrier made grey. That
 //! is read off the end of the grey list after the command, in the order of shading. A quantum tells its deeds, whose
 //! units are what it spent. Both are otherwise as those that tell nothing.
-ghost use Rattle.std.specs.Prelude.{◌≡◌, ◌<◌, ◌≤◌, drop, length, map};
+ghost use Rattle.std.specs.Prelude.{◌≡◌, ◌<◌, ◌≤◌, Some, drop, length, map, slice_get};
 ghost use Rattle.mh_model.specs.declared.birth.TheConstants.{LIFE};
 ghost use Rattle.mh_model.specs.declared.command.Command.TheVariants as command;
 ghost use Rattle.mh_model.specs.declared.deed.Deed.TheVariants as deed;
@@ -23,6 +23,7 @@ use mh_laws::snapshots::{collectors_stay_steady, commands_keep_the_snapshot, hea
 use mh_model::command::Command;
 use mh_model::cycle::Spent;
 use mh_model::deed::Deed;
+use mh_model::place::Place;
 use mh_model::reply::Reply;
 
 impl KeptHeap {
@@ -49,6 +50,14 @@ impl KeptHeap {
         ensures { result ≡ length self.now.collector.grey }
     {
         self.cycle.grey_count()
+    }
+
+    /// The grey place of a number, counted from 0.
+    pub fn grey_at(&self, index: usize) -> Place
+        requires { index < length self.now.collector.grey }
+        ensures { slice_get self.now.collector.grey index ≡ Some result }
+    {
+        self.cycle.grey_at(index)
     }
 
     /// Tells what became grey after so many were.

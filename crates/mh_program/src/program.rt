@@ -47,9 +47,9 @@ use mh_log::mh_sessions::mh_judging::run_history::run_history;
 use mh_log::mh_sessions::texts::check_sessions;
 use mh_log::texts::check_log;
 use mh_model::config::{Config, Rules};
-use mh_orders::chrome::ChromeOptions;
 use mh_orders::generate_options::Options;
 use mh_orders::order::{Form, Order, RunOptions, SessionsOptions, StepsOptions};
+use mh_orders::range::RangeOptions;
 use mh_race_text::race::race_script;
 use mh_show::mh_curve::kind::TextKind;
 use mh_show::mh_steps::run::tell_script;
@@ -150,7 +150,7 @@ fn steps<S: Source, W: Sink, E: Sink>(
 /// Writes a script's run as Chrome trace events, and reports how it ended if not well.
 fn chrome<S: Source, W: Sink, E: Sink>(
     alloc: Global,
-    options: ChromeOptions,
+    options: RangeOptions,
     source: &mut S,
     sink: &mut W,
     errors: &mut Errors<E>,
@@ -190,19 +190,19 @@ fn cycles<S: Source, W: Sink, E: Sink>(
 /// Writes the page of a script, and reports how its run ended if not well.
 fn show<S: Source, W: Sink, E: Sink>(
     alloc: Global,
-    rules: Rules,
+    options: RangeOptions,
     source: &mut S,
     sink: &mut W,
     errors: &mut Errors<E>,
 ) -> u8
     requires source_count { S.failures source.old < 2 ^ 62 }
     requires sink_count { W.failures sink.old < 2 ^ 62 }
-    ensures { Obeys (IsRun (transcript page_text rules)
+    ensures { Obeys (IsRun (transcript (page_text options) options.rules)
         (device (S.rest source.old) (S.failures source.old)) (device (S.rest source.new) (S.failures source.new))
         (device (W.written sink.old) (W.failures sink.old)) (device (W.written sink.new) (W.failures sink.new))) (SaysRun SaysEnd) status_of
         errors.old errors.new result }
 {
-    let ended = show_script(alloc, source, sink, rules);
+    let ended = show_script(alloc, source, sink, options);
     errors.say_end(&ended);
     status(&ended)
 }
@@ -430,7 +430,7 @@ pub fn serve<R: Threads + Wait + Sync, S: Source, W: Sink, E: Sink, G: CrewGate 
         Ok(Order::Steps(options)) => steps(alloc, options, source, sink, errors),
         Ok(Order::Chrome(options)) => chrome(alloc, options, source, sink, errors),
         Ok(Order::Cycles(rules)) => cycles(alloc, rules, source, sink, errors),
-        Ok(Order::Show(rules)) => show(alloc, rules, source, sink, errors),
+        Ok(Order::Show(options)) => show(alloc, options, source, sink, errors),
         Ok(Order::Live(workers)) => live(rt, alloc, workers, source, sink, errors, gate),
         Ok(Order::Race(workers)) => race(rt, alloc, workers, source, sink, errors, gate),
         Ok(Order::Check(config)) => check(alloc, config, source, sink, errors),

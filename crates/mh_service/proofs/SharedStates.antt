@@ -15,8 +15,8 @@ use Rattle.mh_seat_laws.specs.Laws.{LogsMergeToTheHistory}
 use Rattle.mh_service.specs.Services.{ServiceView, IsServed, AreMerged}
 use Rattle.mh_service.specs.Sharing.{IsReplayed, IsReplayOf, IsDone, IsRefused}
 use Rattle.mh_state.specs.Storing.{Stored, KeepsState, MayWantMemory, first_stored, with_entry}
-use Rattle.mh_machine.specs.declared.machine.Stop.{Stop}
-use Rattle.mh_machine.specs.declared.machine.Stop.TheVariants as stop
+use Rattle.mh_state.specs.OfMachine.Stop.{Stop}
+use Rattle.mh_state.specs.OfMachine.Stop.TheVariants as stop
 
 -- a state with the machine and the history of a replay is one too
 pub kept-replayed : (found left : Stored) → IsReplayed found → KeepsState found left → IsReplayed left

@@ -1,2 +1,2 @@
 -- Modules of mh_state that crates above name, so that they list this one alone.
-pub use Rattle.mh_machine.specs.declared.machine.Stop
+pub use Rattle.mh_state.specs.OfMachine.Stop

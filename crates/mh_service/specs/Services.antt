@@ -13,8 +13,8 @@ use Rattle.mh_seat_laws.specs.Merges.{IsMerge}
 use Rattle.mh_service.specs.declared.service.Closed.{Closed}
 use Rattle.mh_service.specs.Sharing.{IsReplayOf, IsDone, IsRefused}
 use Rattle.mh_state.specs.Storing.{Stored}
-use Rattle.mh_machine.specs.declared.machine.Stop.{Stop}
-use Rattle.mh_machine.specs.declared.machine.Stop.TheVariants as stop
+use Rattle.mh_state.specs.OfMachine.Stop.{Stop}
+use Rattle.mh_state.specs.OfMachine.Stop.TheVariants as stop
 
 -- A service: the table of its lock, and its configuration
 pub record ServiceView : Type 0 where

@@ -9,8 +9,8 @@ use Rattle.mh_model.specs.Machine.{event_step}
 use Rattle.mh_model.specs.World.{says}
 use Rattle.mh_state.specs.OfPromise.Replays.{IsReplay}
 use Rattle.mh_state.specs.Storing.{Stored, KeepsState, MayWantMemory, with_entry, IsTheReplay, KeepsItsPromise}
-use Rattle.mh_machine.specs.declared.machine.Stop.{Stop}
-use Rattle.mh_machine.specs.declared.machine.Stop.TheVariants as stop
+use Rattle.mh_state.specs.OfMachine.Stop.{Stop}
+use Rattle.mh_state.specs.OfMachine.Stop.TheVariants as stop
 
 -- the machine is that of its history, which is legal
 pub record IsReplayed (stored : Stored) : Type 0 where

@@ -9,3 +9,4 @@ pub mod FullLemmas
 pub mod StrictLemmas
 pub mod LookLemmas
 pub mod ExplainedLemmas
+pub mod OfJudging

@@ -2,3 +2,6 @@
 pub use Rattle.mh_judging.specs.Judged
 pub use Rattle.mh_judging.specs.declared.judgement.Judgement
 pub use Rattle.mh_judging.specs.RunHistory
+pub use Rattle.mh_judging.specs.Faults
+pub use Rattle.mh_judging.specs.declared.entry_fault.EntryFault
+pub use Rattle.mh_judging.specs.OfScript

@@ -1,6 +1,6 @@
 "use strict";
 // The numbers of the run ---------------------------------------------------------------------------
-// What is drawn of a slot or a page is the last that a deed said of it. A 0 ends each list.
+// What is drawn of a slot or a page is the last that a deed said of it, or what the heap was before. A 0 ends each list.
 const run = JSON.parse(document.getElementById("run").textContent);
 const [rules, pages, quantum, trigger, every] = run.config;
 const listed = (rows) => { rows.pop(); return rows; };
@@ -11,9 +11,17 @@ const events = listed(run.events).map(([text, reply, units, whole, command, root
 // Whose root slots these are: a session's, with its name in the script if that is another, or those of the board
 const names = listed(run.names);
 const ownerOf = (who) => who === 8 ? "board" : (names[who] ?? "s" + who) === "s" + who ? "s" + who : `s${who} (${names[who]})`;
+// what was before the first event of the page: how many events, their units, the collector, and the heap
+const [skipped, mutatorBefore, collectorBefore, cycleBefore, phaseBefore, cursorBefore, isAskedBefore] = run.before;
+const heapBefore = listed(run.heap), rootsBefore = new Array(144).fill(-1);
+for (const [slot, place] of listed(run.roots)) rootsBefore[slot] = place;
+// the number that an event of the page has in the run
+const numberOf = (event) => skipped + event;
 const points = listed(run.curve).map(([window, least, floor]) => ({ window, least, floor }));
 const PHASES = ["idle", "roots", "mark", "sweep", "defrag"];
 const TIERS = ["dense", "free", "sparse"];
+// What stands for a number that isn't known
+const DASH = "\u2013";
 const at = (id) => document.getElementById(id);
 const add = (parent, kind, text) => { const it = parent.appendChild(document.createElement(kind)); it.textContent = text; return it; };
 const slotsOf = (size) => size ? Math.floor(256 / size) : 0;
@@ -46,7 +54,7 @@ const placeOf = (d) => [4, 7, 11, 12, 14, 15].includes(d[0]) ? d[1] : d[0] === 3
 const pageOf = (d) => [6, 8, 9, 10].includes(d[0]) ? d[1] : placeOf(d) >> 6;
 
 // Moments ------------------------------------------------------------------------------------------
-// Moment 0 is before the first event. Each event has a moment after its command, and one after each deed of its quantum.
+// Moment 0 is before the first event of the page. Each event has a moment after its command, and one after each deed of its quantum.
 const UNIT_COLUMNS = ["left", "mutator", "collector"];
 const COLUMNS = ["event", "deed", "phase", "cycle", "cursor", "head", "tail", "free", "live", "old", ...UNIT_COLUMNS];
 const momentCount = events.reduce((sum, e) => sum + 1 + e.deeds.length, 1);
@@ -59,7 +67,7 @@ const slotRows = { moment: [], key: [], before: [], birth: [], part: [], stamp: 
 const pageRows = { moment: [], key: [], before: [], size: [], flag: [] };
 const lastSlot = new Int32Array(pages * 64).fill(-1), lastPage = new Int32Array(pages).fill(-1);
 // the places that were shaded, in order; those from head to tail are the grey list
-const greys = [];
+const greys = listed(run.grey);
 
 function addRow(rows, last, moment, key, change) {
   const before = last[key], row = rows.moment.length;
@@ -115,9 +123,21 @@ function turnPage(now) {
   const row = lastPage[Math.floor(now.cursor / 64)], size = row < 0 ? 0 : pageRows.size[row];
   if (now.cursor % 64 >= slotsOf(size)) now.cursor = 64 * Math.ceil(now.cursor / 64);
 }
+// The heap before: a row of a page has its class and its flag, and one of a block what it is
+function readBefore(now) {
+  for (const row of heapBefore) {
+    if (row.length === 3) { now.free -= 1; addPage(0, row[0], { size: row[1], flag: row[2] }); continue; }
+    const [place, birth, part, stamp, to, references, numbers] = row;
+    now[to < 0 ? "live" : "old"] += 1;
+    addSlot(0, place, { birth, part, stamp, to, references, numbers });
+  }
+}
 (function load() {
-  const now = { event: 0, deed: -1, phase: 0, cycle: 0, cursor: -1, head: 0, tail: 0, free: pages, live: 0, old: 0, left: -1, mutator: 0, collector: 0 };
+  const now = {
+    event: 0, deed: -1, phase: phaseBefore, cycle: cycleBefore, cursor: cursorBefore, head: 0, tail: greys.length, free: pages, live: 0, old: 0, left: -1, mutator: 0, collector: 0,
+  };
   let m = 0;
+  readBefore(now);
   const keep = () => { for (const name of COLUMNS) moments[name][m] = now[name]; m += 1; };
   keep();
   events.forEach((e, i) => {

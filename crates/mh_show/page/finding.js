@@ -1,7 +1,7 @@
 // The address --------------------------------------------------------------------------------------
 // #EVENT and #EVENT.STEP are moments, #cycleN is where a cycle starts, #birthN and #birthN.PART where a block was made.
 const tellFound = (text) => { at("found").textContent = text; };
-const addressOf = (m) => { const event = moments.event[m]; return m === lastOf(event) ? `#${event}` : `#${event}.${m - firstMoment[event]}`; };
+const addressOf = (m) => { const event = moments.event[m], number = numberOf(event); return m === lastOf(event) ? `#${number}` : `#${number}.${m - firstMoment[event]}`; };
 function settle() { clearTimeout(settling); history.replaceState(null, "", addressOf(moment)); }
 // browsers refuse many addresses a second, so it follows once the reader stops
 const SETTLE_TIME = 250;
@@ -12,10 +12,16 @@ function copyLink() {
   const copied = navigator.clipboard ? navigator.clipboard.writeText(location.href) : Promise.reject();
   copied.then(() => tellFound("the link is copied"), () => tellFound(location.href));
 }
+// the event of the page with this number, or the nearest
+function eventOf(number) {
+  const event = Math.max(0, Math.min(events.length, number - skipped));
+  if (numberOf(event) !== number) tellFound(`event ${number} isn't on this page`);
+  return event;
+}
 const ADDRESSES = [
-  [/^#(\d+)$/, (event) => goEvent(+event)],
-  [/^#(\d+)\.(\d+)$/, (event, step) => { const shown = Math.min(events.length, +event); go(Math.min(lastOf(shown), firstMoment[shown] + +step)); }],
-  [/^#cycle(\d+)$/, (number) => { if (!cycles[number - 1]) tellFound(`no cycle ${number}`); go(cycles[number - 1] ? cycles[number - 1].moment : momentCount - 1); }],
+  [/^#(\d+)$/, (number) => goEvent(eventOf(+number))],
+  [/^#(\d+)\.(\d+)$/, (number, step) => { const event = eventOf(+number); go(Math.min(lastOf(event), firstMoment[event] + +step)); }],
+  [/^#cycle(\d+)$/, (number) => { const cycle = cycleOf(+number); if (!cycle) tellFound(`no cycle ${number}`); go(cycle ? cycle.moment : momentCount - 1); }],
   [/^#birth(\d+)(?:\.(\d+))?$/, (birth, part) => { const life = showLife(+birth, +(part || 0)); go(life.length ? life[0].moment : momentCount - 1); }],
 ];
 // goes where an address leads, or else to the last moment
@@ -90,6 +96,11 @@ function sayCommand(life, block, event) {
 // what became of a part of an object, in order
 function lifeOf(birth, part) {
   const life = [], block = { birth, part, place: -1, references: 0, marking: "none" };
+  const there = heapBefore.find((row) => row.length > 3 && row[1] === birth && row[2] === part && row[4] < 0);
+  if (there) {
+    Object.assign(block, { place: there[0], references: there[5] });
+    life.push({ moment: 0, says: `at ${word(there[0])} before the page`, referents: [] });
+  }
   for (let event = 1; event <= events.length && (block.place >= 0 || !life.length); event += 1) { sayCommand(life, block, event); sayQuantum(life, block, event); }
   return life;
 }
@@ -104,7 +115,7 @@ function showLife(birth, part) {
   const life = lifeOf(birth, part), list = at("life"), middle = MOST_LIFE / 2, isLong = life.length > MOST_LIFE;
   list.replaceChildren();
   at("block").value = `${birth}.${part}`;
-  if (!life.length) add(list, "li", `no block ${birth}.${part} was made`);
+  if (!life.length) add(list, "li", `no block ${birth}.${part} is on this page`);
   for (const said of isLong ? life.slice(0, middle) : life) addMoment(list, said);
   if (isLong) { add(list, "li", `${life.length - MOST_LIFE} more`); for (const said of life.slice(-middle)) addMoment(list, said); }
   return life;

@@ -1,5 +1,5 @@
 // The trace ----------------------------------------------------------------------------------------
-// Trace, cycles and time lines lie one above the other: a unit is at the same place in each.
+// Trace, cycles and time lines lie one above the other: a unit is at the same place in each. Units count from the first event of the page.
 const TRACE_HEIGHT = 58, STRIP_HEIGHT = 38;
 const spentIn = (e) => Math.max(0, e.spent);
 const total = events.reduce((sum, e) => sum + e.units + spentIn(e), 0) || 1;
@@ -69,12 +69,13 @@ function paintTrace(c, width) {
 function drawTrace() {
   const [c, width] = penOver("trace", TRACE_HEIGHT, paintTrace), x = drawMoment(c, width, TRACE_HEIGHT);
   c.beginPath(); c.moveTo(x - 5, 0); c.lineTo(x + 5, 0); c.lineTo(x, 6); c.fill();
-  at("trace-head").textContent = `trace: ${now.mutator} units of the mutator (above) and ${now.collector} of the collector (below) so far, of ${total}`;
+  at("trace-head").textContent = `trace: ${now.mutator} units of the mutator (above) and ${now.collector} of the collector (below) so far, of ${total}` + (skipped ? `; before them ${mutatorBefore} and ${collectorBefore}` : "");
 }
 
 // The cycles ---------------------------------------------------------------------------------------
-// A cycle goes from its first quantum to its last. NaN is what only deeds would say that are left out.
-const cycles = [];
+// A cycle goes from its first quantum to its last. NaN is what isn't known: deeds that are left out would say it, or events before the page.
+const cycles = [], firstCycle = cycleBefore + (phaseBefore ? 0 : 1), unitsBefore = mutatorBefore + collectorBefore;
+const cycleOf = (number) => cycles[number - firstCycle];
 const countsAt = (m) => [moments.free[m], moments.live[m], moments.old[m]];
 function beginCycle(number, event, m, isAsked) {
   cycles.push({
@@ -82,6 +83,11 @@ function beginCycle(number, event, m, isAsked) {
     quanta: 0, units: [0, 0, 0, 0, 0], marked: 0, made: 0, freed: 0, moved: 0, before: countsAt(m), after: [NaN, NaN, NaN],
   });
   return cycles[cycles.length - 1];
+}
+// one that runs before the first event of the page
+function goOn() {
+  const cycle = beginCycle(cycleBefore, NaN, 0, false), unknown = Object.fromEntries(["quanta", "marked", "made", "freed", "moved"].map((name) => [name, NaN]));
+  return Object.assign(cycle, unknown, { cause: DASH, units: [0, NaN, NaN, NaN, NaN], before: [NaN, NaN, NaN] });
 }
 function endCycle(cycle, event) {
   const end = lastOf(event);
@@ -99,7 +105,7 @@ function addDeed(cycle, d) {
   else if (d[0] === 12) cycle.moved += 1;
 }
 (function readCycles() {
-  let cycle = null, isAsked = false;
+  let cycle = phaseBefore ? goOn() : null, isAsked = isAskedBefore === 1;
   events.forEach((e, i) => {
     const event = i + 1, phase = moments.phase[firstMoment[event]];
     if (e.text === "* start") isAsked = true;
@@ -114,7 +120,7 @@ function addDeed(cycle, d) {
   });
 })();
 // the number in the list of the cycle that runs at the moment in sight, or -1
-const cycleNow = () => now.cycle && moment <= cycles[now.cycle - 1].end ? now.cycle - 1 : -1;
+const cycleNow = () => cycleOf(now.cycle) && moment <= cycleOf(now.cycle).end ? now.cycle - firstCycle : -1;
 // the cycle that runs at this unit, or else the last before it, or the first
 function cycleAt(unit) { return cycles[Math.max(0, firstOf(0, cycles.length, (i) => cycles[i].from > unit) - 1)]; }
 const goCycle = (cycle) => { if (cycle) go(cycle.moment); };
@@ -144,7 +150,7 @@ function drawNumbers(c, width) {
   for (let x = 0; x < width && cycles.length; x = Math.max(x + 1, free)) {
     const cycle = cycles[firstOf(0, cycles.length - 1, (i) => cycles[i].from / total * width >= x)], left = cycle.from / total * width, size = c.measureText(cycle.number).width;
     if (left < x) return;
-    c.fillStyle = colours[cycle.number - 1 === current ? "--ink" : "--dim"];
+    c.fillStyle = colours[cycle === cycles[current] ? "--ink" : "--dim"];
     if (left + size <= width) c.fillText(cycle.number, left, 10);
     free = Math.ceil(left + size + 6);
   }
@@ -168,13 +174,13 @@ function drawStrip() {
 }
 
 // The table of cycles ------------------------------------------------------------------------------
-const TABLE_ROW = 20, DASH = "\u2013";
+const TABLE_ROW = 20;
 const CYCLE_COLUMNS = ["cycle", "cause", "first", "last", "quanta", "roots", "mark", "sweep", "defrag", "marked", "made", "freed", "moved", "from", "to", "from", "to", "from", "to"];
 const CYCLE_GROUPS = [["", 2], ["events", 2], ["", 1], ["units", 4], ["blocks", 4], ["free pages", 2], ["live blocks", 2], ["forwarders", 2]];
 const known = (number) => Number.isNaN(number) ? DASH : String(number);
 function cycleRow(c) {
   const pairs = c.before.flatMap((count, i) => [count, c.after[i]]);
-  return [String(c.number), c.cause, ...[c.firstEvent, c.lastEvent || NaN, c.quanta, ...c.units.slice(1), c.marked, c.made, c.freed, c.moved, ...pairs].map(known)];
+  return [String(c.number), c.cause, ...[numberOf(c.firstEvent), c.lastEvent ? numberOf(c.lastEvent) : NaN, c.quanta, ...c.units.slice(1), c.marked, c.made, c.freed, c.moved, ...pairs].map(known)];
 }
 function addCycleRow(body, i, current) {
   const row = add(body, "tr", ""), cycle = cycles[i];
@@ -205,7 +211,7 @@ function beginTable() {
   for (const name of CYCLE_COLUMNS) add(names, "th", name).scope = "col";
   for (const cycle of cycles) cycleRow(cycle).forEach((text, i) => { widths[i] = Math.max(widths[i], text.length); });
   for (const width of widths) add(at("cycle-columns"), "col", "").style.width = width + 2 + "ch";
-  at("cycles-head").textContent = cycles.length ? `cycles: ${cycles.length}` : "cycles: none was started";
+  at("cycles-head").textContent = cycles.length ? `cycles: ${cycles.length}` : "cycles: none runs";
 }
 
 // Time lines ---------------------------------------------------------------------------------------
@@ -290,17 +296,17 @@ const pointAt = (x) => { const scale = curveScale(widths.curve), far = (p) => Ma
 
 // The worst window ---------------------------------------------------------------------------------
 // Where the trace turns from the mutator to the collector or back; before an even turn the collector has its units, after it the mutator.
-const turns = new Float64Array(2 * events.length + 1), mutatorBefore = new Float64Array(2 * events.length + 1);
+const turns = new Float64Array(2 * events.length + 1), mutatorAt = new Float64Array(2 * events.length + 1);
 events.forEach((e, i) => {
   turns[2 * i + 1] = turns[2 * i] + e.units; turns[2 * i + 2] = turns[2 * i + 1] + spentIn(e);
-  mutatorBefore[2 * i + 1] = mutatorBefore[2 * i + 2] = mutatorBefore[2 * i] + e.units;
+  mutatorAt[2 * i + 1] = mutatorAt[2 * i + 2] = mutatorAt[2 * i] + e.units;
 });
 // the mutator's units before a unit, asked for in ascending order
 function mutatorReader() {
   let turn = 0;
   return (unit) => {
     while (turn + 1 < turns.length && turns[turn + 1] <= unit) turn += 1;
-    return mutatorBefore[turn] + (turn % 2 ? 0 : unit - turns[turn]);
+    return mutatorAt[turn] + (turn % 2 ? 0 : unit - turns[turn]);
   };
 }
 // The first place where a window has its least. The units in it fall or rise evenly while neither end is at a turn: so it begins at one, or ends at one.
@@ -319,7 +325,7 @@ function worstOf(window) {
 }
 function showStretch() {
   const { from, window, least } = stretch || {};
-  at("stretch").textContent = stretch ? `The window of ${window} units has its least, ${least} of the mutator, from unit ${from} to ${from + window} of the trace: in events ${eventAt(from)} to ${eventAt(from + window - 1)}.` : "";
+  at("stretch").textContent = stretch ? `The window of ${window} units has its least, ${least} of the mutator, from unit ${unitsBefore + from} to ${unitsBefore + from + window} of the trace: in events ${numberOf(eventAt(from))} to ${numberOf(eventAt(from + window - 1))}.` : "";
   drawCurve();
 }
 function markWindow(window) { stretch = worstOf(window); showStretch(); go(momentOf(stretch.from)); }

@@ -1,6 +1,9 @@
+pub mod BeforeLemmas
+pub mod BoundLemmas
 pub mod EventLemmas
 pub mod PieceLemmas
 pub mod RunLemmas
 pub mod ShownLemmas
+pub mod TextLemmas
 pub mod LeftOutLemmas
 pub mod CursorLemmas

@@ -1,72 +1,105 @@
--- The numbers of a run, of which the events are written one by one.
-use Rattle.std.proofs.Common.{◌≡◌, ◌∙◌, List, [], ◌++◌, Option, ap, subst, append-nil, append_assoc, codes}
-use Rattle.std.proofs.KnownBytes.{Appends-trans}
-use Rattle.std.specs.Io.KnownBytes.{Appends}
-use Rattle.mh_curve.proofs.OfScript.PieceLemmas.{begun_after, begun_by, begun_first, written_all}
-use Rattle.mh_curve.specs.Points.{points_of}
+-- Which events of a run a page has, where their run begins, and what is written of them.
+use Rattle.std.proofs.Common.{◌≡◌, ◌∙◌, ℕ, ◌+◌, ◌-◌, ◌<◌, ◌≤◌, min, max, nat_le, Bool, true, false, List, [], ◌++◌, length, take, drop, ap, refl, subst, sym, append_assoc, arith, codes}
+use Rattle.std.proofs.lemmas.Bool.{leb-false, leb-true}
+use Rattle.std.proofs.lemmas.List.{drop-take, drop_all, length-drop, length-take, take_min}
 use Rattle.mh_model.specs.declared.command.Event.{Event}
 use Rattle.mh_model.specs.declared.config.Config.{Config}
 use Rattle.mh_model.specs.Bytes.{Text}
+use Rattle.mh_model.specs.HistoryTexts.{machine_record}
+use Rattle.mh_model.specs.Limits.{most_entries}
 use Rattle.mh_model.specs.Machine.{Machine, first_machine, machine_after}
 use Rattle.mh_model.specs.Trace.{Letter}
-use Rattle.mh_show.specs.Page.{config_row, shown_events_text, point_row, run_text}
+use Rattle.mh_curve.specs.Histories.{letters_of_entries}
+use Rattle.mh_curve.specs.Points.{points_of}
+use Rattle.mh_orders.specs.declared.range.RangeOptions.{RangeOptions}
+use Rattle.mh_show.specs.Page.{HasRun, events_asked, events_before, fitting, front_text, most_bytes, part_text, point_row, run_text, shown_events_text}
 use Rattle.mh_show.specs.Rows.{listed, row_text}
-use Rattle.mh_text.specs.Stream.{AppendsBeginning}
 
--- what stands before the events, and what after them
-abbrev pub front_text : Config → Text
-front_text config = codes "\"config\":" ++ (row_text (config_row config) ++ codes ",\"events\":[\n")
+-- Events -----------------------------------------------------------------------------------------
 
-abbrev pub rest_text : Config → List Letter → Text
-rest_text config letters = codes "0],\"curve\":" ++ (listed (λ point. row_text (point_row point)) (points_of config letters) ++ codes "}\n")
+-- the events from one number to another, cut at the ends of all of them
+asked_cut : (from to : ℕ) (events : List Event) →
+    take (max (min to (length events)) (min (from - 1) (length events)) - min (from - 1) (length events)) (drop (min (from - 1) (length events)) events) ≡ drop (from - 1) (take to events)
+asked_cut from to events = by (from - 1) where
+  within : (f : ℕ) → f ≤ length events → f ≤ to → take (max (min to (length events)) f - f) (drop f events) ≡ drop f (take to events)
+  within f few before =
+      let count : to ≡ f + (to - f) = omega (arith, before) in
+      let cut : max (min to (length events)) f - f ≡ min (to - f) (length (drop f events)) = omega (arith, few, before, length-drop f events) in
+      ap (λ n. take n (drop f events)) cut ∙ (take_min (to - f) (drop f events) ∙ (sym (drop-take f (to - f) events) ∙ ap (λ n. drop f (take n events)) (sym count)))
 
-pieces : (a row b events rest : Text) → (a ++ (row ++ b)) ++ (events ++ rest) ≡ a ++ (row ++ (b ++ (events ++ rest)))
-pieces a row b events rest = simp append_assoc
+  none : (f : ℕ) → to < f → drop f (take to events) ≡ []
+  none f past = drop_all f (take to events) (omega (arith, length-take to events, past))
 
-module _ (config : Config) (events : List Event) where
-  abbrev shown : Text
-  shown = shown_events_text 0 (first_machine config) events
+  late : (f : ℕ) → f ≤ length events → to < f → take (max (min to (length events)) f - f) (drop f events) ≡ drop f (take to events)
+  late f few past =
+      let nothing : max (min to (length events)) f - f ≡ 0 = omega (arith, past) in
+      ap (λ n. take n (drop f events)) nothing ∙ sym (none f past)
 
-  abbrev rest : Text
-  rest = rest_text config (machine_after (first_machine config) events).trace.letters
+  beyond : (f : ℕ) → length events < f → take (max (min to (length events)) (length events) - length events) (drop (length events) events) ≡ drop f (take to events)
+  beyond f past =
+      let nothing : max (min to (length events)) (length events) - length events ≡ 0 = omega arith in
+      ap (λ n. take n (drop (length events) events)) nothing ∙ sym (drop_all f (take to events) (omega (arith, length-take to events, past)))
 
-  run_is : front_text config ++ (shown ++ rest) ≡ run_text config events
-  run_is = pieces (codes "\"config\":") (row_text (config_row config)) (codes ",\"events\":[\n") shown rest
+  -- the same with a number in place of the lesser of two
+  Asked : ℕ → ℕ → Type 0
+  Asked f b = take (max (min to (length events)) b - b) (drop b events) ≡ drop f (take to events)
 
-  joined_is : (front_text config ++ shown) ++ rest ≡ run_text config events
-  joined_is = append_assoc (front_text config) shown rest ∙ run_is
+  split : (f : ℕ) (is_within is_before : Bool) → nat_le f (length events) ≡ is_within → nat_le f to ≡ is_before → Asked f (min f (length events))
+  split f true true few before =
+      let small : f ≤ length events = leb-true f (length events) few in
+      let least : min f (length events) ≡ f = omega (arith, small) in
+      subst (Asked f) (sym least) (within f small (leb-true f to before))
+  split f true false few past =
+      let small : f ≤ length events = leb-true f (length events) few in
+      let least : min f (length events) ≡ f = omega (arith, small) in
+      subst (Asked f) (sym least) (late f small (leb-false f to past))
+  split f false before past same =
+      let large : length events < f = leb-false f (length events) past in
+      let least : min f (length events) ≡ length events = omega (arith, large) in
+      subst (Asked f) (sym least) (beyond f large)
 
-  pub front_begun : (a b : Option Text) (front : Text) → front ≡ front_text config → AppendsBeginning a b front → AppendsBeginning a b (run_text config events)
-  front_begun a b front is begun = begun_first a b front (shown ++ rest) (run_text config events) begun (ap (λ (text : Text). text ++ (shown ++ rest)) is ∙ run_is)
+  by : (f : ℕ) → Asked f (min f (length events))
+  by f = split f (nat_le f (length events)) (nat_le f to) refl refl
 
-  front_done : (a b : Option Text) (front : Text) → front ≡ front_text config → Appends a b front → Appends a b (front_text config)
-  front_done a b front is wrote = subst (λ (text : Text). Appends a b text) is wrote
+pub asked_is : (from to : ℕ) (events : List Event) (before end : ℕ) → before ≡ min (from - 1) (length events) → end ≡ max (min to (length events)) before → take (end - before) (drop before events) ≡ drop (from - 1) (take to events)
+asked_is from to events before end before_of end_of =
+    ap (λ n. take (n - before) (drop before events)) end_of ∙ (ap (λ b. take (max (min to (length events)) b - b) (drop b events)) before_of ∙ asked_cut from to events)
 
-  pub front_alone : (a b : Option Text) (front : Text) → front ≡ front_text config → Appends a b front → AppendsBeginning a b (run_text config events)
-  front_alone a b front is wrote = begun_by a b (front_text config) (shown ++ rest) (run_text config events) (front_done a b front is wrote) run_is
+-- those before them are the first of all
+before_is : (from : ℕ) (events : List Event) → take (length (take (from - 1) events)) events ≡ take (from - 1) events
+before_is from events = ap (λ n. take n events) (length-take (from - 1) events) ∙ take_min (from - 1) events
 
-  pub events_begun : (a b c : Option Text) (front : Text) (machine : Machine) → front ≡ front_text config → Appends a b front → machine ≡ first_machine config → AppendsBeginning b c (shown_events_text 0 machine events)
-      → AppendsBeginning a c (run_text config events)
-  events_begun a b c front machine is wrote first begun =
-      begun_after a b c (front_text config) shown rest (run_text config events) (front_done a b front is wrote) (subst (λ (m : Machine). AppendsBeginning b c (shown_events_text 0 m events)) first begun) joined_is
+-- a machine after the first events of a history goes on with the next
+pub goes_on : (config : Config) (events : List Event) (before end : ℕ) (machine : Machine) → before ≤ end → end ≤ length events → length events ≤ most_entries → machine ≡ machine_after (first_machine config) (take before events)
+    → HasRun machine (length (take (end - before) (drop before events)))
+goes_on config events before end machine order within few is = record {
+  config = config;
+  before = take before events;
+  few = omega (arith, length-take before events, length-take (end - before) (drop before events), length-drop before events, order, within, few);
+  machine_is = is;
+}
 
-  -- the events are written, and what stands before them
-  abbrev pub HasEvents : Option Text → Option Text → Type 0
-  HasEvents a b = Appends a b (front_text config ++ shown)
+-- Texts ------------------------------------------------------------------------------------------
 
-  pub events_done : (a b c : Option Text) (front : Text) (machine : Machine) → front ≡ front_text config → Appends a b front → machine ≡ first_machine config → Appends b c (shown_events_text 0 machine events)
-      → HasEvents a c
-  events_done a b c front machine is wrote first done =
-      Appends-trans a b c (front_text config) shown (front_done a b front is wrote) (subst (λ (m : Machine). Appends b c (shown_events_text 0 m events)) first done)
+-- the numbers of a part of a run: what stands before its events, these, and their curve
+pub part_is : (config : Config) (front text first second : Text) (machine : Machine) (asked : List Event) (room : ℕ) (letters : List Letter) → text ≡ [] → first ≡ text ++ front → room ≡ most_bytes - length first
+    → second ≡ first ++ shown_events_text 0 machine (fitting room 0 machine asked) → letters ≡ letters_of_entries (machine_record machine (fitting room 0 machine asked))
+    → (third : Text) → third ≡ second ++ (codes "0],\"curve\":" ++ (listed (λ point. row_text (point_row point)) (points_of config letters) ++ codes "}\n")) → third ≡ part_text config front machine asked
+part_is config front text first second machine asked room letters empty has_front room_is has_events letters_are third has_rest =
+    let curve : List Letter → Text = λ ls. codes "0],\"curve\":" ++ (listed (λ point. row_text (point_row point)) (points_of config ls) ++ codes "}\n") in
+    let front_is : first ≡ front = has_front ∙ ap (λ (t : Text). t ++ front) empty in
+    let room_of : room ≡ most_bytes - length front = room_is ∙ ap (λ (t : Text). most_bytes - length t) front_is in
+    let whole : ℕ → Text = λ n. front ++ (shown_events_text 0 machine (fitting n 0 machine asked) ++ curve (letters_of_entries (machine_record machine (fitting n 0 machine asked)))) in
+    has_rest ∙ (ap (λ (t : Text). t ++ curve letters) (has_events ∙ ap (λ (t : Text). t ++ shown_events_text 0 machine (fitting room 0 machine asked)) front_is)
+    ∙ (append_assoc front (shown_events_text 0 machine (fitting room 0 machine asked)) (curve letters)
+    ∙ (ap (λ ls. front ++ (shown_events_text 0 machine (fitting room 0 machine asked) ++ curve ls)) letters_are ∙ ap whole room_of)))
 
-  pub rest_none : (a b : Option Text) → HasEvents a b → AppendsBeginning a b (run_text config events)
-  rest_none a b has = begun_by a b (front_text config ++ shown) rest (run_text config events) has joined_is
-
-  rest_is : (after : Text) → after ≡ rest → (front_text config ++ shown) ++ after ≡ run_text config events
-  rest_is after is = ap (λ (text : Text). (front_text config ++ shown) ++ text) is ∙ joined_is
-
-  pub rest_begun : (a b c : Option Text) (after : Text) → HasEvents a b → after ≡ rest → AppendsBeginning b c after → AppendsBeginning a c (run_text config events)
-  rest_begun a b c after has is begun = begun_after a b c (front_text config ++ shown) after [] (run_text config events) has begun (append-nil _ ∙ rest_is after is)
-
-  pub run_done : (a b c : Option Text) (after : Text) → HasEvents a b → after ≡ rest → Appends b c after → Appends a c (run_text config events)
-  run_done a b c after has is wrote = written_all a b c (front_text config ++ shown) after (run_text config events) has wrote (rest_is after is)
+-- and these are those of the run
+pub run_is : (options : RangeOptions) (config : Config) (events : List Event) (before : ℕ) (asked : List Event) (machine : Machine) (text : Text) → before ≡ length (events_before options events) → asked ≡ events_asked options events
+    → machine ≡ machine_after (first_machine config) (take before events) → text ≡ part_text config (front_text config (length events) before machine) machine asked → text ≡ run_text options config events
+run_is options config events before asked machine text before_of asked_of machine_of text_is =
+    let same : take before events ≡ events_before options events = ap (λ n. take n events) before_of ∙ before_is options.from events in
+    let part : ℕ → Machine → List Event → Text = λ n m es. part_text config (front_text config (length events) n m) m es in
+    text_is ∙ (ap (λ m. part before m asked) (machine_of ∙ ap (machine_after (first_machine config)) same)
+    ∙ (ap (λ n. part n (machine_after (first_machine config) (events_before options events)) asked) before_of
+    ∙ ap (part (length (events_before options events)) (machine_after (first_machine config) (events_before options events))) asked_of))

@@ -4,8 +4,8 @@ use Rattle.mh_model.specs.declared.history.Measured.{Measured}
 use Rattle.mh_model.specs.Bytes.{Text, joined}
 use Rattle.mh_model.specs.HistoryTexts.{event_words}
 use Rattle.mh_model.specs.Replies.{reply_text}
-use Rattle.mh_show.specs.Page.{Shown, ran_text, root_rows, shown_text}
-use Rattle.mh_show.specs.Rows.{deed_rows_text, listed, row_text}
+use Rattle.mh_show.specs.Page.{Shown, ran_text, shown_text}
+use Rattle.mh_show.specs.Rows.{deed_rows_text, listed, root_rows, row_text}
 
 -- what an event was, up to what it did
 abbrev pub measured_text : Bool → Measured → Text

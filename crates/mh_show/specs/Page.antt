@@ -1,22 +1,26 @@
 -- The page of a run: the texts that draw it, and between them its numbers.
-use Rattle.std.specs.Prelude.{ℕ, suc, ◌+◌, ◌==◌, nat_lt, Bool, true, false, if◌then◌else◌, Option, Some, None, List, [], ◌∷◌, ◌++◌, length, codes, decimal}
+use Rattle.std.specs.Prelude.{◌≡◌, ◌≤◌, ℕ, ◌+◌, ◌-◌, nat_lt, nat_le, Bool, if◌then◌else◌, Option, Some, None, List, [], ◌∷◌, ◌++◌, length, take, drop, codes, decimal}
 use Rattle.mh_model.specs.declared.command.Event.{Event}
 use Rattle.mh_model.specs.declared.config.Config.{Config}
 use Rattle.mh_model.specs.declared.history.Measured.{Measured}
 use Rattle.mh_model.specs.Bytes.{Text, joined}
 use Rattle.mh_model.specs.Deeds.{Account, Ran, account_of}
-use Rattle.mh_model.specs.HistoryTexts.{event_words, rules_number, measured_step}
+use Rattle.mh_model.specs.HistoryTexts.{event_words, rules_number, measured_step, machine_record}
+use Rattle.mh_model.specs.Limits.{most_entries}
 use Rattle.mh_model.specs.Machine.{Machine, first_machine, event_step, machine_after}
 use Rattle.mh_model.specs.Replies.{reply_text}
 use Rattle.mh_curve.specs.declared.point.Point.{Point}
+use Rattle.mh_curve.specs.Histories.{letters_of_entries}
 use Rattle.mh_curve.specs.Points.{points_of}
+use Rattle.mh_orders.specs.declared.range.RangeOptions.{RangeOptions}
 use Rattle.mh_steps.specs.Lines.{quoted}
 use Rattle.mh_text.specs.Names.{names_in}
 use Rattle.mh_show.specs.declared.page.TheConstants.{HEAD}
 use Rattle.mh_show.specs.declared.drawing.TheConstants.{DRAWING}
 use Rattle.mh_show.specs.declared.controls.TheConstants.{CONTROLS}
 use Rattle.mh_model.specs.Numbered.{phase_number}
-use Rattle.mh_show.specs.Rows.{PageRow, row_of, row_text, listed, deed_rows_text}
+use Rattle.mh_show.specs.Before.{before_text}
+use Rattle.mh_show.specs.Rows.{PageRow, row_of, row_text, listed, deed_rows_text, root_rows}
 
 -- Past so many deeds only those are written that are kept of a long run
 abbrev pub most_deeds : ℕ
@@ -32,17 +36,6 @@ abbrev pub deed_count : Account → ℕ
 deed_count account = length account.command + ran_deeds account.quantum
 
 -- Events -----------------------------------------------------------------------------------------
-
--- the same reference, or both null
-abbrev pub same_reference : Option ℕ → Option ℕ → Bool
-same_reference None None = true
-same_reference (Some a) (Some b) = a == b
-same_reference _ _ = false
-
--- each root slot, from this one on, that an event left with another reference, and that reference
-abbrev pub root_rows : ℕ → List (Option ℕ) → List (Option ℕ) → List PageRow
-root_rows slot (was ∷ before) (is ∷ after) = if same_reference was is then root_rows (suc slot) before after else row_of slot (is ∷ []) ∷ root_rows (suc slot) before after
-root_rows slot _ _ = []
 
 -- `[SPENT,PHASE,DEEDS]`, or 0 if no quantum was run
 abbrev pub ran_text : Bool → Option Ran → Text
@@ -73,11 +66,21 @@ shown_of machine event =
       after = answer.state.heap.collector.slots;
     }
 
+-- the line of an event of a machine after so many deeds
+abbrev pub event_line : ℕ → Machine → Event → Text
+event_line count machine event = shown_text (nat_lt count most_deeds) (shown_of machine event) ++ codes ",\n"
+
 -- The events of a machine after so many deeds, each on a line
 unfoldable pub shown_events_text : ℕ → Machine → List Event → Text
 shown_events_text count machine [] = []
-shown_events_text count machine (event ∷ events) =
-    shown_text (nat_lt count most_deeds) (shown_of machine event) ++ (codes ",\n" ++ shown_events_text (count + deed_count (account_of machine event)) (event_step machine event).state events)
+shown_events_text count machine (event ∷ events) = event_line count machine event ++ shown_events_text (count + deed_count (account_of machine event)) (event_step machine event).state events
+
+-- Those of these events, from the first on, whose lines fit together into so many bytes
+unfoldable pub fitting : ℕ → ℕ → Machine → List Event → List Event
+fitting room count machine [] = []
+fitting room count machine (event ∷ events) =
+    let line = length (event_line count machine event) in
+    if nat_le line room then event ∷ fitting (room - line) (count + deed_count (account_of machine event)) (event_step machine event).state events else []
 
 -- Runs -------------------------------------------------------------------------------------------
 
@@ -93,17 +96,53 @@ point_row point = row_of point.window (Some point.least ∷ point.floor ∷ [])
 abbrev pub names_part : List Text → Text
 names_part names = codes "{\"names\":" ++ (listed quoted names ++ codes ",")
 
--- The numbers of a run, with which it ends
-abbrev pub run_text : Config → List Event → Text
-run_text config events =
-    let machine = machine_after (first_machine config) events in
-    codes "\"config\":" ++ (row_text (config_row config) ++ (codes ",\"events\":[\n" ++ (shown_events_text 0 (first_machine config) events
-    ++ (codes "0],\"curve\":" ++ (listed (λ point. row_text (point_row point)) (points_of config machine.trace.letters) ++ codes "}\n")))))
+-- how many bytes the numbers have at most, up to the end of their events, unless no event is shown
+abbrev pub most_bytes : ℕ
+most_bytes = 19500000
+
+-- a run of a history has come to a machine, and goes on for so many events
+pub record HasRun (machine : Machine) (more : ℕ) : Type 0 where
+  pub config : Config
+  pub before : List Event
+  pub few : length before + more ≤ most_entries
+  pub machine_is : machine ≡ machine_after (first_machine config) before
+
+-- the events before the first that is asked for, and those that are asked for
+abbrev pub events_before : RangeOptions → List Event → List Event
+events_before options events = take (options.from - 1) events
+
+abbrev pub events_asked : RangeOptions → List Event → List Event
+events_asked options events = drop (options.from - 1) (take options.to events)
+
+-- the numbers before the events of a page: the configuration, how many events the script has, and what was there before the first of the page
+abbrev pub front_text : Config → ℕ → ℕ → Machine → Text
+front_text config all number machine = codes "\"config\":" ++ (row_text (config_row config) ++ (codes ",\"all\":" ++ (decimal all ++ (before_text number machine ++ codes ",\"events\":[\n"))))
+
+-- the numbers after them: the curve of the units of these events
+abbrev pub rest_text : Config → List Measured → Text
+rest_text config entries = codes "0],\"curve\":" ++ (listed (λ point. row_text (point_row point)) (points_of config (letters_of_entries entries)) ++ codes "}\n")
+
+-- what a page has of these events: as many of them as fit
+abbrev pub shown_from : Text → Machine → List Event → List Event
+shown_from front machine events = fitting (most_bytes - length front) 0 machine events
+
+-- the numbers of a run of which these events are asked for, from a machine on
+abbrev pub part_text : Config → Text → Machine → List Event → Text
+part_text config front machine asked =
+    let shown = shown_from front machine asked in
+    front ++ (shown_events_text 0 machine shown ++ rest_text config (machine_record machine shown))
+
+-- The numbers of a run, with which the object ends
+abbrev pub run_text : RangeOptions → Config → List Event → Text
+run_text options config events =
+    let before = events_before options events in
+    let machine = machine_after (first_machine config) before in
+    part_text config (front_text config (length events) (length before) machine) machine (events_asked options events)
 
 -- the run as an object of JSON: its names and its numbers
-abbrev pub object_text : Text → Config → List Event → Text
-object_text script config events = names_part (names_in script) ++ run_text config events
+abbrev pub object_text : RangeOptions → Text → Config → List Event → Text
+object_text options script config events = names_part (names_in script) ++ run_text options config events
 
--- The page of a run of these events, which are those of this script
-abbrev pub page_text : Text → Config → List Event → Text
-page_text script config events = HEAD.now ++ (object_text script config events ++ (DRAWING.now ++ CONTROLS.now))
+-- The page of these events of a run, which are those of this script
+abbrev pub page_text : RangeOptions → Text → Config → List Event → Text
+page_text options script config events = HEAD.now ++ (object_text options script config events ++ (DRAWING.now ++ CONTROLS.now))

@@ -1,5 +1,5 @@
 -- Deeds as rows of numbers, of which the first is the kind of the deed.
-use Rattle.std.specs.Prelude.{ℕ, Bool, true, false, not, ◌&&◌, ◌||◌, if◌then◌else◌, Option, Some, None, List, [], ◌∷◌, ◌++◌, flat_map, codes, decimal}
+use Rattle.std.specs.Prelude.{ℕ, suc, ◌==◌, Bool, true, false, not, ◌&&◌, ◌||◌, if◌then◌else◌, Option, Some, None, List, [], ◌∷◌, ◌++◌, flat_map, codes, decimal}
 use Rattle.mh_model.specs.declared.deed.Deed.{Deed}
 use Rattle.mh_model.specs.declared.deed.Deed.TheVariants as deed
 use Rattle.mh_model.specs.declared.deed.Edge.{Edge}
@@ -97,6 +97,19 @@ kept_deeds (deed ∷ later) = if is_kept deed later then deed ∷ kept_deeds lat
 abbrev pub shown_deeds : Bool → List Deed → List Deed
 shown_deeds true deeds = deeds
 shown_deeds false deeds = kept_deeds deeds
+
+-- Roots ------------------------------------------------------------------------------------------
+
+-- the same reference, or both null
+abbrev pub same_reference : Option ℕ → Option ℕ → Bool
+same_reference None None = true
+same_reference (Some a) (Some b) = a == b
+same_reference _ _ = false
+
+-- each root slot, from this one on, that an event left with another reference, and that reference
+abbrev pub root_rows : ℕ → List (Option ℕ) → List (Option ℕ) → List PageRow
+root_rows slot (was ∷ before) (is ∷ after) = if same_reference was is then root_rows (suc slot) before after else row_of slot (is ∷ []) ∷ root_rows (suc slot) before after
+root_rows slot _ _ = []
 
 -- Texts ------------------------------------------------------------------------------------------
 

@@ -6,7 +6,7 @@ pub const CONTROLS: &[u8] =
     br##"// The address --------------------------------------------------------------------------------------
 // #EVENT and #EVENT.STEP are moments, #cycleN is where a cycle starts, #birthN and #birthN.PART where a block was made.
 const tellFound = (text) => { at("found").textContent = text; };
-const addressOf = (m) => { const event = moments.event[m]; return m === lastOf(event) ? `#${event}` : `#${event}.${m - firstMoment[event]}`; };
+const addressOf = (m) => { const event = moments.event[m], number = numberOf(event); return m === lastOf(event) ? `#${number}` : `#${number}.${m - firstMoment[event]}`; };
 function settle() { clearTimeout(settling); history.replaceState(null, "", addressOf(moment)); }
 // browsers refuse many addresses a second, so it follows once the reader stops
 const SETTLE_TIME = 250;
@@ -17,10 +17,16 @@ function copyLink() {
   const copied = navigator.clipboard ? navigator.clipboard.writeText(location.href) : Promise.reject();
   copied.then(() => tellFound("the link is copied"), () => tellFound(location.href));
 }
+// the event of the page with this number, or the nearest
+function eventOf(number) {
+  const event = Math.max(0, Math.min(events.length, number - skipped));
+  if (numberOf(event) !== number) tellFound(`event ${number} isn't on this page`);
+  return event;
+}
 const ADDRESSES = [
-  [/^#(\d+)$/, (event) => goEvent(+event)],
-  [/^#(\d+)\.(\d+)$/, (event, step) => { const shown = Math.min(events.length, +event); go(Math.min(lastOf(shown), firstMoment[shown] + +step)); }],
-  [/^#cycle(\d+)$/, (number) => { if (!cycles[number - 1]) tellFound(`no cycle ${number}`); go(cycles[number - 1] ? cycles[number - 1].moment : momentCount - 1); }],
+  [/^#(\d+)$/, (number) => goEvent(eventOf(+number))],
+  [/^#(\d+)\.(\d+)$/, (number, step) => { const event = eventOf(+number); go(Math.min(lastOf(event), firstMoment[event] + +step)); }],
+  [/^#cycle(\d+)$/, (number) => { const cycle = cycleOf(+number); if (!cycle) tellFound(`no cycle ${number}`); go(cycle ? cycle.moment : momentCount - 1); }],
   [/^#birth(\d+)(?:\.(\d+))?$/, (birth, part) => { const life = showLife(+birth, +(part || 0)); go(life.length ? life[0].moment : momentCount - 1); }],
 ];
 // goes where an address leads, or else to the last moment
@@ -95,6 +101,11 @@ function sayCommand(life, block, event) {
 // what became of a part of an object, in order
 function lifeOf(birth, part) {
   const life = [], block = { birth, part, place: -1, references: 0, marking: "none" };
+  const there = heapBefore.find((row) => row.length > 3 && row[1] === birth && row[2] === part && row[4] < 0);
+  if (there) {
+    Object.assign(block, { place: there[0], references: there[5] });
+    life.push({ moment: 0, says: `at ${word(there[0])} before the page`, referents: [] });
+  }
   for (let event = 1; event <= events.length && (block.place >= 0 || !life.length); event += 1) { sayCommand(life, block, event); sayQuantum(life, block, event); }
   return life;
 }
@@ -109,7 +120,7 @@ function showLife(birth, part) {
   const life = lifeOf(birth, part), list = at("life"), middle = MOST_LIFE / 2, isLong = life.length > MOST_LIFE;
   list.replaceChildren();
   at("block").value = `${birth}.${part}`;
-  if (!life.length) add(list, "li", `no block ${birth}.${part} was made`);
+  if (!life.length) add(list, "li", `no block ${birth}.${part} is on this page`);
   for (const said of isLong ? life.slice(0, middle) : life) addMoment(list, said);
   if (isLong) { add(list, "li", `${life.length - MOST_LIFE} more`); for (const said of life.slice(-middle)) addMoment(list, said); }
   return life;
@@ -176,11 +187,11 @@ function wordsOf(i) {
 }
 function drawLists() {
   const e = now.event, { deeds, commands } = tell(e), current = now.deed < 0 ? commands - 1 : commands + now.deed;
-  fill("replies", events.length, e - 1, (i) => `${i + 1} ${entryOf(i + 1)}`, (i) => go(lastOf(i + 1)));
+  fill("replies", events.length, e - 1, (i) => `${numberOf(i + 1)} ${entryOf(i + 1)}`, (i) => go(lastOf(i + 1)));
   fill("deeds", deeds.length, current, wordsOf, (i) => go(firstMoment[e] + Math.max(0, 1 + i - commands)));
   const ran = e && events[e - 1].spent >= 0 ? `: its quantum spent ${events[e - 1].spent} and ended in ${PHASES[events[e - 1].ended]}` : "";
-  at("deeds-head").textContent = e ? `steps of event ${e}${ran}` : "steps: none before the first event";
-  at("event-now").textContent = e ? `${e} ${entryOf(e)}` : "before the first event";
+  at("deeds-head").textContent = e ? `steps of event ${numberOf(e)}${ran}` : "steps: none before the first event";
+  at("event-now").textContent = e ? `${numberOf(e)} ${entryOf(e)}` : `before event ${numberOf(1)}`;
   at("step-now").textContent = current < 0 ? "\u00a0" : now.deed < 0 ? commands > 1 ? `${commands} parts and shades, the last: ${wordsOf(current)}` : wordsOf(current) : wordsOf(current);
 }
 const cursorOf = ({ phase, cursor }) => phase === 1 ? `root slot ${cursor}` : phase > 2 ? word(cursor) : "none";
@@ -200,9 +211,9 @@ function drawFacts() {
   STATES.forEach((state, i) => { at("key").children[i].lastChild.textContent = ` ${state.says} ${counts[i]}`; });
 }
 // The roots as an event leaves them, and after how many events they were seen last
-let roots = new Array(144).fill(-1), rootsSeen = 0;
+let roots = [...rootsBefore], rootsSeen = 0;
 function drawRoots() {
-  if (rootsSeen > now.event) { roots.fill(-1); rootsSeen = 0; }
+  if (rootsSeen > now.event) { roots = [...rootsBefore]; rootsSeen = 0; }
   for (; rootsSeen < now.event; rootsSeen += 1) for (const [slot, place] of events[rootsSeen].roots) roots[slot] = place;
   const deed = deedNow(), scanned = deed && deed[0] === 3 ? deed[1] : -1, list = at("roots");
   list.replaceChildren();
@@ -237,7 +248,7 @@ function follow() {
 }
 function drawSliders() {
   const step = moment - firstMoment[now.event], steps = lastOf(now.event) - firstMoment[now.event];
-  at("event").value = now.event; at("event-out").textContent = `${now.event} of ${events.length}`;
+  at("event").value = numberOf(now.event); at("event-out").textContent = `${numberOf(now.event)} of ${run.all}`;
   at("step").max = steps; at("step").value = step; at("step-out").textContent = `${step} of ${steps}`;
 }
 function draw() {
@@ -245,7 +256,7 @@ function draw() {
   drawMap(); drawChosen(); drawTrace(); drawStrip(); drawTimes(); drawTable(); drawLists(); drawSliders(); drawFacts(); drawRoots();
   if (at("as-text").open) at("text").textContent = mapText();
   at("tip").style.visibility = "hidden";
-  document.body.dataset.moment = moment; document.body.dataset.event = now.event;
+  document.body.dataset.moment = moment; document.body.dataset.event = numberOf(now.event);
 }
 let isAsked = false;
 // draws once before the next frame, however often it is asked
@@ -294,11 +305,11 @@ function curveText(x) {
 const unitUnder = (x) => x / widths.trace * total;
 function timesText(x) {
   const event = eventAt(unitUnder(x));
-  return events.length ? [`event ${event}`, LINES.map((line) => `${line.name} ${line.at(lastOf(event))}`).join(" ")] : [];
+  return events.length ? [`event ${numberOf(event)}`, LINES.map((line) => `${line.name} ${line.at(lastOf(event))}`).join(" ")] : [];
 }
 function stripText(x) {
   const cycle = cycleAt(unitUnder(x));
-  return cycle ? [`cycle ${cycle.number}, ${cycle.cause}: events ${cycle.firstEvent} to ${cycle.lastEvent || DASH}, units ${cycle.from} to ${cycle.to}`] : [];
+  return cycle ? [`cycle ${cycle.number}, ${cycle.cause}: events ${known(numberOf(cycle.firstEvent))} to ${cycle.lastEvent ? numberOf(cycle.lastEvent) : DASH}, units ${unitsBefore + cycle.from} to ${unitsBefore + cycle.to}`] : [];
 }
 function hover(event, lines) {
   const tip = at("tip");
@@ -338,8 +349,8 @@ at("above").value = Math.floor(quantum / 2);
 at("life-form").onsubmit = (event) => { event.preventDefault(); showAsked(); };
 at("life-here").onclick = showStepsBlock;
 at("copy").onclick = copyLink;
-at("event").max = events.length;
-at("event").oninput = () => goEvent(+at("event").value);
+Object.assign(at("event"), { min: skipped, max: numberOf(events.length) });
+at("event").oninput = () => goEvent(+at("event").value - skipped);
 at("step").oninput = () => go(firstMoment[now.event] + +at("step").value);
 at("event-back").onclick = () => goEvent(now.event - 1);
 at("event-on").onclick = () => goEvent(now.event + 1);
@@ -370,8 +381,14 @@ addEventListener("resize", drawAll);
 
 // (the address may have followed the reader since)
 addEventListener("hashchange", (event) => visit(new URL(event.newURL).hash));
+// which events the page has, and which option shows those after them
+function tellRange() {
+  const last = numberOf(events.length), isWhole = events.length === run.all;
+  const some = events.length ? `events ${numberOf(1)} to ${last}` : "no event";
+  return isWhole ? `${run.all} events` : `${some} of ${run.all}` + (last < run.all ? `; --from ${last + 1} shows those after them` : "");
+}
 (function begin() {
-  at("config").textContent = `${pages} pages, quantum ${quantum}, trigger ${trigger}, every ${every}, rules ${rules}; ${events.length} events`;
+  at("config").textContent = `${pages} pages, quantum ${quantum}, trigger ${trigger}, every ${every}, rules ${rules}; ${tellRange()}`;
   for (const { colour, sign } of STATES) {
     const item = add(at("key"), "li", ""), sample = add(item, "i", sign);
     sample.style.background = `var(${colour})`; add(item, "span", "");

@@ -6,8 +6,8 @@ ghost use Rattle.mh_model.specs.Bytes.{joined};
 ghost use Rattle.mh_model.specs.HistoryTexts.{event_words};
 ghost use Rattle.mh_model.specs.Replies.{reply_text};
 ghost use Rattle.mh_deeds.specs.Accounts.{account_in};
-ghost use Rattle.mh_show.specs.Page.{ran_text, root_rows, shown_text};
-ghost use Rattle.mh_show.specs.Rows.{listed, row_text};
+ghost use Rattle.mh_show.specs.Page.{ran_text, shown_text};
+ghost use Rattle.mh_show.specs.Rows.{listed, root_rows, row_text};
 
 use crate::rows::{place_number, push_deeds, push_row};
 use itoa::Buffer;
@@ -18,7 +18,7 @@ use mh_model::memory::NoMemory;
 use mh_model::place::Place;
 
 /// Adds a row for each root slot that isn't the same before and after.
-fn push_roots(
+pub(crate) fn push_roots(
     text: &mut String,
     before: &[Option<Place>],
     after: &[Option<Place>],

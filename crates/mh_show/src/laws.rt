@@ -1,9 +1,16 @@
-//! Laws of what is written of a long run, and of the cursor.
+//! Laws of what a page begins with, of what is written of a long run, of the cursor, and of how long a page is.
 //!
 //! The deeds that stay (`kept_deeds`) draw what all of them draw. After each of these, and at last, the cursor stands
 //! where all deeds so far leave it. After a quantum that is where the collector has it.
+ghost use Rattle.mh_show.specs.BeforeLaws.{RowsDrawTheHeap};
+ghost use Rattle.mh_show.specs.Bounds.{PagesAreBounded};
 ghost use Rattle.mh_show.specs.Cursor.{QuantaTellTheCursor};
 ghost use Rattle.mh_show.specs.LeftOut.{KeptDeedsTellTheCursor, LeftOutDeedsDrawNothing};
+
+/// What a page begins with draws the heap before its first event.
+pub fn rows_draw_the_heap()
+    ensures { RowsDrawTheHeap }
+{}
 
 /// The deeds that are left out of a long run change no picture.
 pub fn left_out_deeds_draw_nothing()
@@ -18,4 +25,9 @@ pub fn kept_deeds_tell_the_cursor()
 /// The deeds of a quantum leave the cursor where the collector has it.
 pub fn quanta_tell_the_cursor()
     ensures { QuantaTellTheCursor }
+{}
+
+/// What a page has of events has a bound.
+pub fn pages_are_bounded()
+    ensures { PagesAreBounded }
 {}

@@ -11,6 +11,7 @@
 pub use mh_curve;
 pub use mh_steps;
 
+mod before;
 pub mod controls;
 pub mod drawing;
 pub mod event;

@@ -1,20 +1,29 @@
-//! The numbers of a run around its events: its configuration before them, and its curve after them. The points are
-//! those of `mh_curve`.
-ghost use Rattle.std.specs.Prelude.{◌≡◌, ◌<◌, ◌++◌, length, codes, IfOk, OnOk};
+//! The numbers of a page: the configuration and what was there before its first event, its events, and their curve. The
+//! points are those of `mh_curve`.
+ghost use Rattle.std.specs.Prelude.{◌≡◌, ◌+◌, ◌<◌, ◌≤◌, ◌++◌, length, codes, IfOk, OnOk};
 ghost use Rattle.std.specs.String.{string_bytes};
 ghost use Rattle.mh_curve.specs.Points.{points_of};
 ghost use Rattle.mh_model.specs.HistoryTexts.{rules_number};
 ghost use Rattle.mh_model.specs.declared.birth.TheConstants.{LIFE};
-ghost use Rattle.mh_show.specs.Page.{config_row, point_row};
+ghost use Rattle.mh_model.specs.Limits.{most_entries};
+ghost use Rattle.mh_show.specs.Page.{HasRun, config_row, front_text, part_text, point_row};
 ghost use Rattle.mh_show.specs.Rows.{listed, row_text};
 
+use crate::before::push_before;
+use crate::events::push_events;
 use crate::rows::push_row;
+use mh_curve::mh_machine::machine::Machine;
 use mh_curve::point::Point;
 use mh_curve::points::curve_points;
+use mh_model::command::Event;
 use mh_model::config::{Config, Rules};
 use mh_model::memory::NoMemory;
 use mh_report::trace::Trace;
+use mh_steps::fields::push_decimal;
 use std::alloc::Global;
+
+/// The numbers of a page have at most so many bytes up to the end of its events, unless it has no event.
+const MOST_BYTES: usize = 19_500_000;
 
 fn rules_number(rules: Rules) -> u64
     ensures { result ≡ rules_number rules }
@@ -39,15 +48,23 @@ fn push_config(text: &mut String, config: Config) -> Result<(), NoMemory>
     )
 }
 
-/// What stands before the events, after the names of sessions.
-pub(crate) fn config_text(alloc: Global, config: Config) -> Result<String, NoMemory>
-    ensures { IfOk result (λ text. string_bytes text ≡ codes "\"config\":" ++ (row_text (config_row config) ++ codes ",\"events\":[\n")) }
+/// Adds what stands before the events, after the names of sessions.
+fn push_front(
+    text: &mut String,
+    config: Config,
+    all: usize,
+    number: usize,
+    machine: &Machine,
+) -> Result<(), NoMemory>
+    ensures { OnOk result (string_bytes text.new ≡ string_bytes text.old ++ front_text config all number machine.now.machine) }
 {
-    let mut text = String::new(alloc);
     text.push_str("\"config\":")?;
-    push_config(&mut text, config)?;
+    push_config(text, config)?;
+    text.push_str(",\"all\":")?;
+    push_decimal(text, all as u128)?;
+    push_before(text, number as u64, machine)?;
     text.push_str(",\"events\":[\n")?;
-    Ok(text)
+    Ok(())
 }
 
 fn push_points(text: &mut String, points: &[Point]) -> Result<(), NoMemory>
@@ -62,19 +79,40 @@ fn push_points(text: &mut String, points: &[Point]) -> Result<(), NoMemory>
     Ok(())
 }
 
-/// What stands after the events.
-pub(crate) fn curve_text(
+/// Adds what stands after the events.
+fn push_rest(
     alloc: Global,
+    text: &mut String,
     config: Config,
     trace: &mut Trace,
-) -> Result<String, NoMemory>
+) -> Result<(), NoMemory>
     requires { length trace.old.trace.letters < LIFE }
-    ensures { IfOk result (λ text. string_bytes text ≡ codes "0],\"curve\":" ++ (listed (λ point. row_text (point_row point)) (points_of config trace.old.trace.letters) ++ codes "}\n")) }
+    ensures { OnOk result (string_bytes text.new ≡ string_bytes text.old ++ (codes "0],\"curve\":" ++ (listed (λ point. row_text (point_row point)) (points_of config trace.old.trace.letters) ++ codes "}\n"))) }
 {
     let points = curve_points(alloc, &config, trace)?;
-    let mut text = String::new(alloc);
     text.push_str("0],\"curve\":")?;
-    push_points(&mut text, points.as_slice())?;
+    push_points(text, points.as_slice())?;
     text.push_str("}\n")?;
+    Ok(())
+}
+
+/// The numbers of these events, which a machine does after some of all events of a script.
+pub(crate) fn part_text(
+    alloc: Global,
+    config: Config,
+    all: usize,
+    machine: &mut Machine,
+    number: usize,
+    asked: &[Event],
+) -> Result<String, NoMemory>
+    requires done { machine.old.done + length asked.now ≤ most_entries }
+    requires run { HasRun machine.old.machine (length asked.now) }
+    ensures { IfOk result (λ text. string_bytes text ≡ part_text config (front_text config all number machine.old.machine) machine.old.machine asked.now) }
+{
+    let mut text = String::new(alloc);
+    push_front(&mut text, config, all, number, machine)?;
+    let room = MOST_BYTES.saturating_sub(text.len());
+    let mut trace = push_events(alloc, machine, asked, room, &mut text)?;
+    push_rest(alloc, &mut text, config, &mut trace)?;
     Ok(text)
 }

@@ -2,3 +2,4 @@ pub mod Copies
 pub mod Storing
 pub mod Whole
 pub mod OfPromise
+pub mod OfMachine

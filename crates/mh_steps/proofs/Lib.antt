@@ -1,3 +1,5 @@
 pub mod EventLemmas
 pub mod FigureLemmas
+pub mod LetterLemmas
 pub mod LineLemmas
+pub mod OfScript

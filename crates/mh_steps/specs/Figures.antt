@@ -1,6 +1,7 @@
 -- The figures of steps that tools alone read: where in the trace an event stands, and what is in the heap after it.
-use Rattle.std.specs.Prelude.{ℕ, ◌+◌, ◌-◌, List, [], ◌∷◌, codes, length}
+use Rattle.std.specs.Prelude.{ℕ, ◌+◌, ◌-◌, Option, Some, None, List, [], ◌∷◌, codes, length}
 use Rattle.mh_model.specs.Collector.{Collector}
+use Rattle.mh_model.specs.Deeds.{Ran}
 use Rattle.mh_model.specs.Machine.{Machine, stat_on}
 use Rattle.mh_model.specs.Trace.{mutator_count}
 use Rattle.mh_steps.specs.declared.figures.Counts.{Counts}
@@ -18,6 +19,11 @@ moment_of number before after = record { number = number; at = length before.tra
 -- the units of the trace before the quantum of an event: it follows what the event adds of the mutator
 abbrev pub quantum_at : Moment → ℕ
 quantum_at moment = moment.at + moment.mutator
+
+-- what a quantum spent, if one was run
+abbrev pub spent_by : Option Ran → ℕ
+spent_by None = 0
+spent_by (Some ran) = ran.ended.units
 
 -- the fields of a place in the trace, of units of the mutator, and of counts
 abbrev pub at_field : ℕ → Field

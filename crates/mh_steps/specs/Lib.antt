@@ -3,3 +3,4 @@ pub mod Figures
 pub mod Lines
 pub mod Names
 pub mod Steps
+pub mod OfScript

@@ -6,6 +6,8 @@
 //! follow at once. A cycle that starts has two, `start` and then `enter phase roots`.
 #![tactic(auto)]
 
+pub use mh_script;
+
 pub mod deed_fields;
 pub mod entry;
 pub mod fields;

@@ -1,6 +1,6 @@
 use Rattle.std.proofs.Common.{◌∙◌, refl, arith}
 use Rattle.std.proofs.lemmas.List.{take_more}
-use Rattle.mh_script.proofs.AddedLines.{added_all, added_begins, added_fails, added_more, added_none, added_written, on_err, state_after}
+use Rattle.mh_steps.proofs.OfScript.AddedLines.{added_all, added_begins, added_fails, added_more, added_none, added_written, on_err, state_after}
 use Rattle.mh_chrome.proofs.SceneLemmas.{lines_none, scene_none, scenes_add}
 use Rattle.mh_chrome.proofs.run.write_events.Goals as goal
 

@@ -1,6 +1,6 @@
 use Rattle.std.proofs.Common.{◌≡◌, ◌+◌}
 use Rattle.std.specs.String.{string_bytes}
-use Rattle.mh_script.proofs.AddedLines.{HasAdded}
+use Rattle.mh_steps.proofs.OfScript.AddedLines.{HasAdded}
 use Rattle.mh_chrome.specs.Runs.{scene_after_all, scene_of}
 use Rattle.mh_chrome.proofs.SceneLemmas.{lines_from}
 use Rattle.mh_chrome.proofs.run.write_events.Given as goal

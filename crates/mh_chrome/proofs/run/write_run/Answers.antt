@@ -4,16 +4,16 @@ use Rattle.std.specs.Io.KnownBytes.{Appends}
 use Rattle.mh_model.specs.declared.command.Event.{Event}
 use Rattle.mh_model.specs.declared.config.Config.{Config}
 use Rattle.mh_model.specs.Bytes.{Text}
-use Rattle.mh_orders.specs.declared.chrome.ChromeOptions.{ChromeOptions}
-use Rattle.mh_script.proofs.AddedLines.{AppendsBeginning-nothing, on_err}
-use Rattle.mh_script.proofs.PieceLemmas.{begun_after, begun_by, begun_first, written_all}
+use Rattle.mh_orders.specs.declared.range.RangeOptions.{RangeOptions}
+use Rattle.mh_steps.proofs.OfScript.AddedLines.{AppendsBeginning-nothing, on_err}
+use Rattle.mh_steps.proofs.OfScript.PieceLemmas.{begun_after, begun_by, begun_first, written_all}
 use Rattle.mh_text.specs.Stream.{AppendsBeginning}
 use Rattle.mh_chrome.specs.Runs.{Scene, chrome_events, first_scene, last_text, scene_after_all, scenes_events}
 use Rattle.mh_chrome.specs.TraceEvents.{file_text, next_texts}
 use Rattle.mh_chrome.proofs.SceneLemmas.{file_is, head, last, scenes, start_is}
 use Rattle.mh_chrome.proofs.run.write_run.Goals as goal
 
-module _ (options : ChromeOptions) (config : Config) (events : List Event) where
+module _ (options : RangeOptions) (config : Config) (events : List Event) where
   abbrev whole : Text
   whole = file_text (chrome_events options config events)
 

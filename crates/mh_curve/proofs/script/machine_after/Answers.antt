@@ -15,5 +15,5 @@ loop-event-preserved g c = record {
   count = omega (arith, c.in_ok-step_in_room.ensures.step.done, c.loop-event.invariant.count);
 }
 
-pub returns : goal.returns
-returns g c = after_all _ _ _ _ c.loop-event-test.false c.loop-event.invariant.machine
+pub returns-clause-machine : goal.returns-clause-machine
+returns-clause-machine g c = after_all _ _ _ _ c.loop-event-test.false c.loop-event.invariant.machine

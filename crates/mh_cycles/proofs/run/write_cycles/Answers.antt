@@ -1,6 +1,6 @@
 use Rattle.std.proofs.Common.{◌∙◌, suc, refl, arith}
 use Rattle.std.proofs.lemmas.List.{take_more}
-use Rattle.mh_script.proofs.AddedLines.{added_more, added_none, added_written, on_err}
+use Rattle.mh_steps.proofs.OfScript.AddedLines.{added_more, added_none, added_written, on_err}
 use Rattle.mh_cycles.proofs.RunLemmas.{begins, fails, finish-fails, finishes, lines_add, run-from, stage, stage_is}
 use Rattle.mh_cycles.proofs.WatchLemmas.{first-watches}
 use Rattle.mh_cycles.proofs.run.write_cycles.Goals as goal

@@ -1,6 +1,6 @@
 use Rattle.std.proofs.Common.{◌≡◌, ◌+◌, suc}
 use Rattle.std.specs.String.{string_bytes}
-use Rattle.mh_script.proofs.AddedLines.{HasAdded}
+use Rattle.mh_steps.proofs.OfScript.AddedLines.{HasAdded}
 use Rattle.mh_cycles.specs.Tallies.{Watches}
 use Rattle.mh_cycles.proofs.RunLemmas.{lines_from, stage, stage_after}
 use Rattle.mh_cycles.proofs.run.write_cycles.Given as goal

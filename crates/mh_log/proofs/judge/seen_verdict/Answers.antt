@@ -1,5 +1,5 @@
 use Rattle.std.proofs.Common.{take}
-use Rattle.mh_judging.proofs.OfScript.AddedLines.{on_err}
+use Rattle.mh_sessions.proofs.OfJudging.OfScript.AddedLines.{on_err}
 use Rattle.mh_log.specs.Orders.{entries_of}
 use Rattle.mh_log.proofs.JudgedLemmas.{shown_all, shown_more, some_timed}
 use Rattle.mh_log.proofs.judge.seen_verdict.Goals as goal

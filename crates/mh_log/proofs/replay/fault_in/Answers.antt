@@ -1,6 +1,6 @@
 use Rattle.std.proofs.Common.{◌≡◌, ◌+◌, ◌<◌, length, rules, arith}
 use Rattle.std.proofs.lemmas.Result.{IfOk-weaker}
-use Rattle.mh_judging.proofs.OfScript.AddedLines.{on_err}
+use Rattle.mh_sessions.proofs.OfJudging.OfScript.AddedLines.{on_err}
 use Rattle.mh_log.proofs.ReplayLemmas.{fault_found, is_seen, is_unseen, life_left, replayed_more, replayed_none, room_left, some_command, within}
 use Rattle.mh_log.proofs.replay.fault_in.Goals as goal
 

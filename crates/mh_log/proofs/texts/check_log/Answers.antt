@@ -1,7 +1,7 @@
 use Rattle.std.proofs.lemmas.Result.{err_from_is_err_and}
-use Rattle.mh_judging.specs.OfScript.Texts.{ForBytes}
-use Rattle.mh_judging.proofs.JudgedLemmas.{begins_to_judge_reads, judges_reads}
-use Rattle.mh_judging.proofs.OfScript.SourceLemmas.{reads_slice, wants_text}
+use Rattle.mh_sessions.specs.OfJudging.OfScript.Texts.{ForBytes}
+use Rattle.mh_sessions.proofs.OfJudging.JudgedLemmas.{begins_to_judge_reads, judges_reads}
+use Rattle.mh_sessions.proofs.OfJudging.OfScript.SourceLemmas.{reads_slice, wants_text}
 use Rattle.mh_text.proofs.ErrorLemmas.{same_error}
 use Rattle.mh_log.proofs.TextLemmas.{judged_by, log_bounded, log_explains}
 use Rattle.mh_log.proofs.texts.check_log.Goals as goal

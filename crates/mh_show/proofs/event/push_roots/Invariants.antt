@@ -1,7 +1,6 @@
 use Rattle.std.proofs.Common.{◌≡◌, ◌++◌, ◌∷◌, codes, drop, flat_map}
 use Rattle.std.specs.String.{string_bytes}
-use Rattle.mh_show.specs.Page.{root_rows}
-use Rattle.mh_show.specs.Rows.{row_text}
+use Rattle.mh_show.specs.Rows.{root_rows, row_text}
 use Rattle.mh_show.proofs.event.push_roots.Given as goal
 
 abbrev pub invariant-loop-slot : goal.invariant-loop-slot

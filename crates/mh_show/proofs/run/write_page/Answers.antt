@@ -7,17 +7,17 @@ use Rattle.mh_show.proofs.PieceLemmas.{four-all, four-first, four-fourth, four-s
 use Rattle.mh_show.proofs.run.write_page.Goals as goal
 
 pub returns-in_err-write_text-clause-begun : goal.returns-in_err-write_text-clause-begun
-returns-in_err-write_text-clause-begun g c = on_err _ (four-first HEAD.now (object_text c.args.script.now c.args.config c.args.events.now) DRAWING.now CONTROLS.now _ _ c.in_err-write_text.ensures.begun)
+returns-in_err-write_text-clause-begun g c = on_err _ (four-first HEAD.now (object_text c.args.options c.args.script.now c.args.config c.args.events.now) DRAWING.now CONTROLS.now _ _ c.in_err-write_text.ensures.begun)
 
 pub returns-in_err-write_object-clause-begun : goal.returns-in_err-write_object-clause-begun
-returns-in_err-write_object-clause-begun g c = on_err _ (four-second HEAD.now (object_text c.args.script.now c.args.config c.args.events.now) DRAWING.now CONTROLS.now _ _ _ c.in_ok-write_text.ensures.done c.in_err-write_object.ensures.begun)
+returns-in_err-write_object-clause-begun g c = on_err _ (four-second HEAD.now (object_text c.args.options c.args.script.now c.args.config c.args.events.now) DRAWING.now CONTROLS.now _ _ _ c.in_ok-write_text.ensures.done c.in_err-write_object.ensures.begun)
 
 pub returns-in_err-write_text-2-clause-begun : goal.returns-in_err-write_text-2-clause-begun
-returns-in_err-write_text-2-clause-begun g c = on_err _ (four-third HEAD.now (object_text c.args.script.now c.args.config c.args.events.now) DRAWING.now CONTROLS.now _ _ _ _ c.in_ok-write_text.ensures.done c.in_ok-write_object.ensures.done c.in_err-write_text-2.ensures.begun)
+returns-in_err-write_text-2-clause-begun g c = on_err _ (four-third HEAD.now (object_text c.args.options c.args.script.now c.args.config c.args.events.now) DRAWING.now CONTROLS.now _ _ _ _ c.in_ok-write_text.ensures.done c.in_ok-write_object.ensures.done c.in_err-write_text-2.ensures.begun)
 
 pub returns-in_err-write_text-3-clause-begun : goal.returns-in_err-write_text-3-clause-begun
 returns-in_err-write_text-3-clause-begun g c =
-    on_err _ (four-fourth HEAD.now (object_text c.args.script.now c.args.config c.args.events.now) DRAWING.now CONTROLS.now _ _ _ _ _ c.in_ok-write_text.ensures.done c.in_ok-write_object.ensures.done c.in_ok-write_text-2.ensures.done c.in_err-write_text-3.ensures.begun)
+    on_err _ (four-fourth HEAD.now (object_text c.args.options c.args.script.now c.args.config c.args.events.now) DRAWING.now CONTROLS.now _ _ _ _ _ c.in_ok-write_text.ensures.done c.in_ok-write_object.ensures.done c.in_ok-write_text-2.ensures.done c.in_err-write_text-3.ensures.begun)
 
 pub returns-clause-done : goal.returns-clause-done
-returns-clause-done g c = four-all HEAD.now (object_text c.args.script.now c.args.config c.args.events.now) DRAWING.now CONTROLS.now _ _ _ _ _ c.in_ok-write_text.ensures.done c.in_ok-write_object.ensures.done c.in_ok-write_text-2.ensures.done c.in_ok-write_text-3.ensures.done
+returns-clause-done g c = four-all HEAD.now (object_text c.args.options c.args.script.now c.args.config c.args.events.now) DRAWING.now CONTROLS.now _ _ _ _ _ c.in_ok-write_text.ensures.done c.in_ok-write_object.ensures.done c.in_ok-write_text-2.ensures.done c.in_ok-write_text-3.ensures.done

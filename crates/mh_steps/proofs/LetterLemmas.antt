@@ -12,13 +12,8 @@ use Rattle.mh_model.specs.Mutator.{mutator_step}
 use Rattle.mh_model.specs.Trace.{Letter, M, C, mutator_count, collector_count}
 use Rattle.mh_model.specs.World.{says}
 use Rattle.mh_model.proofs.LetterLemmas.{mutator-M, mutator-C, collector-M, collector-C}
-use Rattle.mh_chrome.specs.Runs.{spent_by}
-
--- each letter is the mutator's or the collector's
-letters_counted : (letters : List Letter) → mutator_count letters + collector_count letters ≡ length letters
-letters_counted [] = refl
-letters_counted (M ∷ letters) = let h = letters_counted letters in omega (arith, h)
-letters_counted (C ∷ letters) = let h = letters_counted letters in omega (arith, h)
+use Rattle.mh_steps.proofs.FigureLemmas.{letters_counted}
+use Rattle.mh_steps.specs.Figures.{spent_by}
 
 -- these letters follow those
 pub record Adds (before after : List Letter) (spent : ℕ) : Type 0 where

@@ -1,0 +1,4 @@
+-- Modules of mh_judging that crates above name, so that they list this one alone.
+pub use Rattle.mh_judging.proofs.JudgedLemmas
+pub use Rattle.mh_judging.proofs.ReplayLemmas
+pub use Rattle.mh_judging.proofs.OfScript
