@@ -18,7 +18,7 @@ use Rattle.mh_read_laws.specs.Laws.{AreCounts, AreLogCounts, CurveLinesAreReadBa
 
 -- Words ------------------------------------------------------------------------------------------
 
-both : (a b : Bool) → a ≡ true → b ≡ true → (a && b) ≡ true
+pub both : (a b : Bool) → a ≡ true → b ≡ true → (a && b) ≡ true
 both true true one other = refl
 both true false one other = other
 both false b one other = one
@@ -38,7 +38,7 @@ share_few : (least window : ℕ) → least ≤ window → share_of least window 
 share_few least window less = div-le_of_le-mul window (omega (arith, less))
 
 -- the number that a word is, or none
-optional-read : (found : Option ℕ) → MayBeWide found → optional_of (optional_word found) ≡ Some found
+pub optional-read : (found : Option ℕ) → MayBeWide found → optional_of (optional_word found) ≡ Some found
 optional-read None wide = refl
 optional-read (Some n) wide = rw (number-decimal n wide) refl
 
@@ -131,7 +131,7 @@ pub log_read : LogLinesAreReadBack
 log_read = record { rows = says_row; counts = says_log }
 
 -- what is read of one text is the same
-some_same : {A : Type 0} {x y : A} → Some x ≡ Some y → x ≡ y
+pub some_same : {A : Type 0} {x y : A} → Some x ≡ Some y → x ≡ y
 some_same e = cc
 
 same_point : (point other : Point) → point.window ≡ other.window → point.least ≡ other.least → point.floor ≡ other.floor → point ≡ other

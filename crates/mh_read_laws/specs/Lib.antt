@@ -1,2 +1,12 @@
 pub mod Keyed
 pub mod Laws
+pub mod CycleLines
+pub mod CycleLaws
+pub mod StepLines
+pub mod StepLaws
+pub mod PageRows
+pub mod PageLaws
+pub mod Plain
+pub mod PlainLaws
+pub mod Json
+pub mod JsonLaws

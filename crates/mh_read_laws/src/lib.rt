@@ -1,7 +1,16 @@
-//! Laws of the tables of curves that the program writes: each number of a line stands after its own name. So two fields that were
-//! exchanged in code and definition alike would break a law, and lines that are the same say the same. Each is what a
-//! function with nothing to do ensures.
+//! Laws of the texts that the program writes of a run: what is written is read back, each number by its own name or place.
+//! So two fields that were exchanged in code and definition alike would break a law, and texts that are the same say the
+//! same. Each law is what a function with nothing to do ensures.
+//!
+//! Here are those of curves. The modules have those of cycles, of steps and of pages; of what stands between quotation
+//! marks; and that what is written as JSON is JSON.
 #![tactic(auto)]
+
+pub mod cycles;
+pub mod json;
+pub mod page;
+pub mod plain;
+pub mod steps;
 
 ghost use Rattle.mh_read_laws.specs.Laws.{CurveLinesAreReadBack, LogLinesAreReadBack, TableLinesDiffer};
 

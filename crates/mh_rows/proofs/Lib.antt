@@ -3,3 +3,4 @@ pub mod picture_rows
 pub mod seat_rows
 pub mod sizing_rows
 pub mod text_rows
+pub mod cycle_rows
