@@ -7,6 +7,11 @@
 ** numbers. Both ways drive one machine and may be mixed. docs/MANUAL.md says
 ** what each event does and what its reply means.
 **
+** A text that doesn't fit its buffer is METROHEAP_SHORT, and `*written` says
+** how long it is. The event WAS DONE. Don't ask the line again, which would do
+** it once more: metroheap_last_text and metroheap_again give its text as often
+** as wanted.
+**
 ** Link with libmetroheap.a, which scripts/build-library makes. It needs
 ** malloc, realloc, free, memcpy, memmove and memset of the C library, and
 ** nothing else. It has no state of its own outside the handles, starts no
@@ -16,9 +21,9 @@
 **
 ** All else is answered by a status; these can't be:
 **
-**   *  No pointer is null, also if the length beside it is 0. Each points to
-**      as much memory as its type or its length says.
-**   *  The arguments of one call don't overlap.
+**   *  No pointer is null, but where a function says so. Each points to as
+**      much memory as its type or its length says.
+**   *  The arguments of one call don't overlap, but where a function says so.
 **   *  A handle is METROHEAP_INIT, or as a function of this header left it.
 **      Nobody else writes it. While it is open it isn't copied: two copies
 **      are one machine, which would be freed twice. Moving it is fine, if
@@ -40,10 +45,22 @@
 
 #include <stddef.h>
 #include <stdint.h>
+#include <string.h>
+
+/* The version of this header, which is that of `metroheap --version`. */
+#define METROHEAP_VERSION "1.1.0"
+#define METROHEAP_VERSION_NUMBER 1001000
 
 #ifdef __cplusplus
 extern "C" {
 #endif
+
+/*
+** The METROHEAP_VERSION_NUMBER of the header with which the library was made:
+** 1,000,000 for each of the first number, 1,000 for each of the second. Any
+** thread may ask at any time.
+*/
+uint32_t metroheap_version(void);
 
 /*
 ** A handle. It is opaque: only the functions below read or change it.
@@ -57,9 +74,9 @@ typedef struct metroheap {
 #define METROHEAP_INIT {0}
 
 /*
-** What a call came to. If the status is not METROHEAP_DONE, METROHEAP_SHORT
-** or METROHEAP_NO_TEXT, the machine is as it was before the call, the last
-** reply too.
+** What a call came to. If the status is not METROHEAP_DONE, METROHEAP_SHORT,
+** METROHEAP_NO_TEXT or METROHEAP_DIFFERS, the machine is as it was before the
+** call, the last reply too.
 */
 enum metroheap_status {
     METROHEAP_DONE = 0,       /* it was done */
@@ -72,8 +89,31 @@ enum metroheap_status {
     METROHEAP_SHORT = 7,      /* the text is longer than the buffer */
     METROHEAP_NO_TEXT = 8,    /* memory was refused for the text */
     METROHEAP_NO_REPLY = 9,   /* no event was done yet */
-    METROHEAP_NO_ITEM = 10    /* the last reply has no such item */
+    METROHEAP_NO_ITEM = 10,   /* there is no such item, deed or reason */
+    METROHEAP_NO_DEEDS = 11,  /* deeds weren't kept, or memory was refused */
+    METROHEAP_DIFFERS = 12,   /* the reply that was judged isn't right */
+    METROHEAP_IS_WORLD = 13   /* a world has no collector and no trace */
 };
+
+/* A status as text without an end of line, such as "the handle is closed". */
+static inline const char *metroheap_status_text(int32_t status) {
+    static const char *const texts[] = {
+        "done",
+        "the line is empty or a comment",
+        "the line or the numbers are no event",
+        "as many events were done as may be",
+        "memory was refused",
+        "the handle is closed",
+        "the numbers are no configuration",
+        "the text is longer than the buffer",
+        "memory was refused for the text",
+        "no event was done yet",
+        "there is no such item, deed or reason",
+        "deeds were not kept, or memory was refused for one",
+        "the reply is not right",
+        "a world has no collector and no trace"};
+    return status >= 0 && status <= METROHEAP_IS_WORLD ? texts[status] : "no status";
+}
 
 /* Opening and closing ---------------------------------------------------- */
 
@@ -93,18 +133,47 @@ int32_t metroheap_open(metroheap *heap, uint32_t pages, uint32_t quantum,
                        uint32_t trigger, uint32_t every, uint32_t rules);
 
 /*
-** Frees the machine of a handle, and leaves the handle closed. A closed one
-** stays so.
+** Opens a world: the heap that never collects, never moves and is never full,
+** under rules 1 or 2. It has sessions and their objects, and neither pages nor
+** collector nor trace. What it answers to a session is what every collector
+** is to answer, but for a new object for which a heap has no room. So replies
+** can be compared, or judged by metroheap_judge, without a configuration.
+**
+** It does the commands of sessions, as text or as numbers, 1,000,000 at most. A
+** control is METROHEAP_IS_WORLD, and so are the calls that ask for a collector
+** or a trace; it has no deeds. It keeps every object, so memory may be refused
+** for a new one.
+**
+** The handle may be open, as that of metroheap_open.
+**
+** METROHEAP_DONE        the handle has the new world, which has done nothing
+** METROHEAP_BAD_CONFIG  the rules are not 1 or 2; the handle is as it was
+** METROHEAP_NO_MEMORY   the handle is as it was
 */
-void metroheap_close(metroheap *heap);
+int32_t metroheap_open_world(metroheap *heap, uint32_t rules);
+
+/*
+** Frees the machine of a handle, and leaves the handle closed. A closed one
+** stays so, and a null pointer is no handle: then nothing is done.
+*/
+void metroheap_close_nonnull(metroheap *heap);
+static inline void metroheap_close(metroheap *heap) {
+    if (heap != NULL) {
+        metroheap_close_nonnull(heap);
+    }
+}
 
 /* Events as text --------------------------------------------------------- */
 
 /*
-** Does the event of a line of a script, given without the end of the line,
-** and copies the text of its reply to the start of `out`. The text has no
-** end of line and no zero after it. `*written` is its length. A line with its
-** newline is METROHEAP_WRONG; `metroheap live` says why a line is.
+** Does the event of a line of a script, which may end with one newline, and
+** copies the text of its reply to the start of `out`. The text has no end of
+** line and no zero after it. `*written` is its length. `line` and `out` may be
+** null if their length is 0. metroheap_reason says why a line is
+** METROHEAP_WRONG.
+**
+** This call and the next two are shorthands of those with the longer names,
+** which are the library's, and take no null pointer.
 **
 ** Sessions are numbered as their names are first seen in done events, from 0.
 ** An event by numbers says the number itself, and sees no name.
@@ -116,13 +185,22 @@ void metroheap_close(metroheap *heap);
 ** METROHEAP_NO_TEXT    the event was done; memory was refused for its text;
 **                      ask metroheap_last_text or metroheap_last_reply
 ** METROHEAP_BLANK, METROHEAP_WRONG, METROHEAP_FULL, METROHEAP_NO_MEMORY,
-** METROHEAP_CLOSED     nothing was done; `*written` is 0
+** METROHEAP_CLOSED, METROHEAP_IS_WORLD   nothing was done; `*written` is 0
 **
 ** Memory may be refused for a command, for a quantum that is asked for, and
 ** for a dump. A later call may succeed.
 */
-int32_t metroheap_line(metroheap *heap, const uint8_t *line, size_t line_length,
-                       uint8_t *out, size_t out_length, size_t *written);
+int32_t metroheap_line_nonnull(metroheap *heap, const char *line,
+                               size_t line_length, char *out,
+                               size_t out_length, size_t *written);
+static inline int32_t metroheap_line(metroheap *heap, const char *line,
+                                     size_t line_length, char *out,
+                                     size_t out_length, size_t *written) {
+    char none = 0;
+    return metroheap_line_nonnull(heap, line_length ? line : "", line_length,
+                                  out_length ? out : &none, out_length,
+                                  written);
+}
 
 /*
 ** Copies the text of the last reply, as metroheap_line does. It may be asked
@@ -135,8 +213,81 @@ int32_t metroheap_line(metroheap *heap, const uint8_t *line, size_t line_length,
 ** METROHEAP_NO_REPLY   no event was done yet; `*written` is 0
 ** METROHEAP_CLOSED     `*written` is 0
 */
-int32_t metroheap_last_text(metroheap *heap, uint8_t *out, size_t out_length,
-                            size_t *written);
+int32_t metroheap_last_text_nonnull(metroheap *heap, char *out,
+                                    size_t out_length, size_t *written);
+static inline int32_t metroheap_last_text(metroheap *heap, char *out,
+                                          size_t out_length, size_t *written) {
+    char none = 0;
+    return metroheap_last_text_nonnull(heap, out_length ? out : &none,
+                                       out_length, written);
+}
+
+/*
+** Copies why a line is no event, as `metroheap live` says it, such as
+** `"nwe" is no command`. It asks no machine: any thread may call it at any
+** time.
+**
+** METROHEAP_DONE       the text is in `out`
+** METROHEAP_SHORT      `*written` bytes are needed; `out` is as it was
+** METROHEAP_BLANK      the line is empty or a comment; `*written` is 0
+** METROHEAP_NO_ITEM    the line is an event; `*written` is 0
+** METROHEAP_NO_TEXT    memory was refused; `*written` is 0
+*/
+int32_t metroheap_reason_nonnull(const char *line, size_t line_length,
+                                 char *out, size_t out_length,
+                                 size_t *written);
+static inline int32_t metroheap_reason(const char *line, size_t line_length,
+                                       char *out, size_t out_length,
+                                       size_t *written) {
+    char none = 0;
+    return metroheap_reason_nonnull(line_length ? line : "", line_length,
+                                    out_length ? out : &none, out_length,
+                                    written);
+}
+
+/*
+** The text of the last reply, as C has texts: with a zero after it, for which
+** `size` has to have room, in `out`, which may be null if `size` is 0. The
+** text needs `*needed` bytes without the zero; `needed` may be null. If no
+** text is given and `size` is not 0, `out` is the empty text.
+**
+** The statuses are those of metroheap_last_text.
+*/
+static inline int32_t metroheap_again(metroheap *heap, char *out, size_t size,
+                                      size_t *needed) {
+    size_t written = 0;
+    int32_t status =
+        metroheap_last_text(heap, out, size ? size - 1 : 0, &written);
+    if (size) {
+        out[status == METROHEAP_DONE ? written : 0] = 0;
+    }
+    if (needed != NULL) {
+        *needed = written;
+    }
+    return status;
+}
+
+/*
+** Does the event of a line that ends with a zero, and gives the text of its
+** reply as metroheap_again does. `out` may be where the line is.
+**
+** The statuses are those of metroheap_line.
+*/
+static inline int32_t metroheap_ask(metroheap *heap, const char *line,
+                                    char *out, size_t size, size_t *needed) {
+    size_t written = 0;
+    int32_t status = metroheap_line(heap, line, strlen(line), NULL, 0, &written);
+    if (status == METROHEAP_DONE || status == METROHEAP_SHORT) {
+        return metroheap_again(heap, out, size, needed);
+    }
+    if (size) {
+        out[0] = 0;
+    }
+    if (needed != NULL) {
+        *needed = 0;
+    }
+    return status;
+}
 
 /* Events as numbers ------------------------------------------------------ */
 
@@ -163,15 +314,14 @@ enum metroheap_event_kind {
 };
 
 /*
-** An event. What its kind doesn't have isn't read. A session of 8 or more is
-** answered METROHEAP_REFUSED_TOO_MANY_SESSIONS. C cuts what is assigned to
-** `session` to 8 bits, so 256 is session 0; metroheap_command doesn't. The
-** third number of `new`, `get` and `put` is below 2^32: else the numbers are
-** no event.
+** An event, of 24 bytes without padding. What its kind doesn't have isn't
+** read. A session of 8 or more is answered
+** METROHEAP_REFUSED_TOO_MANY_SESSIONS. The third number of `new`, `get` and
+** `put` is below 2^32: else the numbers are no event.
 */
 typedef struct metroheap_event {
     uint32_t kind;
-    uint8_t session;
+    uint32_t session;
     uint32_t first;
     uint32_t second;
     uint64_t third;
@@ -233,7 +383,9 @@ enum metroheap_report_number {
     METROHEAP_REPORT_FLOOR = 8
 };
 
-/* A reply: its kind, and its numbers in order, with zeros after them. */
+/* A reply: its kind, and its numbers in order, with zeros after them. Replies
+** are compared field by field: bytes of padding follow the kind, as in items
+** and deeds. */
 typedef struct metroheap_reply {
     uint32_t kind;
     uint64_t numbers[9];
@@ -243,11 +395,31 @@ typedef struct metroheap_reply {
 ** Does an event, and puts its reply in `*reply`.
 **
 ** METROHEAP_DONE       the event was done
-** METROHEAP_WRONG, METROHEAP_FULL, METROHEAP_NO_MEMORY,
-** METROHEAP_CLOSED     nothing was done; `*reply` is as it was
+** METROHEAP_WRONG, METROHEAP_FULL, METROHEAP_NO_MEMORY, METROHEAP_CLOSED,
+** METROHEAP_IS_WORLD   nothing was done; `*reply` is as it was
 */
 int32_t metroheap_step(metroheap *heap, const metroheap_event *event,
                        metroheap_reply *reply);
+
+/*
+** Does an event, as metroheap_step does, and judges the reply that another
+** collector gave to it: an entry of a history, one after another. That is right
+** if it is what the machine answers, number by number; of a dump the items are
+** not compared. `given` and `right` are two structs.
+**
+** A world takes also a full heap as right, where it makes the new object that
+** was asked for. Then it doesn't make it, and all is as if the command had
+** never been asked: the last reply stays, and nothing is counted. So it is with
+** a control, to which a world has nothing to say.
+**
+** METROHEAP_DONE       `*given` is right; `*right` is the same
+** METROHEAP_DIFFERS    it isn't, and `*right` is what is. The event was done as
+**                      is right, so the caller may go on
+** METROHEAP_WRONG, METROHEAP_FULL, METROHEAP_NO_MEMORY,
+** METROHEAP_CLOSED     nothing was done; `*right` is as it was
+*/
+int32_t metroheap_judge(metroheap *heap, const metroheap_event *event,
+                        const metroheap_reply *given, metroheap_reply *right);
 
 /*
 ** Puts the last reply in `*reply`, also if the event was asked as text.
@@ -256,6 +428,24 @@ int32_t metroheap_step(metroheap *heap, const metroheap_event *event,
 ** METROHEAP_NO_REPLY, METROHEAP_CLOSED   `*reply` is as it was
 */
 int32_t metroheap_last_reply(metroheap *heap, metroheap_reply *reply);
+
+/* What the last event added to the trace. */
+typedef struct metroheap_units {
+    uint64_t at;        /* units that the trace had before it */
+    uint64_t mutator;   /* units of the mutator, which come first */
+    uint64_t collector; /* units that its quantum spent, after them */
+    uint64_t ran;       /* 1 if it ran a quantum, else 0 */
+    uint64_t phase;     /* enum metroheap_phase, after it */
+} metroheap_units;
+
+/*
+** Puts in `*units` what the last event added to the trace.
+**
+** METROHEAP_DONE
+** METROHEAP_NO_REPLY, METROHEAP_CLOSED,
+** METROHEAP_IS_WORLD   `*units` is as it was
+*/
+int32_t metroheap_last_units(metroheap *heap, metroheap_units *units);
 
 /* Kinds of items of a dump. The comments name their numbers. */
 enum metroheap_item_kind {
@@ -282,6 +472,82 @@ typedef struct metroheap_item {
 int32_t metroheap_dump_item(metroheap *heap, size_t index,
                             metroheap_item *item);
 
+/* Deeds ------------------------------------------------------------------ */
+
+/*
+** Whether events keep their deeds, from the next one on: they don't if `tells`
+** is 0. A handle that was opened keeps none. To keep them takes time and memory
+** for each.
+**
+** METROHEAP_DONE, METROHEAP_CLOSED, METROHEAP_IS_WORLD
+*/
+int32_t metroheap_tell(metroheap *heap, uint32_t tells);
+
+/* Kinds of deeds, as `metroheap steps` tells them. The comments name their
+** numbers: a place is 64 * page + slot, `none` is METROHEAP_NOWHERE, and a
+** part of an object is its birth and its number in the object. */
+enum metroheap_deed_kind {
+    METROHEAP_DEED_START = 1,      /* cycle */
+    METROHEAP_DEED_ENTER = 2,      /* enum metroheap_phase */
+    METROHEAP_DEED_END = 3,        /* none */
+    METROHEAP_DEED_ROOT = 4,       /* slot, from, to, 1 if it was shaded */
+    METROHEAP_DEED_MARK = 5,       /* place, birth, part */
+    METROHEAP_DEED_REFERENCE = 6,  /* index, from, to, 1 if it was shaded */
+    METROHEAP_DEED_PASS = 7,       /* page */
+    METROHEAP_DEED_EMPTY = 8,      /* place */
+    METROHEAP_DEED_KEEP = 9,       /* place, birth, part */
+    METROHEAP_DEED_FREE = 10,      /* place, birth, part */
+    METROHEAP_DEED_DROP = 11,      /* place of a forwarder, where it led */
+    METROHEAP_DEED_FREE_PAGE = 12, /* page */
+    METROHEAP_DEED_FLAG = 13,      /* page */
+    METROHEAP_DEED_UNFLAG = 14,    /* page */
+    METROHEAP_DEED_STAY = 15,      /* place */
+    METROHEAP_DEED_MOVE = 16,      /* place, to, birth, part, class */
+    METROHEAP_DEED_FORWARD = 17,   /* none */
+    METROHEAP_DEED_SHADE = 18,     /* place */
+    METROHEAP_DEED_MAKE = 19       /* place, birth, part, class, references, numbers, enum metroheap_tier */
+};
+#define METROHEAP_NOWHERE UINT64_MAX
+
+/* Where a part of a new object was placed. */
+enum metroheap_tier {
+    METROHEAP_TIER_DENSE = 0, /* in a dense page of its class */
+    METROHEAP_TIER_FRESH = 1, /* in a free page */
+    METROHEAP_TIER_SPARSE = 2 /* in a sparse page of its class */
+};
+
+/* A deed: its kind, its units, and its numbers with zeros after them. */
+typedef struct metroheap_deed {
+    uint32_t kind;
+    uint64_t units;
+    uint64_t numbers[7];
+} metroheap_deed;
+
+/*
+** Puts a deed of the last event in `*deed`. Deeds are counted from 0: those of
+** its command, and then those of its quantum. So a loop may ask until
+** METROHEAP_NO_ITEM.
+**
+** METROHEAP_DONE
+** METROHEAP_NO_ITEM    it has no such deed
+** METROHEAP_NO_DEEDS   they weren't kept, or memory was refused for one
+** METROHEAP_CLOSED     in all three `*deed` is as it was
+*/
+int32_t metroheap_deed_item(metroheap *heap, size_t index,
+                            metroheap_deed *deed);
+
+/* What is read without an event ------------------------------------------ */
+
+/*
+** Put in `*reply` what `* stat` and `* left` would answer now. They are no
+** events, so they don't count as any, and the last reply stays.
+**
+** METROHEAP_DONE
+** METROHEAP_CLOSED, METROHEAP_IS_WORLD   `*reply` is as it was
+*/
+int32_t metroheap_see_stat(metroheap *heap, metroheap_reply *reply);
+int32_t metroheap_see_left(metroheap *heap, metroheap_reply *reply);
+
 /* Shorthands, which no library has to be linked for ---------------------- */
 
 /* A command of a session, of the kinds 1 to 12. */
@@ -290,7 +556,7 @@ static inline metroheap_event metroheap_command(uint32_t kind, uint32_t session,
                                                 uint64_t third) {
     metroheap_event event;
     event.kind = kind;
-    event.session = session < 255 ? (uint8_t)session : (uint8_t)255;
+    event.session = session;
     event.first = first;
     event.second = second;
     event.third = third;

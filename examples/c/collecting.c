@@ -1,26 +1,21 @@
 /* A collection, asked by numbers: the script under "Collecting" in
 ** docs/GUIDE.md. It prints what that page does. */
-#include "metroheap.h"
+#include "names.h"
 
-#include <inttypes.h>
-#include <stdio.h>
+#include <stdlib.h>
 
 static metroheap heap = METROHEAP_INIT;
 static metroheap_reply reply;
 
-static void asks(metroheap_event event) {
-    if (metroheap_step(&heap, &event, &reply) != METROHEAP_DONE) {
-        reply.kind = 0;
+static void checks(int32_t status) {
+    if (status != METROHEAP_DONE) {
+        fprintf(stderr, "collecting: %s\n", metroheap_status_text(status));
+        exit(1);
     }
 }
 
-static void control(uint32_t kind) {
-    asks(metroheap_control(kind, 0));
-}
-
-static const char *phase(uint64_t number) {
-    static const char *const names[] = {"idle", "roots", "mark", "sweep", "defrag"};
-    return number < 5 ? names[number] : "?";
+static void asks(metroheap_event event) {
+    checks(metroheap_step(&heap, &event, &reply));
 }
 
 static void prints_item(const metroheap_item *item) {
@@ -37,9 +32,9 @@ static void prints_item(const metroheap_item *item) {
     }
 }
 
-static void dump(void) {
+static void dumps(void) {
     metroheap_item item;
-    control(METROHEAP_EVENT_DUMP);
+    checks(metroheap_dump(&heap, &reply));
     printf("dump");
     for (size_t i = 0; metroheap_dump_item(&heap, i, &item) == METROHEAP_DONE; i++) {
         prints_item(&item);
@@ -47,38 +42,32 @@ static void dump(void) {
     printf("\n");
 }
 
-static void stat(void) {
-    const uint64_t *n = reply.numbers;
-    control(METROHEAP_EVENT_STAT);
-    printf("free %" PRIu64 " live %" PRIu64 " old %" PRIu64 " phase %s cycle %" PRIu64 "\n",
-           n[METROHEAP_STAT_FREE], n[METROHEAP_STAT_LIVE], n[METROHEAP_STAT_OLD],
-           phase(n[METROHEAP_STAT_PHASE]), n[METROHEAP_STAT_CYCLE]);
-}
-
 /* A whole cycle fits one quantum here. */
-static void cycle(void) {
-    control(METROHEAP_EVENT_START);
-    control(METROHEAP_EVENT_QUANTUM);
-    printf("spent %" PRIu64 " phase %s\n", reply.numbers[0], phase(reply.numbers[1]));
-    dump();
-    stat();
+static void collects(void) {
+    asks(metroheap_control(METROHEAP_EVENT_START, 0));
+    asks(metroheap_control(METROHEAP_EVENT_QUANTUM, 0));
+    prints_reply(stdout, &reply);
+    printf("\n");
+    dumps();
+    checks(metroheap_see_stat(&heap, &reply));
+    prints_reply(stdout, &reply);
+    printf("\n");
 }
 
 int main(void) {
-    if (metroheap_open(&heap, 4, 1000, 0, 0, 2) != METROHEAP_DONE) {
+    if (metroheap_version() != METROHEAP_VERSION_NUMBER) {
+        fprintf(stderr, "collecting: the header is not that of the library\n");
         return 1;
     }
+    checks(metroheap_open(&heap, 4, 1000, 0, 0, 2));
     for (uint32_t slot = 0; slot < 6; slot++) {
         asks(metroheap_command(METROHEAP_EVENT_NEW, 0, slot, 0, 60));
-        if (reply.kind != METROHEAP_REPLY_OK) {
-            return 1;
-        }
     }
     asks(metroheap_command(METROHEAP_EVENT_CLEAR, 0, 1, 0, 0));
     asks(metroheap_command(METROHEAP_EVENT_CLEAR, 0, 5, 0, 0));
-    dump();
-    cycle();
-    cycle();
+    dumps();
+    collects();
+    collects();
     metroheap_close(&heap);
     return 0;
 }

@@ -3,26 +3,31 @@
 ** stay. Its objects are in the heap of the library, and its variables in the
 ** slots of a session.
 **
-**     gcbench [PAGES QUANTUM TRIGGER EVERY]    runs it, and prints the report
-**     gcbench --script [PAGES ..]              prints it as a script, with the same report at its end
+**     gcbench [--depth D] [PAGES QUANTUM TRIGGER EVERY]   runs it, and prints the report
+**     gcbench --script [--depth D] [PAGES ..]             prints it as a script, with that report at its end
+**     gcbench --pauses [--depth D] [PAGES ..]             runs it, and prints a log of its pauses
 **
-** The depths are smaller than the original's, for a history of 1,000,000
-** events. Exits 1 if the heap is full, and 2 if a call fails.
+** D is the depth of the tree that stretches the heap, 8 to 15. The original's
+** is 18, and the rest has the relation to it that it has there: the long-lived
+** tree has depth D - 2, the array 500,000 numbers, halved for each level below
+** 18, and the other trees the depths 4, 6, .. up to D - 2. Of each depth there
+** are as many, each way, as have twice the nodes of the stretching tree. If D
+** isn't given it is 13, the greatest with fewer than 1,000,000 events.
+**
+** A node has two references and two numbers, which are 8 words with its header.
+** So a page of 256 words has 32, and the stretching tree takes 2^(D - 4) pages.
+** If no heap is given it has twice as many: 1,024 for a depth of 13, and 4,096,
+** the most, for 15. What stays takes a fifth of it. Then a cycle takes so long
+** that its quanta have two units of three.
+**
+** Exits 1 if the heap is full, and 2 if anything else stops it.
 */
-#include "metroheap.h"
+#include "names.h"
 
-#include <inttypes.h>
-#include <stdio.h>
 #include <stdlib.h>
 #include <string.h>
 
-enum {
-    STRETCH_DEPTH = 12,
-    LONG_LIVED_DEPTH = 10,
-    ARRAY_SIZE = 8000,
-    LEAST_DEPTH = 4,
-    MOST_DEPTH = 10
-};
+enum { LEAST_DEPTH = 4, ORIGINAL_DEPTH = 18, ORIGINAL_ARRAY = 500000 };
 
 /* A node has two references and two numbers. */
 enum { LEFT = 0, RIGHT = 1, REFERENCES = 2, NUMBERS = 2 };
@@ -31,38 +36,46 @@ enum { LEFT = 0, RIGHT = 1, REFERENCES = 2, NUMBERS = 2 };
 enum { TREE = 0, ARRAY = 1 };
 
 static metroheap heap = METROHEAP_INIT;
-static uint32_t every = 700, quantum = 300;
-static int writes_script;
+static uint32_t pages, quantum = 600, trigger, every = 300;
+static int stretch_depth = 13, writes_script, writes_pauses;
 
-static void fails(const char *what, int status) {
-    fprintf(stderr, "gcbench: %s (%d)\n", what, status);
-    exit(status == METROHEAP_REFUSED_HEAP_FULL ? 1 : 2);
+static void fails(const char *what) {
+    fprintf(stderr, "gcbench: %s\n", what);
+    exit(2);
 }
 
-/* Does a command of session 0, or prints it under the name `a`. */
+static void checks(int32_t status) {
+    if (status != METROHEAP_DONE) {
+        fails(metroheap_status_text(status));
+    }
+}
+
+/* Prints what the last event added to the trace, as `metroheap curve --pauses` reads it. */
+static void prints_pause(void) {
+    metroheap_units units;
+    checks(metroheap_last_units(&heap, &units));
+    printf("mutator %" PRIu64 "\n", units.mutator);
+    if (units.ran) {
+        printf("collector %" PRIu64 "\n", units.collector);
+    }
+}
+
+/* Does a command of session 0, or prints it. */
 static metroheap_reply command(uint32_t kind, uint32_t first, uint32_t second, uint64_t third) {
-    static const struct {
-        const char *word;
-        int numbers;
-    } forms[] = {{"", 0}, {"new", 3}, {"get", 3}, {"put", 3}, {"copy", 2}, {"clear", 1}, {"read", 2}, {"write", 3},
-                 {"same", 2}, {"shape", 1}, {"post", 2}, {"take", 2}};
+    metroheap_event event = metroheap_command(kind, 0, first, second, third);
     metroheap_reply reply = {METROHEAP_REPLY_OK, {0}};
     if (writes_script) {
-        const uint64_t numbers[] = {first, second, third};
-        printf("a %s", forms[kind].word);
-        for (int i = 0; i < forms[kind].numbers; i++) {
-            printf(" %" PRIu64, numbers[i]);
-        }
-        printf("\n");
+        prints_event(stdout, &event);
+        putchar('\n');
         return reply;
     }
-    metroheap_event event = metroheap_command(kind, 0, first, second, third);
-    int32_t status = metroheap_step(&heap, &event, &reply);
-    if (status != METROHEAP_DONE) {
-        fails("a call failed", status);
-    }
+    checks(metroheap_step(&heap, &event, &reply));
     if (reply.kind == METROHEAP_REPLY_REFUSED) {
-        fails("a command was refused", (int)reply.numbers[0]);
+        fprintf(stderr, "gcbench: %s\n", refusal_name(reply.numbers[0]));
+        exit(reply.numbers[0] == METROHEAP_REFUSED_HEAP_FULL ? 1 : 2);
+    }
+    if (writes_pauses) {
+        prints_pause();
     }
     return reply;
 }
@@ -108,13 +121,27 @@ static void drops_all(void) {
     }
 }
 
+/* Builds the tree that stretches the heap bottom up, and drops it. A tree of depth 15 takes 17 slots, so one half of it
+** waits on the board. */
+static void stretches(void) {
+    makes_tree(stretch_depth - 1, 0);
+    command(METROHEAP_EVENT_POST, TREE, 0, 0);
+    makes_tree(stretch_depth - 1, 0);
+    command(METROHEAP_EVENT_TAKE, 1, TREE, 0);
+    makes_node(2);
+    puts_child(2, LEFT, 1);
+    puts_child(2, RIGHT, 0);
+    drops_all();
+    command(METROHEAP_EVENT_POST, TREE, 0, 0);
+}
+
 static long tree_size(int depth) {
     return (1L << (depth + 1)) - 1;
 }
 
-/* Builds as many trees of a depth, each way, as have twice the nodes of the stretch tree. */
+/* Builds as many trees of a depth, each way, as have twice the nodes of the stretching tree. */
 static void builds_trees(int depth) {
-    long count = 2 * tree_size(STRETCH_DEPTH) / tree_size(depth);
+    long count = 2 * tree_size(stretch_depth) / tree_size(depth);
     for (long i = 0; i < count; i++) {
         makes_node(0);
         populates(depth, 0);
@@ -126,88 +153,113 @@ static void builds_trees(int depth) {
     }
 }
 
+static uint32_t array_size(void) {
+    return (uint32_t)ORIGINAL_ARRAY >> (ORIGINAL_DEPTH - stretch_depth);
+}
+
 static void keeps_long_lived(void) {
     makes_node(0);
-    populates(LONG_LIVED_DEPTH, 0);
+    populates(stretch_depth - 2, 0);
     command(METROHEAP_EVENT_POST, TREE, 0, 0);
-    command(METROHEAP_EVENT_NEW, 0, 0, ARRAY_SIZE);
+    command(METROHEAP_EVENT_NEW, 0, 0, array_size());
     command(METROHEAP_EVENT_POST, ARRAY, 0, 0);
-    for (uint32_t i = 0; i < ARRAY_SIZE / 2; i++) {
+    for (uint32_t i = 0; i < array_size() / 2; i++) {
         command(METROHEAP_EVENT_WRITE, 0, i, (uint64_t)i + 1);
     }
     drops_all();
 }
 
-/* The long-lived data is still there: the array's number, and the tree to its depth. */
+/* The long-lived data is still there: a number of the array, and the tree to its depth. */
 static void looks_at_long_lived(void) {
+    uint32_t index = array_size() / 4;
     command(METROHEAP_EVENT_TAKE, 0, ARRAY, 0);
-    metroheap_reply number = command(METROHEAP_EVENT_READ, 0, 1000, 0);
-    if (!writes_script && number.numbers[0] != 1001) {
-        fails("the array lost a number", 0);
+    metroheap_reply number = command(METROHEAP_EVENT_READ, 0, index, 0);
+    if (!writes_script && number.numbers[0] != (uint64_t)index + 1) {
+        fails("the array lost a number");
     }
     command(METROHEAP_EVENT_TAKE, 0, TREE, 0);
-    for (int depth = 0; depth < LONG_LIVED_DEPTH; depth++) {
+    for (int depth = 0; depth < stretch_depth - 2; depth++) {
         command(METROHEAP_EVENT_GET, 0, 0, (uint64_t)(depth % 2));
     }
     command(METROHEAP_EVENT_READ, 0, 0, 0);
 }
 
-/* Ten rounds of the scheduler. */
-static uint64_t window(void) {
-    return 10 * ((uint64_t)every + quantum);
-}
-
-static void reports(void) {
-    metroheap_reply reply;
-    uint8_t text[256];
-    size_t length = 0;
+static void does_all(void) {
+    stretches();
+    keeps_long_lived();
     if (writes_script) {
-        printf("* report %" PRIu64 "\n", window());
-        return;
+        printf("# what stays was built\n");
     }
-    int32_t status = metroheap_report(&heap, window(), &reply);
-    if (status == METROHEAP_DONE) {
-        status = metroheap_last_text(&heap, text, sizeof text, &length);
+    for (int depth = LEAST_DEPTH; depth <= stretch_depth - 2; depth += 2) {
+        builds_trees(depth);
     }
-    if (status != METROHEAP_DONE) {
-        fails("the report failed", status);
-    }
-    printf("%.*s\n", (int)length, (const char *)text);
-    printf("least utilisation %.2f%%, promised %.2f%%\n",
-           100.0 * (double)reply.numbers[METROHEAP_REPORT_LEAST] / (double)window(),
-           100.0 * (double)reply.numbers[METROHEAP_REPORT_FLOOR] / (double)window());
+    looks_at_long_lived();
 }
 
+static void prints_report(uint64_t window) {
+    metroheap_reply reply;
+    char text[256];
+    checks(metroheap_report(&heap, window, &reply));
+    checks(metroheap_again(&heap, text, sizeof text, NULL));
+    puts(text);
+    printf("least utilisation %.2f%%, promised %.2f%%\n",
+           100.0 * (double)reply.numbers[METROHEAP_REPORT_LEAST] / (double)window,
+           100.0 * (double)reply.numbers[METROHEAP_REPORT_FLOOR] / (double)window);
+}
+
+static const char USAGE[] = "[--script | --pauses] [--depth D] [PAGES QUANTUM TRIGGER EVERY]";
+
+/* A number of at most 9 digits. */
 static uint32_t number(const char *word) {
+    size_t digits = strspn(word, "0123456789");
+    if (digits == 0 || digits > 9 || word[digits] != 0) {
+        fails(USAGE);
+    }
     return (uint32_t)strtoul(word, NULL, 10);
 }
 
 int main(int count, char **words) {
-    uint32_t pages = 4096, trigger = 3000;
-    writes_script = count > 1 && strcmp(words[1], "--script") == 0;
-    if (count - writes_script == 5) {
-        char **numbers = words + 1 + writes_script;
-        pages = number(numbers[0]);
-        quantum = number(numbers[1]);
-        trigger = number(numbers[2]);
-        every = number(numbers[3]);
+    int at = 1;
+    if (metroheap_version() != METROHEAP_VERSION_NUMBER) {
+        fails("the header is not that of the library");
     }
-    if (writes_script) {
-        printf("config %" PRIu32 " %" PRIu32 " %" PRIu32 " %" PRIu32 "\n", pages, quantum, trigger, every);
-    } else {
-        int32_t status = metroheap_open(&heap, pages, quantum, trigger, every, 2);
-        if (status != METROHEAP_DONE) {
-            fails("no machine was opened", status);
+    for (; at < count && strncmp(words[at], "--", 2) == 0; at++) {
+        if (strcmp(words[at], "--script") == 0) {
+            writes_script = 1;
+        } else if (strcmp(words[at], "--pauses") == 0) {
+            writes_pauses = 1;
+        } else if (strcmp(words[at], "--depth") == 0 && at + 1 < count) {
+            stretch_depth = (int)number(words[++at]);
+        } else {
+            fails(USAGE);
         }
     }
-    makes_tree(STRETCH_DEPTH, 0);
-    drops_all();
-    keeps_long_lived();
-    for (int depth = LEAST_DEPTH; depth <= MOST_DEPTH; depth += 2) {
-        builds_trees(depth);
+    if (stretch_depth < 8 || stretch_depth > 15) {
+        fails("a depth goes from 8 to 15");
     }
-    looks_at_long_lived();
-    reports();
+    pages = UINT32_C(1) << (stretch_depth - 3);
+    trigger = 3 * pages / 8;
+    if (count - at == 4) {
+        pages = number(words[at]);
+        quantum = number(words[at + 1]);
+        trigger = number(words[at + 2]);
+        every = number(words[at + 3]);
+    } else if (count != at) {
+        fails(USAGE);
+    }
+    /* Ten rounds of the scheduler. */
+    uint64_t window = 10 * ((uint64_t)every + quantum);
+    if (writes_script) {
+        printf("config %" PRIu32 " %" PRIu32 " %" PRIu32 " %" PRIu32 "\n", pages, quantum, trigger, every);
+        does_all();
+        printf("* report %" PRIu64 "\n", window);
+        return 0;
+    }
+    checks(metroheap_open(&heap, pages, quantum, trigger, every, 2));
+    does_all();
+    if (!writes_pauses) {
+        prints_report(window);
+    }
     metroheap_close(&heap);
     return 0;
 }

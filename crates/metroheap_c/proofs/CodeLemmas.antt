@@ -1,7 +1,7 @@
 -- The numbers of statuses fit 32 bits.
 use Rattle.std.proofs.Common.{◌≡◌, w32, ℤ, to_z, of_z, refl, ap, ◌∙◌}
 use Rattle.mh_embed.specs.declared.status.Status.{Status}
-use Rattle.mh_embed.specs.declared.status.Status.TheVariants.{Done, Blank, Wrong, Full, NoMemory, Closed, BadConfig, Short, NoText, NoReply, NoItem}
+use Rattle.mh_embed.specs.declared.status.Status.TheVariants.{Done, Blank, Wrong, Full, NoMemory, Closed, BadConfig, Short, NoText, NoReply, NoItem, NoDeeds, Differs, IsWorld}
 use Rattle.mh_embed.specs.Statuses.{code_of}
 
 fits : (status : Status) → to_z w32 (of_z w32 (code_of status)) ≡ code_of status
@@ -16,6 +16,9 @@ fits Short = refl
 fits NoText = refl
 fits NoReply = refl
 fits NoItem = refl
+fits NoDeeds = refl
+fits Differs = refl
+fits IsWorld = refl
 
 pub code_seen : (status : Status) (code : ℤ) → code ≡ code_of status → to_z w32 (of_z w32 code) ≡ code_of status
 code_seen status code is = ap (λ z. to_z w32 (of_z w32 z)) is ∙ fits status

@@ -1,10 +1,9 @@
 -- How a call of the library ends, by the number that C sees and the machine of the handle before and after.
-use Rattle.std.specs.Prelude.{◌≡◌, ℕ, ℤ, Option, Some, None}
-use Rattle.mh_model.specs.declared.config.Config.{Config}
+use Rattle.std.specs.Prelude.{◌≡◌, ℕ, ◌+◌, ◌*◌, ℤ, Option, Some, None}
 use Rattle.mh_model.specs.Bytes.{Text}
 use Rattle.mh_embed.specs.declared.status.Status.{Status}
 use Rattle.mh_embed.specs.declared.status.Status.TheVariants as status
-use Rattle.mh_embed.specs.Driving.{Driven, first_driven}
+use Rattle.mh_embed.specs.Driving.{Driven}
 use Rattle.mh_embed.specs.Statuses.{code_of}
 
 -- A call on a handle: it is closed and stays so, and what else the call writes is left so; or its machine becomes what a status says
@@ -22,8 +21,18 @@ pub record IsUntold (old new : Text) (written : ℕ) : Type 0 where
   pub kept : new ≡ old
   pub none : written ≡ 0
 
--- A handle is opened: it has the first machine of the configuration, or is as it was
-pub data Opens (config : Option Config) (old new : Option Driven) (code : ℤ) : Type 0 where
-  Opened : (found : Config) → config ≡ Some found → new ≡ Some (first_driven found) → code ≡ code_of status.Done → Opens config old new code
-  BadConfig : config ≡ None → new ≡ old → code ≡ code_of status.BadConfig → Opens config old new code
-  NoMemory : (found : Config) → config ≡ Some found → new ≡ old → code ≡ code_of status.NoMemory → Opens config old new code
+-- A handle is opened: it has what the numbers stand for before its first event, or is as it was
+pub data Opens (first : Option Driven) (old new : Option Driven) (code : ℤ) : Type 0 where
+  Opened : (found : Driven) → first ≡ Some found → new ≡ Some found → code ≡ code_of status.Done → Opens first old new code
+  BadConfig : first ≡ None → new ≡ old → code ≡ code_of status.BadConfig → Opens first old new code
+  NoMemory : (found : Driven) → first ≡ Some found → new ≡ old → code ≡ code_of status.NoMemory → Opens first old new code
+
+-- a call that asks no handle ends so
+pub record AnswersSo (ends : Status → Type 0) (code : ℤ) : Type 0 where
+  pub status : Status
+  pub ends_so : ends status
+  pub is : code ≡ code_of status
+
+-- the number of a version with these three numbers
+abbrev pub version_number : ℕ → ℕ → ℕ → ℕ
+version_number first second third = first * 1000000 + second * 1000 + third

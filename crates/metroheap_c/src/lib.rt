@@ -1,23 +1,35 @@
 //! The calls of the static library, for programs in C and what calls C. `include/metroheap.h` describes them. Each is a
-//! call of `mh_embed` over what its handle keeps. A closed handle answers so and stays closed. Tests alone show that
-//! the header says what the calls take, and that a C program finds them.
+//! call of `mh_embed` over what its handle keeps. A closed handle answers so and stays closed. Those whose names end in
+//! `_nonnull` have a shorthand in the header that takes null pointers too. Tests alone show that the header says what
+//! the calls take, and that a C program finds them.
 #![tactic(auto)]
 
-ghost use Rattle.std.specs.Prelude.{◌≡◌, None};
+ghost use Rattle.std.specs.Prelude.{◌≡◌, ◌==◌, not, None, option_map};
+ghost use Rattle.mh_model.specs.declared.command.Control.TheVariants as controls;
 ghost use Rattle.mh_model.specs.Script.{line_of};
-ghost use Rattle.mh_embed.specs.Configs.{numbered_config};
-ghost use Rattle.mh_embed.specs.Endings.{AnswerEnds, ItemEnds, ReplyEnds, StepEnds, TextEnds};
-ghost use Rattle.metroheap_c.specs.Calls.{IsUntold, OnHandle, Opens, Reads};
+ghost use Rattle.mh_embed.specs.Configs.{numbered_config, world_config};
+ghost use Rattle.mh_embed.specs.Driving.{first_driven, first_world_driven, without_newline};
+ghost use Rattle.mh_embed.specs.Endings.{AnswerEnds, DeedEnds, ItemEnds, JudgeEnds, ReasonEnds, ReplyEnds, SeeEnds, StepEnds, TellEnds, TextEnds, UnitsEnd};
+ghost use Rattle.metroheap_c.specs.Calls.{AnswersSo, IsUntold, OnHandle, Opens, Reads, version_number};
 
 mod handle;
 mod parts;
 
 use handle::Handle;
-use mh_embed::configs::config_of;
-use mh_embed::embedded::Embedded;
-use mh_embed::numbers::{EventNumbers, ItemNumbers, ReplyNumbers};
+use mh_embed::configs::{config_of, world_config_of};
+use mh_embed::embedded::{Embedded, without_newline};
+use mh_embed::numbers::{DeedNumbers, EventNumbers, ItemNumbers, ReplyNumbers, UnitNumbers};
+use mh_embed::reasons::reason;
 use mh_embed::status::Status;
 use std::alloc::Global;
+
+/// The number of the version, 1.1.0: 1,000,000 for each of its first number and 1,000 for each of the second.
+#[unsafe(no_mangle)]
+pub extern "C" fn metroheap_version() -> u32
+    ensures { result ≡ version_number 1 1 0 }
+{
+    1_001_000
+}
 
 /// Opens a machine with these numbers, in place of the one that the handle may have.
 #[unsafe(no_mangle)]
@@ -30,7 +42,7 @@ pub extern "C" fn metroheap_open(
     every: u32,
     rules: u32,
 ) -> i32
-    ensures { Opens (numbered_config pages quantum trigger every rules) heap.old.value heap.new.value result }
+    ensures { Opens (option_map first_driven (numbered_config pages quantum trigger every rules)) heap.old.value heap.new.value result }
 {
     let Some(config) = config_of(pages, quantum, trigger, every, rules) else {
         return Status::BadConfig.code();
@@ -45,16 +57,31 @@ pub extern "C" fn metroheap_open(
     Status::Done.code()
 }
 
-/// Does the event of a line, given without its end, and copies the text of its reply to the start of `out`.
+/// Opens a world under these rules, in place of what the handle may have.
 #[unsafe(no_mangle)]
-pub extern "C" fn metroheap_line(
+pub extern "C" fn metroheap_open_world(alloc: Global, heap: &mut Handle, rules: u32) -> i32
+    ensures { Opens (option_map first_world_driven (world_config rules)) heap.old.value heap.new.value result }
+{
+    let Some(config) = world_config_of(rules) else {
+        return Status::BadConfig.code();
+    };
+    let Ok(kept) = Box::new(alloc, Embedded::open_world(alloc, config)) else {
+        return Status::NoMemory.code();
+    };
+    heap.keep(kept);
+    Status::Done.code()
+}
+
+/// Does the event of a line, which may end with a newline, and copies the text of its reply to the start of `out`.
+#[unsafe(no_mangle)]
+pub extern "C" fn metroheap_line_nonnull(
     alloc: Global,
     heap: &mut Handle,
     line: &[u8],
     out: &mut [u8],
     written: &mut usize,
 ) -> i32
-    ensures { OnHandle (IsUntold out.old out.new written.new) (λ old new status. AnswerEnds old (line_of line.now) new out.old out.new written.new status) heap.old.value heap.new.value result }
+    ensures { OnHandle (IsUntold out.old out.new written.new) (λ old new status. AnswerEnds old (line_of (without_newline line.now)) new out.old out.new written.new status) heap.old.value heap.new.value result }
 {
     let Some(kept) = heap.take(alloc) else {
         *written = 0;
@@ -68,7 +95,7 @@ pub extern "C" fn metroheap_line(
 
 /// Copies the text of the last reply to the start of `out`.
 #[unsafe(no_mangle)]
-pub extern "C" fn metroheap_last_text(
+pub extern "C" fn metroheap_last_text_nonnull(
     alloc: Global,
     heap: &mut Handle,
     out: &mut [u8],
@@ -84,6 +111,19 @@ pub extern "C" fn metroheap_last_text(
     let status = embedded.text(out, written);
     heap.keep(embedded);
     status.code()
+}
+
+/// Copies why a line, which may end with a newline, is no event to the start of `out`.
+#[unsafe(no_mangle)]
+pub extern "C" fn metroheap_reason_nonnull(
+    alloc: Global,
+    line: &[u8],
+    out: &mut [u8],
+    written: &mut usize,
+) -> i32
+    ensures { AnswersSo (ReasonEnds (without_newline line.now) out.old out.new written.new) result }
+{
+    reason(alloc, without_newline(line), out, written).code()
 }
 
 /// Does an event, and shows its reply.
@@ -140,9 +180,112 @@ pub extern "C" fn metroheap_dump_item(
     status.code()
 }
 
-/// Frees the machine of a handle.
+/// Does an event, and judges what another collector answered to it, or shows what is right.
 #[unsafe(no_mangle)]
-pub extern "C" fn metroheap_close(alloc: Global, heap: &mut Handle)
+pub extern "C" fn metroheap_judge(
+    alloc: Global,
+    heap: &mut Handle,
+    asked: &EventNumbers,
+    given: &ReplyNumbers,
+    right: &mut ReplyNumbers,
+) -> i32
+    ensures { OnHandle (right.new ≡ right.old) (λ old new status. JudgeEnds old asked.now given.now new right.old right.new status) heap.old.value heap.new.value result }
+{
+    let Some(kept) = heap.take(alloc) else {
+        return Status::Closed.code();
+    };
+    let mut embedded = kept;
+    let status = embedded.judge(*asked, given, right);
+    heap.keep(embedded);
+    status.code()
+}
+
+/// Shows what the last event added to the trace.
+#[unsafe(no_mangle)]
+pub extern "C" fn metroheap_last_units(
+    alloc: Global,
+    heap: &mut Handle,
+    shown: &mut UnitNumbers,
+) -> i32
+    ensures { OnHandle (shown.new ≡ shown.old) (Reads (λ old. UnitsEnd old shown.old shown.new)) heap.old.value heap.new.value result }
+{
+    let Some(embedded) = heap.take(alloc) else {
+        return Status::Closed.code();
+    };
+    let status = embedded.units(shown);
+    heap.keep(embedded);
+    status.code()
+}
+
+/// Has events keep their deeds, from the next one on, unless `tells` is 0.
+#[unsafe(no_mangle)]
+pub extern "C" fn metroheap_tell(alloc: Global, heap: &mut Handle, tells: u32) -> i32
+    ensures { OnHandle (Unit {0}) (λ old new status. TellEnds old (not (tells == 0)) new status) heap.old.value heap.new.value result }
+{
+    let Some(kept) = heap.take(alloc) else {
+        return Status::Closed.code();
+    };
+    let mut embedded = kept;
+    let status = embedded.tell(tells != 0);
+    heap.keep(embedded);
+    status.code()
+}
+
+/// Shows a deed of the last event, counted from 0.
+#[unsafe(no_mangle)]
+pub extern "C" fn metroheap_deed_item(
+    alloc: Global,
+    heap: &mut Handle,
+    index: usize,
+    shown: &mut DeedNumbers,
+) -> i32
+    ensures { OnHandle (shown.new ≡ shown.old) (Reads (λ old. DeedEnds old.driver index shown.old shown.new)) heap.old.value heap.new.value result }
+{
+    let Some(embedded) = heap.take(alloc) else {
+        return Status::Closed.code();
+    };
+    let status = embedded.deed(index, shown);
+    heap.keep(embedded);
+    status.code()
+}
+
+/// Shows what a `stat` would answer.
+#[unsafe(no_mangle)]
+pub extern "C" fn metroheap_see_stat(
+    alloc: Global,
+    heap: &mut Handle,
+    shown: &mut ReplyNumbers,
+) -> i32
+    ensures { OnHandle (shown.new ≡ shown.old) (Reads (λ old. SeeEnds old.driver controls.Stat shown.old shown.new)) heap.old.value heap.new.value result }
+{
+    let Some(embedded) = heap.take(alloc) else {
+        return Status::Closed.code();
+    };
+    let status = embedded.see_stat(shown);
+    heap.keep(embedded);
+    status.code()
+}
+
+/// Shows what a `left` would answer.
+#[unsafe(no_mangle)]
+pub extern "C" fn metroheap_see_left(
+    alloc: Global,
+    heap: &mut Handle,
+    shown: &mut ReplyNumbers,
+) -> i32
+    ensures { OnHandle (shown.new ≡ shown.old) (Reads (λ old. SeeEnds old.driver controls.Left shown.old shown.new)) heap.old.value heap.new.value result }
+{
+    let Some(embedded) = heap.take(alloc) else {
+        return Status::Closed.code();
+    };
+    let status = embedded.see_left(shown);
+    heap.keep(embedded);
+    status.code()
+}
+
+/// Frees what a handle has.
+#[unsafe(no_mangle)]
+pub extern "C" fn metroheap_close_nonnull(alloc: Global, heap: &mut Handle)
     ensures { heap.new.value ≡ None }
 {
     drop(heap.take(alloc));

@@ -1,28 +1,83 @@
 -- How events and lines end, in other words.
-use Rattle.std.proofs.Common.{◌≡◌, ℕ, Some, List, refl, sym, subst, ap}
+use Rattle.std.proofs.Common.{◌≡◌, ◌∙◌, ℕ, true, false, is_some, Option, Some, None, List, refl, sym, subst, ap}
+use Rattle.std.proofs.lemmas.Option.{none-some}
 use Rattle.mh_model.specs.declared.command.Command.{Command}
 use Rattle.mh_model.specs.declared.command.Control.{Control}
 use Rattle.mh_model.specs.declared.command.Event.{Event}
 use Rattle.mh_model.specs.declared.command.Event.TheVariants as events
+use Rattle.mh_model.specs.declared.reply.Reply.{Reply}
 use Rattle.mh_model.specs.Bytes.{Text}
 use Rattle.mh_model.specs.Script.{Line, Calls, Asks, session_number, with_name}
+use Rattle.mh_embed.specs.declared.driver.Driver.{Driver}
+use Rattle.mh_embed.specs.declared.driver.Driver.TheVariants.{Collects, Grows}
+use Rattle.mh_embed.specs.declared.numbers.ReplyNumbers.{ReplyNumbers}
 use Rattle.mh_embed.specs.declared.status.Status.{Status}
 use Rattle.mh_embed.specs.declared.status.Status.TheVariants as status
-use Rattle.mh_embed.specs.Driving.{Driven, Answers, line_event, names_after}
-use Rattle.mh_embed.specs.Endings.{EventEnds, Done, Full, Starved, LineEnds, Has}
+use Rattle.mh_embed.specs.Drivers.{Collected, Collecting, Grown}
+use Rattle.mh_embed.specs.Driving.{Driven, Takes, ByMachine, ByWorld, IsOfWorld, IsUndone, FullMachine, FullWorld, Starved, StarvedWorld, NoCollector, line_event, names_after}
+use Rattle.mh_embed.specs.Endings.{EventEnds, Done, Undone, LineEnds, Has, ReplyEnds, Shown, NoneYet}
+use Rattle.mh_embed.specs.Numbers.{IsShownBy}
+
+abbrev numbered : ℕ → List ℕ → ReplyNumbers
+numbered kind numbers = record { kind = kind; numbers = numbers }
+
+never-done : (driver : Driver) (event : Event) (ends : Status) → ends ≡ status.Done → IsUndone driver event ends → ⊥
+never-done _ _ _ is (FullMachine old event full) = cc
+never-done _ _ _ is (FullWorld old who command full) = cc
+never-done _ _ _ is (Starved old event room asks) = cc
+never-done _ _ _ is (StarvedWorld old who command new) = cc
+never-done _ _ _ is (NoCollector old control) = cc
+
+pub is_world : (driver : Driver) (grown : Grown) → driver ≡ Grows grown → IsOfWorld driver
+is_world driver grown is = rw is tt
+
+-- what is there, and what isn't
+pub some_of : {X : Type 0} (given : Option X) → is_some given ≡ true → (x : X) × (given ≡ Some x)
+some_of None is = cc
+some_of (Some x) is = (x, refl)
+
+pub none_of : {X : Type 0} (given : Option X) → is_some given ≡ false → given ≡ None
+none_of None is = refl
+none_of (Some x) is = cc
+
+-- an event that is done on a machine is one of the machine
+pub by_machine : (driver driver' : Driver) (event : Event) (given : Reply) (was now : Collected) → driver ≡ Collects was → driver' ≡ Collects now → Takes driver event given driver' → Collecting was event given now
+by_machine _ _ event given was now is is' (ByMachine old _ _ new does) =
+    let a : old ≡ was = cc in
+    let b : new ≡ now = cc in
+    subst (λ o. Collecting o event given now) a (subst (λ n. Collecting old event given n) b does)
+by_machine _ _ event given was now is is' (ByWorld old who command _ new does) = cc
+
+-- what an event that is done leaves
+pub record IsAnswered (old : Driven) (event : Event) (seen : List Text) (new : Driven) : Type 0 where
+  pub given : Reply
+  pub takes : Takes old.driver event given new.driver
+  pub reply : new.reply ≡ Some given
+  pub names : new.names ≡ seen
 
 module _ (old : Driven) (event : Event) (seen : List Text) (new : Driven) where
-  -- an event that is done is answered
-  pub answered : (ends : Status) → ends ≡ status.Done → EventEnds old event seen new ends → Answers old event seen new
-  answered _ is (Done answers) = answers
-  answered _ is (Full full kept) = cc
-  answered _ is (Starved room asks kept) = cc
+  pub answered : (ends : Status) → ends ≡ status.Done → EventEnds old event seen new ends → IsAnswered old event seen new
+  answered _ is (Done given takes reply names) = record { given = given; takes = takes; reply = reply; names = names }
+  answered _ is (Undone ends undone kept) = absurd (never-done old.driver event ends is undone)
+
+  -- its reply can be shown
+  pub shown_after : (ends shows : Status) (left right : ReplyNumbers) → ends ≡ status.Done → EventEnds old event seen new ends → ReplyEnds new.reply left right shows → (given : Reply) × (new.reply ≡ Some given) × IsShownBy given right
+  shown_after ends shows left right is done (Shown given some is_shown) = (given, some, is_shown)
+  shown_after ends shows left right is done (NoneYet none kept) =
+      let answers : IsAnswered old event seen new = answered ends is done in
+      absurd (none-some answers.given (sym none ∙ answers.reply))
 
   -- what isn't done leaves the names, whichever would have been seen
   undone_so : (ends : Status) (other : List Text) → (ends ≡ status.Done → ⊥) → EventEnds old event seen new ends → EventEnds old event other new ends
-  undone_so _ other not_done (Done answers) = absurd (not_done refl)
-  undone_so _ other not_done (Full full kept) = Full full kept
-  undone_so _ other not_done (Starved room asks kept) = Starved room asks kept
+  undone_so _ other not_done (Done given takes reply names) = absurd (not_done refl)
+  undone_so _ other not_done (Undone ends undone kept) = Undone ends undone kept
+
+-- the numbers of a reply are no others
+same-numbers : (k l : ℕ) (ms ns : List ℕ) → k ≡ l → ms ≡ ns → numbered k ms ≡ numbered l ns
+same-numbers k l ms ns kind numbers = rw (kind, numbers) refl
+
+pub shown_once : (given : Reply) (left right : ReplyNumbers) → IsShownBy given left → IsShownBy given right → left ≡ right
+shown_once given left right is other = same-numbers left.kind right.kind left.numbers right.numbers (is.kind ∙ sym other.kind) (is.numbers ∙ sym other.numbers)
 
 -- a line ends as the event that it has
 has_ends : (old : Driven) (line : Line) (event : Event) (seen : List Text) (new : Driven) (ends : Status) → line_event old.names line ≡ Some event → names_after old.names line ≡ seen
@@ -40,12 +95,12 @@ module _ (old : Driven) (line : Line) (name : Text) (command : Command) (is : li
   after = ap (names_after old.names) is
 
   -- a command that is done, after which its name has been seen
-  pub calls_done : (seen : Driven) → ends ≡ status.Done → seen.machine ≡ new.machine → seen.reply ≡ new.reply → seen.names ≡ with_name new.names name
+  pub calls_done : (seen : Driven) → ends ≡ status.Done → seen.driver ≡ new.driver → seen.reply ≡ new.reply → seen.names ≡ with_name new.names name
       → EventEnds old (events.Session who command) old.names new ends → LineEnds old line seen status.Done
-  calls_done seen done machine reply names event =
-      let answers : Answers old (events.Session who command) old.names new = answered old (events.Session who command) old.names new ends done event in
+  calls_done seen done driver reply names event =
+      let answers : IsAnswered old (events.Session who command) old.names new = answered old (events.Session who command) old.names new ends done event in
       has_ends old line (events.Session who command) (with_name old.names name) seen status.Done asked after
-      (Done (record { given = answers.given; room = answers.room; does = rw machine answers.does; reply = rw reply answers.reply; names = rw (names, answers.names) refl }))
+      (Done answers.given (rw driver answers.takes) (rw reply answers.reply) (rw (names, answers.names) refl))
 
   pub calls_undone : (ends ≡ status.Done → ⊥) → EventEnds old (events.Session who command) old.names new ends → LineEnds old line new ends
   calls_undone not_done event =

@@ -1,3 +1,4 @@
 pub mod EndingLemmas
 pub mod NumberLemmas
 pub mod TurnLemmas
+pub mod WorldLemmas

@@ -1,5 +1,5 @@
 -- Each event as numbers.
-use Rattle.std.proofs.Common.{◌≡◌, ℕ, true, Some, refl}
+use Rattle.std.proofs.Common.{◌≡◌, ℕ, min, true, Some, refl, arith}
 use Rattle.mh_model.specs.declared.command.Command.{Command}
 use Rattle.mh_model.specs.declared.command.Command.TheVariants as command
 use Rattle.mh_model.specs.declared.command.Control.{Control}
@@ -13,19 +13,20 @@ use Rattle.mh_embed.specs.Laws.{EventsHaveNumbers}
 abbrev numbers : ℕ → ℕ → ℕ → ℕ → ℕ → EventNumbers
 numbers kind session first second third = record { kind = kind; session = session; first = first; second = second; third = third }
 
-command_numbers : (who : ℕ) (asked : Command) → is_sayable (command_phrase asked) ≡ true → (n : EventNumbers) × (event_numbered n ≡ Some (event.Session who asked))
-command_numbers who (command.New a b c) fits = (numbers 1 who a b c, rw fits refl)
-command_numbers who (command.Get a b c) fits = (numbers 2 who a b c, rw fits refl)
-command_numbers who (command.Put a b c) fits = (numbers 3 who a b c, rw fits refl)
-command_numbers who (command.Copy a b) fits = (numbers 4 who a b 0, rw fits refl)
-command_numbers who (command.Clear a) fits = (numbers 5 who a 0 0, rw fits refl)
-command_numbers who (command.Read a b) fits = (numbers 6 who a b 0, rw fits refl)
-command_numbers who (command.Write a b c) fits = (numbers 7 who a b c, rw fits refl)
-command_numbers who (command.Same a b) fits = (numbers 8 who a b 0, rw fits refl)
-command_numbers who (command.Shape a) fits = (numbers 9 who a 0 0, rw fits refl)
-command_numbers who (command.Post a b) fits = (numbers 10 who a b 0, rw fits refl)
-command_numbers who (command.Take a b) fits = (numbers 11 who a b 0, rw fits refl)
-command_numbers who command.End fits = (numbers 12 who 0 0 0, refl)
+module _ (who : ℕ) (few : min who 255 ≡ who) where
+  command_numbers : (asked : Command) → is_sayable (command_phrase asked) ≡ true → (n : EventNumbers) × (event_numbered n ≡ Some (event.Session who asked))
+  command_numbers (command.New a b c) fits = (numbers 1 who a b c, rw (fits, few) refl)
+  command_numbers (command.Get a b c) fits = (numbers 2 who a b c, rw (fits, few) refl)
+  command_numbers (command.Put a b c) fits = (numbers 3 who a b c, rw (fits, few) refl)
+  command_numbers (command.Copy a b) fits = (numbers 4 who a b 0, rw (fits, few) refl)
+  command_numbers (command.Clear a) fits = (numbers 5 who a 0 0, rw (fits, few) refl)
+  command_numbers (command.Read a b) fits = (numbers 6 who a b 0, rw (fits, few) refl)
+  command_numbers (command.Write a b c) fits = (numbers 7 who a b c, rw (fits, few) refl)
+  command_numbers (command.Same a b) fits = (numbers 8 who a b 0, rw (fits, few) refl)
+  command_numbers (command.Shape a) fits = (numbers 9 who a 0 0, rw (fits, few) refl)
+  command_numbers (command.Post a b) fits = (numbers 10 who a b 0, rw (fits, few) refl)
+  command_numbers (command.Take a b) fits = (numbers 11 who a b 0, rw (fits, few) refl)
+  command_numbers command.End fits = (numbers 12 who 0 0 0, rw few refl)
 
 control_numbers : (asked : Control) → is_sayable (control_phrase asked) ≡ true → (n : EventNumbers) × (event_numbered n ≡ Some (event.Control asked))
 control_numbers control.Quantum fits = (numbers 13 0 0 0 0, refl)
@@ -36,5 +37,5 @@ control_numbers (control.Report window) fits = (numbers 17 0 0 0 window, rw fits
 control_numbers control.Left fits = (numbers 18 0 0 0 0, refl)
 
 pub have_numbers : EventsHaveNumbers
-have_numbers (event.Session who asked) = command_numbers who asked
-have_numbers (event.Control asked) = control_numbers asked
+have_numbers (event.Session who asked) small = command_numbers who (omega (arith, small)) asked
+have_numbers (event.Control asked) small = control_numbers asked

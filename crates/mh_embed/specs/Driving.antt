@@ -1,31 +1,60 @@
--- A machine that a program drives, and what an event or a line makes of it.
-use Rattle.std.specs.Prelude.{◌≡◌, ◌<◌, Option, Some, None, List, []}
-use Rattle.mh_model.specs.declared.config.Config.{Config}
+-- What a program drives behind a handle, and what an event makes of it.
+use Rattle.std.specs.Prelude.{◌≡◌, ◌<◌, ◌≤◌, ℕ, Option, Some, None, List, [], ◌∷◌, ◌-◌, drop, length, take, if◌then◌else◌}
+use Rattle.mh_model.specs.declared.command.Command.{Command}
+use Rattle.mh_model.specs.declared.command.Control.{Control}
 use Rattle.mh_model.specs.declared.command.Event.{Event}
 use Rattle.mh_model.specs.declared.command.Event.TheVariants as event
+use Rattle.mh_model.specs.declared.config.Config.{Config}
 use Rattle.mh_model.specs.declared.reply.Reply.{Reply}
-use Rattle.mh_model.specs.Bytes.{Text}
+use Rattle.mh_model.specs.Bytes.{Text, is_text}
 use Rattle.mh_model.specs.Limits.{most_entries}
 use Rattle.mh_model.specs.Script.{Line, Blank, Calls, Asks, Wrong, session_number, with_name}
-use Rattle.mh_live.specs.OfMachine.Running.{Running, Does, first_running}
+use Rattle.mh_model.specs.World.{IsNew}
+use Rattle.mh_script.specs.OfMachine.Running.{MayAskForMemory}
+use Rattle.mh_embed.specs.declared.driver.Driver.{Driver}
+use Rattle.mh_embed.specs.declared.driver.Driver.TheVariants.{Collects, Grows}
+use Rattle.mh_embed.specs.declared.status.Status.{Status}
+use Rattle.mh_embed.specs.declared.status.Status.TheVariants as status
+use Rattle.mh_embed.specs.Drivers.{Collected, Collecting, Grown, Growing, first_collected, first_grown}
 
--- the machine, the first names of sessions that were seen, and the reply to the last event, of none before the first
+-- a world is driven, which has no collector and no trace
+abbrev pub IsOfWorld : Driver → Type 0
+IsOfWorld (Collects collected) = ⊥
+IsOfWorld (Grows grown) = Unit {0}
+
+-- what is driven, the first names of sessions that were seen, and the reply to the last event, of none before the first
 pub record Driven : Type 0 where
-  pub machine : Running
+  pub driver : Driver
   pub names : List Text
   pub reply : Option Reply
 
--- the first machine of a configuration, before any name and any reply
+-- before the first event, on the machine of a configuration, and on the world of one
 abbrev pub first_driven : Config → Driven
-first_driven config = record { machine = first_running config; names = []; reply = None }
+first_driven config = record { driver = Collects (first_collected config); names = []; reply = None }
 
--- An event was done: its reply and what it leaves are the machine's. Then these names have been seen
-pub record Answers (old : Driven) (event : Event) (seen : List Text) (new : Driven) : Type 0 where
-  pub given : Reply
-  pub room : old.machine.done < most_entries
-  pub does : Does old.machine event given new.machine
-  pub reply : new.reply ≡ Some given
-  pub names : new.names ≡ seen
+abbrev pub first_world_driven : Config → Driven
+first_world_driven config = record { driver = Grows (first_grown config); names = []; reply = None }
+
+-- Events -----------------------------------------------------------------------------------------
+
+-- An event was done, and this is its reply
+pub data Takes : Driver → Event → Reply → Driver → Type 0 where
+  ByMachine : (old : Collected) (event : Event) (given : Reply) (new : Collected) → Collecting old event given new → Takes (Collects old) event given (Collects new)
+  ByWorld : (old : Grown) (who : ℕ) (command : Command) (given : Reply) (new : Grown) → Growing old who command given new → Takes (Grows old) (event.Session who command) given (Grows new)
+
+-- Why an event is not done: the machine or the world has done as many as it may, memory was refused to an event that may ask for it, or a world was asked for a control
+pub data IsUndone : Driver → Event → Status → Type 0 where
+  FullMachine : (old : Collected) (event : Event) → old.machine.done ≡ most_entries → IsUndone (Collects old) event status.Full
+  FullWorld : (old : Grown) (who : ℕ) (command : Command) → most_entries ≤ old.done → IsUndone (Grows old) (event.Session who command) status.Full
+  Starved : (old : Collected) (event : Event) → old.machine.done < most_entries → MayAskForMemory old.machine.room event → IsUndone (Collects old) event status.NoMemory
+  StarvedWorld : (old : Grown) (who : ℕ) (command : Command) → IsNew command → IsUndone (Grows old) (event.Session who command) status.NoMemory
+  NoCollector : (old : Grown) (control : Control) → IsUndone (Grows old) (event.Control control) status.IsWorld
+
+-- Lines ------------------------------------------------------------------------------------------
+
+-- a line without the newline that may end it
+abbrev pub without_newline : Text → Text
+without_newline line = if is_text (drop (length line - 1) line) (10 ∷ []) then take (length line - 1) line else line
 
 -- the event of a line when these are the first names seen
 abbrev pub line_event : List Text → Line → Option Event

@@ -1,32 +1,47 @@
 -- How calls end, status by status.
-use Rattle.std.specs.Prelude.{◌≡◌, ◌≢◌, ◌<◌, ◌≤◌, ℕ, Option, Some, None, List, ◌++◌, drop, length, slice_get}
+use Rattle.std.specs.Prelude.{◌≡◌, ◌≢◌, ◌<◌, ◌≤◌, ℕ, Bool, true, Option, Some, None, List, ◌++◌, drop, length, slice_get}
+use Rattle.mh_model.specs.declared.command.Control.{Control}
 use Rattle.mh_model.specs.declared.command.Event.{Event}
+use Rattle.mh_model.specs.declared.command.Event.TheVariants as event
+use Rattle.mh_model.specs.declared.deed.Deed.{Deed}
 use Rattle.mh_model.specs.declared.dump.DumpItem.{DumpItem}
 use Rattle.mh_model.specs.declared.reply.Reply.{Reply}
 use Rattle.mh_model.specs.Bytes.{Text}
-use Rattle.mh_model.specs.Limits.{most_entries}
+use Rattle.mh_model.specs.Machine.{control_step}
 use Rattle.mh_model.specs.Replies.{reply_text}
 use Rattle.mh_model.specs.Script as script
-use Rattle.mh_live.specs.OfMachine.Running.{MayAskForMemory}
+use Rattle.mh_model.specs.declared.reply.Reply.TheVariants as reply
+use Rattle.mh_model.specs.declared.reply.Refusal.TheVariants.{HeapFull}
+use Rattle.mh_model.specs.World.{IsNew, world_step}
+use Rattle.mh_script.specs.OfReasons.LineReason.{LineReason}
+use Rattle.mh_script.specs.OfReasons.Reasons.{IsLineReason, IsWrong}
+use Rattle.mh_embed.specs.declared.driver.Driver.{Driver}
+use Rattle.mh_embed.specs.declared.driver.Driver.TheVariants.{Collects, Grows}
+use Rattle.mh_embed.specs.declared.numbers.DeedNumbers.{DeedNumbers}
 use Rattle.mh_embed.specs.declared.numbers.EventNumbers.{EventNumbers}
 use Rattle.mh_embed.specs.declared.numbers.ItemNumbers.{ItemNumbers}
 use Rattle.mh_embed.specs.declared.numbers.ReplyNumbers.{ReplyNumbers}
+use Rattle.mh_embed.specs.declared.numbers.UnitNumbers.{UnitNumbers}
 use Rattle.mh_embed.specs.declared.status.Status.{Status}
 use Rattle.mh_embed.specs.declared.status.Status.TheVariants as status
-use Rattle.mh_embed.specs.Driving.{Driven, Answers, line_event, names_after}
-use Rattle.mh_embed.specs.Numbers.{IsItemShownBy, IsShownBy, event_numbered, items_of}
+use Rattle.mh_embed.specs.Drivers.{Collected}
+use Rattle.mh_embed.specs.Driving.{Driven, Takes, IsOfWorld, IsUndone, line_event, names_after}
+use Rattle.mh_embed.specs.Numbers.{IsDeedShownBy, IsItemShownBy, IsShownBy, event_numbered, items_of}
 
--- An event ends: it was done, or all is as it was
+-- Events -----------------------------------------------------------------------------------------
+
+-- An event ends: it was done, its reply is the last, and these names have been seen; or all is as it was
 pub data EventEnds (old : Driven) (event : Event) (seen : List Text) (new : Driven) : Status → Type 0 where
-  Done : Answers old event seen new → EventEnds old event seen new status.Done
-  Full : old.machine.done ≡ most_entries → new ≡ old → EventEnds old event seen new status.Full
-  Starved : old.machine.done < most_entries → MayAskForMemory old.machine.room event → new ≡ old → EventEnds old event seen new status.NoMemory
+  Done : (given : Reply) → Takes old.driver event given new.driver → new.reply ≡ Some given → new.names ≡ seen → EventEnds old event seen new status.Done
+  Undone : (ends : Status) → IsUndone old.driver event ends → new ≡ old → EventEnds old event seen new ends
 
 -- A line ends: as its event does, or it has none and all is as it was
 pub data LineEnds (old : Driven) (line : script.Line) (new : Driven) : Status → Type 0 where
   Blank : line ≡ script.Blank → new ≡ old → LineEnds old line new status.Blank
   Wrong : line ≡ script.Wrong → new ≡ old → LineEnds old line new status.Wrong
   Has : (event : Event) (ends : Status) → line_event old.names line ≡ Some event → EventEnds old event (names_after old.names line) new ends → LineEnds old line new ends
+
+-- Texts ------------------------------------------------------------------------------------------
 
 -- A text is given to a buffer, at its start, with its length: whole, or only its length if the buffer is shorter
 pub data IsGiven (text old new : Text) (written : ℕ) : Status → Type 0 where
@@ -44,6 +59,15 @@ pub data AnswerEnds (old : Driven) (line : script.Line) (new : Driven) (out out'
   Answered : (ends : Status) → LineEnds old line new status.Done → TextEnds new.reply out out' written ends → AnswerEnds old line new out out' written ends
   Undone : (ends : Status) → ends ≢ status.Done → LineEnds old line new ends → out' ≡ out → written ≡ 0 → AnswerEnds old line new out out' written ends
 
+-- What is wrong with a line is asked for: some text of a reason that is true of it, if it is outside the grammar. Memory may be refused for the text
+pub data ReasonEnds (line out out' : Text) (written : ℕ) : Status → Type 0 where
+  Reasoned : (reason : LineReason) (text : Text) (ends : Status) → IsWrong true line → IsLineReason true line reason → IsGiven text out out' written ends → ReasonEnds line out out' written ends
+  BlankLine : script.line_of line ≡ script.Blank → out' ≡ out → written ≡ 0 → ReasonEnds line out out' written status.Blank
+  IsEvent : script.line_of line ≢ script.Blank → script.line_of line ≢ script.Wrong → out' ≡ out → written ≡ 0 → ReasonEnds line out out' written status.NoItem
+  NoReason : IsWrong true line → out' ≡ out → written ≡ 0 → ReasonEnds line out out' written status.NoText
+
+-- Numbers ----------------------------------------------------------------------------------------
+
 -- The last reply is asked for as numbers
 pub data ReplyEnds (reply : Option Reply) (old new : ReplyNumbers) : Status → Type 0 where
   Shown : (given : Reply) → reply ≡ Some given → IsShownBy given new → ReplyEnds reply old new status.Done
@@ -59,3 +83,44 @@ pub data StepEnds (old : Driven) (asked : EventNumbers) (new : Driven) (shown sh
 pub data ItemEnds (reply : Option Reply) (index : ℕ) (old new : ItemNumbers) : Status → Type 0 where
   Found : (found : DumpItem) → slice_get (items_of reply) index ≡ Some found → IsItemShownBy found new → ItemEnds reply index old new status.Done
   NoItem : length (items_of reply) ≤ index → new ≡ old → ItemEnds reply index old new status.NoItem
+
+-- What the last event added to the trace is asked for, which a world has not
+pub data UnitsEnd (driven : Driven) (old new : UnitNumbers) : Status → Type 0 where
+  Added : (collected : Collected) (given : Reply) → driven.driver ≡ Collects collected → driven.reply ≡ Some given → new ≡ collected.units → UnitsEnd driven old new status.Done
+  NoneAdded : (collected : Collected) → driven.driver ≡ Collects collected → driven.reply ≡ None → new ≡ old → UnitsEnd driven old new status.NoReply
+  NoTrace : IsOfWorld driven.driver → new ≡ old → UnitsEnd driven old new status.IsWorld
+
+-- Events are asked to keep their deeds, or not
+pub data TellEnds (old : Driven) (tells : Bool) (new : Driven) : Status → Type 0 where
+  Told : (collected : Collected) → old.driver ≡ Collects collected → new ≡ record old { driver = Collects (record collected { tells = tells }) } → TellEnds old tells new status.Done
+  NotTold : IsOfWorld old.driver → new ≡ old → TellEnds old tells new status.IsWorld
+
+-- A deed of the last event is asked for, counted from 0
+pub data DeedEnds (driver : Driver) (index : ℕ) (old new : DeedNumbers) : Status → Type 0 where
+  Found : (collected : Collected) (deeds : List Deed) (found : Deed) → driver ≡ Collects collected → collected.deeds ≡ Some deeds → slice_get deeds index ≡ Some found → IsDeedShownBy found new → DeedEnds driver index old new status.Done
+  NoDeed : (collected : Collected) (deeds : List Deed) → driver ≡ Collects collected → collected.deeds ≡ Some deeds → length deeds ≤ index → new ≡ old → DeedEnds driver index old new status.NoItem
+  NotKept : (collected : Collected) → driver ≡ Collects collected → collected.deeds ≡ None → new ≡ old → DeedEnds driver index old new status.NoDeeds
+  OfWorld : IsOfWorld driver → new ≡ old → DeedEnds driver index old new status.NoDeeds
+
+-- What a control would answer is asked for. It is no event, and a world has none
+pub data SeeEnds (driver : Driver) (asked : Control) (old new : ReplyNumbers) : Status → Type 0 where
+  Seen : (collected : Collected) → driver ≡ Collects collected → IsShownBy (control_step collected.machine.machine asked).reply new → SeeEnds driver asked old new status.Done
+  NotSeen : IsOfWorld driver → new ≡ old → SeeEnds driver asked old new status.IsWorld
+
+-- Judging ----------------------------------------------------------------------------------------
+
+-- what a world passes over: a control of another collector, and a full heap for a new object that the world makes
+abbrev pub PassesOver : Driver → Event → ReplyNumbers → Type 0
+PassesOver (Grows grown) (event.Session who command) given = IsNew command × IsShownBy (reply.Refused HeapFull) given × ((world_step grown.world who command).reply ≡ reply.Done)
+PassesOver (Grows grown) (event.Control control) given = Unit {0}
+PassesOver (Collects collected) event given = ⊥
+
+-- The reply of another collector is judged, once the event is done: these are the numbers of the right one, or they differ from it, and then it is shown
+pub data JudgeEnds (old : Driven) (asked : EventNumbers) (given : ReplyNumbers) (new : Driven) (right right' : ReplyNumbers) : Status → Type 0 where
+  NoEvent : event_numbered asked ≡ None → new ≡ old → right' ≡ right → JudgeEnds old asked given new right right' status.Wrong
+  Passed : (event : Event) → event_numbered asked ≡ Some event → PassesOver old.driver event given → new ≡ old → right' ≡ given → JudgeEnds old asked given new right right' status.Done
+  Right : (event : Event) (answer : Reply) → event_numbered asked ≡ Some event → ¬ PassesOver old.driver event given → EventEnds old event old.names new status.Done → new.reply ≡ Some answer
+      → IsShownBy answer given → right' ≡ given → JudgeEnds old asked given new right right' status.Done
+  Differs : (event : Event) (answer : Reply) → event_numbered asked ≡ Some event → ¬ PassesOver old.driver event given → EventEnds old event old.names new status.Done → new.reply ≡ Some answer
+      → ¬ IsShownBy answer given → IsShownBy answer right' → JudgeEnds old asked given new right right' status.Differs
+  NotJudged : (event : Event) (ends : Status) → event_numbered asked ≡ Some event → ends ≢ status.Done → EventEnds old event old.names new ends → right' ≡ right → JudgeEnds old asked given new right right' ends

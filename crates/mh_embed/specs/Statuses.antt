@@ -1,7 +1,7 @@
 -- The numbers by which C knows what a call came to.
 use Rattle.std.specs.Prelude.{ℤ, pos}
 use Rattle.mh_embed.specs.declared.status.Status.{Status}
-use Rattle.mh_embed.specs.declared.status.Status.TheVariants.{Done, Blank, Wrong, Full, NoMemory, Closed, BadConfig, Short, NoText, NoReply, NoItem}
+use Rattle.mh_embed.specs.declared.status.Status.TheVariants.{Done, Blank, Wrong, Full, NoMemory, Closed, BadConfig, Short, NoText, NoReply, NoItem, NoDeeds, Differs, IsWorld}
 
 -- the number of a status, as the header lists them
 abbrev pub code_of : Status → ℤ
@@ -16,3 +16,6 @@ code_of Short = pos 7
 code_of NoText = pos 8
 code_of NoReply = pos 9
 code_of NoItem = pos 10
+code_of NoDeeds = pos 11
+code_of Differs = pos 12
+code_of IsWorld = pos 13

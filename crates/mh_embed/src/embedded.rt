@@ -1,39 +1,34 @@
-//! A machine behind a handle. The reply to an event is the machine's. If an event isn't done, all is as it was, and the
-//! status says why. A text that doesn't fit, or for which memory is refused, leaves the reply to be asked for again.
-//! Quanta are run by the calling thread alone.
-ghost use Rattle.std.specs.Prelude.{◌≡◌, IfOk, OnOk};
-ghost use Rattle.std.specs.String.{string_bytes};
-ghost use Rattle.mh_model.specs.Replies.{reply_text};
+//! What a program keeps behind a handle: a machine or a world, with the names of its sessions and its last reply. The
+//! reply to an event is the machine's, or the world's. If an event isn't done, all is as it was, and the status says why.
+//! A text that doesn't fit, or for which memory is refused, leaves the reply to be asked for again.
+ghost use Rattle.std.specs.Prelude.{◌≡◌, IfOk};
+ghost use Rattle.mh_model.specs.declared.command.Control.TheVariants as controls;
 ghost use Rattle.mh_model.specs.Script.{line_of};
-ghost use Rattle.mh_embed.specs.Numbers.{items_of};
+ghost use Rattle.mh_embed.specs.Driving.{without_newline};
 
+use crate::collecting::CollectingMachine;
+use crate::deeds::deed_numbers;
+use crate::driver::Driver;
 use crate::events::event_of;
-use crate::numbers::{EventNumbers, ItemNumbers, ReplyNumbers};
-use crate::shown::{item_numbers, reply_numbers};
+use crate::growing::GrowingWorld;
+use crate::numbers::{DeedNumbers, EventNumbers, ItemNumbers, ReplyNumbers, UnitNumbers};
+use crate::replied::Replied;
+use crate::shown::reply_numbers;
 use crate::status::Status;
-use mh_live::mh_machine::machine::{Machine, Stop};
-use mh_live::mh_scan::scan::OneScan;
 use mh_live::mh_text::line::{Line, line_of};
-use mh_live::mh_text::reply_text::ReplyText;
 use mh_live::names::Names;
 use mh_model::command::Event;
 use mh_model::config::Config;
-use mh_model::dump::DumpItem;
-use mh_model::limits::MOST_EVENTS;
 use mh_model::memory::NoMemory;
-use mh_model::reply::Reply;
 use std::alloc::Global;
-use std::fmt::Write;
 use std::marker::Model;
 
-/// A machine, the names of its sessions, and the reply to its last event, with room for the text of one.
+/// A machine or a world, the names of its sessions, and the reply to its last event.
 #[derive(Drop)]
 pub struct Embedded {
-    alloc: Global,
-    machine: Machine,
+    pub(crate) driver: Driver,
     names: Names,
-    reply: Option<Reply>,
-    text: String,
+    replied: Replied,
 }
 
 impl Model for Embedded {
@@ -41,52 +36,55 @@ impl Model for Embedded {
 
     ghost Value = { Driven };
 
-    ghost view = { λ e. record { machine = e.machine; names = e.names; reply = e.reply } };
+    ghost view = { λ e. record { driver = e.driver; names = e.names; reply = e.replied } };
 }
 
-/// Puts the text of a reply in place of what was there.
-fn write_reply(reply: &Reply, text: &mut String) -> Result<(), NoMemory>
-    ensures { OnOk result (string_bytes text.new ≡ reply_text reply.now) }
+/// A line without the newline that may end it.
+pub fn without_newline(line: &[u8]) -> &[u8]
+    ensures { result.now ≡ without_newline line.now }
 {
-    text.clear();
-    let reply = ReplyText(reply);
-    write!(text, "{reply}")?;
-    Ok(())
+    match line {
+        [rest @ .., b'\n'] => rest,
+        _ => line,
+    }
 }
 
 impl Embedded {
-    ghost use Rattle.mh_embed.specs.Driving.{first_driven};
-    ghost use Rattle.mh_embed.specs.Endings.{AnswerEnds, EventEnds, ItemEnds, LineEnds, ReplyEnds, StepEnds, TextEnds};
+    ghost use Rattle.mh_embed.specs.Driving.{first_driven, first_world_driven};
+    ghost use Rattle.mh_embed.specs.Endings.{AnswerEnds, DeedEnds, EventEnds, ItemEnds, JudgeEnds, LineEnds, ReplyEnds, SeeEnds, StepEnds, TellEnds, TextEnds, UnitsEnd};
 
     /// The machine of a configuration before its first event.
     pub fn open(alloc: Global, config: Config) -> Result<Embedded, NoMemory>
         ensures { IfOk result (λ embedded. embedded ≡ first_driven config) }
     {
         Ok(Embedded {
-            alloc,
-            machine: Machine::open(alloc, config)?,
+            driver: Driver::Collects(CollectingMachine::open(alloc, config)?),
             names: Names::new(),
-            reply: None,
-            text: String::new(alloc),
+            replied: Replied::new(alloc),
         })
     }
 
+    /// The world of a configuration before its first command.
+    pub fn open_world(alloc: Global, config: Config) -> Embedded
+        ensures { result ≡ first_world_driven config }
+    {
+        Embedded {
+            driver: Driver::Grows(GrowingWorld::open(alloc, config)),
+            names: Names::new(),
+            replied: Replied::new(alloc),
+        }
+    }
+
     /// Does an event, and keeps its reply as the last.
-    #[tactic(auto, unfolding(mh_model::specs::Limits::most_entries))]
     pub fn event(&mut self, event: Event) -> Status
         ensures { EventEnds self.old event self.old.names self.new result }
     {
-        if self.machine.done() >= MOST_EVENTS {
-            return Status::Full;
-        }
-        let mut scanner = OneScan::new(self.alloc);
-        match self.machine.step(event, &mut scanner) {
+        match self.driver.event(event) {
             Ok(reply) => {
-                self.reply = Some(reply);
+                self.replied.keep(reply);
                 Status::Done
             }
-            Err(Stop::HistoryFull) => Status::Full,
-            Err(Stop::NoMemory) => Status::NoMemory,
+            Err(undone) => undone,
         }
     }
 
@@ -116,27 +114,14 @@ impl Embedded {
         ensures ends { TextEnds self.old.reply out.old out.new written.new result }
         ensures kept { self.new ≡ self.old }
     {
-        *written = 0;
-        let Some(reply) = &self.reply else {
-            return Status::NoReply;
-        };
-        let Ok(()) = write_reply(reply, &mut self.text) else {
-            return Status::NoText;
-        };
-        let text = self.text.as_bytes();
-        *written = text.len();
-        if text.len() > out.len() {
-            return Status::Short;
-        }
-        out[..text.len()].copy_from_slice(text);
-        Status::Done
+        self.replied.text(out, written)
     }
 
-    /// Does the event of a line, and copies the text of its reply as `text` does.
+    /// Does the event of a line, which may end with a newline, and copies the text of its reply as `text` does.
     pub fn answer(&mut self, line: &[u8], out: &mut [u8], written: &mut usize) -> Status
-        ensures { AnswerEnds self.old (line_of line.now) self.new out.old out.new written.new result }
+        ensures { AnswerEnds self.old (line_of (without_newline line.now)) self.new out.old out.new written.new result }
     {
-        match self.line(line) {
+        match self.line(without_newline(line)) {
             Status::Done => self.text(out, written),
             undone => {
                 *written = 0;
@@ -149,13 +134,7 @@ impl Embedded {
     pub fn reply(&self, shown: &mut ReplyNumbers) -> Status
         ensures { ReplyEnds self.now.reply shown.old shown.new result }
     {
-        match &self.reply {
-            Some(reply) => {
-                *shown = reply_numbers(reply);
-                Status::Done
-            }
-            None => Status::NoReply,
-        }
+        self.replied.reply(shown)
     }
 
     /// Does the event that numbers are, and shows its reply.
@@ -171,26 +150,76 @@ impl Embedded {
         }
     }
 
-    /// The items of the last reply, none if it isn't a dump.
-    fn items(&self) -> &[DumpItem]
-        ensures { result.now ≡ items_of self.now.reply }
-    {
-        match &self.reply {
-            Some(Reply::Dump(dump)) => dump.items(),
-            _ => &[],
-        }
-    }
-
     /// Shows an item of the last reply, counted from 0.
     pub fn item(&self, index: usize, shown: &mut ItemNumbers) -> Status
         ensures { ItemEnds self.now.reply index shown.old shown.new result }
     {
-        match self.items().get(index) {
-            Some(item) => {
-                *shown = item_numbers(*item);
+        self.replied.item(index, shown)
+    }
+
+    /// Shows what the last event added to the trace.
+    pub fn units(&self, shown: &mut UnitNumbers) -> Status
+        ensures { UnitsEnd self.now shown.old shown.new result }
+    {
+        let Driver::Collects(machine) = &self.driver else {
+            return Status::IsWorld;
+        };
+        if !self.replied.is_some() {
+            return Status::NoReply;
+        }
+        *shown = machine.units();
+        Status::Done
+    }
+
+    /// Has events keep their deeds, or not, from the next one on.
+    pub fn tell(&mut self, tells: bool) -> Status
+        ensures { TellEnds self.old tells self.new result }
+    {
+        let Driver::Collects(machine) = &mut self.driver else {
+            return Status::IsWorld;
+        };
+        machine.tell(tells);
+        Status::Done
+    }
+
+    /// Shows a deed of the last event, counted from 0.
+    pub fn deed(&self, index: usize, shown: &mut DeedNumbers) -> Status
+        ensures { DeedEnds self.now.driver index shown.old shown.new result }
+    {
+        let Driver::Collects(machine) = &self.driver else {
+            return Status::NoDeeds;
+        };
+        if !machine.has_deeds() {
+            return Status::NoDeeds;
+        }
+        match machine.deed(index) {
+            Some(deed) => {
+                *shown = deed_numbers(deed);
                 Status::Done
             }
             None => Status::NoItem,
         }
+    }
+
+    /// Shows what a `stat` would answer.
+    pub fn see_stat(&self, shown: &mut ReplyNumbers) -> Status
+        ensures { SeeEnds self.now.driver controls.Stat shown.old shown.new result }
+    {
+        let Driver::Collects(machine) = &self.driver else {
+            return Status::IsWorld;
+        };
+        *shown = reply_numbers(&machine.stat());
+        Status::Done
+    }
+
+    /// Shows what a `left` would answer.
+    pub fn see_left(&self, shown: &mut ReplyNumbers) -> Status
+        ensures { SeeEnds self.now.driver controls.Left shown.old shown.new result }
+    {
+        let Driver::Collects(machine) = &self.driver else {
+            return Status::IsWorld;
+        };
+        *shown = reply_numbers(&machine.left());
+        Status::Done
     }
 }

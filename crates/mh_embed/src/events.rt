@@ -95,12 +95,12 @@ fn control_of(numbers: EventNumbers) -> Option<Control>
     }
 }
 
-/// The event that numbers are, if they are one.
+/// The event that numbers are, if they are one. A session past the 255th is refused as that one is, for there are eight.
 pub fn event_of(numbers: EventNumbers) -> Option<Event>
     ensures { result ≡ event_numbered numbers }
 {
     match command_of(numbers) {
-        Some(command) => Some(Event::Session(numbers.session, command)),
+        Some(command) => Some(Event::Session(numbers.session.min(255) as u8, command)),
         None => Some(Event::Control(control_of(numbers)?)),
     }
 }

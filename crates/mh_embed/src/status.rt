@@ -24,8 +24,14 @@ pub enum Status {
     NoText,
     /// No event was done yet.
     NoReply,
-    /// The last reply has no item of this index.
+    /// There is no item or deed of this index, or no reason.
     NoItem,
+    /// The deeds of the last event weren't kept, or memory was refused for one.
+    NoDeeds,
+    /// The reply that was judged isn't right.
+    Differs,
+    /// The handle has a world, which has no collector and no trace.
+    IsWorld,
 }
 
 impl Status {
@@ -45,6 +51,9 @@ impl Status {
             Status::NoText => 8,
             Status::NoReply => 9,
             Status::NoItem => 10,
+            Status::NoDeeds => 11,
+            Status::Differs => 12,
+            Status::IsWorld => 13,
         }
     }
 }

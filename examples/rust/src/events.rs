@@ -1,68 +1,68 @@
 //! Events and replies in types of their own.
 use crate::sys::{EventNumbers, ItemNumbers, ReplyNumbers};
 
-/// An event: a command of the session with this number, or a control.
+/// An event: a command of the session with this number, or a control. A session of 8 or more is one too many.
 #[derive(Clone, Copy, Debug, PartialEq, Eq)]
 pub enum Event {
     New {
-        session: u8,
+        session: u32,
         slot: u32,
         references: u32,
         numbers: u32,
     },
     Get {
-        session: u8,
+        session: u32,
         slot: u32,
         source: u32,
         field: u32,
     },
     Put {
-        session: u8,
+        session: u32,
         slot: u32,
         field: u32,
         value: u32,
     },
     Copy {
-        session: u8,
+        session: u32,
         slot: u32,
         source: u32,
     },
     Clear {
-        session: u8,
+        session: u32,
         slot: u32,
     },
     Read {
-        session: u8,
+        session: u32,
         slot: u32,
         index: u32,
     },
     Write {
-        session: u8,
+        session: u32,
         slot: u32,
         index: u32,
         number: u64,
     },
     Same {
-        session: u8,
+        session: u32,
         left: u32,
         right: u32,
     },
     Shape {
-        session: u8,
+        session: u32,
         slot: u32,
     },
     Post {
-        session: u8,
+        session: u32,
         board: u32,
         slot: u32,
     },
     Take {
-        session: u8,
+        session: u32,
         slot: u32,
         board: u32,
     },
     End {
-        session: u8,
+        session: u32,
     },
     Quantum,
     Start,
@@ -245,7 +245,7 @@ pub enum Reply {
     Left(u64),
 }
 
-fn phase(number: u64) -> Phase {
+pub(crate) fn phase(number: u64) -> Phase {
     match number {
         0 => Phase::Idle,
         1 => Phase::Roots,
@@ -256,17 +256,23 @@ fn phase(number: u64) -> Phase {
     }
 }
 
+const REFUSALS: [Refusal; 7] = [
+    Refusal::BadSlot,
+    Refusal::Null,
+    Refusal::NoField,
+    Refusal::TooLarge,
+    Refusal::HeapFull,
+    Refusal::Ended,
+    Refusal::TooManySessions,
+];
+
 fn refusal(number: u64) -> Refusal {
-    match number {
-        1 => Refusal::BadSlot,
-        2 => Refusal::Null,
-        3 => Refusal::NoField,
-        4 => Refusal::TooLarge,
-        5 => Refusal::HeapFull,
-        6 => Refusal::Ended,
-        7 => Refusal::TooManySessions,
-        _ => unreachable!("no refusal has the number {number}"),
-    }
+    REFUSALS[number as usize - 1]
+}
+
+/// 1 and the number, or two zeros.
+fn option_numbers(number: Option<u64>) -> [u64; 2] {
+    number.map_or([0, 0], |number| [1, number])
 }
 
 impl Reply {
@@ -307,5 +313,54 @@ impl Reply {
             11 => Reply::Left(n[0]),
             kind => unreachable!("no reply has the kind {kind}"),
         }
+    }
+
+    /// What is judged of a reply: all of it but the items of a dump.
+    pub(crate) fn numbers(&self) -> ReplyNumbers {
+        let (kind, given): (u32, &[u64]) = match self {
+            Reply::Ok => (1, &[]),
+            Reply::Number(number) => (2, &[*number]),
+            Reply::Yes => (3, &[]),
+            Reply::No => (4, &[]),
+            Reply::Shape {
+                references,
+                numbers,
+            } => (5, &[*references, *numbers]),
+            Reply::Refused(refusal) => (6, &[*refusal as u64 + 1]),
+            Reply::Spent { units, phase } => (7, &[*units, *phase as u64]),
+            Reply::Stat(stat) => (
+                8,
+                &[
+                    stat.free,
+                    stat.live,
+                    stat.old,
+                    stat.phase as u64,
+                    stat.cycle,
+                ],
+            ),
+            Reply::Dump(items) => (9, &[items.len() as u64]),
+            Reply::Report(report) => {
+                let [has_least, least] = option_numbers(report.least);
+                let [has_floor, floor] = option_numbers(report.floor);
+                (
+                    10,
+                    &[
+                        report.mutator,
+                        report.collector,
+                        report.quanta,
+                        report.greatest,
+                        report.window,
+                        has_least,
+                        least,
+                        has_floor,
+                        floor,
+                    ],
+                )
+            }
+            Reply::Left(quanta) => (11, &[*quanta]),
+        };
+        let mut numbers = [0; 9];
+        numbers[..given.len()].copy_from_slice(given);
+        ReplyNumbers { kind, numbers }
     }
 }

@@ -1,4 +1,4 @@
-//! Safe Rust over the static library: a machine that is freed when it is dropped.
+//! Safe Rust over the static library: machines and worlds that are freed when they are dropped.
 //!
 //! ```
 //! use metroheap::{Config, Heap};
@@ -9,14 +9,30 @@
 //! assert_eq!(heap.line("a read 0 0")?, "number 7");
 //! # Ok::<(), metroheap::Error>(())
 //! ```
+//!
+//! A world judges what another collector answers:
+//!
+//! ```
+//! use metroheap::{Event, Judge, Reply, Verdict, World};
+//!
+//! let mut world = World::open()?;
+//! let event = Event::New { session: 0, slot: 0, references: 0, numbers: 1 };
+//! assert_eq!(world.judge(event, &Reply::Ok)?, Verdict::Right);
+//! let event = Event::Read { session: 0, slot: 0, index: 0 };
+//! assert_eq!(world.judge(event, &Reply::Number(3))?, Verdict::Differs(Reply::Number(0)));
+//! # Ok::<(), metroheap::Error>(())
+//! ```
+mod deeds;
+mod driver;
 mod events;
 mod sys;
 
+pub use deeds::{Act, Deed, Part, Place, Tier, Units};
+pub use driver::reason;
 pub use events::{Event, Item, Phase, Refusal, Reply, Report, Stat};
 
+use driver::{checked, Driver};
 use std::fmt;
-use std::ptr::null_mut;
-use sys::{Handle, ItemNumbers, ReplyNumbers};
 
 /// The numbers of a script's line `config`. Events are under the second rules.
 #[derive(Clone, Copy, Debug, PartialEq, Eq)]
@@ -32,127 +48,153 @@ pub struct Config {
 pub enum Error {
     /// The numbers are no configuration.
     BadConfig,
-    /// The line is no event.
+    /// The line is no event; `reason` says why.
     Wrong,
     /// The machine has done 1,000,000 events.
     Full,
     /// Memory was refused.
     NoMemory,
-    /// The event was done, but memory was refused for the text of its reply.
+    /// Memory was refused for the text of a reply. If a line was asked, its event was done.
     NoText,
+    /// No event was done yet.
+    NoReply,
+    /// Deeds weren't kept, or memory was refused for one.
+    NoDeeds,
+    /// A world has no controls.
+    IsWorld,
+    /// The library was made with another header.
+    OtherVersion,
 }
 
 impl fmt::Display for Error {
     fn fmt(&self, f: &mut fmt::Formatter<'_>) -> fmt::Result {
         f.write_str(match self {
-            Error::BadConfig => "no configuration",
-            Error::Wrong => "no event",
-            Error::Full => "history full",
-            Error::NoMemory => "no memory",
-            Error::NoText => "no memory for the reply's text",
+            Error::BadConfig => "the numbers are no configuration",
+            Error::Wrong => "the line is no event",
+            Error::Full => "as many events were done as may be",
+            Error::NoMemory => "memory was refused",
+            Error::NoText => "memory was refused for the text",
+            Error::NoReply => "no event was done yet",
+            Error::NoDeeds => "deeds were not kept, or memory was refused for one",
+            Error::IsWorld => "a world has no collector and no trace",
+            Error::OtherVersion => "the library was made with another header",
         })
     }
 }
 
 impl std::error::Error for Error {}
 
-fn checked(status: i32) -> Result<(), Error> {
-    match status {
-        sys::DONE | sys::BLANK => Ok(()),
-        sys::WRONG => Err(Error::Wrong),
-        sys::FULL => Err(Error::Full),
-        sys::NO_MEMORY => Err(Error::NoMemory),
-        sys::BAD_CONFIG => Err(Error::BadConfig),
-        sys::NO_TEXT => Err(Error::NoText),
-        _ => unreachable!("an open machine has no status {status}"),
-    }
+/// What a reply that was judged is.
+#[derive(Clone, Debug, PartialEq, Eq)]
+pub enum Verdict {
+    Right,
+    /// It isn't right, and this is.
+    Differs(Reply),
 }
 
-/// A machine. One thread at a time uses it.
+/// Judges another collector. Its replies are given one after another, and what is right is done.
+pub trait Judge {
+    /// Does an event, and judges the reply that was given to it. Of a dump the number of items is judged.
+    fn judge(&mut self, event: Event, given: &Reply) -> Result<Verdict, Error>;
+}
+
+/// A machine of a configuration. One thread at a time uses it.
 #[derive(Debug)]
-pub struct Heap {
-    handle: Handle,
-    text: Vec<u8>,
-}
-
-// SAFETY: the library lets another thread go on with a handle, and `&mut self` gives it to one call at a time.
-unsafe impl Send for Heap {}
-
-impl fmt::Debug for Handle {
-    fn fmt(&self, f: &mut fmt::Formatter<'_>) -> fmt::Result {
-        f.write_str("Handle")
-    }
-}
+pub struct Heap(Driver);
 
 impl Heap {
     pub fn open(config: Config) -> Result<Heap, Error> {
-        let Config {
-            pages,
-            quantum,
-            trigger,
-            every,
-        } = config;
-        let mut handle = Handle {
-            machine: null_mut(),
-        };
-        // SAFETY: a null pointer is a closed handle. `Heap` owns what is opened, and never copies it.
-        checked(unsafe { sys::metroheap_open(&mut handle, pages, quantum, trigger, every, 2) })?;
-        Ok(Heap {
-            handle,
-            text: vec![0; 64],
-        })
+        Driver::open(config).map(Heap)
     }
 
     /// Does the event of a line of a script, and returns the text of its reply; an empty one for a blank line.
     pub fn line(&mut self, line: &str) -> Result<&str, Error> {
-        let mut written = 0;
-        // SAFETY: slices are whole, never null, and `&mut self` rules out that they overlap.
-        let mut status = unsafe {
-            sys::metroheap_line(
-                &mut self.handle,
-                line.as_ptr(),
-                line.len(),
-                self.text.as_mut_ptr(),
-                self.text.len(),
-                &mut written,
-            )
-        };
-        if status == sys::SHORT {
-            self.text.resize(written, 0);
-            // SAFETY: as above.
-            status = unsafe {
-                sys::metroheap_last_text(
-                    &mut self.handle,
-                    self.text.as_mut_ptr(),
-                    self.text.len(),
-                    &mut written,
-                )
-            };
-        }
-        checked(status)?;
-        Ok(std::str::from_utf8(&self.text[..written]).expect("replies are ASCII"))
+        self.0.line(line)
     }
 
     /// Does an event.
     pub fn step(&mut self, event: Event) -> Result<Reply, Error> {
-        let mut reply = ReplyNumbers::default();
-        // SAFETY: the handle is open, and the structs are those of the header.
-        checked(unsafe { sys::metroheap_step(&mut self.handle, &event.numbers(), &mut reply) })?;
-        Ok(Reply::from_numbers(&reply, |index| self.item(index)))
+        self.0.step(event)
     }
 
-    fn item(&mut self, index: usize) -> Item {
-        let mut item = ItemNumbers::default();
-        // SAFETY: as in `step`.
-        let status = unsafe { sys::metroheap_dump_item(&mut self.handle, index, &mut item) };
-        assert_eq!(status, sys::DONE, "a dump has as many items as it says");
-        Item::from_numbers(&item)
+    /// The text of the last reply.
+    pub fn last_text(&mut self) -> Result<&str, Error> {
+        self.0.last_text()
+    }
+
+    pub fn last_reply(&mut self) -> Result<Reply, Error> {
+        self.0.last_reply()
+    }
+
+    /// What the last event added to the trace.
+    pub fn last_units(&mut self) -> Result<Units, Error> {
+        self.0.last_units()
+    }
+
+    /// Whether events keep their deeds, from the next one on. It takes time and memory for each.
+    pub fn tell(&mut self, tells: bool) {
+        checked(self.0.tell(tells)).expect("a machine has deeds");
+    }
+
+    /// The deeds of the last event: those of its command, and then those of its quantum.
+    pub fn deeds(&mut self) -> Result<Vec<Deed>, Error> {
+        self.0.deeds()
+    }
+
+    /// What `Event::Stat` would answer now. It is no event.
+    pub fn see_stat(&mut self) -> Stat {
+        match self.0.see_stat() {
+            Reply::Stat(stat) => stat,
+            other => unreachable!("a stat is no {other:?}"),
+        }
+    }
+
+    /// What `Event::Left` would answer now. It is no event.
+    pub fn see_left(&mut self) -> u64 {
+        match self.0.see_left() {
+            Reply::Left(quanta) => quanta,
+            other => unreachable!("quanta are no {other:?}"),
+        }
     }
 }
 
-impl Drop for Heap {
-    fn drop(&mut self) {
-        // SAFETY: the handle is as the library left it.
-        unsafe { sys::metroheap_close(&mut self.handle) };
+impl Judge for Heap {
+    fn judge(&mut self, event: Event, given: &Reply) -> Result<Verdict, Error> {
+        self.0.judge(event, given)
+    }
+}
+
+/// A world: the heap that never collects. It has no controls, but takes any reply to one as right.
+#[derive(Debug)]
+pub struct World(Driver);
+
+impl World {
+    pub fn open() -> Result<World, Error> {
+        Driver::open_world().map(World)
+    }
+
+    /// Does the command of a line of a script, and returns the text of its reply; an empty one for a blank line.
+    pub fn line(&mut self, line: &str) -> Result<&str, Error> {
+        self.0.line(line)
+    }
+
+    /// Does a command.
+    pub fn step(&mut self, event: Event) -> Result<Reply, Error> {
+        self.0.step(event)
+    }
+
+    /// The text of the last reply.
+    pub fn last_text(&mut self) -> Result<&str, Error> {
+        self.0.last_text()
+    }
+
+    pub fn last_reply(&mut self) -> Result<Reply, Error> {
+        self.0.last_reply()
+    }
+}
+
+impl Judge for World {
+    fn judge(&mut self, event: Event, given: &Reply) -> Result<Verdict, Error> {
+        self.0.judge(event, given)
     }
 }

@@ -1,0 +1,8 @@
+use Rattle.std.proofs.Common.{rules, refl}
+use Rattle.metroheap_c.specs.Calls.{Open}
+use Rattle.metroheap_c.proofs.CodeLemmas.{code_seen}
+use Rattle.metroheap_c.proofs.metroheap_see_stat.Goals as goal
+
+pub returns : goal.returns
+returns c =
+    Open c.deref.result.now c.deref.result.now c.see_stat-status.result (search rules) (search rules) (record { kept = refl; ends_so = c.see_stat-status.ensures }) (code_seen c.see_stat-status.result _ c.code-2.ensures)

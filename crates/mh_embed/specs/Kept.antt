@@ -1,0 +1,19 @@
+-- What a machine behind a handle keeps of its last event.
+use Rattle.std.specs.Prelude.{◌≡◌, Bool, ◌&&◌, if◌then◌else◌, Option, Some, None, List}
+use Rattle.mh_model.specs.declared.deed.Deed.{Deed}
+use Rattle.mh_model.specs.Machine.{Machine}
+use Rattle.mh_model.specs.Trace.{mutator_count, collector_count}
+use Rattle.mh_deeds.specs.Accounts.{account_in, is_whole}
+use Rattle.mh_deeds.specs.declared.account.Account.{Account}
+use Rattle.mh_embed.specs.declared.collecting.Counts.{Counts}
+use Rattle.mh_embed.specs.Drivers.{all_deeds}
+
+-- the deeds of an event that kept them, if none is missing
+abbrev pub deeds_in : Bool → Account → Option (List Deed)
+deeds_in is_told account = if is_told && is_whole account then Some (all_deeds (account_in account)) else None
+
+-- these are the counts of a machine's trace
+pub record IsCounted (machine : Machine) (counts : Counts) : Type 0 where
+  pub mutator : counts.mutator ≡ mutator_count machine.trace.letters
+  pub collector : counts.collector ≡ collector_count machine.trace.letters
+  pub quanta : counts.quanta ≡ machine.trace.quanta
