@@ -36,9 +36,10 @@
 **
 ** WHO OWNS WHAT
 **
-** The handle owns its machine. metroheap_close frees it, and so does
-** metroheap_open if it opens another one in its place. Every buffer, struct
-** and line is the caller's; no function keeps a pointer to one.
+** The handle owns its machine or world. metroheap_close frees it, and so do
+** metroheap_open and metroheap_open_world if they open another one in its
+** place. Every buffer, struct and line is the caller's; no function keeps a
+** pointer to one.
 */
 #ifndef METROHEAP_H
 #define METROHEAP_H
@@ -188,7 +189,7 @@ static inline void metroheap_close(metroheap *heap) {
 ** METROHEAP_CLOSED, METROHEAP_IS_WORLD   nothing was done; `*written` is 0
 **
 ** Memory may be refused for a command, for a quantum that is asked for, and
-** for a dump. A later call may succeed.
+** for a dump; in a world only for a new object. A later call may succeed.
 */
 int32_t metroheap_line_nonnull(metroheap *heap, const char *line,
                                size_t line_length, char *out,
