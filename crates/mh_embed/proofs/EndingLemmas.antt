@@ -25,7 +25,7 @@ never-done : (driver : Driver) (event : Event) (ends : Status) → ends ≡ stat
 never-done _ _ _ is (FullMachine old event full) = cc
 never-done _ _ _ is (FullWorld old who command full) = cc
 never-done _ _ _ is (Starved old event room asks) = cc
-never-done _ _ _ is (StarvedWorld old who command new) = cc
+never-done _ _ _ is (StarvedWorld old who command new asked) = cc
 never-done _ _ _ is (NoCollector old control) = cc
 
 pub is_world : (driver : Driver) (grown : Grown) → driver ≡ Grows grown → IsOfWorld driver

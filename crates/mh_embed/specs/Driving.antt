@@ -9,7 +9,7 @@ use Rattle.mh_model.specs.declared.reply.Reply.{Reply}
 use Rattle.mh_model.specs.Bytes.{Text, is_text}
 use Rattle.mh_model.specs.Limits.{most_entries}
 use Rattle.mh_model.specs.Script.{Line, Blank, Calls, Asks, Wrong, session_number, with_name}
-use Rattle.mh_model.specs.World.{IsNew}
+use Rattle.mh_model.specs.World.{IsNew, never_full, refusal, sight_of}
 use Rattle.mh_script.specs.OfMachine.Running.{MayAskForMemory}
 use Rattle.mh_embed.specs.declared.driver.Driver.{Driver}
 use Rattle.mh_embed.specs.declared.driver.Driver.TheVariants.{Collects, Grows}
@@ -42,12 +42,12 @@ pub data Takes : Driver → Event → Reply → Driver → Type 0 where
   ByMachine : (old : Collected) (event : Event) (given : Reply) (new : Collected) → Collecting old event given new → Takes (Collects old) event given (Collects new)
   ByWorld : (old : Grown) (who : ℕ) (command : Command) (given : Reply) (new : Grown) → Growing old who command given new → Takes (Grows old) (event.Session who command) given (Grows new)
 
--- Why an event is not done: the machine or the world has done as many as it may, memory was refused to an event that may ask for it, or a world was asked for a control
+-- Why an event is not done: the machine or the world has done as many as it may, memory was refused to an event that may ask for it or to a new object that nothing else refuses, or a world was asked for a control
 pub data IsUndone : Driver → Event → Status → Type 0 where
   FullMachine : (old : Collected) (event : Event) → old.machine.done ≡ most_entries → IsUndone (Collects old) event status.Full
   FullWorld : (old : Grown) (who : ℕ) (command : Command) → most_entries ≤ old.done → IsUndone (Grows old) (event.Session who command) status.Full
   Starved : (old : Collected) (event : Event) → old.machine.done < most_entries → MayAskForMemory old.machine.room event → IsUndone (Collects old) event status.NoMemory
-  StarvedWorld : (old : Grown) (who : ℕ) (command : Command) → IsNew command → IsUndone (Grows old) (event.Session who command) status.NoMemory
+  StarvedWorld : (old : Grown) (who : ℕ) (command : Command) → IsNew command → refusal (sight_of never_full old.world) who command ≡ None → IsUndone (Grows old) (event.Session who command) status.NoMemory
   NoCollector : (old : Grown) (control : Control) → IsUndone (Grows old) (event.Control control) status.IsWorld
 
 -- Lines ------------------------------------------------------------------------------------------

@@ -98,9 +98,13 @@ reply_values (reply.Report report) = report.mutator ∷ report.collector ∷ rep
 reply_values (reply.Left quanta) = quanta ∷ []
 reply_values _ = []
 
--- numbers with zeros after them, nine in all
+-- numbers with zeros after them, so many in all
+abbrev pub padded_to : ℕ → List ℕ → List ℕ
+padded_to count ns = ns ++ replicate (count - length ns) 0
+
+-- the numbers of a reply, nine in all
 abbrev pub padded : List ℕ → List ℕ
-padded ns = ns ++ replicate (9 - length ns) 0
+padded ns = padded_to 9 ns
 
 -- The numbers show a reply
 pub record IsShownBy (given : Reply) (n : ReplyNumbers) : Type 0 where
@@ -222,9 +226,9 @@ deed_values deed.ForwardRoots = []
 deed_values (deed.Shade place) = place ∷ []
 deed_values (deed.Make place name class_size fields tier) = place ∷ (part_values name ++ class_size ∷ fields.references ∷ fields.numbers ∷ tier_number tier ∷ [])
 
--- numbers with zeros after them, seven in all
+-- the numbers of a deed, seven in all
 abbrev pub padded_deed : List ℕ → List ℕ
-padded_deed ns = ns ++ replicate (7 - length ns) 0
+padded_deed ns = padded_to 7 ns
 
 -- The numbers show a deed
 pub record IsDeedShownBy (found : Deed) (n : DeedNumbers) : Type 0 where

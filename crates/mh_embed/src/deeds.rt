@@ -167,6 +167,7 @@ fn values_of(deed: &Deed) -> [u64; 7]
     }
 }
 
+/// The numbers of a deed: its kind, its units, and what its words name, in their order.
 pub fn deed_numbers(deed: &Deed) -> DeedNumbers
     ensures { IsDeedShownBy deed.now result }
 {

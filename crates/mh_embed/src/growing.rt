@@ -1,9 +1,9 @@
 //! A world: the heap that never collects, never moves and is never full, with how many commands it has done. It does the
 //! commands of sessions. Memory is refused only to a new object, and then it is as it was.
-ghost use Rattle.std.specs.Prelude.{◌≡◌, ◌≤◌, ◌↔◌, IfOk, IsTrue, OnErr, IsErrOf};
+ghost use Rattle.std.specs.Prelude.{◌≡◌, ◌≤◌, ◌↔◌, None, IfOk, IsTrue, OnErr, IsErrOf};
 ghost use Rattle.mh_model.specs.declared.reply.Reply.TheVariants.{Done};
 ghost use Rattle.mh_model.specs.Limits.{most_entries};
-ghost use Rattle.mh_model.specs.World.{IsNew, world_step};
+ghost use Rattle.mh_model.specs.World.{IsNew, never_full, refusal, sight_of, world_step};
 ghost use Rattle.mh_script.specs.OfMachine.Stop.{Stop};
 ghost use Rattle.mh_embed.specs.Drivers.{first_grown};
 
@@ -60,6 +60,7 @@ impl GrowingWorld {
         ensures kept { OnErr result (self.new ≡ self.old) }
         ensures full { IsErrOf result Stop.HistoryFull → most_entries ≤ self.old.done }
         ensures memory { IsErrOf result Stop.NoMemory → IsNew command.now }
+        ensures asked { IsErrOf result Stop.NoMemory → refusal (sight_of never_full self.old.world) who command.now ≡ None }
     {
         if self.done >= MOST_EVENTS {
             return Err(Stop::HistoryFull);

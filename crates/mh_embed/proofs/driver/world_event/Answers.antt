@@ -14,4 +14,4 @@ returns-in-Err-HistoryFull-clause-undone c =
 
 pub returns-in-Err-NoMemory-clause-undone : goal.returns-in-Err-NoMemory-clause-undone
 returns-in-Err-NoMemory-clause-undone c =
-    rw c.in-Session.is (StarvedWorld c.args.world.now c.in-Session.who c.in-Session.command (search rules))
+    rw c.in-Session.is (StarvedWorld c.args.world.now c.in-Session.who c.in-Session.command (search rules) (search rules))
